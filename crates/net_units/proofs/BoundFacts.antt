@@ -1,0 +1,100 @@
+-- What rising bounds give: each is at least 1, and those within x ticks are the first ones.
+use Rattle.std.proofs.Common.{◌≡◌, ℕ, zero, suc, ◌-◌, ◌<◌, ◌≤◌, Bool, true, false, cond, List, [], ◌∷◌, length, get_or, ltb, leb, inl, inr, arith}
+use Rattle.std.specs.List.{list_all}
+use Rattle.std.proofs.lemmas.Bool.{ltb-true, leb-true, leb-false, and_parts, cases_Bool}
+use Rattle.net_units.specs.Limits.{most_bound}
+use Rattle.net_units.specs.Steps.{rises_above, are_bounds, bound_at, levels_within}
+
+-- each bound is above what the first is above
+pub above_low : (low : ℕ) (bs : List ℕ) (j : ℕ) → rises_above low bs ≡ true → j < length bs → low < get_or bs j 0
+above_low low [] j r h = absurd (omega arith)
+above_low low (b ∷ bs) zero r h = ltb-true low b (and_parts _ _ r).0
+above_low low (b ∷ bs) (suc j) r h =
+    let first : low < b = ltb-true low b (and_parts _ _ r).0 in
+    let later : b < get_or bs j 0 = above_low b bs j (and_parts (ltb low b) (rises_above b bs) r).1 (omega arith) in
+    omega arith
+
+-- what passes a test of each item passes it at each place
+pub all_at : (p : ℕ → Bool) (bs : List ℕ) (j : ℕ) → list_all p bs ≡ true → j < length bs → p (get_or bs j 0) ≡ true
+all_at p [] j r h = absurd (omega arith)
+all_at p (b ∷ bs) zero r h = (and_parts _ _ r).0
+all_at p (b ∷ bs) (suc j) r h = all_at p bs j (and_parts _ _ r).1 (omega arith)
+
+-- no more levels are within x than there are
+pub within_count : (bs : List ℕ) (x : ℕ) → levels_within bs x ≤ length bs
+within_count [] x = omega arith
+within_count (b ∷ bs) x =
+    let rest = within_count bs x in
+    elim (leb b x) as (λ t. cond t (suc (levels_within bs x)) 0 ≤ suc (length bs)) [ true ↦ omega arith | false ↦ omega arith ]
+
+-- the levels up to the count are within x
+pub within_below : (bs : List ℕ) (x j : ℕ) → j < levels_within bs x → get_or bs j 0 ≤ x
+within_below [] x j h = absurd (omega arith)
+within_below (b ∷ bs) x zero h =
+    elim (cases_Bool (leb b x)) [
+      | inl e ↦ leb-true b x e
+      | inr e ↦ absurd (let none : 0 < 0 = rw e at h in omega arith)
+    ]
+within_below (b ∷ bs) x (suc j) h =
+    elim (cases_Bool (leb b x)) [
+      | inl e ↦ within_below bs x j (let k : suc j < suc (levels_within bs x) = rw e at h in omega arith)
+      | inr e ↦ absurd (let k : suc j < 0 = rw e at h in omega arith)
+    ]
+
+-- the levels past the count are over x
+pub over_above : (low : ℕ) (bs : List ℕ) (x j : ℕ) → rises_above low bs ≡ true → levels_within bs x ≤ j → j < length bs → x < get_or bs j 0
+over_above low [] x j r h k = absurd (omega arith)
+over_above low (b ∷ bs) x zero r h k =
+    elim (cases_Bool (leb b x)) [
+      | inl e ↦ absurd (let none : suc (levels_within bs x) ≤ 0 = rw e at h in omega arith)
+      | inr e ↦ leb-false b x e
+    ]
+over_above low (b ∷ bs) x (suc j) r h k =
+    let rising : rises_above b bs ≡ true = (and_parts (ltb low b) (rises_above b bs) r).1 in
+    elim (cases_Bool (leb b x)) [
+      | inl e ↦ over_above b bs x j rising (let past : suc (levels_within bs x) ≤ suc j = rw e at h in omega arith) (omega arith)
+      | inr e ↦ (let first : x < b = leb-false b x e in let later : b < get_or bs j 0 = above_low b bs j rising (omega arith) in omega arith)
+    ]
+
+-- the parts of what makes bounds
+pub record AreBounds (bs : List ℕ) : Type 0 where
+  pub least : 1 ≤ length bs
+  pub most : length bs ≤ 8
+  pub rising : rises_above 0 bs ≡ true
+  pub small : list_all (λ b. leb b most_bound) bs ≡ true
+
+pub bounds_parts : (bs : List ℕ) → are_bounds bs ≡ true → AreBounds bs
+bounds_parts bs h =
+    let both = and_parts _ _ h in
+    let front = and_parts _ _ both.0 in
+    let sizes = and_parts _ _ front.0 in
+    record {
+      least = leb-true 1 (length bs) sizes.0;
+      most = leb-true (length bs) 8 sizes.1;
+      rising = front.1;
+      small = both.1;
+    }
+
+-- a level's bound is at least 1
+pub bound_least : (bs : List ℕ) (level : ℕ) → are_bounds bs ≡ true → 1 ≤ level → level ≤ length bs → 1 ≤ bound_at bs level
+bound_least bs level h one within =
+    let above : 0 < get_or bs (level - 1) 0 = above_low 0 bs (level - 1) (bounds_parts bs h).rising (omega arith) in
+    omega arith
+
+-- a level's bound is at most 1,048,576
+pub bound_most : (bs : List ℕ) (level : ℕ) → are_bounds bs ≡ true → 1 ≤ level → level ≤ length bs → bound_at bs level ≤ 1048576
+bound_most bs level h one within =
+    leb-true (get_or bs (level - 1) 0) 1048576 (all_at (λ b. leb b most_bound) bs (level - 1) (bounds_parts bs h).small (omega arith))
+
+-- the count of levels within x is at most the number of levels
+pub within_most : (bs : List ℕ) (x : ℕ) → are_bounds bs ≡ true → levels_within bs x ≤ 8
+within_most bs x h = omega (arith, within_count bs x, (bounds_parts bs h).most)
+
+-- the level of the count has a bound within x
+pub level_fits : (bs : List ℕ) (x level : ℕ) → level ≡ levels_within bs x → 1 ≤ level → bound_at bs level ≤ x
+level_fits bs x level e one = within_below bs x (level - 1) (omega arith)
+
+-- each larger level has a bound over x
+pub level_largest : (bs : List ℕ) (x level other : ℕ) → are_bounds bs ≡ true → level ≡ levels_within bs x → level < other → other ≤ length bs → x < bound_at bs other
+level_largest bs x level other h e past within =
+    over_above 0 bs x (other - 1) (bounds_parts bs h).rising (omega arith) (omega arith)

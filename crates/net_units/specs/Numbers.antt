@@ -1,0 +1,23 @@
+-- The numbers by which links, actors, channels and levels go. Each counts from 0, but for a level, which
+-- counts from 1: level 1 has the smallest delay bound and is served first.
+use Rattle.std.specs.Prelude.{ℕ}
+use Rattle.net_units.specs.declared.numbers.LinkNo.{LinkNo}
+use Rattle.net_units.specs.declared.numbers.ActorNo.{ActorNo}
+use Rattle.net_units.specs.declared.numbers.ChanNo.{ChanNo}
+use Rattle.net_units.specs.declared.numbers.Level.{Level}
+
+-- the link's place among the links of the network
+abbrev pub link_number : LinkNo → ℕ
+link_number link = link.number
+
+-- the actor's place: the callers in the order of the scenario, and then the plane
+abbrev pub actor_number : ActorNo → ℕ
+actor_number actor = actor.number
+
+-- the channel's place among the requests of the scenario
+abbrev pub channel_number : ChanNo → ℕ
+channel_number channel = channel.number
+
+-- the level's place among the bounds of its link, from 1
+abbrev pub level_number : Level → ℕ
+level_number level = level.number
