@@ -1,0 +1,89 @@
+-- A link admits channels as rows, each with its contract and its level. In a window of w ticks a row brings at
+-- most as many packets as its contract lets into w ticks, and each occupies the link for the ticks that its
+-- size takes, rounded up. The load of the levels up to m in the window is that work of all rows at levels 1 to
+-- m, and the blocking: the ticks for which a packet of a lower level that has just started holds the link. The
+-- rows pass when for every level m the load of the levels up to m, in a window as long as the bound of m, is at
+-- most that bound. The best level of a new contract is the least at which it passes with the rows. (A link is a
+-- rate-controlled static-priority server, Zhang & Ferrari 1993; the exact sum is this project's.)
+use Rattle.std.specs.Prelude.{ℕ, zero, suc, ◌+◌, ◌*◌, ◌≤◌, Bool, true, nat_le, ◌&&◌, if◌then◌else◌, Option, Some, None, List, [], ◌∷◌, ◌++◌, length}
+use Rattle.net_units.specs.Quotient.{ceil_quotient}
+use Rattle.net_units.specs.Steps.{bound_at}
+use Rattle.traffic_contract.specs.Contract.{Terms, most_in}
+
+-- a link, as far as admission goes: the bounds of its levels in ticks, its rate in units a tick, and the ticks
+-- that its largest packet takes
+pub record Server : Type 0 where
+  pub bounds : List ℕ
+  pub rate : ℕ
+  pub blocking : ℕ
+
+-- an admitted channel: its contract and its level, from 1
+pub record Row : Type 0 where
+  pub terms : Terms
+  pub level : ℕ
+
+-- the sum of f over a list
+abbrev pub total : {X : Type 0} → (X → ℕ) → List X → ℕ
+total f [] = 0
+total f (x ∷ xs) = f x + total f xs
+
+-- the most work in ticks that a contract brings in a window of w ticks, at a rate in units a tick
+unfoldable pub work_in : ℕ → Terms → ℕ → ℕ
+work_in rate terms w = most_in terms w * ceil_quotient terms.smax rate
+
+-- what a row adds to the load of the levels up to m: its work where its level is one of them
+unfoldable pub work_up_to : ℕ → ℕ → ℕ → Row → ℕ
+work_up_to rate m w row = if nat_le row.level m then work_in rate row.terms w else 0
+
+-- the load of the levels up to m in a window of w ticks
+unfoldable pub load : Server → List Row → ℕ → ℕ → ℕ
+load server rows m w = server.blocking + total (work_up_to server.rate m w) rows
+
+-- the load of the levels up to m in a window as long as the bound of m, which the test compares with that bound
+abbrev pub level_sum : Server → List Row → ℕ → ℕ
+level_sum server rows m = load server rows m (bound_at server.bounds m)
+
+-- the rows pass at every level
+pub record Passes (server : Server) (rows : List Row) : Type 0 where
+  pub each : (m : ℕ) → 1 ≤ m → m ≤ length server.bounds → level_sum server rows m ≤ bound_at server.bounds m
+
+-- whether they pass at level m
+abbrev pub passes_at : Server → List Row → ℕ → Bool
+passes_at server rows m = nat_le (level_sum server rows m) (bound_at server.bounds m)
+
+-- whether they pass at the levels 1 to m
+unfoldable pub passes_up_to : Server → List Row → ℕ → Bool
+passes_up_to server rows zero = true
+passes_up_to server rows (suc m) = passes_at server rows (suc m) && passes_up_to server rows m
+
+-- whether they pass at every level
+unfoldable pub passes : Server → List Row → Bool
+passes server rows = passes_up_to server rows (length server.bounds)
+
+-- the rows with a new one of this contract at level m, which comes last
+abbrev pub with_row : List Row → Terms → ℕ → List Row
+with_row rows terms m = rows ++ record { terms = terms; level = m } ∷ []
+
+-- whether the rows with the new one at level m pass
+unfoldable pub admits : Server → List Row → Terms → ℕ → Bool
+admits server rows terms m = passes server (with_row rows terms m)
+
+-- the first of `count` levels from m on that passes the test
+unfoldable pub first_level : (ℕ → Bool) → ℕ → ℕ → Option ℕ
+first_level test m zero = None
+first_level test m (suc count) = if test m then Some m else first_level test (m + 1) count
+
+-- the best level of a new contract, if there is one: the least level of the link that admits it
+unfoldable pub best_level : Server → List Row → Terms → Option ℕ
+best_level server rows terms = first_level (admits server rows terms) 1 (length server.bounds)
+
+-- m is the best level of a new contract
+pub record IsBest (server : Server) (rows : List Row) (terms : Terms) (m : ℕ) : Type 0 where
+  pub from : 1 ≤ m
+  pub upto : m ≤ length server.bounds
+  pub passes : Passes server (with_row rows terms m)
+  pub least : (lower : ℕ) → 1 ≤ lower → lower ≤ length server.bounds → Passes server (with_row rows terms lower) → m ≤ lower
+
+-- what the last level comes to with the new row there, which a refusal carries
+abbrev pub refused_sum : Server → List Row → Terms → ℕ
+refused_sum server rows terms = level_sum server (with_row rows terms (length server.bounds)) (length server.bounds)

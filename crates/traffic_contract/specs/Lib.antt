@@ -1,0 +1,5 @@
+pub mod Contract
+pub mod Refusal
+pub mod Keeping
+pub mod Eligible
+pub mod Admission

@@ -1,0 +1,173 @@
+//! The contract of a channel.
+ghost use Rattle.std.specs.Prelude.{◌≡◌, ◌↔◌, ◌+◌, ◌^◌, ◌<◌, ◌≤◌, IsTrue, IfOk, MatchResult};
+ghost use Rattle.traffic_contract.specs.Keeping.{are_spaced};
+
+use net_units::ceil_div;
+use std::marker::Model;
+
+/// A number of a contract.
+#[derive(Clone, Copy, Debug, PartialEq, Eq)]
+pub enum ContractField {
+    /// The least gap between packets.
+    Xmin,
+    /// The average gap between packets.
+    Xave,
+    /// The interval over which the average is taken.
+    Interval,
+    /// The largest packet.
+    Smax,
+}
+
+/// Four numbers that aren't a contract, with the first of them that fails.
+#[derive(Clone, Copy, Debug, PartialEq, Eq)]
+pub struct BadContract {
+    pub field: ContractField,
+}
+
+/// A traffic contract (Xmin, Xave, I, Smax) of the Tenet suite (Banerjea, Ferrari et al. 1996).
+///
+/// Packets are at least `xmin` ticks apart, at most a burst of them falls into any `interval` ticks, and none is
+/// larger than `smax` units. The burst is the number of average gaps of `xave` ticks in an interval, rounded
+/// down. A contract sees the record of the four numbers.
+#[derive(Clone, Copy)]
+pub struct Contract {
+    xmin: u32,
+    xave: u32,
+    interval: u32,
+    smax: u32,
+}
+
+impl Model for Contract {
+    ghost use Rattle.traffic_contract.specs.Contract.{Terms, IsContract, terms_of};
+
+    ghost Value = { Terms };
+
+    ghost view = { λ c. terms_of c.xmin c.xave c.interval c.smax };
+
+    ghost invariant = { λ c. IsContract (terms_of c.xmin c.xave c.interval c.smax) };
+
+    ghost inverse = { λ t. record { xmin = t.xmin; xave = t.xave; interval = t.interval; smax = t.smax } };
+}
+
+impl Contract {
+    ghost use Rattle.traffic_contract.specs.Contract.{Terms, IsContract, burst_of, most_in, terms_of};
+    ghost use Rattle.traffic_contract.specs.Refusal.{first_bad};
+    ghost use Rattle.traffic_contract.specs.Keeping.{Keeps, keeps};
+
+    /// The contract of these four numbers. An `Err` names the first that fails: `Xmin` where it isn't from 1 to
+    /// 1,048,576, `Xave` where it is below `xmin` or over 1,048,576, `Interval` where it is below `xave`, over
+    /// 16,777,216 or holds more than 256 average gaps, `Smax` where it isn't from 1 to 65,536.
+    pub fn new(xmin: u32, xave: u32, interval: u32, smax: u32) -> Result<Contract, BadContract>
+        ensures refusal { MatchResult result
+            (λ _. first_bad (terms_of xmin xave interval smax) ≡ None)
+            (λ bad. first_bad (terms_of xmin xave interval smax) ≡ Some bad.field) }
+        ensures value { IfOk result (λ contract. contract ≡ terms_of xmin xave interval smax) }
+        ensures valid { IfOk result IsContract }
+    {
+        if xmin < 1 || xmin > 1_048_576 {
+            return Err(BadContract {
+                field: ContractField::Xmin,
+            });
+        }
+        if xave < xmin || xave > 1_048_576 {
+            return Err(BadContract {
+                field: ContractField::Xave,
+            });
+        }
+        if interval < xave || interval > 16_777_216 || interval / xave > 256 {
+            return Err(BadContract {
+                field: ContractField::Interval,
+            });
+        }
+        if smax < 1 || smax > 65_536 {
+            return Err(BadContract {
+                field: ContractField::Smax,
+            });
+        }
+        Ok(Contract {
+            xmin,
+            xave,
+            interval,
+            smax,
+        })
+    }
+
+    /// The most packets in any `w` consecutive ticks of a list that keeps the contract.
+    #[tactic(auto, unfolding(crate::specs::Contract::most_in))]
+    pub fn bound(&self, w: u64) -> u64
+        requires { w < 2 ^ 40 }
+        ensures value { result ≡ most_in self.now w }
+        ensures most { result ≤ w + 256 }
+    {
+        let interval = u64::from(self.interval);
+        let burst = u64::from(self.burst());
+        let left = ceil_div(w % interval, u64::from(self.xmin));
+        w / interval * burst + burst.min(left)
+    }
+
+    /// Whether these ticks, in order of time, keep the contract.
+    #[tactic(auto, unfolding(crate::specs::Keeping::keeps), using(crate::proofs::KeepingFacts::spacing))]
+    pub fn keeps(&self, ticks: &[u64]) -> bool
+        ensures test { result ≡ keeps self.now ticks.now }
+        ensures fact { IsTrue result ↔ Keeps self.now ticks.now }
+    {
+        is_spaced(ticks, 1, u64::from(self.xmin))
+            && is_spaced(ticks, self.burst() as usize, u64::from(self.interval))
+    }
+
+    /// The burst: the most packets in any `interval` ticks, from 1 to 256.
+    pub fn burst(&self) -> u32
+        ensures value { result ≡ burst_of self.now }
+        ensures least { 1 ≤ result }
+        ensures most { result ≤ 256 }
+        ensures valid { IsContract self.now }
+    {
+        self.interval / self.xave
+    }
+
+    /// The least gap between packets in ticks, from 1 to 1,048,576.
+    pub fn xmin(&self) -> u32
+        ensures value { result ≡ self.now.xmin }
+        ensures valid { IsContract self.now }
+    {
+        self.xmin
+    }
+
+    /// The average gap between packets in ticks, from `xmin` to 1,048,576.
+    pub fn xave(&self) -> u32
+        ensures value { result ≡ self.now.xave }
+        ensures valid { IsContract self.now }
+    {
+        self.xave
+    }
+
+    /// The interval over which the average gap is taken, in ticks, from `xave` to 16,777,216.
+    pub fn interval(&self) -> u32
+        ensures value { result ≡ self.now.interval }
+        ensures valid { IsContract self.now }
+    {
+        self.interval
+    }
+
+    /// The largest packet in units, from 1 to 65,536.
+    pub fn smax(&self) -> u32
+        ensures value { result ≡ self.now.smax }
+        ensures valid { IsContract self.now }
+    {
+        self.smax
+    }
+}
+
+// Whether entries that stand `gap` places apart are at least `least` ticks apart.
+#[tactic(auto, using(crate::proofs::KeepingFacts::spacing))]
+fn is_spaced(ticks: &[u64], gap: usize, least: u64) -> bool
+    ensures { result ≡ are_spaced gap least ticks.now }
+{
+    for i in gap..ticks.len() {
+        let earlier = ticks[i - gap];
+        if ticks[i] < earlier || ticks[i] - earlier < least {
+            return false;
+        }
+    }
+    true
+}
