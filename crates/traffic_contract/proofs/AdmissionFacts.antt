@@ -1,13 +1,13 @@
 -- The admission test under changes of the rows: a sum row by row, what taking a row out, moving it and adding
 -- one do to it, and where the best level of a new contract lies.
-use Rattle.std.proofs.Common.{◌≡◌, ◌≢◌, ℕ, zero, suc, ◌+◌, ◌-◌, ◌*◌, ◌<◌, ◌≤◌, ⊎_elim, Bool, true, false, cond, leb, ◌&&◌, List, [], ◌∷◌, ◌++◌, length, map, get_or, Decides, Option, Some, None, refl, sym, ap, ◌∙◌, subst, arith}
-use Rattle.std.proofs.lemmas.Bool.{leb-true, leb-false, le-leb, lt-leb, cases_lt, cases_eq, cases_Bool, true≢false, and_parts, and_from, false_from_ne_true}
+use Rattle.std.proofs.Common.{◌≡◌, ℕ, zero, suc, ◌+◌, ◌<◌, ◌≤◌, ⊎_elim, Bool, true, false, cond, List, [], ◌∷◌, ◌++◌, length, map, Decides, Some, None, refl, sym, ap, ◌∙◌, arith}
+use Rattle.std.proofs.lemmas.Bool.{leb-true, le-leb, lt-leb, cases_lt, cases_eq, cases_Bool, true≢false, and_parts, and_from, false_from_ne_true}
 use Rattle.std.proofs.lemmas.Bool.Decides.{Decides-like}
 use Rattle.std.proofs.lemmas.List.Elements.{All-head, All-tail}
 use Rattle.std.specs.List.{All, filter}
 use Rattle.net_units.specs.Steps.{bound_at}
 use Rattle.traffic_contract.specs.Contract.{Terms}
-use Rattle.traffic_contract.specs.Admission.{Server, Row, total, work_in, work_up_to, load, level_sum, Passes, passes_at, passes_up_to, passes, with_row, admits, first_level, best_level, IsBest, refused_sum}
+use Rattle.traffic_contract.specs.Admission.{Server, Row, total, work_in, work_up_to, load, level_sum, Passes, passes_at, passes_up_to, passes, with_row, admits, first_level, best_level, IsBest}
 
 -- ---- sums over lists
 

@@ -1,5 +1,5 @@
 -- What the limits of a contract say of its burst and of its packets in a window.
-use Rattle.std.proofs.Common.{◌≡◌, ℕ, ◌+◌, ◌*◌, ◌/◌, ◌%◌, ◌<◌, ◌≤◌, min, arith}
+use Rattle.std.proofs.Common.{ℕ, ◌+◌, ◌*◌, ◌/◌, ◌≤◌, arith}
 use Rattle.std.proofs.Math.Nat.{div-le_self, div-mul-le_self, mul-le-mul_left}
 use Rattle.std.proofs.lemmas.Nat.{le-div, mul-le, div-add-mod'}
 use Rattle.net_units.specs.Quotient.{ceil_quotient}

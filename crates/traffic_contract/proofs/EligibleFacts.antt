@@ -1,12 +1,12 @@
 -- The eligible tick that the definition computes is the least tick that keeps the contract, and it depends on
 -- no more than a burst of the newest ticks.
-use Rattle.std.proofs.Common.{◌≡◌, ℕ, zero, suc, ◌+◌, ◌-◌, ◌<◌, ◌≤◌, ⊎_elim, Bool, true, false, cond, ◌&&◌, List, [], ◌∷◌, ◌++◌, length, get_or, take, drop, Decides, max, refl, sym, ap, ◌∙◌, subst, arith}
-use Rattle.std.proofs.lemmas.Bool.{leb-true, le-leb, cases_lt, cases_eq, cases_Bool, true≢false, and_parts, and_from}
-use Rattle.std.proofs.lemmas.List.{get_or-drop, length-drop, reverse-append, drop-take, take-take}
+use Rattle.std.proofs.Common.{◌≡◌, ℕ, zero, suc, ◌+◌, ◌-◌, ◌≤◌, ⊎_elim, Bool, true, false, cond, List, [], ◌∷◌, get_or, take, drop, Decides, max, refl, sym, ap, ◌∙◌, subst, arith}
+use Rattle.std.proofs.lemmas.Bool.{leb-true, cases_eq, cases_Bool, true≢false, and_parts, and_from}
+use Rattle.std.proofs.lemmas.List.{get_or-drop, drop-take}
 use Rattle.std.specs.Prelude.{reverse}
 use Rattle.traffic_contract.specs.Contract.{Terms, IsContract, burst_of}
 use Rattle.traffic_contract.specs.Keeping.{Keeps, starts_before, may_follow, keeps_newest_first}
-use Rattle.traffic_contract.specs.Eligible.{IsLeastFrom, IsEligible, first_from, newest, eligible}
+use Rattle.traffic_contract.specs.Eligible.{IsEligible, first_from, newest, eligible}
 use Rattle.traffic_contract.proofs.NewestFirst.{starts_before-tells, Decides-may_follow, Decides-keeps_newest_first}
 
 -- the search never answers a tick below the one that it begins at

@@ -207,6 +207,7 @@ mod tests {
             (40, 4),
             (80, 8),
         ] {
+            assert!(rt; window <= 80);
             assert_eq!(rt; contract.bound(window), packets, "in {window} ticks");
         }
         Ok(())
