@@ -1,5 +1,5 @@
 //! The rows of a link and their sums at its levels.
-ghost use Rattle.std.specs.Prelude.{◌≡◌, ◌+◌, ◌<◌, ◌≤◌, [], None, Some, IfOk, IfErr, OnOk, OnErr, MatchResult, IsOk, length};
+ghost use Rattle.std.specs.Prelude.{◌≡◌, ◌+◌, ◌<◌, ◌≤◌, ℕ, [], None, Some, IfOk, IfErr, OnOk, OnErr, MatchResult, IsOk, length};
 ghost use Rattle.net_units.specs.Numbers.{level_number};
 ghost use Rattle.net_units.specs.Steps.{bound_at, last_bound};
 ghost use Rattle.traffic_contract.specs.Admission.{Passes, IsBest, IsRefused, with_row, level_sum, best_level, refused_sum};
@@ -87,6 +87,7 @@ impl LevelSums {
             (λ level. best_level self.now.server (rows_of self.now.rows) contract.now ≡ Some (level_number level))
             (λ _. best_level self.now.server (rows_of self.now.rows) contract.now ≡ None) }
         ensures least { IfOk result (λ level. IsBest self.now.server (rows_of self.now.rows) contract.now (level_number level)) }
+        ensures larger { IfOk result (λ level. (m : ℕ) → level_number level ≤ m → Passes self.now.server (with_row (rows_of self.now.rows) contract.now m)) }
         ensures none { IfErr result (λ _. IsRefused self.now.server (rows_of self.now.rows) contract.now) }
         ensures sum { IfErr result (λ none. none.sum ≡ refused_sum self.now.server (rows_of self.now.rows) contract.now) }
         ensures bound { IfErr result (λ none. none.bound ≡ last_bound self.now.server.bounds) }

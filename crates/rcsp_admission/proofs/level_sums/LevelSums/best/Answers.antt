@@ -4,7 +4,7 @@ use Rattle.std.proofs.lemmas.Bool.{cases_lt}
 use Rattle.net_units.specs.Numbers.{level_number}
 use Rattle.net_units.proofs.BoundFacts.{bounds_parts}
 use Rattle.traffic_contract.specs.Admission.{IsRefused}
-use Rattle.traffic_contract.proofs.AdmissionFacts.{best_level-none}
+use Rattle.traffic_contract.proofs.AdmissionFacts.{Passes-larger, best_level-none}
 use Rattle.rcsp_admission.specs.Sums.{AreAdmitted, rows_of}
 use Rattle.rcsp_admission.specs.Room.{sum_with}
 use Rattle.rcsp_admission.proofs.RoomFacts.{IsBest-above_full, best_level-above_full, IsRefused-last_full, refused_sum-is}
@@ -45,3 +45,7 @@ pub returns-clause-least : goal.returns-clause-least
 returns-clause-least c =
     let admitted = subst AreAdmitted c.self.view_is c.self.invariant in
     rw c.level_at.ensures (IsBest-above_full c.args.self.now.server (rows_of c.args.self.now.rows) c.args.contract.now c.last_full-full.result admitted.passes c.last_full-full.ensures (below_last c))
+
+pub returns-clause-larger : goal.returns-clause-larger
+returns-clause-larger c =
+    λ m above. Passes-larger c.args.self.now.server (rows_of c.args.self.now.rows) c.args.contract.now (level_number c.level_at.result) m above (returns-clause-least c).passes
