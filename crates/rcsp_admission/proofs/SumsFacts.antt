@@ -1,10 +1,12 @@
 -- What is kept of a link stays admitted through each change.
-use Rattle.std.proofs.Common.{◌≡◌, ◌≢◌, ℕ, zero, suc, ◌+◌, ◌-◌, ◌<◌, ◌≤◌, ⊎_elim, Bool, true, false, cond, eqb, ltb, List, [], ◌∷◌, length, map, get_or, refl, sym, ap, ◌∙◌, arith}
+use Rattle.std.proofs.Common.{◌≡◌, ◌≢◌, ℕ, zero, suc, ◌+◌, ◌-◌, ◌<◌, ◌≤◌, ⊎_elim, Bool, true, false, cond, eqb, ltb, List, [], ◌∷◌, length, map, get_or, refl, sym, ap, ◌∙◌, subst, arith}
 use Rattle.std.proofs.lemmas.Bool.{eqb-true, eqb-false, ne_eqb, cases_order, cases_Bool, and_parts}
 use Rattle.std.proofs.lemmas.List.{map_push, length-map, get_or-map, get_or_default}
 use Rattle.std.proofs.lemmas.List.Quantifiers.{all_pairs_push}
 use Rattle.std.proofs.lemmas.List.Kept.{AllPairs-filter}
+use Rattle.std.proofs.lemmas.List.Elements.{Contains-push_cases}
 use Rattle.std.specs.List.{filter}
+use Rattle.std.specs.Prelude.{Contains}
 use Rattle.net_units.specs.Steps.{are_bounds, bound_at, rises_above}
 use Rattle.net_units.proofs.BoundFacts.{bounds_parts, above_low}
 use Rattle.traffic_contract.specs.Contract.{Terms}
@@ -124,3 +126,13 @@ map-filter f test [] = refl
 map-filter f test (x ∷ xs) =
     let rest = map-filter f test xs in
     ⊎_elim (λ (kept : test (f x) ≡ true). (rw kept (ap (λ ys. f x ∷ ys) rest))) (λ (out : test (f x) ≡ false). (rw out rest)) (cases_Bool (test (f x)))
+
+-- no key is held of a link without rows, and one row more holds no other key
+pub not_held-none : (rows : List Held) (key : ℕ) → rows ≡ [] → Holds rows key → ⊥
+not_held-none rows key none (k, inside, at) = omega (arith, length-map rows key_of, ap length none)
+
+pub not_held-added : (before after : List Held) (key other level : ℕ) (terms : Terms) → after ≡ added before other terms level → key ≢ other → (Holds before key → ⊥) → Holds after key → ⊥
+not_held-added before after key other level terms e apart new held =
+    ⊎_elim new (λ same. apart (sym same)) (Contains-push_cases (map key_of before) other key (subst (λ keys. Contains keys key) (ap (map key_of) e ∙ map_push key_of before (held_at other terms level)) held))
+
+pub ruleset not_held = (not_held-none, not_held-added)

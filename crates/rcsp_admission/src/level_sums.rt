@@ -211,6 +211,7 @@ mod tests {
     }
 
     #[test]
+    #[tactic(auto, using(crate::proofs::SumsFacts::not_held))]
     fn admits_until_no_level_passes(rt: HostRuntime) -> Result<(), Fail> {
         let bounds = Bounds::new(&[10, 20, 40]).ok_or("bounds")?;
         assert_eq!(rt; bounds.len(), 3);
