@@ -1,0 +1,5 @@
+pub mod Faults
+pub mod Reading
+pub mod Store
+pub mod Supply
+pub mod Writing

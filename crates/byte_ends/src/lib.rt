@@ -1,0 +1,18 @@
+//! Where bytes come from and go to: sources that are read, sinks that are written to, and the lines of a source.
+#![tactic(auto)]
+
+mod fault_plan;
+pub mod mem_sink;
+pub mod mem_source;
+mod reserved;
+pub mod sink;
+pub mod source;
+pub mod sure_sink;
+pub mod sure_source;
+
+pub use mem_sink::MemSink;
+pub use mem_source::MemSource;
+pub use sink::{Put, Sink, WriteFault, put_all};
+pub use source::{Source, Took};
+pub use sure_sink::SureSink;
+pub use sure_source::SureSource;
