@@ -2,7 +2,7 @@
 -- A read that takes n bytes, at least one and at most as many as the room has, moves the first n bytes left into the
 -- front of the room. A read answers the end only where no byte is left. A read fails only where the count of faults
 -- rose in that read, and then it takes no byte.
-use Rattle.std.specs.Prelude.{ℕ, ◌≤◌, List, length, take, Option}
+use Rattle.std.specs.Prelude.{◌≡◌, ℕ, ◌≤◌, List, [], length, take, Option, ⊤}
 use Rattle.std.specs.Io.KnownBytes.{Consumes, Keeps, IsAtEnd}
 use Rattle.byte_ends.specs.Faults.{Rises}
 use Rattle.byte_ends.specs.declared.source.Took.{Took}
@@ -32,3 +32,23 @@ abbrev pub Reads : Took → Option (List ℕ) → Option (List ℕ) → List ℕ
 Reads (Taken n) left left' room faults faults' = Takes n left left' room faults faults'
 Reads End left left' room faults faults' = Ends left left' faults faults'
 Reads Failed left left' room faults faults' = Fails left left' faults faults'
+
+-- no more than so many bytes were taken
+abbrev pub TakesAtMost : ℕ → Took → Type 0
+TakesAtMost want (Taken n) = n ≤ want
+TakesAtMost want End = ⊤
+TakesAtMost want Failed = ⊤
+
+-- what was read into an empty block, which then has the bytes of `block`, at most `want`
+pub record FillsBlock (n want : ℕ) (block : List ℕ) (left left' : Option (List ℕ)) (faults faults' : ℕ) : Type 0 where
+  pub some : 1 ≤ n
+  pub at_most : n ≤ want
+  pub count : length block ≡ n
+  pub moves : Consumes left left' block
+  pub counts : faults ≤ faults'
+
+-- what a read into an empty block answers and does
+abbrev pub Refills : Took → ℕ → List ℕ → Option (List ℕ) → Option (List ℕ) → ℕ → ℕ → Type 0
+Refills (Taken n) want block left left' faults faults' = FillsBlock n want block left left' faults faults'
+Refills End want block left left' faults faults' = (block ≡ []) × Ends left left' faults faults'
+Refills Failed want block left left' faults faults' = (block ≡ []) × Fails left left' faults faults'

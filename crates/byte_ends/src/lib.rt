@@ -1,7 +1,9 @@
 //! Where bytes come from and go to: sources that are read, sinks that are written to, and the lines of a source.
 #![tactic(auto)]
 
+mod block;
 mod fault_plan;
+pub mod lines;
 pub mod mem_sink;
 pub mod mem_source;
 mod reserved;
@@ -10,6 +12,7 @@ pub mod source;
 pub mod sure_sink;
 pub mod sure_source;
 
+pub use lines::{Cut, LineRefusal, Lines};
 pub use mem_sink::MemSink;
 pub use mem_source::MemSource;
 pub use sink::{Put, Sink, WriteFault, put_all};

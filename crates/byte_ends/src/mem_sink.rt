@@ -44,10 +44,10 @@ impl MemSink {
         requires { 1 ≤ most }
         ensures { IfOk result (λ s. s
             ≡ record {
-                bytes = [];
-                room = room;
-                most = most;
-                plan = record { fails = fails.items; calls = 0; faults = 0 }
+              bytes = [];
+              room = room;
+              most = most;
+              plan = record { fails = fails.items; calls = 0; faults = 0 };
             }) }
     {
         let bytes = Vec::with_capacity(alloc, room)?;
