@@ -29,3 +29,7 @@ pub record WritesFront (written written' : Option (List ℕ)) (piece : List ℕ)
   pub count : ℕ
   pub short : count < length piece
   pub appends : Appends written written' (take count piece)
+
+-- some bytes of the piece, and no more than it has
+abbrev pub WritesSome : List ℕ → ℕ → Type 0
+WritesSome piece count = (1 ≤ count) × (count ≤ length piece)

@@ -9,6 +9,7 @@ pub mod mem_source;
 mod reserved;
 pub mod sink;
 pub mod source;
+pub mod standard;
 pub mod sure_sink;
 pub mod sure_source;
 
@@ -17,5 +18,9 @@ pub use mem_sink::MemSink;
 pub use mem_source::MemSource;
 pub use sink::{Put, Sink, WriteFault, put_all};
 pub use source::{Source, Took};
+pub use standard::{StdSink, StdSource};
 pub use sure_sink::SureSink;
 pub use sure_source::SureSource;
+
+#[cfg(test)]
+mod tests;
