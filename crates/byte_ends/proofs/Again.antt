@@ -1,10 +1,11 @@
 -- A cutting that is over, cut short or done answers the same again.
-use Rattle.std.proofs.Common.{◌≡◌, ◌≢◌, ℕ, ◌+◌, ◌<◌, ◌⊎◌, inl, inr, Bool, true, false, List, [], ◌∷◌, ◌++◌, length, take, get_or, Option, Some, Result, Ok, Err, length-append, length-take, sym, ap, refl, ◌∙◌, arith}
-use Rattle.std.proofs.lemmas.List.{get_or-take, get_or_at}
+use Rattle.std.proofs.Common.{◌≡◌, ◌≢◌, ℕ, ◌+◌, ◌<◌, ◌≤◌, inl, inr, true, List, [], ◌∷◌, ◌++◌, length, take, get_or, Option, Some, Result, Ok, Err, length-append, length-take, sym, ap, refl, ◌∙◌, arith}
+use Rattle.std.proofs.lemmas.List.{get_or-take, get_or_at, get_or_append_left}
+use Rattle.std.proofs.lemmas.Bool.{cases_lt}
 use Rattle.std.proofs.lemmas.List.Elements.{All-take}
 use Rattle.byte_ends.specs.WholeLines.{feed}
-use Rattle.byte_ends.specs.Cutting.{Cutting, GivesLine, HasNoFeed, IsCutting, IsDone, IsOver, IsCut, IsFinal, allowance, let_go}
-use Rattle.byte_ends.specs.Answers.{Settles}
+use Rattle.byte_ends.specs.Cutting.{Cutting, GivesLine, HasLine, HasNoFeed, IsCutting, IsDone, IsOver, IsCut, IsFinal, IsOpen, allowance, let_go}
+use Rattle.byte_ends.specs.Answers.{Moves, Settles}
 use Rattle.byte_ends.specs.declared.lines.Cut.{Cut}
 use Rattle.byte_ends.specs.declared.lines.Cut.TheVariants.{Line, End}
 use Rattle.byte_ends.specs.declared.lines.LineRefusal.{LineRefusal}
@@ -42,6 +43,29 @@ done_without_line s t done gives =
 not_both : (s t : Cutting) → t ≡ let_go s → IsCutting t → s.taken ≡ s.most + 1 → t.ended ≡ true → ⊥
 not_both s t same is too_many at_end =
     omega (arith, is.ended_within at_end, too_many, ap (λ (x : Cutting). x.taken) same, ap (λ (x : Cutting). x.most) same)
+
+-- a line that was given was pending whole
+pub HasLine-given : (s t : Cutting) → GivesLine s t → HasLine s
+HasLine-given s t gives =
+    let room = line_within s t gives in
+    let at : get_or (take (allowance s) s.pending) (length t.line) feed ≡ feed =
+    get_or-take (allowance s) s.pending (length t.line) feed room ∙ ap (λ l. get_or l (length t.line) feed) gives.joined
+    ∙ get_or_at t.line feed t.pending feed (length t.line) refl in
+    (length t.line, omega (arith, room, length-take (allowance s) s.pending, ap length gives.joined, length-append t.line (feed ∷ t.pending)), at)
+
+-- a line that was given after one more block was read ends in that block, so what is pending is less than the block
+pub pending_below_block : (p m t : Cutting) (left left' : Option (List ℕ)) (block : ℕ) → IsOpen p → Moves p m left left' []
+    → m.taken ≤ p.taken + block → GivesLine m t → length t.pending < block
+pending_below_block p m t left left' block undecided moves one_block gives =
+    elim (cases_lt (length t.line) (length p.pending)) [
+      | inl before ↦
+          let at : get_or p.pending (length t.line) 0 ≡ feed =
+          sym (get_or_append_left p.pending moves.bytes 0 (length t.line) before) ∙ ap (λ l. get_or l (length t.line) 0) (moves.joined ∙ gives.joined)
+          ∙ get_or_at t.line feed t.pending 0 (length t.line) refl in
+          absurd (undecided.no_line (length t.line) 0 before at)
+      | inr behind ↦
+          omega (arith, behind, one_block, moves.counted, ap length moves.joined, length-append p.pending moves.bytes, ap length gives.joined, length-append t.line (feed ∷ t.pending))
+    ]
 
 -- too long again
 pub over_settles : (answer : Result Cut LineRefusal) (s t : Cutting) → Settles (Some answer) s t → IsCutting t → IsOver s

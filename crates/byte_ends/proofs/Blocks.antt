@@ -1,11 +1,11 @@
 -- Reading block after block until the bytes taken decide something.
-use Rattle.std.proofs.Common.{◌≡◌, ℕ, ◌+◌, ◌-◌, ◌<◌, ◌≤◌, min, ◌⊎◌, Bool, true, false, List, [], ◌∷◌, ◌++◌, length, Option, Some, None, Result, Ok, Err, append-nil, append_assoc, length-append, sym, ap, refl, ◌∙◌, subst, arith}
+use Rattle.std.proofs.Common.{◌≡◌, ℕ, ◌≤◌, List, [], ◌∷◌, ◌++◌, Option, Some, None, Result, Ok, Err, append-nil, append_assoc, length-append, sym, ap, refl, ◌∙◌, arith}
 use Rattle.std.specs.Io.KnownBytes.{Consumes, IsAtEnd}
 use Rattle.std.proofs.KnownBytes.{Consumes-nil, Consumes-trans}
 use Rattle.byte_ends.specs.Faults.{Rises}
 use Rattle.byte_ends.specs.WholeLines.{feed}
-use Rattle.byte_ends.specs.Cutting.{Cutting, GivesLine, IsOpen, IsDone, IsOver, IsCut, IsOf, ahead, let_go}
-use Rattle.byte_ends.specs.Answers.{Moves, GivesNone, Answers, AnswersLine, AnswersEnd, AnswersReadFault, AnswersMemory, AnswersTooLong, AnswersNoLineEnd, StaysOpen, Settles, FetchesMore}
+use Rattle.byte_ends.specs.Cutting.{Cutting, IsOpen, ahead, let_go}
+use Rattle.byte_ends.specs.Answers.{Moves, GivesNone, Answers, StaysOpen, Settles}
 use Rattle.byte_ends.specs.declared.lines.Cut.{Cut}
 use Rattle.byte_ends.specs.declared.lines.Cut.TheVariants.{Line, End}
 use Rattle.byte_ends.specs.declared.lines.LineRefusal.{LineRefusal}

@@ -1,12 +1,11 @@
 -- What reading one block more does to a cutting.
-use Rattle.std.proofs.Common.{◌≡◌, ℕ, ◌+◌, ◌-◌, ◌<◌, ◌≤◌, Bool, true, false, List, [], ◌∷◌, ◌++◌, length, take, drop, Option, Some, None, append-nil, append_assoc, length-append, sym, ap, refl, ◌∙◌, subst, arith}
+use Rattle.std.proofs.Common.{◌≡◌, ℕ, ◌+◌, ◌≤◌, Bool, true, false, List, [], ◌++◌, length, take, Option, Some, None, append-nil, append_assoc, length-append, sym, ap, refl, ◌∙◌, arith}
 use Rattle.std.proofs.lemmas.List.{take_all}
 use Rattle.std.proofs.lemmas.Bool.{false≢true}
 use Rattle.std.specs.Io.KnownBytes.{Consumes, Keeps}
 use Rattle.std.proofs.KnownBytes.{Consumes-nil, Consumes-kept}
-use Rattle.byte_ends.specs.WholeLines.{feed}
-use Rattle.byte_ends.specs.Cutting.{Cutting, IsCutting, IsOpen, IsHeld, IsOf, HasNoFeed, ahead, cutting_of, front_of}
-use Rattle.byte_ends.specs.Answers.{Moves, GivesNone}
+use Rattle.byte_ends.specs.Cutting.{Cutting, IsCutting, IsOpen, IsHeld, IsOf, ahead, cutting_of, front_of}
+use Rattle.byte_ends.specs.Answers.{GivesNone}
 
 -- the front of the pending line and the whole block behind it are what was pending
 pub gathered : (front block line line' : List ℕ) (n : ℕ) → line ≡ front → n ≡ length block → line' ≡ line ++ take n block → line' ≡ front ++ block

@@ -1,11 +1,10 @@
 -- The answers as a function of the bytes that are not given yet.
-use Rattle.std.proofs.Common.{◌≡◌, ◌≢◌, ℕ, zero, suc, ◌+◌, ◌-◌, ◌<◌, ◌≤◌, ◌==◌, Bool, true, false, not, List, [], ◌∷◌, ◌++◌, length, take, Option, Some, None, Result, Ok, Err, append-nil, append_assoc, length-append, sym, ap, refl, ◌∙◌, subst, arith, tests}
+use Rattle.std.proofs.Common.{◌≡◌, ◌≢◌, ℕ, zero, suc, ◌+◌, ◌<◌, ◌≤◌, ◌==◌, Bool, true, false, not, List, [], ◌∷◌, ◌++◌, length, take, Option, Some, None, Result, Ok, Err, append-nil, append_assoc, length-append, sym, ap, refl, ◌∙◌, arith}
 use Rattle.std.proofs.lemmas.List.Elements.{All-head, All-tail, All-take}
 use Rattle.std.proofs.lemmas.List.{take-append-le}
 use Rattle.std.proofs.lemmas.Bool.Decides.{nat_tests}
-use Rattle.std.specs.Io.KnownBytes.{Consumes, IsAtEnd}
-use Rattle.byte_ends.specs.WholeLines.{feed, with_front, whole_lines, Ending, all_given, cut_short, too_long, ending_from, ending, Outlook, outlook}
-use Rattle.byte_ends.specs.Cutting.{Cutting, HasNoFeed, IsCutting, IsDone, IsOver, IsCut, IsOf, ahead, allowance}
+use Rattle.byte_ends.specs.WholeLines.{feed, with_front, whole_lines, Ending, cut_short, too_long, ending_from, ending, Outlook, outlook}
+use Rattle.byte_ends.specs.Cutting.{Cutting, HasNoFeed, IsCutting, IsOf, ahead, allowance}
 use Rattle.byte_ends.specs.Answers.{Moves, GivesNone, Answers, AnswersLine, AnswersEnd, AnswersTooLong, AnswersNoLineEnd, Foretells, outlook_before}
 use Rattle.byte_ends.specs.declared.lines.Cut.{Cut}
 use Rattle.byte_ends.specs.declared.lines.Cut.TheVariants.{Line, End}

@@ -1,5 +1,5 @@
 -- What a read of bytes in memory does to them.
-use Rattle.std.proofs.Common.{◌≡◌, ℕ, List, length, take, drop, ◌++◌, Some, take-append-drop, sym, ap, ◌∙◌, arith, rules}
+use Rattle.std.proofs.Common.{ℕ, List, Some, take-append-drop, sym, arith}
 use Rattle.byte_ends.specs.Reading.{Takes}
 use Rattle.byte_ends.specs.Supply.{Supply, Supplied}
 

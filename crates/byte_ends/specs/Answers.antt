@@ -1,9 +1,10 @@
 -- What a call for the next line answers.
-use Rattle.std.specs.Prelude.{◌≡◌, ℕ, ◌+◌, ◌<◌, ◌≤◌, ◌⊎◌, Bool, true, List, [], ◌∷◌, ◌++◌, length, Option, Some, None, Result, Ok, Err, ⊤}
+use Rattle.std.specs.Prelude.{◌≡◌, ℕ, ◌+◌, ◌<◌, ◌≤◌, ◌⊎◌, true, List, [], ◌∷◌, ◌++◌, length, Option, Some, None, Result, Ok, Err, ⊤}
 use Rattle.std.specs.Io.KnownBytes.{Consumes, IsAtEnd}
 use Rattle.byte_ends.specs.Faults.{Rises}
 use Rattle.byte_ends.specs.WholeLines.{feed, Outlook, outlook, all_given, cut_short, too_long}
 use Rattle.byte_ends.specs.Cutting.{Cutting, GivesLine, HasNoFeed, IsOpen, IsDone, IsOver, IsCut, IsOf, ahead, allowance, given, let_go}
+use Rattle.byte_ends.specs.declared.block.TheConstants.{BLOCK}
 use Rattle.byte_ends.specs.declared.lines.Cut.{Cut}
 use Rattle.byte_ends.specs.declared.lines.Cut.TheVariants.{Line, End}
 use Rattle.byte_ends.specs.declared.lines.LineRefusal.{LineRefusal}
@@ -122,10 +123,11 @@ Settles (Some (Err (NoLineEnd line))) s t = SettlesCut line s t
 Settles (Some (Err ReadFault)) s t = ⊥
 Settles (Some (Err Memory)) s t = ⊥
 
--- more was read, or the source ended
+-- one block more was read, or the source ended
 pub record FetchesMore (s t : Cutting) (left left' : Option (List ℕ)) : Type 0 where
   pub stays : GivesNone s t left left'
   pub goes : (t.ended ≡ true) ⊎ (s.taken < t.taken)
+  pub one_block : t.taken ≤ s.taken + BLOCK
 
 -- what reading on answers and does, where the bytes taken decide nothing
 abbrev pub Fetches : Result (Unit {0}) LineRefusal → Cutting → Cutting → Option (List ℕ) → Option (List ℕ) → ℕ → ℕ → Type 0

@@ -4,7 +4,7 @@
 -- left among the first `most`; it is cut short where the source ended inside a line; it is done where the source ended
 -- and no byte is left. Otherwise, where no whole line is pending, more has to be read.
 use Rattle.std.specs.Prelude.{◌≡◌, ◌≢◌, ℕ, ◌+◌, ◌-◌, ◌^◌, ◌<◌, ◌≤◌, ◌⊎◌, Bool, true, false, List, [], ◌∷◌, ◌++◌, length, take, slice_index, if◌then◌else◌, All, Contains, Option}
-use Rattle.std.specs.Io.KnownBytes.{prepend_known, Consumes, IsAtEnd}
+use Rattle.std.specs.Io.KnownBytes.{prepend_known, IsAtEnd}
 use Rattle.byte_ends.specs.WholeLines.{feed}
 
 pub record Cutting : Type 0 where

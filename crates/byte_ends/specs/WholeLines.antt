@@ -2,7 +2,7 @@
 -- `most` may stand in lines, line feeds included. The whole lines are those whose line feed is among these. Behind
 -- them, either all bytes were given; or there are more than `most` bytes, so the bytes are too long; or they are cut
 -- short: the last line has no line feed.
-use Rattle.std.specs.Prelude.{ℕ, suc, zero, Bool, true, false, not, ◌==◌, if◌then◌else◌, List, [], ◌∷◌}
+use Rattle.std.specs.Prelude.{ℕ, suc, zero, Bool, false, not, ◌==◌, if◌then◌else◌, List, [], ◌∷◌}
 
 -- the byte that ends a line
 abbrev pub feed : ℕ

@@ -1,5 +1,5 @@
 //! The lines of a source, read in blocks.
-ghost use Rattle.std.specs.Prelude.{◌≡◌, ◌+◌, ◌-◌, ◌^◌, ◌<◌, ◌≤◌, [], ◌++◌, false, length, take, drop, Ok, Err, IfOk, IfNone, IfSome, vec_len, vec_capacity};
+ghost use Rattle.std.specs.Prelude.{◌≡◌, ◌+◌, ◌-◌, ◌^◌, ◌<◌, ◌≤◌, ◌⊎◌, [], ◌++◌, false, length, take, drop, Ok, Err, IfOk, IfNone, IfSome, vec_len, vec_capacity};
 ghost use Rattle.byte_ends.specs.Answers.{Answers, Fetches, Foretells, Settles};
 ghost use Rattle.byte_ends.specs.Cutting.{HasLine, HasNoFeed, IsCut, IsCutting, IsDone, IsFinal, IsFirstFeed, IsOf, IsOpen, IsOver, IsSettled, ahead, front_of, let_go};
 
@@ -75,8 +75,9 @@ impl Lines {
     /// The lines of a source of which nothing was read yet. They may have `most` bytes together, line feeds included.
     pub fn new(alloc: Global, most: u64) -> Result<Lines, OutOfMemory>
         requires { most < 2 ^ 63 }
-        ensures { IfOk result (λ t. t
+        ensures made { IfOk result (λ t. t
             ≡ record { most = most; taken = 0; pending = []; ended = false; number = 0; line = [] }) }
+        ensures stands { IfOk result IsCutting }
     {
         let block = Block::new(alloc)?;
         Ok(Lines {
@@ -132,6 +133,8 @@ impl Lines {
         ensures done_again { IsDone self.old → result ≡ Ok Cut.End }
         ensures unread { IsSettled self.old → source.new ≡ source.old }
         ensures untaken { IsSettled self.old → self.new.taken ≡ self.old.taken }
+        ensures near { result ≡ Ok Cut.Line
+            → HasLine self.old ⊎ (length self.new.pending < BLOCK) }
         ensures same_again { IsFinal self.old → self.new ≡ let_go self.old }
     {
         match self.settle() {
@@ -147,6 +150,7 @@ impl Lines {
             (S.faults source.old) (S.faults source.new) }
         ensures counts { S.faults source.old ≤ S.faults source.new }
         ensures stands { IsCutting self.new }
+        ensures near { result ≡ Ok Cut.Line → length self.new.pending < BLOCK }
     {
         loop {
             self.fetch(source)?;

@@ -1,3 +1,5 @@
+ghost use Rattle.std.specs.Prelude.{◌≤◌, IfOk};
+
 use super::*;
 use std::io::{self, Error, ErrorKind, Read, Write};
 use std::process::Abort;
@@ -28,7 +30,12 @@ fn the_last_line_has_no_line_feed(rt: HostRuntime) -> Result<(), Fail> {
     let mut source = SureSource::new(Vec::from_slice(rt.alloc(), b"a\nb")?, 100);
     let mut lines = Lines::new(rt.alloc(), 1000)?;
     gives(&rt, &mut lines, &mut source, b"a", 1);
-    answers_twice(&rt, &mut lines, &mut source, Err(LineRefusal::NoLineEnd { line: 2 }));
+    answers_twice(
+        &rt,
+        &mut lines,
+        &mut source,
+        Err(LineRefusal::NoLineEnd { line: 2 }),
+    );
     assert_eq!(rt; lines.number(), 1);
     Ok(())
 }
@@ -64,7 +71,12 @@ fn a_byte_too_many_is_refused_behind_the_whole_lines(rt: HostRuntime) -> Result<
     let mut source = SureSource::new(Vec::from_slice(rt.alloc(), b"ab\ncd\nef\n")?, 100);
     let mut lines = Lines::new(rt.alloc(), 5)?;
     gives(&rt, &mut lines, &mut source, b"ab", 1);
-    answers_twice(&rt, &mut lines, &mut source, Err(LineRefusal::TooLong { taken: 6 }));
+    answers_twice(
+        &rt,
+        &mut lines,
+        &mut source,
+        Err(LineRefusal::TooLong { taken: 6 }),
+    );
     Ok(())
 }
 
@@ -121,7 +133,7 @@ enum Then {
 
 impl Stutter {
     fn call(&mut self, length: usize) -> io::Result<usize>
-        ensures { AtMost result length }
+        ensures { IfOk result (λ count. count ≤ length) }
     {
         if self.interruptions > 0 {
             self.interruptions -= 1;
@@ -163,10 +175,16 @@ fn an_interrupted_call_is_tried_again_64_times(rt: HostRuntime) {
         (65, Took::Failed, Put::Failed, 1),
     ] {
         let then = Then::TakesOne;
-        let mut source = StdSource::new(Stutter { interruptions, then });
+        let mut source = StdSource::new(Stutter {
+            interruptions,
+            then,
+        });
         assert_eq!(rt; source.read(&mut room), took, "{interruptions}");
         assert_eq!(rt; source.faults(), faults, "{interruptions}");
-        let mut sink = StdSink::new(Stutter { interruptions, then });
+        let mut sink = StdSink::new(Stutter {
+            interruptions,
+            then,
+        });
         assert_eq!(rt; sink.write(b"ab"), put, "{interruptions}");
         assert_eq!(rt; sink.faults(), faults, "{interruptions}");
     }

@@ -1,5 +1,4 @@
-use Rattle.std.proofs.Common.{◌≡◌, ℕ, ◌-◌, ◌≤◌, length, take}
-use Rattle.std.specs.Io.KnownBytes.{Appends}
+use Rattle.std.proofs.Common.{◌≡◌, ◌-◌, length}
 use Rattle.byte_ends.proofs.sink.put_all.Given as goal
 use Rattle.byte_ends.proofs.Putting.{PutSoFar}
 

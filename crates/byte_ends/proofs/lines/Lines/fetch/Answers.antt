@@ -1,5 +1,4 @@
-use Rattle.std.proofs.Common.{◌≡◌, ℕ, ◌+◌, ◌-◌, ◌≤◌, Bool, true, false, List, [], ◌++◌, length, vec_len, vec_capacity, append-nil, length-append, refl, sym, ap, ◌∙◌, arith, rules}
-use Rattle.std.proofs.lemmas.Grind.{common_steps}
+use Rattle.std.proofs.Common.{◌≡◌, false, [], length, ap, ◌∙◌, arith}
 use Rattle.std.proofs.lemmas.List.{drop_all}
 use Rattle.std.proofs.KnownBytes.{Keeps-refl}
 use Rattle.byte_ends.specs.Cutting.{Cutting, IsOpen, cutting_of, front_of}
@@ -18,7 +17,10 @@ undecided g c = rw (← c.self.view_is) at c.requires
 all_pending : (g : _) (c : After-reserve g) → c.reserve.new.self.items ≡ (before g c).pending
 all_pending g c =
     let a = c.self.inside in
-    c.reserve.ensures.items ∙ gathered (front_of a.whole a.line.items) a.block _ _ _ c.begin_line.ensures.front (ap length c.rest-count.ensures.rest) c.move_front.ensures.line
+    let moved : c.move_front.new.line.items ≡ (before g c).pending =
+    gathered (front_of a.whole a.line.items) a.block c.begin_line.new.line.items c.move_front.new.line.items (length c.rest-count.result.now)
+    c.begin_line.ensures.front (ap length c.rest-count.ensures.rest) c.move_front.ensures.line in
+    rw c.reserve.ensures.items moved
 
 -- the block is empty
 none_left : (g : _) (c : After-reserve g) → c.move_front.new.block ≡ []

@@ -1,6 +1,6 @@
-use Rattle.std.proofs.Common.{[], refl}
+use Rattle.std.proofs.Common.{[], refl, inl}
 use Rattle.byte_ends.proofs.Blocks.{Answers-settled, Moves-settled}
-use Rattle.byte_ends.proofs.Again.{over_settles, cut_settles, final_settles}
+use Rattle.byte_ends.proofs.Again.{HasLine-given, over_settles, cut_settles, final_settles}
 use Rattle.byte_ends.proofs.Outlooks.{Foretells-answered}
 use Rattle.byte_ends.specs.Cutting.{let_go}
 use Rattle.byte_ends.proofs.lines.Lines.read_line.Goals as goal
@@ -25,3 +25,7 @@ pub returns-in-None-clause-told : goal.returns-in-None-clause-told
 returns-in-None-clause-told g c =
     let answers = rw c.in-None.ensures.settles.same at c.read_on.ensures.answers in
     λ of. Foretells-answered c.read_on.result (let_go c.args.self.now) c.read_on.new.self _ _ _ _ answers c.read_on.ensures.stands of
+
+pub returns-in-Some-clause-near : goal.returns-in-Some-clause-near
+returns-in-Some-clause-near g c =
+    λ line. inl (HasLine-given c.args.self.now c.settle.new.self (rw line at c.in-Some.ensures.settles))

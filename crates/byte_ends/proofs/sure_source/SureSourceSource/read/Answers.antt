@@ -1,7 +1,6 @@
-use Rattle.std.proofs.Common.{rules, drop, take, ◌+◌, ◌≡◌, ℕ, List, arith, length-append, length-drop, ◌∙◌}
+use Rattle.std.proofs.Common.{drop, ◌+◌, arith, length-append, length-drop, ◌∙◌}
 use Rattle.std.proofs.lemmas.List.{take_at, drop-drop}
 use Rattle.std.proofs.lemmas.Grind.{common_steps}
-use Rattle.byte_ends.specs.Supply.{Supply, Supplied}
 use Rattle.byte_ends.proofs.Supplying.{Takes-supplied}
 use Rattle.byte_ends.proofs.sure_source.SureSourceSource.read.Goals as goal
 
