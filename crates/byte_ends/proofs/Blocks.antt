@@ -5,7 +5,8 @@ use Rattle.std.proofs.KnownBytes.{Consumes-nil, Consumes-trans}
 use Rattle.byte_ends.specs.Faults.{Rises}
 use Rattle.byte_ends.specs.WholeLines.{feed}
 use Rattle.byte_ends.specs.Cutting.{Cutting, IsOpen, ahead, let_go}
-use Rattle.byte_ends.specs.Answers.{Moves, GivesNone, Answers, StaysOpen, Settles}
+use Rattle.byte_ends.specs.Answers.{Moves, GivesNone, Answers}
+use Rattle.byte_ends.specs.Steps.{StaysOpen, Settles}
 use Rattle.byte_ends.specs.declared.lines.Cut.{Cut}
 use Rattle.byte_ends.specs.declared.lines.Cut.TheVariants.{Line, End}
 use Rattle.byte_ends.specs.declared.lines.LineRefusal.{LineRefusal}
@@ -62,7 +63,7 @@ Reached-none s left faults undecided =
 -- what was reached, and then more bytes taken
 pub GivesNone-after : (s m t : Cutting) (a b c : Option (List ℕ)) (f g : ℕ) → Reached s m a b f g → GivesNone m t b c → GivesNone s t a c
 GivesNone-after s m t a b c f g p q =
-    record { moves = Moves-trans s m t a b c [] p.moves q.moves; same_number = q.same_number ∙ p.same_number; no_line = q.no_line }
+    record { moves = Moves-trans s m t a b c [] p.moves q.moves; same_number = q.same_number ∙ p.same_number; none_in_hand = q.none_in_hand }
 
 -- a count that rose after it had not fallen rose
 pub Rises-after : (f g h : ℕ) → f ≤ g → Rises g h → Rises f h
@@ -96,7 +97,7 @@ GivesNone-let_go : (s m t : Cutting) (left left' : Option (List ℕ)) → Moves 
     → GivesNone s t left left'
 GivesNone-let_go s m t left left' moves number same =
     let last : Moves m (let_go m) left' left' [] = Moves-settled m (let_go m) left' [] refl refl refl refl in
-    rw same (record { moves = Moves-trans s m (let_go m) left left' left' [] moves last; same_number = number; no_line = refl })
+    rw same (record { moves = Moves-trans s m (let_go m) left left' left' [] moves last; same_number = number; none_in_hand = refl })
 
 -- what the bytes taken decide is the answer
 pub Answers-settled : (answer : Result Cut LineRefusal) (s m t : Cutting) (left left' : Option (List ℕ)) (f g : ℕ) → Moves s m left left' []

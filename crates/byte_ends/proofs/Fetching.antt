@@ -4,7 +4,8 @@ use Rattle.std.proofs.lemmas.List.{take_all}
 use Rattle.std.proofs.lemmas.Bool.{false≢true}
 use Rattle.std.specs.Io.KnownBytes.{Consumes, Keeps}
 use Rattle.std.proofs.KnownBytes.{Consumes-nil, Consumes-kept}
-use Rattle.byte_ends.specs.Cutting.{Cutting, IsCutting, IsOpen, IsHeld, IsOf, ahead, cutting_of, front_of}
+use Rattle.byte_ends.specs.Cutting.{Cutting, IsCutting, IsOpen, IsOf, ahead}
+use Rattle.byte_ends.specs.Held.{IsHeld, cutting_of, front_of}
 use Rattle.byte_ends.specs.Answers.{GivesNone}
 
 -- the front of the pending line and the whole block behind it are what was pending
@@ -54,7 +55,7 @@ GivesNone-taken s t left left' bytes consumed pending counted most number no_lin
         same_source = of;
       };
       same_number = number;
-      no_line = no_line;
+      none_in_hand = no_line;
     }
 
 -- where nothing was taken, the cutting stays open, and gives no line

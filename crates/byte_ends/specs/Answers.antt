@@ -1,10 +1,13 @@
--- What a call for the next line answers.
-use Rattle.std.specs.Prelude.{◌≡◌, ℕ, ◌+◌, ◌<◌, ◌≤◌, ◌⊎◌, true, List, [], ◌∷◌, ◌++◌, length, Option, Some, None, Result, Ok, Err, ⊤}
+-- What a call for the next line answers. A line comes where one stands whole among the bytes that may stand in lines;
+-- the end comes where the source ended and all its bytes were given. The call refuses where the source failed, where
+-- memory was wanted, where one byte too many was taken and no whole line is left, and where the source ended inside a
+-- line. Where the source tells its bytes, the lines given and the answer behind them are a function of those bytes,
+-- whatever the sizes of the reads: each call takes the first line off the outlook, or answers what the outlook ends in.
+use Rattle.std.specs.Prelude.{◌≡◌, ℕ, ◌+◌, ◌≤◌, List, [], ◌∷◌, ◌++◌, length, Option, Some, None, Result, Ok, Err, ⊤}
 use Rattle.std.specs.Io.KnownBytes.{Consumes, IsAtEnd}
 use Rattle.byte_ends.specs.Faults.{Rises}
 use Rattle.byte_ends.specs.WholeLines.{feed, Outlook, outlook, all_given, cut_short, too_long}
-use Rattle.byte_ends.specs.Cutting.{Cutting, GivesLine, HasNoFeed, IsOpen, IsDone, IsOver, IsCut, IsOf, ahead, allowance, given, let_go}
-use Rattle.byte_ends.specs.declared.block.TheConstants.{BLOCK}
+use Rattle.byte_ends.specs.Cutting.{Cutting, HasNoFeed, IsOpen, IsDone, IsOver, IsCut, IsOf, ahead, allowance, given}
 use Rattle.byte_ends.specs.declared.lines.Cut.{Cut}
 use Rattle.byte_ends.specs.declared.lines.Cut.TheVariants.{Line, End}
 use Rattle.byte_ends.specs.declared.lines.LineRefusal.{LineRefusal}
@@ -28,7 +31,7 @@ pub record Moves (s t : Cutting) (left left' : Option (List ℕ)) (out : List �
 pub record GivesNone (s t : Cutting) (left left' : Option (List ℕ)) : Type 0 where
   pub moves : Moves s t left left' []
   pub same_number : t.number ≡ s.number
-  pub no_line : t.line ≡ []
+  pub none_in_hand : t.line ≡ []
 
 -- the next line is in hand: it and its line feed are the first of the bytes that were not given
 pub record AnswersLine (s t : Cutting) (left left' : Option (List ℕ)) : Type 0 where
@@ -90,49 +93,3 @@ abbrev pub Foretells : Result Cut LineRefusal → Cutting → Cutting → Option
 Foretells answer s t None rest = ⊤
 Foretells answer s t (Some bytes) None = ⊥
 Foretells answer s t (Some bytes) (Some rest) = outlook (allowance s) bytes ≡ outlook_before answer t.line (outlook (allowance t) rest)
-
--- nothing but the line in hand was let go, and the bytes taken decide nothing
-pub record StaysOpen (s t : Cutting) : Type 0 where
-  pub same : t ≡ let_go s
-  pub undecided : IsOpen t
-
--- all bytes were given before
-pub record SettlesDone (s t : Cutting) : Type 0 where
-  pub same : t ≡ let_go s
-  pub done : IsDone t
-
--- one byte too many was taken before, so many in all
-pub record SettlesOver (taken : ℕ) (s t : Cutting) : Type 0 where
-  pub same : t ≡ let_go s
-  pub over : IsOver t
-  pub count : taken ≡ t.taken
-
--- the source had ended inside the line of that number
-pub record SettlesCut (line : ℕ) (s t : Cutting) : Type 0 where
-  pub same : t ≡ let_go s
-  pub cut : IsCut t
-  pub place : line ≡ t.number + 1
-
--- what the bytes taken so far decide
-abbrev pub Settles : Option (Result Cut LineRefusal) → Cutting → Cutting → Type 0
-Settles None s t = StaysOpen s t
-Settles (Some (Ok Line)) s t = GivesLine s t
-Settles (Some (Ok End)) s t = SettlesDone s t
-Settles (Some (Err (TooLong taken))) s t = SettlesOver taken s t
-Settles (Some (Err (NoLineEnd line))) s t = SettlesCut line s t
-Settles (Some (Err ReadFault)) s t = ⊥
-Settles (Some (Err Memory)) s t = ⊥
-
--- one block more was read, or the source ended
-pub record FetchesMore (s t : Cutting) (left left' : Option (List ℕ)) : Type 0 where
-  pub stays : GivesNone s t left left'
-  pub goes : (t.ended ≡ true) ⊎ (s.taken < t.taken)
-  pub one_block : t.taken ≤ s.taken + BLOCK
-
--- what reading on answers and does, where the bytes taken decide nothing
-abbrev pub Fetches : Result (Unit {0}) LineRefusal → Cutting → Cutting → Option (List ℕ) → Option (List ℕ) → ℕ → ℕ → Type 0
-Fetches (Ok _) s t left left' faults faults' = FetchesMore s t left left'
-Fetches (Err ReadFault) s t left left' faults faults' = AnswersReadFault s t left left' faults faults'
-Fetches (Err Memory) s t left left' faults faults' = AnswersMemory s t left left'
-Fetches (Err (TooLong _)) s t left left' faults faults' = ⊥
-Fetches (Err (NoLineEnd _)) s t left left' faults faults' = ⊥

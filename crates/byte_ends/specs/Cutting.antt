@@ -3,7 +3,7 @@
 -- given, each with its line feed. The cutting is over where one byte more than `most` was taken and no whole line is
 -- left among the first `most`; it is cut short where the source ended inside a line; it is done where the source ended
 -- and no byte is left. Otherwise, where no whole line is pending, more has to be read.
-use Rattle.std.specs.Prelude.{◌≡◌, ◌≢◌, ℕ, ◌+◌, ◌-◌, ◌^◌, ◌<◌, ◌≤◌, ◌⊎◌, Bool, true, false, List, [], ◌∷◌, ◌++◌, length, take, slice_index, if◌then◌else◌, All, Contains, Option}
+use Rattle.std.specs.Prelude.{◌≡◌, ◌≢◌, ℕ, ◌+◌, ◌-◌, ◌^◌, ◌<◌, ◌≤◌, ◌⊎◌, Bool, true, false, List, [], length, take, All, Contains, Option}
 use Rattle.std.specs.Io.KnownBytes.{prepend_known, IsAtEnd}
 use Rattle.byte_ends.specs.WholeLines.{feed}
 
@@ -86,44 +86,6 @@ IsSettled t = HasLine t ⊎ IsFinal t
 abbrev pub IsOf : Cutting → Option (List ℕ) → Type 0
 IsOf t left = t.ended ≡ true → IsAtEnd left
 
--- one line was taken out of s, with no byte read
-pub record GivesLine (s t : Cutting) : Type 0 where
-  pub joined : s.pending ≡ t.line ++ feed ∷ t.pending
-  pub no_feed : HasNoFeed t.line
-  pub number : t.number ≡ s.number + 1
-  pub within : given t ≤ t.most
-  pub same_most : t.most ≡ s.most
-  pub same_taken : t.taken ≡ s.taken
-  pub same_ended : t.ended ≡ s.ended
-
 -- a cutting whose line in hand was let go
 abbrev pub let_go : Cutting → Cutting
 let_go s = record s { line = [] }
-
--- the front of the line that is pending, where a line that is whole isn't pending
-abbrev pub front_of : Bool → List ℕ → List ℕ
-front_of whole line = if whole then [] else line
-
--- a cutting by its parts: the line is whole and in hand, or the front of what is pending before the block
-abbrev pub cutting_of : ℕ → ℕ → ℕ → Bool → Bool → List ℕ → List ℕ → Cutting
-cutting_of most taken number ended whole line block =
-    record {
-      most = most;
-      taken = taken;
-      pending = front_of whole line ++ block;
-      ended = ended;
-      number = number;
-      line = (if whole then line else []);
-    }
-
--- how a cutting is held: the front of the pending line has no line feed, and room for the block behind it is reserved
-pub record IsHeld (t : Cutting) (front block : List ℕ) (capacity : ℕ) : Type 0 where
-  pub cutting : IsCutting t
-  pub no_feed : HasNoFeed front
-  pub reserved : length front + length block ≤ capacity
-
--- the first line feed of a list stands at this place
-pub record IsFirstFeed (bs : List ℕ) (at : ℕ) : Type 0 where
-  pub within : at < length bs
-  pub is_feed : slice_index bs at ≡ feed
-  pub none_before : HasNoFeed (take at bs)

@@ -1,7 +1,9 @@
 pub mod Answers
 pub mod Cutting
 pub mod Faults
+pub mod Held
 pub mod Reading
+pub mod Steps
 pub mod Store
 pub mod Supply
 pub mod WholeLines

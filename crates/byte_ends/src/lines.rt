@@ -1,7 +1,9 @@
 //! The lines of a source, read in blocks.
 ghost use Rattle.std.specs.Prelude.{◌≡◌, ◌+◌, ◌-◌, ◌^◌, ◌<◌, ◌≤◌, ◌⊎◌, [], ◌++◌, false, length, take, drop, Ok, Err, IfOk, IfNone, IfSome, vec_len, vec_capacity};
-ghost use Rattle.byte_ends.specs.Answers.{Answers, Fetches, Foretells, Settles};
-ghost use Rattle.byte_ends.specs.Cutting.{HasLine, HasNoFeed, IsCut, IsCutting, IsDone, IsFinal, IsFirstFeed, IsOf, IsOpen, IsOver, IsSettled, ahead, front_of, let_go};
+ghost use Rattle.byte_ends.specs.Answers.{Answers, Foretells};
+ghost use Rattle.byte_ends.specs.Steps.{Fetches, Settles};
+ghost use Rattle.byte_ends.specs.Cutting.{HasLine, HasNoFeed, IsCut, IsCutting, IsDone, IsFinal, IsOf, IsOpen, IsOver, IsSettled, ahead, let_go};
+ghost use Rattle.byte_ends.specs.Held.{IsFirstFeed, front_of};
 
 use crate::block::{BLOCK, Block};
 use crate::reserved::add_reserved;
@@ -60,7 +62,8 @@ pub struct Lines {
 
 impl Model for Lines {
     ghost use Rattle.std.specs.Prelude.{vec_capacity};
-    ghost use Rattle.byte_ends.specs.Cutting.{Cutting, IsHeld, cutting_of, front_of};
+    ghost use Rattle.byte_ends.specs.Cutting.{Cutting};
+    ghost use Rattle.byte_ends.specs.Held.{IsHeld, cutting_of, front_of};
 
     ghost Value = { Cutting };
 

@@ -1,7 +1,8 @@
 use Rattle.std.proofs.Common.{◌≡◌, false, [], length, ap, ◌∙◌, arith}
 use Rattle.std.proofs.lemmas.List.{drop_all}
 use Rattle.std.proofs.KnownBytes.{Keeps-refl}
-use Rattle.byte_ends.specs.Cutting.{Cutting, IsOpen, cutting_of, front_of}
+use Rattle.byte_ends.specs.Cutting.{Cutting, IsOpen}
+use Rattle.byte_ends.specs.Held.{cutting_of, front_of}
 use Rattle.byte_ends.proofs.Fetching.{gathered, IsHeld-fetched, GivesNone-kept}
 use Rattle.byte_ends.proofs.lines.Lines.fetch.Goals as goal
 use Rattle.byte_ends.proofs.lines.Lines.fetch.Goals.{After-reserve}
