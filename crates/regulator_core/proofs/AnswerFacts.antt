@@ -1,8 +1,8 @@
 -- The later of three ticks is the eligible tick: the tick from which the packet may go, the first that is far
 -- enough after the newest, and the first that is far enough after the one that is a burst back.
-use Rattle.std.proofs.Common.{◌≡◌, ℕ, zero, suc, Some, None, ◌+◌, ◌-◌, ◌<◌, ◌≤◌, Bool, true, List, [], ◌∷◌, length, drop, Decides, max, refl, sym, ap, ◌∙◌, arith, get_or}
-use Rattle.std.proofs.lemmas.Bool.{leb-true, le-leb, and_parts, and_from}
-use Rattle.std.proofs.lemmas.Bool.Decides.{Decides-like, Decides-and}
+use Rattle.std.proofs.Common.{◌≡◌, ℕ, zero, suc, Some, None, ◌+◌, ◌-◌, ◌≤◌, Bool, true, List, [], ◌∷◌, drop, Decides, max, refl, sym, arith, get_or}
+use Rattle.std.proofs.lemmas.Bool.{leb-true, le-leb}
+use Rattle.std.proofs.lemmas.Bool.Decides.{Decides-and}
 use Rattle.std.proofs.lemmas.List.{get_or-drop}
 use Rattle.std.specs.Prelude.{reverse, slice_get}
 use Rattle.traffic_contract.specs.Contract.{Terms, IsContract, burst_of}

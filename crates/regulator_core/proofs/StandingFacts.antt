@@ -1,13 +1,13 @@
 -- A regulator stands for every list of ticks whose newest are the ones that it keeps: its answer is the eligible
 -- tick after each of them, and with the answer it stands for the longer list.
-use Rattle.std.proofs.Common.{◌≡◌, ℕ, zero, suc, ◌+◌, ◌-◌, ◌<◌, ◌≤◌, List, [], ◌∷◌, ◌++◌, length, get_or, take, drop, refl, sym, ap, ◌∙◌, subst, arith, length-append}
+use Rattle.std.proofs.Common.{◌≡◌, ℕ, zero, suc, ◌+◌, ◌-◌, ◌≤◌, List, [], ◌∷◌, ◌++◌, length, get_or, take, drop, refl, sym, ap, ◌∙◌, subst, arith, length-append}
 use Rattle.std.proofs.lemmas.List.{get_or-append_right, reverse-append, length-take, take_all, take-append-drop}
 use Rattle.std.proofs.Math.Seq.{take-nil}
 use Rattle.std.specs.Prelude.{reverse}
 use Rattle.net_units.specs.declared.Kind.{Kind}
 use Rattle.traffic_contract.specs.Contract.{Terms, IsContract, burst_of}
 use Rattle.traffic_contract.specs.Keeping.{Spaced, Keeps}
-use Rattle.traffic_contract.specs.Eligible.{IsEligible, newest, eligible}
+use Rattle.traffic_contract.specs.Eligible.{IsEligible, eligible}
 use Rattle.traffic_contract.proofs.ContractFacts.{burst-least}
 use Rattle.traffic_contract.proofs.EligibleFacts.{eligible-is, eligible-take}
 use Rattle.regulator_core.specs.Kept.{Kept, StandsFor, kept_of, kept_with, newest_burst}

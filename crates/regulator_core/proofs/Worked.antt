@@ -1,7 +1,6 @@
 -- Worked values, found by computing with the definitions, for a contract of a packet each 5 ticks and two in any
 -- 20, of up to 2 units: what a regulator answers and keeps.
-use Rattle.std.proofs.Common.{◌≡◌, ℕ, List, [], ◌∷◌, refl}
-use Rattle.net_units.specs.declared.Kind.{Kind}
+use Rattle.std.proofs.Common.{◌≡◌, ℕ, [], ◌∷◌, refl}
 use Rattle.net_units.specs.declared.Kind.TheVariants.{Rate, Jitter}
 use Rattle.traffic_contract.specs.Contract.{Terms, terms_of}
 use Rattle.traffic_contract.specs.Keeping.{may_follow, keeps_newest_first}

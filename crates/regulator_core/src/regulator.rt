@@ -50,14 +50,17 @@ impl Regulator {
         })
     }
 
-    /// The eligible tick of the channel's next packet, which arrives at the tick `at` and is due at the tick `due`.
-    /// Only delay-jitter control counts `due`, and a channel's first hop passes 0. The eligible tick is the least one
-    /// that is at least these and with which all ticks answered so far keep the contract. It needs no memory.
+    /// The eligible tick of the channel's next packet, which arrives at the tick `at` and is due at the tick `due`:
+    /// the least tick that isn't below `at`, nor below `due` under delay-jitter control, and with which all ticks
+    /// answered so far keep the contract. Rate-jitter control doesn't count `due`, and a channel's first hop passes 0.
+    ///
+    /// `at` and `due` are below 2^62, and the tick that it answered last is below 2^63. The call takes no memory.
     pub fn admit(&mut self, at: u64, due: u64) -> u64
         requires at { at < 2 ^ 62 }
         requires due { due < 2 ^ 62 }
         requires last { newest self.old.recent < 2 ^ 63 }
-        ensures value { result ≡ eligible self.old.terms self.old.recent (earliest_tick self.old.kind at due) }
+        ensures value { result ≡
+            eligible self.old.terms self.old.recent (earliest_tick self.old.kind at due) }
         ensures kept { self.new ≡ kept_with self.old result }
 
         // The same of every list of ticks that the regulator stands for, and so of all that it has answered.
@@ -67,10 +70,12 @@ impl Regulator {
             IsEligible self.old.terms (reverse past) (earliest_tick self.old.kind at due) result }
         ensures stands { (past : List ℕ) → StandsFor self.old past → StandsFor self.new (result ∷ past) }
 
-        // Such a list is that of the ticks that it keeps. Its answer is the newest of them then, and not far off.
+        // The ticks that it keeps are such a list, and the answer joins them as the newest. No packet waits
+        // longer than an interval after the newest before.
         ensures own { StandsFor self.old self.old.recent }
         ensures last { newest self.new.recent ≡ result }
-        ensures most { result ≤ max (earliest_tick self.old.kind at due) (newest self.old.recent + self.old.terms.interval) }
+        ensures most { result ≤ max (earliest_tick self.old.kind at due)
+            (newest self.old.recent + self.old.terms.interval) }
     {
         let eligible = least_eligible(&self.contract, &self.recent, earliest(self.kind, at, due));
         self.recent.push_front(eligible);
