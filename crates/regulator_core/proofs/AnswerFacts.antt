@@ -74,7 +74,6 @@ pub eligible-latest : (c : Terms) (past : List ℕ) (low : ℕ) → IsContract c
 unfolding eligible
 eligible-latest c past low valid keeps =
     let few = firsts-le c past valid keeps in
-    let e : ℕ = max (max low (first_after c.xmin past)) (first_after c.interval (drop (burst_of c - 1) past)) in
     sym (first_from-is (may_follow c past) low (newest past + c.interval - low) (max (max low (first_after c.xmin past)) (first_after c.interval (drop (burst_of c - 1) past))) (omega arith) (omega (arith, few.0, few.1)) ((may_follow-tells c past _).1 (omega arith, omega arith)) (λ t from holds. (let both = (may_follow-tells c past t).0 holds in omega (arith, both.0, both.1))))
 
 -- so it comes at most an interval after the newest, or where the packet may go

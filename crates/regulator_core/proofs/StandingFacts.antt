@@ -76,7 +76,6 @@ Keeps-suffix c earlier later kept = record {
 -- and what it stands for, it stands for by its newest ticks alone
 pub StandsFor-own : (kept : Kept) (past : List ℕ) → StandsFor kept past → StandsFor kept kept.recent
 StandsFor-own kept past stands =
-    let n : ℕ = burst_of kept.terms in
     let parts : reverse (drop (burst_of kept.terms) past) ++ reverse (take (burst_of kept.terms) past) ≡ reverse past = sym (reverse-append (take (burst_of kept.terms) past) (drop (burst_of kept.terms) past)) ∙ ap reverse (take-append-drop (burst_of kept.terms) past) in
     let newest_keep : Keeps kept.terms (reverse (take (burst_of kept.terms) past)) = Keeps-suffix kept.terms (reverse (drop (burst_of kept.terms) past)) (reverse (take (burst_of kept.terms) past)) (subst (Keeps kept.terms) (sym parts) stands.keeps) in
     record {
