@@ -1,2 +1,3 @@
 pub mod BoundFacts
 pub mod PaddedFacts
+pub mod NameFacts

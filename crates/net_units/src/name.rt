@@ -1,5 +1,5 @@
 //! The names of links, callers, requests and nodes.
-ghost use Rattle.std.specs.Prelude.{◌≡◌, ◌↔◌, ◌≤◌, IsTrue, IsSome, IfSome, nat_eq, length};
+ghost use Rattle.std.specs.Prelude.{◌≡◌, ◌↔◌, ◌≤◌, IsTrue, IsSome, IfSome, Some, nat_eq, length};
 ghost use Rattle.std.specs.Hash as fed;
 ghost use Rattle.std.specs.Cmp.Lexicographic.{pointwise, nat_list_eq_equiv};
 ghost use Rattle.std.specs.Cmp.{partial_equiv_from_equiv};
@@ -10,7 +10,7 @@ ghost use Rattle.net_units.specs.Padded.{padded};
 ghost use Rattle.net_units.specs.Text.{is_name_byte, begins_as_name, is_kept_word, is_name};
 
 use crate::limits::MOST_NAME;
-use std::fmt;
+use std::{fmt, str};
 use std::hash::{Hash, Hasher};
 use std::marker::Model;
 
@@ -61,6 +61,16 @@ impl Name {
         ensures valid { IsTrue (is_name self.now) }
     {
         &self.bytes[..self.len as usize]
+    }
+
+    /// The name as text.
+    pub fn as_str(&self) -> &str
+        ensures { result.now ≡ self.now }
+    {
+        match str::from_utf8(self.as_bytes()) {
+            Ok(text) => text,
+            Err(_) => unreachable!(),
+        }
     }
 }
 
@@ -132,6 +142,14 @@ impl Hash for Name {
 
 impl fmt::Debug for Name {
     fn fmt<W: fmt::Write>(&self, f: &mut fmt::Formatter<W>) -> fmt::Result {
-        fmt::Debug::fmt(self.as_bytes(), f)
+        fmt::Debug::fmt(&self.as_str(), f)
+    }
+}
+
+impl fmt::Display for Name {
+    ghost output = { λ name. Some name };
+
+    fn fmt<W: fmt::Write>(&self, f: &mut fmt::Formatter<W>) -> fmt::Result {
+        fmt::Display::fmt(&self.as_str(), f)
     }
 }

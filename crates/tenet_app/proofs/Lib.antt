@@ -1,0 +1,15 @@
+pub mod FieldFacts
+pub mod FormFacts
+pub mod DecimalFacts
+pub mod NameFacts
+pub mod RuleFacts
+pub mod PassFacts
+pub mod SayFacts
+pub mod DraftFacts
+pub mod DistinctFacts
+pub mod ContractFacts
+pub mod ReadFacts
+pub mod EstablishmentFacts
+pub mod LinkFacts
+pub mod StepsPass
+pub mod PlayFacts

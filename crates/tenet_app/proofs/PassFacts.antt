@@ -1,0 +1,112 @@
+-- What holds of a line that its rules let pass.
+use Rattle.std.proofs.Common.{◌≡◌, ℕ, ◌≤◌, Bool, true, false, not, ◌&&◌, nat_eq, nat_le, List, [], ◌∷◌, length, Option, Some, None, Ok, is_some, is_none, if◌then◌else◌, refl, arith}
+use Rattle.std.proofs.lemmas.Bool.{leb-true, eqb-true, and_parts, not-true}
+use Rattle.net_units.specs.Text.{is_name}
+use Rattle.traffic_contract.specs.Contract.{Terms, IsContract, burst_of}
+use Rattle.traffic_contract.specs.Refusal.{first_bad, fits_xmin, fits_xave, fits_interval, fits_smax}
+use Rattle.traffic_contract.specs.declared.contract.ContractField.{ContractField}
+use Rattle.traffic_contract.specs.declared.contract.ContractField.TheVariants.{Xmin, Xave, Interval, Smax}
+use Rattle.tenet_app.specs.Causes.{Rule, unless, or_else, first_cause, judged}
+use Rattle.tenet_app.specs.Decimal.{is_number, value_of}
+use Rattle.tenet_app.specs.Forms.{is_among, name_rule, new_name_rule, number_rule}
+use Rattle.tenet_app.specs.Grammar.{contract_of}
+use Rattle.tenet_app.specs.declared.scenario.cause.Cause.{Cause}
+use Rattle.tenet_app.specs.declared.scenario.cause.Cause.TheVariants as cause
+
+-- what is judged Ok passes its rule, and is what was said
+pub judged_ok : {X : Type 0} (rule : Rule) (said what : X) → judged rule said ≡ Ok what → (rule ≡ None) × (said ≡ what)
+judged_ok None said what e = (refl, cc)
+judged_ok (Some c) said what e = cc
+
+-- a condition that passes holds
+pub unless_passes : (holds : Bool) (c : Cause) → unless holds c ≡ None → holds ≡ true
+unless_passes true c e = refl
+unless_passes false c e = cc
+
+-- two rules that pass
+pub both_pass : (first second : Rule) → or_else first second ≡ None → (first ≡ None) × (second ≡ None)
+both_pass None second e = (refl, e)
+both_pass (Some c) second e = cc
+
+-- each of the rules passes
+abbrev pub AllPass : List Rule → Type 0
+AllPass [] = Unit {0}
+AllPass (rule ∷ rules) = (rule ≡ None) × AllPass rules
+
+-- rules that pass together pass each
+pub all_pass : (rules : List Rule) → first_cause rules ≡ None → AllPass rules
+all_pass [] e = tt
+all_pass (rule ∷ rules) e =
+    let p = both_pass rule (first_cause rules) e in
+    (p.0, all_pass rules p.1)
+
+-- a field that passes as a number from `low` to `high`
+pub record IsNumberFrom (low high : ℕ) (field : List ℕ) : Type 0 where
+  pub number : is_number field ≡ true
+  pub least : low ≤ value_of field
+  pub most : value_of field ≤ high
+
+pub number_passes : (low high : ℕ) (field : List ℕ) → number_rule low high field ≡ None → IsNumberFrom low high field
+number_passes low high field e =
+    let p = both_pass (unless (is_number field) cause.Number) (unless (nat_le low (value_of field) && nat_le (value_of field) high) cause.Range) e in
+    let range = and_parts (nat_le low (value_of field)) (nat_le (value_of field) high) (unless_passes _ cause.Range p.1) in
+    record {
+      number = unless_passes (is_number field) cause.Number p.0;
+      least = leb-true low (value_of field) range.0;
+      most = leb-true (value_of field) high range.1;
+    }
+
+-- a field that passes as a name
+pub name_passes : (field : List ℕ) → name_rule field ≡ None → is_name field ≡ true
+name_passes field e = unless_passes (is_name field) cause.Name e
+
+-- a field that passes as a new name
+pub new_name_passes : (known : List (List ℕ)) (field : List ℕ) → new_name_rule known field ≡ None → (is_name field ≡ true) × (is_among known field ≡ false)
+new_name_passes known field e =
+    let p = both_pass (name_rule field) (unless (not (is_among known field)) cause.Known) e in
+    (name_passes field p.0, not-true (is_among known field) (unless_passes (not (is_among known field)) cause.Known p.1))
+
+-- a list of length 0
+pub no_items : {X : Type 0} (xs : List X) → nat_eq (length xs) 0 ≡ true → xs ≡ []
+no_items [] e = refl
+no_items (x ∷ xs) e = absurd (omega (arith, eqb-true (length (x ∷ xs)) 0 e))
+
+-- a choice of none
+pub not_said : {X : Type 0} (o : Option X) → is_none o ≡ true → o ≡ None
+not_said None e = refl
+not_said (Some x) e = cc
+
+bad_part : (holds : Bool) (rest : Option ContractField) (bad : ContractField) → (if holds then rest else Some bad) ≡ None → (holds ≡ true) × (rest ≡ None)
+bad_part true rest bad e = (refl, e)
+bad_part false rest bad e = cc
+
+-- terms of which no number is refused are a contract
+pub none_bad : (terms : Terms) → first_bad terms ≡ None → IsContract terms
+none_bad terms e =
+    let p = bad_part (fits_xmin terms) _ Xmin e in
+    let q = bad_part (fits_xave terms) _ Xave p.1 in
+    let r = bad_part (fits_interval terms) _ Interval q.1 in
+    let s = bad_part (fits_smax terms) None Smax r.1 in
+    let xmin = and_parts (nat_le 1 terms.xmin) (nat_le terms.xmin 1048576) p.0 in
+    let xave = and_parts (nat_le terms.xmin terms.xave) (nat_le terms.xave 1048576) q.0 in
+    let interval = and_parts (nat_le terms.xave terms.interval && nat_le terms.interval 16777216) (nat_le (burst_of terms) 256) r.0 in
+    let range = and_parts (nat_le terms.xave terms.interval) (nat_le terms.interval 16777216) interval.0 in
+    let smax = and_parts (nat_le 1 terms.smax) (nat_le terms.smax 65536) s.0 in
+    record {
+      xmin_least = leb-true 1 terms.xmin xmin.0;
+      xave_least = leb-true terms.xmin terms.xave xave.0;
+      xave_most = leb-true terms.xave 1048576 xave.1;
+      interval_least = leb-true terms.xave terms.interval range.0;
+      interval_most = leb-true terms.interval 16777216 range.1;
+      burst_most = leb-true (burst_of terms) 256 interval.1;
+      smax_least = leb-true 1 terms.smax smax.0;
+      smax_most = leb-true terms.smax 65536 smax.1;
+    }
+
+given_terms : (b : Bool) (terms : Terms) → is_some (if b then Some terms else None) ≡ true → b ≡ true
+given_terms true terms e = refl
+given_terms false terms e = cc
+
+-- four numbers that are a contract
+pub contract_passes : (terms : Terms) → is_some (contract_of terms) ≡ true → IsContract terms
+contract_passes terms e = none_bad terms (not_said (first_bad terms) (given_terms (is_none (first_bad terms)) terms e))

@@ -1,0 +1,17 @@
+use Rattle.std.proofs.Common.{◌∙◌, nat_eq, ap, rules, tests}
+use Rattle.std.specs.Cmp.Lexicographic.{pointwise}
+use Rattle.std.proofs.lemmas.Iterator.{YieldsList-from_slice}
+use Rattle.std.proofs.lemmas.Iterator.Search.{any_from_yields_List}
+use Rattle.tenet_app.specs.Forms.{is_among}
+use Rattle.tenet_app.specs.Plans.{Said, link_names}
+use Rattle.tenet_app.specs.declared.scenario.plan.Link.{Link}
+use Rattle.tenet_app.proofs.NameFacts.{any_by_name}
+use Rattle.tenet_app.proofs.scenario.draft.Draft.has_link.Goals as goal
+
+pub returns : goal.returns
+returns c =
+    let items = c.self.inside.links.items in
+    any_from_yields_List (λ (link : Link). pointwise nat_eq link.name c.args.name.now) c.any.new.self _ _ c.any.ensures.ran
+    (YieldsList-from_slice items (c.iter.ensures.rest ∙ c.deref.ensures.value)) (λ x b q k. search (rules, tests))
+    ∙ any_by_name (λ (link : Link). link.name) c.args.name.now items
+    ∙ ap (λ (said : Said). is_among (link_names said) c.args.name.now) c.self.view_is

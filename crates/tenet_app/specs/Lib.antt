@@ -1,0 +1,14 @@
+pub mod Causes
+pub mod Codes
+pub mod Decimal
+pub mod Drafts
+pub mod Establishment
+pub mod Fields
+pub mod Forms
+pub mod Grammar
+pub mod PlanText
+pub mod Plans
+pub mod Playing
+pub mod Reading
+pub mod ReadSteps
+pub mod Report

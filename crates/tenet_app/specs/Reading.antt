@@ -1,0 +1,42 @@
+-- What the bytes of a scenario come to. Lines are judged one after another, each after what the lines before it
+-- said; the first that is refused gives the verdict. A line ends with a line feed, and only the lines that are
+-- whole within the first `most` bytes are judged. Where none is refused, more bytes than that are too many; a rest
+-- behind the last line feed is a line that was cut; and without a `tail` line the input ended too early.
+use Rattle.std.specs.Prelude.{ℕ, suc, if◌then◌else◌, Result, Ok, Err, List, [], ◌∷◌}
+use Rattle.byte_ends.specs.WholeLines.{Ending, all_given, cut_short, too_long, Outlook, outlook}
+use Rattle.tenet_app.specs.Plans.{Said, nothing_said, with_item, is_complete}
+use Rattle.tenet_app.specs.Grammar.{judge}
+use Rattle.tenet_app.specs.declared.scenario.cause.Cause.{Cause}
+use Rattle.tenet_app.specs.declared.scenario.cause.Cause.TheVariants as cause
+use Rattle.tenet_app.specs.declared.scenario.plan.Item.{Item}
+
+-- a scenario that was read; the line, from 1, that is refused, and its cause; or too many bytes
+pub data Reading : Type 0 where
+  IsRead : Said → Reading
+  IsBad : ℕ → Cause → Reading
+  IsOver : Reading
+
+-- what the end of the input comes to, behind `count` lines that say this
+abbrev pub at_end : Ending → ℕ → Said → Reading
+at_end all_given count said = if is_complete said then IsRead said else IsBad (suc count) cause.End
+at_end cut_short count said = IsBad (suc count) cause.Cut
+at_end too_long count said = IsOver
+
+-- a refused line is the verdict; otherwise reading goes on after what the line says
+abbrev pub on_judged : Result Item Cause → ℕ → Said → (Said → Reading) → Reading
+on_judged (Ok item) line said go_on = go_on (with_item item said)
+on_judged (Err cause) line said go_on = IsBad line cause
+
+-- what these lines and the end behind them come to, after `count` lines that say this
+abbrev pub reading_of : ℕ → List (List ℕ) → Ending → Said → Reading
+reading_of count [] ending said = at_end ending count said
+reading_of count (line ∷ lines) ending said =
+    on_judged (judge said line) (suc count) said (λ after. reading_of (suc count) lines ending after)
+
+-- the same of what is to come of bytes
+abbrev pub reading_on : ℕ → Outlook → Said → Reading
+reading_on count rest said = reading_of count rest.lines rest.ending said
+
+-- what a scenario of at most `most` bytes comes to
+unfoldable pub reading : ℕ → List ℕ → Reading
+reading most bytes = reading_on 0 (outlook most bytes) nothing_said

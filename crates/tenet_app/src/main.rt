@@ -1,0 +1,58 @@
+//! The program `tenet`: from the bytes of a scenario to the bytes of a report.
+#![tactic(auto)]
+
+pub mod establishment;
+pub mod playing;
+pub mod report;
+pub mod scenario;
+pub mod status;
+pub mod top;
+
+use byte_ends::{StdSink, StdSource};
+use net_units::NoGate;
+use status::Status;
+use std::io::ErrorKind;
+use std::process::ExitCode;
+use std::rt::Env;
+use std::{env, io};
+use top::top;
+
+/// Plays over standard input and output, and exits with the status that `top` answers. It prints nothing itself.
+fn main(rt: HostRuntime) -> ExitCode {
+    let words: io::Result<Vec<String>> = read_words(&rt);
+    let status = match words {
+        Ok(words) => {
+            let mut source = StdSource::new(rt.reader());
+            let mut sink = StdSink::new(io::writer(&rt));
+            top(
+                &rt,
+                rt.alloc(),
+                words.as_slice(),
+                &mut source,
+                &mut sink,
+                &NoGate,
+            )
+            .status
+        }
+        Err(error) => unread_words(&error),
+    };
+    ExitCode::from(status.code())
+}
+
+/// The words after the program's name.
+fn read_words(rt: &(impl Env + AllocGlobal)) -> io::Result<Vec<String>> {
+    let mut words = Vec::new(rt.alloc());
+    for word in env::args(rt)?.skip(1) {
+        words.push(word)?;
+    }
+    Ok(words)
+}
+
+/// Words that can't be read aren't accepted, unless only memory for them lacks.
+fn unread_words(error: &io::Error) -> Status {
+    if error.kind() == ErrorKind::OutOfMemory {
+        Status::Memory
+    } else {
+        Status::Words
+    }
+}

@@ -1,0 +1,9 @@
+//! Reading a scenario: from bytes to a plan.
+pub mod cause;
+pub mod draft;
+pub mod fields;
+pub mod form;
+mod judge;
+pub mod plan;
+pub mod reader;
+pub mod values;
