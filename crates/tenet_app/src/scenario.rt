@@ -4,6 +4,8 @@ pub mod draft;
 pub mod fields;
 pub mod form;
 mod judge;
+mod link_line;
+mod open_line;
 pub mod plan;
 pub mod reader;
 pub mod values;

@@ -2,7 +2,7 @@
 ghost use Rattle.std.specs.Prelude.{◌≡◌, ◌≤◌, IfOk, true, length};
 ghost use Rattle.tenet_app.specs.Causes.{Judges, unless};
 ghost use Rattle.tenet_app.specs.Decimal.{is_number, value_of};
-ghost use Rattle.tenet_app.specs.Forms.{name_rule, number_rule};
+ghost use Rattle.tenet_app.specs.Forms.{name_rule, new_name_rule, number_rule, is_among};
 ghost use Rattle.std.specs.Str.{all_ascii_digits};
 
 use crate::scenario::cause::Cause;
@@ -20,6 +20,15 @@ pub fn name(field: &[u8]) -> Result<Name, Cause>
     ensures { Judges result (name_rule field.now) field.now }
 {
     Name::new(field).ok_or(Cause::Name)
+}
+
+/// The new name that a field holds, or the cause `Name` or `Known`.
+pub fn new_name(field: &[u8], is_known: bool) -> Result<Name, Cause>
+    ensures { (known : _) → is_known ≡ is_among known field.now → Judges result (new_name_rule known field.now) field.now }
+{
+    let name = name(field)?;
+    require(!is_known, Cause::Known)?;
+    Ok(name)
 }
 
 /// The number from `low` to `high` that a field holds, or the cause `Number` or `Range`.

@@ -4,7 +4,7 @@ use Rattle.tenet_app.specs.Fields.{fields_of, field_at}
 use Rattle.tenet_app.specs.Grammar.{route_fields}
 use Rattle.tenet_app.proofs.RuleFacts.{length-route, route_at}
 use Rattle.tenet_app.proofs.DistinctFacts.{among_skip, among_here}
-use Rattle.tenet_app.proofs.scenario.judge.stands_again.Goals as goal
+use Rattle.tenet_app.proofs.scenario.open_line.stands_again.Goals as goal
 
 pub returns-then-eq : goal.returns-then-eq
 returns-then-eq c =

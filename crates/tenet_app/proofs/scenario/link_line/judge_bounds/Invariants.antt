@@ -4,7 +4,7 @@ use Rattle.tenet_app.specs.Fields.{fields_of}
 use Rattle.tenet_app.specs.Forms.{number_rule}
 use Rattle.tenet_app.specs.Grammar.{bound_fields}
 use Rattle.tenet_app.proofs.RuleFacts.{rules_from}
-use Rattle.tenet_app.proofs.scenario.judge.judge_bounds.Given as goal
+use Rattle.tenet_app.proofs.scenario.link_line.judge_bounds.Given as goal
 
 -- the numbers so far pass and stand in the cells
 abbrev pub invariant-loop-place : goal.invariant-loop-place

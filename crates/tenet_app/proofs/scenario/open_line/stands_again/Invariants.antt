@@ -2,7 +2,7 @@ use Rattle.std.proofs.Common.{◌≡◌, ◌+◌, drop}
 use Rattle.tenet_app.specs.Fields.{fields_of, field_at}
 use Rattle.tenet_app.specs.Forms.{is_among}
 use Rattle.tenet_app.specs.Grammar.{route_fields}
-use Rattle.tenet_app.proofs.scenario.judge.stands_again.Given as goal
+use Rattle.tenet_app.proofs.scenario.open_line.stands_again.Given as goal
 
 -- the links so far differ, so what is left decides
 abbrev pub invariant-loop-other : goal.invariant-loop-other

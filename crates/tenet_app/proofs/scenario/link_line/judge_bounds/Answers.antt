@@ -4,7 +4,7 @@ use Rattle.tenet_app.specs.Fields.{fields_of}
 use Rattle.tenet_app.specs.Forms.{number_rule}
 use Rattle.tenet_app.specs.Grammar.{bound_fields}
 use Rattle.tenet_app.proofs.RuleFacts.{rules_pass, rules_stop, judges_stop, cells_more, bound_place, bound_field}
-use Rattle.tenet_app.proofs.scenario.judge.judge_bounds.Goals as goal
+use Rattle.tenet_app.proofs.scenario.link_line.judge_bounds.Goals as goal
 
 pub returns-in_err-cells : goal.returns-in_err-cells
 returns-in_err-cells c =
