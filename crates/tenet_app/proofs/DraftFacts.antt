@@ -16,7 +16,7 @@ use Rattle.tenet_app.specs.declared.scenario.plan.Item.{Item}
 use Rattle.tenet_app.specs.declared.scenario.plan.Item.TheVariants as item
 use Rattle.tenet_app.specs.declared.scenario.plan.Link.{Link}
 use Rattle.tenet_app.specs.declared.scenario.plan.Request.{Request}
-use Rattle.tenet_app.proofs.PassFacts.{AllPass, all_pass, unless_passes, IsNumberFrom, number_passes, name_passes, new_name_passes, no_items, contract_passes}
+use Rattle.tenet_app.proofs.PassFacts.{RulesPass, all_pass, unless_passes, IsNumberFrom, number_passes, name_passes, new_name_passes, no_items, contract_passes}
 use Rattle.tenet_app.proofs.SayFacts.{Says, says}
 
 -- before the first line
@@ -43,10 +43,11 @@ pub record LinkPasses (said : Said) (fields : List (List ℕ)) : Type 0 where
   pub cap : IsNumberFrom 1 65536 (field_at fields 7)
   pub prop : IsNumberFrom 0 1048576 (field_at fields 9)
   pub buffer : IsNumberFrom 0 262144 (field_at fields 11)
-  pub bounds : AllPass (map (number_rule 1 1048576) (bound_fields fields))
+  pub bounds : RulesPass (map (number_rule 1 1048576) (bound_fields fields))
   pub none : said.links ≡ []
   pub sound : IsLink (link_of fields)
 
+-- a link line that passes holds it
 pub link_passes : (said : Said) (fields : List (List ℕ)) → link_rule said fields ≡ None → LinkPasses said fields
 link_passes said fields e =
     let link = link_of fields in
@@ -93,6 +94,7 @@ pub record CallerPasses (said : Said) (fields : List (List ℕ)) : Type 0 where
   pub name : is_name (field_at fields 1) ≡ true
   pub none : said.callers ≡ []
 
+-- a caller line that passes holds it
 pub caller_passes : (said : Said) (fields : List (List ℕ)) → caller_rule said fields ≡ None → CallerPasses said fields
 caller_passes said fields e =
     let p = all_pass (unless (has_form caller_form fields) cause.Shape ∷ new_name_rule said.callers (field_at fields 1) ∷ unless (nat_lt (length said.callers) 64) cause.Many
@@ -117,6 +119,7 @@ pub record OpenPasses (said : Said) (fields : List (List ℕ)) : Type 0 where
   pub few : length said.requests < 1024
   pub sound : IsRequest (largest_carried said) (request_of fields)
 
+-- an open line that passes holds it
 pub open_passes : (said : Said) (fields : List (List ℕ)) → open_rule said fields ≡ None → OpenPasses said fields
 open_passes said fields e =
     let p = all_pass (unless (has_form rate_form fields || has_form jitter_form fields) cause.Shape ∷ open_fields_rule said fields ∷ open_limits_rule said fields ∷ []) e in
@@ -154,6 +157,7 @@ pub record CountPasses (fields : List (List ℕ)) : Type 0 where
   pub number : IsNumberFrom 0 524288 (field_at fields 1)
   pub none : value_of (field_at fields 1) ≡ 0
 
+-- a line of rounds that passes says none
 pub rounds_passes : (fields : List (List ℕ)) → rounds_rule fields ≡ None → (has_form rounds_form fields ≡ true) × CountPasses fields
 rounds_passes fields e =
     let p = all_pass (unless (has_form rounds_form fields) cause.Shape ∷ number_rule 0 524288 (field_at fields 1) ∷ unless (nat_eq (value_of (field_at fields 1)) 0) cause.Later ∷ []) e in (
@@ -164,6 +168,7 @@ rounds_passes fields e =
       },
     )
 
+-- a tail line that passes says none
 pub tail_passes : (said : Said) (fields : List (List ℕ)) → tail_rule said fields ≡ None → (has_form tail_form fields ≡ true) × CountPasses fields
 tail_passes said fields e =
     let p = all_pass (unless (has_form tail_form fields) cause.Shape ∷ number_rule 0 524288 (field_at fields 1) ∷ unless (is_within_load said (value_of (field_at fields 1))) cause.Load
@@ -177,15 +182,17 @@ tail_passes said fields e =
 
 -- ---- a draft stays one
 
-some_items : {X : Type 0} (xs : List X) → not (nat_eq (length xs) 0) ≡ true → xs ≡ [] → ⊥
+-- a list that is longer than 0
+pub some_items : {X : Type 0} (xs : List X) → not (nat_eq (length xs) 0) ≡ true → xs ≡ [] → ⊥
 some_items [] e n = true≢false (sym e)
 some_items (x ∷ xs) e n = cc
 
 -- without a caller nothing is requested
-no_requests : (callers : List (List ℕ)) (requests : List Request) → callers ≡ [] → AreCallers callers requests → requests ≡ []
+pub no_requests : (callers : List (List ℕ)) (requests : List Request) → callers ≡ [] → AreCallers callers requests → requests ≡ []
 no_requests [] requests e a = a
 no_requests (caller ∷ callers) requests e a = cc
 
+-- no requests are requests
 none_requested : (cap : ℕ) (requests : List Request) → requests ≡ [] → AreRequests cap [] requests
 none_requested cap [] e = tt
 none_requested cap (r ∷ requests) e = cc
@@ -208,6 +215,7 @@ callers_push [] requests request some a few = absurd (some refl)
 callers_push (caller ∷ []) requests request some a few = (a.0, omega (arith, length-append requests (request ∷ [])))
 callers_push (caller ∷ other ∷ callers) requests request some a few = absurd a
 
+-- the header leaves a draft
 draft_with_header : (said : Said) (fields : List (List ℕ)) → IsDraft said → Says said fields item.Header → IsDraft (with_item item.Header said)
 draft_with_header said fields d s = record {
   links = d.links;
@@ -221,6 +229,7 @@ draft_with_header said fields d s = record {
   tail_behind = d.tail_behind;
 }
 
+-- a link leaves a draft, behind the header
 draft_with_link : (said : Said) (link : Link) → IsDraft said → said.headed ≡ true → said.links ≡ [] → IsLink link → IsDraft (with_item (item.Link link) said)
 draft_with_link said link d h none sound =
     let callers = d.callers_behind none in
@@ -237,6 +246,7 @@ draft_with_link said link d h none sound =
       tail_behind = d.tail_behind;
     }
 
+-- a caller leaves a draft, behind a link
 draft_with_caller : (said : Said) (name : List ℕ) → IsDraft said → said.callers ≡ [] → (said.links ≡ [] → ⊥) → is_name name ≡ true → IsDraft (with_item (item.Caller name) said)
 draft_with_caller said name d none some is =
     let requests = no_requests said.callers said.requests none d.callers in
@@ -253,6 +263,7 @@ draft_with_caller said name d none some is =
       tail_behind = d.tail_behind;
     }
 
+-- a request leaves a draft, behind a caller
 draft_with_request : (said : Said) (request : Request) → IsDraft said → (said.callers ≡ [] → ⊥) → length said.requests < 1024
     → IsRequest (largest_carried said) request → is_among (request_names said) request.name ≡ false → IsDraft (with_item (item.Open request) said)
 draft_with_request said request d some few is new = record {
@@ -267,6 +278,7 @@ draft_with_request said request d some few is new = record {
   tail_behind = d.tail_behind;
 }
 
+-- `rounds 0` leaves a draft, behind a link
 draft_with_rounds : (said : Said) (count : ℕ) → IsDraft said → (said.links ≡ [] → ⊥) → count ≡ 0 → IsDraft (with_item (item.Rounds count) said)
 draft_with_rounds said count d some none = record {
   links = d.links;
@@ -280,6 +292,7 @@ draft_with_rounds said count d some none = record {
   tail_behind = λ e. cc;
 }
 
+-- `tail 0` leaves a draft, behind `rounds`
 draft_with_tail : (said : Said) (count : ℕ) → IsDraft said → is_some said.rounds ≡ true → count ≡ 0 → IsDraft (with_item (item.Tail count) said)
 draft_with_tail said count d rounds none = record {
   links = d.links;
@@ -297,6 +310,7 @@ draft_with_tail said count d rounds none = record {
     some_rounds None e n = true≢false (sym e)
     some_rounds (Some x) e n = cc
 
+-- what a line says leaves a draft
 pub draft_says : (said : Said) (fields : List (List ℕ)) (what : Item) → IsDraft said → Says said fields what → IsDraft (with_item what said)
 draft_says said fields item.Header d s = draft_with_header said fields d s
 draft_says said fields (item.Link link) d s =
@@ -326,6 +340,7 @@ draft_goes_on said line what d e = draft_says said (fields_of line) what d (says
 
 -- ---- a complete draft is a plan
 
+-- the same by the parts of a draft
 complete : (headed : Bool) (links : List Link) (callers : List (List ℕ)) (requests : List Request) (rounds tail : Option ℕ)
     → IsDraft (record { headed = headed; links = links; callers = callers; requests = requests; rounds = rounds; tail = tail }) → is_some tail ≡ true
     → IsPlan (record { headed = headed; links = links; callers = callers; requests = requests; rounds = rounds; tail = tail })

@@ -6,6 +6,15 @@ pub mod RuleFacts
 pub mod PassFacts
 pub mod SayFacts
 pub mod DraftFacts
+pub mod FormText
+pub mod NumberText
+pub mod TextFacts
+pub mod FieldText
+pub mod PassBack
+pub mod LineFacts
+pub mod TextRead
+pub mod ReadBack
+pub mod Worked
 pub mod DistinctFacts
 pub mod ContractFacts
 pub mod ReadFacts

@@ -29,12 +29,12 @@ both_pass None second e = (refl, e)
 both_pass (Some c) second e = cc
 
 -- each of the rules passes
-abbrev pub AllPass : List Rule → Type 0
-AllPass [] = Unit {0}
-AllPass (rule ∷ rules) = (rule ≡ None) × AllPass rules
+abbrev pub RulesPass : List Rule → Type 0
+RulesPass [] = Unit {0}
+RulesPass (rule ∷ rules) = (rule ≡ None) × RulesPass rules
 
 -- rules that pass together pass each
-pub all_pass : (rules : List Rule) → first_cause rules ≡ None → AllPass rules
+pub all_pass : (rules : List Rule) → first_cause rules ≡ None → RulesPass rules
 all_pass [] e = tt
 all_pass (rule ∷ rules) e =
     let p = both_pass rule (first_cause rules) e in
@@ -46,6 +46,7 @@ pub record IsNumberFrom (low high : ℕ) (field : List ℕ) : Type 0 where
   pub least : low ≤ value_of field
   pub most : value_of field ≤ high
 
+-- a field that passes is such a number
 pub number_passes : (low high : ℕ) (field : List ℕ) → number_rule low high field ≡ None → IsNumberFrom low high field
 number_passes low high field e =
     let p = both_pass (unless (is_number field) cause.Number) (unless (nat_le low (value_of field) && nat_le (value_of field) high) cause.Range) e in
@@ -76,6 +77,7 @@ pub not_said : {X : Type 0} (o : Option X) → is_none o ≡ true → o ≡ None
 not_said None e = refl
 not_said (Some x) e = cc
 
+-- where no number is refused, this one fits, and none behind it is refused
 bad_part : (holds : Bool) (rest : Option ContractField) (bad : ContractField) → (if holds then rest else Some bad) ≡ None → (holds ≡ true) × (rest ≡ None)
 bad_part true rest bad e = (refl, e)
 bad_part false rest bad e = cc
@@ -103,6 +105,7 @@ none_bad terms e =
       smax_most = leb-true terms.smax 65536 smax.1;
     }
 
+-- terms that are given passed the test
 given_terms : (b : Bool) (terms : Terms) → is_some (if b then Some terms else None) ≡ true → b ≡ true
 given_terms true terms e = refl
 given_terms false terms e = cc

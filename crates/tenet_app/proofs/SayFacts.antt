@@ -29,6 +29,7 @@ Says said fields (item.Open request) = Passes said word.Open (open_rule said fie
 Says said fields (item.Rounds count) = Passes said word.Rounds (rounds_rule fields) × (value_of (field_at fields 1) ≡ count)
 Says said fields (item.Tail count) = Passes said word.Tail (tail_rule said fields) × (value_of (field_at fields 1) ≡ count)
 
+-- what a line that begins with this word says
 says_as : (keyword : Keyword) (said : Said) (fields : List (List ℕ)) (what : Item) → said.headed ≡ true → may_stand said keyword ≡ true
     → judge_as keyword said fields ≡ Ok what → Says said fields what
 says_as word.Link said fields what h m e =
@@ -51,14 +52,17 @@ says_as other said fields what h m e = absurd (not_ok cause.Later what e)
     not_ok : (c : Cause) (what : Item) → ◌≡◌ {A = Result Item Cause} (Err c) (Ok what) → ⊥
     not_ok c what e = cc
 
+-- what is judged Ok where a condition holds
 ok_where : (holds : Bool) (r : Result Item Cause) (c : Cause) (what : Item) → cond holds r (Err c) ≡ Ok what → (holds ≡ true) × (r ≡ Ok what)
 ok_where true r c what e = (refl, e)
 ok_where false r c what e = cc
 
+-- what is judged Ok unless a condition holds
 ok_unless : (fails : Bool) (r : Result Item Cause) (c : Cause) (what : Item) → cond fails (Err c) r ≡ Ok what → (fails ≡ false) × (r ≡ Ok what)
 ok_unless true r c what e = cc
 ok_unless false r c what e = (refl, e)
 
+-- what a line behind the header says
 says_word : (keyword : Option Keyword) (said : Said) (fields : List (List ℕ)) (what : Item) → said.headed ≡ true
     → judge_word keyword said fields ≡ Ok what → Says said fields what
 says_word None said fields what h e = cc
@@ -66,6 +70,7 @@ says_word (Some keyword) said fields what h e =
     let p = ok_where (may_stand said keyword) (judge_as keyword said fields) cause.Word what e in
     says_as keyword said fields what h p.0 p.1
 
+-- what a line of fields says, before and behind the header
 says_headed : (headed : Bool) (said : Said) (fields : List (List ℕ)) (what : Item) → said.headed ≡ headed
     → cond (not headed) (judged (unless (is_header fields) cause.Header) item.Header) (judge_word (line_word (field_at fields 0)) said fields) ≡ Ok what → Says said fields what
 says_headed false said fields what h e =

@@ -11,6 +11,7 @@ use Rattle.byte_ends.specs.Faults.{Rises}
 use Rattle.byte_ends.specs.Writing.{WritesFront}
 use Rattle.traffic_contract.specs.Admission.{Passes}
 use Rattle.tenet_app.specs.Fields.{ended_line}
+use Rattle.tenet_app.specs.PlanText.{plan_text}
 use Rattle.tenet_app.specs.Plans.{Said, IsPlan}
 use Rattle.tenet_app.specs.Reading.{Reading, IsRead, IsBad, IsOver, reading}
 use Rattle.tenet_app.specs.Establishment.{Settlement, settlements, server_over, held_after_steps}
@@ -59,6 +60,7 @@ pub record PlaysDone (before after : Ends) : Type 0 where
   pub said : Said
   pub plan : IsPlan said
   pub read : ComesTo before.left (λ r. r ≡ IsRead said)
+  pub text : IfSome before.left (λ bytes. bytes ≡ plan_text plan.link said)
   pub ended : IsAtEnd after.left
   pub written : Appends before.written after.written (plan_report said)
   pub passes : AllByRecursion (Passes (server_over plan.link)) (held_after_steps plan.link said.requests)
@@ -93,6 +95,17 @@ Plays status.ReadFault before after = PlaysReadFault before after
 Plays status.WriteFault before after = PlaysWriteFault before after
 Plays (status.Refused line told) before after = PlaysRefused line told before after
 Plays status.TooLong before after = PlaysTooLong before after
+
+-- the status that is due for a reading
+abbrev pub due_status : Reading → Status
+due_status (IsRead said) = status.Done
+due_status (IsBad line why) = status.Refused line cause.Later
+due_status IsOver = status.TooLong
+
+-- neither count of faults rose
+pub record MeetsNoFault (before after : Ends) : Type 0 where
+  pub read : Rises before.read_faults after.read_faults → ⊥
+  pub write : Rises before.write_faults after.write_faults → ⊥
 
 -- no count of faults falls
 pub record Counts (before after : Ends) : Type 0 where

@@ -1,7 +1,10 @@
 //! The word `play`: from the bytes of a scenario to the bytes of its report.
-ghost use Rattle.std.specs.Prelude.{◌≡◌, ◌≤◌, IfOk, string_bytes};
+ghost use Rattle.std.specs.Prelude.{◌≡◌, ◌≤◌, ℕ, ◌⊎◌, List, Some, IfOk, string_bytes};
 ghost use Rattle.tenet_app.specs.Plans.{IsPlan};
-ghost use Rattle.tenet_app.specs.Playing.{plan_report, refusal_line, Plays, Counts, WritesAll};
+ghost use Rattle.tenet_app.specs.Playing.{Ends, MeetsNoFault, plan_report, refusal_line, due_status, Plays, Counts, WritesAll};
+ghost use Rattle.tenet_app.specs.Reading.{reading};
+ghost use Rattle.tenet_app.specs.declared.scenario.reader.TheConstants.{MOST_BYTES};
+ghost use Rattle.tenet_app.specs.declared.status.Status.TheVariants as status;
 
 use crate::establishment::establish;
 use crate::report::report;
@@ -77,3 +80,10 @@ fn write<K: Sink>(sink: &mut K, text: &str, done: Status) -> Status
         Err(_) => Status::WriteFault,
     }
 }
+
+/// Where nothing fails, the bytes determine the status: an answer that `play` may give is that of what the bytes
+/// come to, or memory was wanted.
+pub fn without_a_fault_the_bytes_determine_the_status()
+    ensures { (before after : Ends) (answer : Status) (bytes : List ℕ) → before.left ≡ Some bytes → MeetsNoFault before after
+        → Plays answer before after → (answer ≡ status.Memory) ⊎ (answer ≡ due_status (reading MOST_BYTES bytes)) }
+{}

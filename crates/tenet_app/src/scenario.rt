@@ -4,6 +4,7 @@ pub mod draft;
 pub mod fields;
 pub mod form;
 mod judge;
+pub mod laws;
 mod link_line;
 mod open_line;
 pub mod plan;

@@ -1,0 +1,88 @@
+-- A number has one form: the decimal form of what its digits stand for.
+use Rattle.std.proofs.Common.{◌≡◌, ℕ, suc, ◌^◌, ◌<◌, ◌≤◌, ◌⊎◌, true, not, None, ◌&&◌, ◌||◌, nat_eq, nat_le, List, [], ◌∷◌, length, map, get_or, decimal, refl, ap, ap₂, arith, inl, inr}
+use Rattle.std.proofs.lemmas.Bool.{leb-true, le-leb, eqb-true, eqb-false, eq-eqb, ne_eqb, and_parts, and_from, or_cases, or_left, or_right, not-true, not_from_false, cases_lt}
+use Rattle.std.proofs.lemmas.Fmt.{decimal-digits_value, digits_decimal, digits_value-decimal, decimal_nonempty, decimal_digit, first_decimal, length-decimal-le}
+use Rattle.std.specs.Str.{all_ascii_digits}
+use Rattle.tenet_app.specs.Causes.{first_cause}
+use Rattle.tenet_app.specs.Decimal.{is_number, value_of}
+use Rattle.tenet_app.specs.Forms.{number_rule}
+use Rattle.tenet_app.proofs.DecimalFacts.{numerals, value_below}
+use Rattle.tenet_app.proofs.PassFacts.{RulesPass, number_passes}
+
+-- what the parts of the test say
+pub record NumberParts (field : List ℕ) : Type 0 where
+  pub digits : all_ascii_digits field ≡ true
+  pub least : 1 ≤ length field
+  pub most : length field ≤ 18
+  pub front : get_or field 0 0 ≡ 48 → length field ≡ 1
+
+-- the test says them
+pub number_parts : (field : List ℕ) → is_number field ≡ true → NumberParts field
+number_parts field e =
+    let p = and_parts (all_ascii_digits field && nat_le 1 (length field) && nat_le (length field) 18) (nat_eq (length field) 1 || not (nat_eq (get_or field 0 0) 48)) e in
+    let q = and_parts (all_ascii_digits field && nat_le 1 (length field)) (nat_le (length field) 18) p.0 in
+    let r = and_parts (all_ascii_digits field) (nat_le 1 (length field)) q.0 in
+    record {
+      digits = r.0;
+      least = leb-true 1 (length field) r.1;
+      most = leb-true (length field) 18 q.1;
+      front = λ zero_first. elim (or_cases (nat_eq (length field) 1) (not (nat_eq (get_or field 0 0) 48)) p.1) [
+        | inl one ↦ eqb-true (length field) 1 one
+        | inr other ↦ absurd (eqb-false (get_or field 0 0) 48 (not-true _ other) zero_first)
+      ];
+    }
+
+-- a number is the decimal form of its value
+pub decimal-value : (field : List ℕ) → is_number field ≡ true → decimal (value_of field) ≡ field
+decimal-value field e =
+    let p = number_parts field e in
+    let below = value_below field p.digits p.most in
+    decimal-digits_value numerals field p.digits p.least p.front (omega arith)
+
+-- and so for each of the bounds
+pub decimals-values : (low high : ℕ) (fields : List (List ℕ)) → RulesPass (map (number_rule low high) fields) → map decimal (map value_of fields) ≡ fields
+decimals-values low high [] p = refl
+decimals-values low high (f ∷ fields) p =
+    ap₂ (λ g gs. g ∷ gs) (decimal-value f (number_passes low high f p.0).number) (decimals-values low high fields p.1)
+
+-- ---- and back
+
+-- a decimal form of up to 18 digits is a number
+pub is_number-decimal : (n : ℕ) → n < 10 ^ 18 → is_number (decimal n) ≡ true
+is_number-decimal n h =
+    let few : n < 2 ^ 64 = omega arith in
+    let most = length-decimal-le 18 n (omega arith) h few in
+    and_from (all_ascii_digits (decimal n) && nat_le 1 (length (decimal n)) && nat_le (length (decimal n)) 18) (nat_eq (length (decimal n)) 1 || not (nat_eq (get_or (decimal n) 0 0) 48))
+    (and_from (all_ascii_digits (decimal n) && nat_le 1 (length (decimal n))) (nat_le (length (decimal n)) 18)
+    (and_from (all_ascii_digits (decimal n)) (nat_le 1 (length (decimal n))) (digits_decimal numerals n few) (le-leb 1 (length (decimal n)) (decimal_nonempty n few)))
+    (le-leb (length (decimal n)) 18 most))
+    (front (cases_lt n 10))
+  where
+    front : (n < 10) ⊎ (10 ≤ n) → (nat_eq (length (decimal n)) 1 || not (nat_eq (get_or (decimal n) 0 0) 48)) ≡ true
+    front (inl one) = or_left _ (not (nat_eq (get_or (decimal n) 0 0) 48)) (eq-eqb (length (decimal n)) 1 (ap length (decimal_digit n one)))
+    front (inr more) =
+        let above = first_decimal n (omega arith) (omega arith) in
+        or_right (nat_eq (length (decimal n)) 1) _ (not_from_false (nat_eq (get_or (decimal n) 0 0) 48) (ne_eqb (get_or (decimal n) 0 0) 48 (λ e. omega arith)))
+
+-- the value of a decimal form
+pub value-decimal : (n : ℕ) → n < 2 ^ 64 → value_of (decimal n) ≡ n
+value-decimal n h = digits_value-decimal numerals n h
+
+-- a decimal form passes as a number within these bounds
+pub decimal_passes : (low high n : ℕ) → low ≤ n → n ≤ high → high < 10 ^ 18 → number_rule low high (decimal n) ≡ None
+decimal_passes low high n least most small =
+    let value = value-decimal n (omega arith) in
+    rw (is_number-decimal n (omega arith), value, le-leb low n least, le-leb n high most) refl
+
+-- and so does each of a list
+pub decimals_pass : (low high : ℕ) (ns : List ℕ) → ((i : ℕ) → i < length ns → (low ≤ get_or ns i 0) × (get_or ns i 0 ≤ high)) → high < 10 ^ 18 → first_cause (map (number_rule low high) (map decimal ns)) ≡ None
+decimals_pass low high [] within small = refl
+decimals_pass low high (n ∷ ns) within small =
+    let first = within 0 (omega arith) in
+    let rest = decimals_pass low high ns (λ i h. within (suc i) (omega arith)) small in
+    rw (decimal_passes low high n first.0 first.1 small) rest
+
+-- the values of a list of decimal forms
+pub values-decimals : (ns : List ℕ) → ((i : ℕ) → i < length ns → get_or ns i 0 < 2 ^ 64) → map value_of (map decimal ns) ≡ ns
+values-decimals [] few = refl
+values-decimals (n ∷ ns) few = ap₂ (λ g gs. g ∷ gs) (value-decimal n (few 0 (omega arith))) (values-decimals ns (λ i h. few (suc i) (omega arith)))
