@@ -1,0 +1,12 @@
+pub mod Levels
+pub mod Shape
+pub mod Reservation
+pub mod Service
+pub mod Buffer
+pub mod Sources
+pub mod Hold
+pub mod Scan
+pub mod Refusals
+pub mod Replies
+pub mod Legal
+pub mod HopGuarantee
