@@ -1,3 +1,5 @@
 pub mod Play
 pub mod WorkedLink
 pub mod WorkedSetup
+pub mod WorkedPackets
+pub mod WorkedLaterHop

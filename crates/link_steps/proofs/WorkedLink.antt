@@ -44,6 +44,10 @@ shape_a = with_buffer 100 (lit≤ tt)
 abbrev pub voice : Terms
 voice = terms_of 5 10 20 2
 
+-- and one for packets of up to 4 units
+abbrev pub wide : Terms
+wide = terms_of 5 10 20 4
+
 abbrev pub chan1 : ChanNo
 chan1 = record { number = 1; small = lit< tt }
 
@@ -82,13 +86,16 @@ unfoldable pub quiet : ℕ → ℕ → List Reply
 quiet t zero = []
 quiet t (suc n) = Ticked t 0 None ∷ quiet (suc t) n
 
--- the last hop sends a packet of a channel with rate-jitter control at a level with this bound, in tick t
-abbrev pub sends : ℕ → ChanNo → ℕ → ℕ → ℕ → ℕ → ℕ → Reply
-sends t chan number size at eligible bound =
-    Ticked t 0 (Some (record {
-      packet = record { chan = chan; number = number; size = size; due = eligible + bound + 2 };
-      at = at;
-      eligible = eligible;
-      arrives = suc t + 2;
-      next = None;
-    }))
+-- a packet that leaves the last hop at this tick, after it arrived at the tick `at`, from a level with this bound
+abbrev pub left : ChanNo → ℕ → ℕ → ℕ → ℕ → ℕ → ℕ → Sent
+left chan number size at eligible leaves bound = record {
+  packet = record { chan = chan; number = number; size = size; due = eligible + bound + 2 };
+  at = at;
+  eligible = eligible;
+  arrives = leaves + 2;
+  next = None;
+}
+
+-- the reply of a tick in which no packet is dropped and this one leaves
+abbrev pub sends : ℕ → Sent → Reply
+sends t sent = Ticked t 0 (Some sent)
