@@ -2,9 +2,10 @@
 -- rounded up. `cap` is the largest packet that it carries. The ticks of such a packet are the link's blocking:
 -- for so long a packet of a lower level may hold the link when a more urgent one comes. To admission a link is
 -- the bounds of its levels, its rate and its blocking.
-use Rattle.std.specs.Prelude.{ℕ, Bool, nat_le, ◌&&◌, Option, Some, None, List, if◌then◌else◌}
+use Rattle.std.specs.Prelude.{◌≡◌, ℕ, Bool, nat_le, ◌&&◌, Option, Some, None, List, if◌then◌else◌}
 use Rattle.net_units.specs.Quotient.{ceil_quotient}
 use Rattle.net_units.specs.Steps.{bound_at}
+use Rattle.net_units.specs.declared.numbers.LinkNo.{LinkNo}
 use Rattle.traffic_contract.specs.Admission.{Server}
 use Rattle.link_steps.specs.declared.shape.LinkShape.{LinkShape}
 use Rattle.link_steps.specs.declared.shape.ShapeField.{ShapeField}
@@ -35,3 +36,12 @@ first_bad_field rate cap prop buffer bounds =
     ) else Some Prop
     ) else Some Cap
     ) else Some Rate
+
+-- the link has these numbers
+pub record IsShapeOf (link : LinkNo) (rate cap prop buffer : ℕ) (bounds : List ℕ) (shape : LinkShape) : Type 0 where
+  pub link_is : shape.link ≡ link
+  pub rate_is : shape.rate ≡ rate
+  pub cap_is : shape.cap ≡ cap
+  pub prop_is : shape.prop ≡ prop
+  pub buffer_is : shape.buffer ≡ buffer
+  pub bounds_are : shape.bounds ≡ bounds

@@ -9,9 +9,11 @@
 #![tactic(auto)]
 
 pub mod asks;
+pub mod link_step;
 pub mod replies;
 pub mod shape;
 
 pub use asks::{Ask, Packet};
+pub use link_step::LinkStep;
 pub use replies::{Entry, Phase, Refusal, Reply, Sent, Why};
 pub use shape::{BadShape, LinkShape, ShapeField};

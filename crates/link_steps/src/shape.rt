@@ -1,9 +1,9 @@
 //! What a link is, apart from what it does.
-ghost use Rattle.std.specs.Prelude.{◌≡◌, ◌≤◌, IsTrue};
+ghost use Rattle.std.specs.Prelude.{◌≡◌, ◌≤◌, IsTrue, IfOk, MatchResult, None, Some};
 ghost use Rattle.net_units.specs.Quotient.{ceil_quotient};
 ghost use Rattle.net_units.specs.Steps.{are_bounds, bound_at};
 
-use net_units::{Bounds, LinkNo};
+use net_units::{Bounds, Level, LinkNo, ceil_div};
 
 /// A number of a link's shape, or its bounds.
 #[derive(Clone, Copy, Debug, PartialEq, Eq)]
@@ -39,4 +39,51 @@ pub struct LinkShape {
     ghost buffer_most: { buffer ≤ 262144 },
     ghost bounds_rise: { IsTrue (are_bounds bounds) },
     ghost blocking_fits: { ceil_quotient cap rate ≤ bound_at bounds 1 },
+}
+
+impl LinkShape {
+    ghost use Rattle.link_steps.specs.Shape.{first_bad_field, blocking_of, IsShapeOf};
+
+    /// A link of these numbers, refused for the first field, in this order, that is out of its limit: a rate or a
+    /// cap from 1 to 65,536 units, a propagation of at most 1,048,576 ticks, a buffer of at most 262,144 units,
+    /// and bounds of which the first is at least the ticks of the largest packet.
+    pub fn new(
+        link: LinkNo,
+        rate: u32,
+        cap: u32,
+        prop: u32,
+        buffer: u32,
+        bounds: Bounds,
+    ) -> Result<LinkShape, BadShape>
+        ensures refusal { MatchResult result
+            (λ _. first_bad_field rate cap prop buffer bounds ≡ None)
+            (λ bad. first_bad_field rate cap prop buffer bounds ≡ Some bad.field) }
+        ensures value { IfOk result (IsShapeOf link rate cap prop buffer bounds) }
+    {
+        if !(1..=65_536).contains(&rate) {
+            return Err(BadShape { field: ShapeField::Rate });
+        }
+        if !(1..=65_536).contains(&cap) {
+            return Err(BadShape { field: ShapeField::Cap });
+        }
+        if prop > 1_048_576 {
+            return Err(BadShape { field: ShapeField::Prop });
+        }
+        if buffer > 262_144 {
+            return Err(BadShape { field: ShapeField::Buffer });
+        }
+        if ceil_div(u64::from(cap), u64::from(rate)) > u64::from(bounds.at(Level::LEAST)) {
+            return Err(BadShape { field: ShapeField::Bounds });
+        }
+        Ok(LinkShape { link, rate, cap, prop, buffer, bounds })
+    }
+
+    /// The blocking: the ticks that a packet of the largest size occupies the link, from 1 to 65,536.
+    pub fn blocking(&self) -> u32
+        ensures value { result ≡ blocking_of self.now }
+        ensures least { 1 ≤ result }
+        ensures most { result ≤ 65536 }
+    {
+        self.cap.div_ceil(self.rate)
+    }
 }
