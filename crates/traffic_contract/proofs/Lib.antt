@@ -1,1 +1,6 @@
+pub mod ContractFacts
 pub mod KeepingFacts
+pub mod NewestFirst
+pub mod EligibleFacts
+pub mod AdmissionFacts
+pub mod Worked

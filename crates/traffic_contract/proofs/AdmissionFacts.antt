@@ -1,0 +1,233 @@
+-- The admission test under changes of the rows: a sum row by row, what taking a row out, moving it and adding
+-- one do to it, and where the best level of a new contract lies.
+use Rattle.std.proofs.Common.{◌≡◌, ℕ, zero, suc, ◌+◌, ◌<◌, ◌≤◌, ⊎_elim, Bool, true, false, cond, List, [], ◌∷◌, ◌++◌, length, map, Decides, Some, None, refl, sym, ap, ◌∙◌, arith}
+use Rattle.std.proofs.lemmas.Bool.{leb-true, le-leb, lt-leb, cases_lt, cases_eq, cases_Bool, true≢false, and_parts, and_from, false_from_ne_true}
+use Rattle.std.proofs.lemmas.Bool.Decides.{Decides-like}
+use Rattle.std.proofs.lemmas.List.Elements.{All-head, All-tail}
+use Rattle.std.specs.List.{All, filter}
+use Rattle.net_units.specs.Steps.{bound_at}
+use Rattle.traffic_contract.specs.Contract.{Terms}
+use Rattle.traffic_contract.specs.Admission.{Server, Row, total, work_in, work_up_to, load, level_sum, Passes, passes_at, passes_up_to, passes, with_row, admits, first_level, best_level, IsBest}
+
+-- ---- sums over lists
+
+pub total-append : {X : Type 0} (f : X → ℕ) (xs ys : List X) → total f (xs ++ ys) ≡ total f xs + total f ys
+total-append f [] ys = omega arith
+total-append f (x ∷ xs) ys = omega (arith, total-append f xs ys)
+
+pub total-push : {X : Type 0} (f : X → ℕ) (xs : List X) (y : X) → total f (xs ++ y ∷ []) ≡ total f xs + f y
+total-push f xs y = omega (arith, total-append f xs (y ∷ []))
+
+-- an item in the middle adds its part
+pub total-middle : {X : Type 0} (f : X → ℕ) (xs : List X) (y : X) (ys : List X) → total f (xs ++ y ∷ ys) ≡ total f (xs ++ ys) + f y
+total-middle f xs y ys = omega (arith, total-append f xs (y ∷ ys), total-append f xs ys)
+
+pub total-map : {X Y : Type 0} (f : Y → ℕ) (g : X → Y) (xs : List X) → total f (map g xs) ≡ total (λ x. f (g x)) xs
+total-map f g [] = refl
+total-map f g (x ∷ xs) = ap (λ n. f (g x) + n) (total-map f g xs)
+
+pub total-filter-le : {X : Type 0} (f : X → ℕ) (test : X → Bool) (xs : List X) → total f (filter test xs) ≤ total f xs
+total-filter-le f test [] = omega arith
+total-filter-le f test (x ∷ xs) =
+    let rest = total-filter-le f test xs in
+    elim (test x) as (λ b. total f (cond b (x ∷ filter test xs) (filter test xs)) ≤ f x + total f xs) [ true ↦ omega arith | false ↦ omega arith ]
+
+-- a sum whose parts are no larger is no larger
+pub total-le : {X : Type 0} (f g : X → ℕ) (xs : List X) → All (λ x. f x ≤ g x) xs → total f xs ≤ total g xs
+total-le f g [] less = omega arith
+total-le f g (x ∷ xs) less =
+    omega (arith, All-head (λ y. f y ≤ g y) x xs less, total-le f g xs (All-tail (λ y. f y ≤ g y) x xs less))
+
+-- ---- what a row adds to the levels
+
+pub work_up_to-within : (rate m w : ℕ) (row : Row) → row.level ≤ m → work_up_to rate m w row ≡ work_in rate row.terms w
+unfolding work_up_to
+work_up_to-within rate m w row h = rw (le-leb row.level m h) refl
+
+pub work_up_to-above : (rate m w : ℕ) (row : Row) → m < row.level → work_up_to rate m w row ≡ 0
+unfolding work_up_to
+work_up_to-above rate m w row h = rw (lt-leb row.level m h) refl
+
+-- a row of the same contract at a level that is no smaller adds no more
+pub work_up_to-le : (rate m w : ℕ) (row other : Row) → other.terms ≡ row.terms → row.level ≤ other.level → work_up_to rate m w other ≤ work_up_to rate m w row
+work_up_to-le rate m w row other same larger =
+    ⊎_elim (λ (above : m < other.level). (let e = work_up_to-above rate m w other above in omega (arith, e)))
+    (λ (within : other.level ≤ m).
+    let e = work_up_to-within rate m w other within in
+    let f = work_up_to-within rate m w row (omega arith) in
+    let g : work_in rate other.terms w ≡ work_in rate row.terms w = ap (λ terms. work_in rate terms w) same in
+    omega (arith, e, f, g))
+    (cases_lt m other.level)
+
+-- the load with a new row is the load before and what the row adds
+pub load-with_row : (server : Server) (rows : List Row) (terms : Terms) (level m w : ℕ) → load server (with_row rows terms level) m w ≡ load server rows m w + work_up_to server.rate m w (record { terms = terms; level = level })
+unfolding load
+load-with_row server rows terms level m w =
+    let e = total-push (work_up_to server.rate m w) rows (record { terms = terms; level = level }) in omega (arith, e)
+
+-- ---- the test
+
+-- rows pass whose levels' sums are no larger than those of rows that pass
+pub Passes-le : (server : Server) (rows others : List Row) → ((m : ℕ) → level_sum server others m ≤ level_sum server rows m) → Passes server rows → Passes server others
+Passes-le server rows others less passed = record { each = λ m from upto. omega (arith, less m, passed.each m from upto) }
+
+-- rows that pass still pass when one is taken out
+pub Passes-without : (server : Server) (rows : List Row) (row : Row) (later : List Row) → Passes server (rows ++ row ∷ later) → Passes server (rows ++ later)
+unfolding load
+Passes-without server rows row later =
+    Passes-le server (rows ++ row ∷ later) (rows ++ later) (λ m. let e = total-middle (work_up_to server.rate m (bound_at server.bounds m)) rows row later in omega (arith, e))
+
+-- or when any of them are
+pub Passes-filter : (server : Server) (test : Row → Bool) (rows : List Row) → Passes server rows → Passes server (filter test rows)
+unfolding load
+Passes-filter server test rows =
+    Passes-le server rows (filter test rows) (λ m. let e = total-filter-le (work_up_to server.rate m (bound_at server.bounds m)) test rows in omega (arith, e))
+
+-- rows that pass still pass when one moves to a larger level
+pub Passes-raised : (server : Server) (rows : List Row) (row raised : Row) (later : List Row) → raised.terms ≡ row.terms → row.level ≤ raised.level → Passes server (rows ++ row ∷ later) → Passes server (rows ++ raised ∷ later)
+unfolding load
+Passes-raised server rows row raised later same larger =
+    Passes-le server (rows ++ row ∷ later) (rows ++ raised ∷ later) (λ m.
+    let w = bound_at server.bounds m in
+    let e = total-middle (work_up_to server.rate m (bound_at server.bounds m)) rows row later in
+    let f = total-middle (work_up_to server.rate m (bound_at server.bounds m)) rows raised later in
+    let g = work_up_to-le server.rate m (bound_at server.bounds m) row raised same larger in
+    omega (arith, e, f, g))
+
+-- or when many do: f and g give the rows before and after
+pub Passes-raised_all : {X : Type 0} (server : Server) (f g : X → Row) (xs : List X) → All (λ x. ((g x).terms ≡ (f x).terms) × ((f x).level ≤ (g x).level)) xs → Passes server (map f xs) → Passes server (map g xs)
+unfolding load
+Passes-raised_all server f g xs raised =
+    Passes-le server (map f xs) (map g xs) (λ m.
+    let work : Row → ℕ = work_up_to server.rate m (bound_at server.bounds m) in
+    let e = total-map (work_up_to server.rate m (bound_at server.bounds m)) f xs in
+    let h = total-map (work_up_to server.rate m (bound_at server.bounds m)) g xs in
+    let less = total-le (λ x. work_up_to server.rate m (bound_at server.bounds m) (g x)) (λ x. work_up_to server.rate m (bound_at server.bounds m) (f x)) xs (λ k d inside. work_up_to-le server.rate m (bound_at server.bounds m) _ _ (raised k d inside).0 (raised k d inside).1) in
+    omega (arith, e, h, less))
+
+-- a row that passes at a level passes at every larger level
+pub Passes-larger : (server : Server) (rows : List Row) (terms : Terms) (m larger : ℕ) → m ≤ larger → Passes server (with_row rows terms m) → Passes server (with_row rows terms larger)
+Passes-larger server rows terms m larger h =
+    Passes-raised server rows (record { terms = terms; level = m }) (record { terms = terms; level = larger }) [] refl h
+
+-- without the new row the rows pass too
+pub Passes-before : (server : Server) (rows : List Row) (terms : Terms) (m : ℕ) → Passes server (with_row rows terms m) → Passes server rows
+Passes-before server rows terms m =
+    Passes-le server (with_row rows terms m) rows (λ k. let e = load-with_row server rows terms m k (bound_at server.bounds k) in omega (arith, e))
+
+-- no rows pass where the blocking fits every bound
+pub Passes-nil : (server : Server) → ((m : ℕ) → 1 ≤ m → m ≤ length server.bounds → server.blocking ≤ bound_at server.bounds m) → Passes server []
+unfolding load
+Passes-nil server fits = record { each = λ m from upto. omega (arith, fits m from upto) }
+
+-- whether rows pass up to a level
+Decides-passes_up_to : (server : Server) (rows : List Row) (n : ℕ) → Decides (passes_up_to server rows n) ((m : ℕ) → 1 ≤ m → m ≤ n → level_sum server rows m ≤ bound_at server.bounds m)
+unfolding passes_up_to
+Decides-passes_up_to server rows zero = (λ _ m from upto. absurd (omega arith), λ _. refl)
+Decides-passes_up_to server rows (suc n) =
+    let below = Decides-passes_up_to server rows n in (
+      λ e m from upto.
+          let both = and_parts (passes_at server rows (suc n)) (passes_up_to server rows n) e in
+          ⊎_elim (λ (last : m ≡ suc n). (rw last (leb-true _ _ both.0))) (λ (other : m ≡ suc n → ⊥). below.0 both.1 m from (omega arith)) (cases_eq m (suc n)),
+      λ all. and_from (passes_at server rows (suc n)) (passes_up_to server rows n) (le-leb _ _ (all (suc n) (omega arith) (omega arith))) (below.1 (λ m from upto. all m from (omega arith))),
+    )
+
+-- the test says whether the rows pass
+pub Decides-passes : (server : Server) (rows : List Row) → Decides (passes server rows) (Passes server rows)
+unfolding passes
+Decides-passes server rows =
+    Decides-like _ (λ all. record { each = all }) (λ passed. passed.each) (Decides-passes_up_to server rows (length server.bounds))
+
+pub Decides-admits : (server : Server) (rows : List Row) (terms : Terms) (m : ℕ) → Decides (admits server rows terms m) (Passes server (with_row rows terms m))
+unfolding admits
+Decides-admits server rows terms m = Decides-passes server (with_row rows terms m)
+
+-- ---- the best level
+
+-- a level that passes, while the ones before it don't, is found
+pub first_level-found : (test : ℕ → Bool) (m count found : ℕ) → m ≤ found → found < m + count → test found ≡ true → ((k : ℕ) → m ≤ k → k < found → test k ≡ false) → first_level test m count ≡ Some found
+unfolding first_level
+first_level-found test m zero found from upto holds before = absurd (omega arith)
+first_level-found test m (suc count) found from upto holds before =
+    ⊎_elim (λ (here : m ≡ found). (rw here (rw holds refl)))
+    (λ (other : m ≡ found → ⊥).
+    rw (before m (omega arith) (omega arith)) (first_level-found test (m + 1) count found (omega arith) (omega arith) holds (λ k below above. before k (omega arith) above)))
+    (cases_eq m found)
+
+-- none is found where none passes
+pub first_level-none : (test : ℕ → Bool) (m count : ℕ) → ((k : ℕ) → m ≤ k → k < m + count → test k ≡ false) → first_level test m count ≡ None
+unfolding first_level
+first_level-none test m zero fails = refl
+first_level-none test m (suc count) fails =
+    rw (fails m (omega arith) (omega arith)) (first_level-none test (m + 1) count (λ k from upto. fails k (omega arith) (omega arith)))
+
+-- what is found passes and comes first
+pub first_level-is : (test : ℕ → Bool) (m count found : ℕ) → first_level test m count ≡ Some found → (m ≤ found) × (found < m + count) × (test found ≡ true) × ((k : ℕ) → m ≤ k → k < found → test k ≡ false)
+unfolding first_level
+first_level-is test m zero found e = cc
+first_level-is test m (suc count) found e =
+    ⊎_elim (λ (here : test m ≡ true).
+    let same : m ≡ found = (let f = rw here at e in cc) in
+    (omega arith, omega arith, sym (ap test same) ∙ here, λ k from before. absurd (omega arith)))
+    (λ (not_here : test m ≡ false).
+    let rest = first_level-is test (m + 1) count found (rw not_here at e) in (
+      omega (arith, rest.0),
+      omega (arith, rest.1),
+      rest.2,
+      λ k from before.
+          ⊎_elim (λ (at_m : k ≡ m). (rw at_m not_here)) (λ (other : k ≡ m → ⊥). rest.3 k (omega arith) before) (cases_eq k m),
+    ))
+    (cases_Bool (test m))
+
+-- the best level that the definition computes is the least that passes
+pub best_level-is : (server : Server) (rows : List Row) (terms : Terms) (m : ℕ) → best_level server rows terms ≡ Some m → IsBest server rows terms m
+unfolding best_level
+best_level-is server rows terms m e =
+    let found = first_level-is (admits server rows terms) 1 (length server.bounds) m e in
+    record {
+      from = found.0;
+      upto = omega (arith, found.1);
+      passes = (Decides-admits server rows terms m).0 found.2;
+      least = λ lower from upto passed. ⊎_elim (λ (below : lower < m). absurd (true≢false (sym ((Decides-admits server rows terms lower).1 passed) ∙ found.3 lower from below))) (λ (above : m ≤ lower). above) (cases_lt lower m);
+    }
+
+pub best_level-found : (server : Server) (rows : List Row) (terms : Terms) (m : ℕ) → IsBest server rows terms m → best_level server rows terms ≡ Some m
+unfolding best_level
+best_level-found server rows terms m best =
+    first_level-found (admits server rows terms) 1 (length server.bounds) m best.from (omega (arith, best.upto)) ((Decides-admits server rows terms m).1 best.passes)
+    (λ k from below. false_from_ne_true _ (λ passed. absurd (omega (arith, best.least k from (omega (arith, best.upto)) ((Decides-admits server rows terms k).0 passed)))))
+
+-- there is none exactly where no level passes
+pub best_level-none : (server : Server) (rows : List Row) (terms : Terms) → ((m : ℕ) → 1 ≤ m → m ≤ length server.bounds → Passes server (with_row rows terms m) → ⊥) → best_level server rows terms ≡ None
+unfolding best_level
+best_level-none server rows terms fails =
+    first_level-none (admits server rows terms) 1 (length server.bounds) (λ k from upto. false_from_ne_true _ (λ passed. fails k from (omega arith) ((Decides-admits server rows terms k).0 passed)))
+
+-- ---- room for a new row at each level
+
+-- rows that pass still pass with a new one at m where every level from m on has room for its work
+pub Passes-with_row : (server : Server) (rows : List Row) (terms : Terms) (m : ℕ) → Passes server rows → ((k : ℕ) → m ≤ k → k ≤ length server.bounds → level_sum server rows k + work_in server.rate terms (bound_at server.bounds k) ≤ bound_at server.bounds k) → Passes server (with_row rows terms m)
+Passes-with_row server rows terms m passed room = record {
+  each = λ k from upto.
+      let w : ℕ = bound_at server.bounds k in
+      let e = load-with_row server rows terms m k (bound_at server.bounds k) in
+      ⊎_elim (λ (below : k < m).
+      let f = work_up_to-above server.rate k (bound_at server.bounds k) (record { terms = terms; level = m }) below in
+      omega (arith, e, f, passed.each k from upto))
+      (λ (above : m ≤ k).
+      let f = work_up_to-within server.rate k (bound_at server.bounds k) (record { terms = terms; level = m }) above in
+      omega (arith, e, f, room k above upto))
+      (cases_lt k m);
+}
+
+-- what a level comes to with a new row at it or below
+pub level_sum-with_row : (server : Server) (rows : List Row) (terms : Terms) (m k : ℕ) → m ≤ k → level_sum server (with_row rows terms m) k ≡ level_sum server rows k + work_in server.rate terms (bound_at server.bounds k)
+level_sum-with_row server rows terms m k within =
+    let e = load-with_row server rows terms m k (bound_at server.bounds k) in
+    let f = work_up_to-within server.rate k (bound_at server.bounds k) (record { terms = terms; level = m }) within in
+    omega (arith, e, f)
+
+-- where a level has no room, the new row passes at none of the levels up to it
+pub room-from-Passes : (server : Server) (rows : List Row) (terms : Terms) (m k : ℕ) → 1 ≤ k → m ≤ k → k ≤ length server.bounds → Passes server (with_row rows terms m) → level_sum server rows k + work_in server.rate terms (bound_at server.bounds k) ≤ bound_at server.bounds k
+room-from-Passes server rows terms m k from within upto passed =
+    omega (arith, level_sum-with_row server rows terms m k within, passed.each k from upto)
