@@ -7,16 +7,12 @@ use Rattle.net_units.specs.Steps.{bound_at}
 use Rattle.traffic_contract.specs.Admission.{Passes}
 use Rattle.link_steps.specs.declared.replies.Entry.{Entry}
 use Rattle.link_steps.specs.declared.shape.LinkShape.{LinkShape}
+use Rattle.link_steps.specs.Lists.{Each}
 use Rattle.link_steps.specs.Reservation.{admitted}
 use Rattle.link_steps.specs.Scan.{clock_of, scan_of, starts_of}
 use Rattle.link_steps.specs.Service.{Arrival, Start, leaves_at, has_departed}
 use Rattle.link_steps.specs.Shape.{server_of}
 use Rattle.link_steps.specs.Sources.{Row, terms_of}
-
--- P holds of each element
-abbrev pub Each : {X : Type 0} → (X → Type 0) → List X → Type 0
-Each P [] = Unit {0}
-Each P (x ∷ xs) = P x × Each P xs
 
 -- P holds after each entry of a history, and at its beginning
 abbrev pub AfterEach : (List Entry → Type 0) → List Entry → Type 0

@@ -1,3 +1,4 @@
+pub mod Lists
 pub mod Levels
 pub mod Shape
 pub mod Reservation
@@ -10,3 +11,4 @@ pub mod Refusals
 pub mod Replies
 pub mod Legal
 pub mod HopGuarantee
+pub mod Kept

@@ -27,8 +27,8 @@ use Rattle.link_steps.specs.declared.shape.LinkShape.{LinkShape}
 use Rattle.link_steps.specs.Buffer.{units_for, slots_of, free_units, held_packets}
 use Rattle.link_steps.specs.Levels.{level_of}
 use Rattle.link_steps.specs.Refusals.{first_refusal, fits_cap, is_new, has_level, has_buffer, in_phase, fits_offer, is_idle, fits_contract, is_past_first, was_committed, is_next, is_counted, is_small, has_room}
-use Rattle.link_steps.specs.Reservation.{Reservation, admitted, is_of, is_at_hop}
-use Rattle.link_steps.specs.Scan.{Scan, clock_of, scan_of, without_expired, after_tick, is_row_of}
+use Rattle.link_steps.specs.Reservation.{Reservation, admitted, is_of}
+use Rattle.link_steps.specs.Scan.{Scan, clock_of, scan_of, without_expired, after_tick, is_row_of, is_row_at_hop, names_first_hop}
 use Rattle.link_steps.specs.Service.{Arrival, Start, leaves_at, starts_below, here_at}
 use Rattle.link_steps.specs.Shape.{server_of}
 use Rattle.link_steps.specs.Sources.{Row, SourcePacket, terms_of, left_at, eligible_next, lost_in}
@@ -129,15 +129,6 @@ tick_reply shape t scan =
     Ticked t
     (lost_in shape.bounds (here_at shape.rate scan.packets t) t (without_expired shape.bounds t scan).rows)
     (sent_at shape (suc t) (starts_below shape.rate (after_tick shape t scan).packets (suc t)))
-
--- whether a row is this channel's, at its first hop or at a later one
-abbrev pub is_row_at_hop : ChanNo → Bool → Row → Bool
-is_row_at_hop chan first row = is_at_hop chan first row.terms
-
--- a release that is told no count names a first hop, one that is told a count a later hop
-abbrev pub names_first_hop : Option ℕ → Bool
-names_first_hop None = true
-names_first_hop (Some told) = false
 
 -- the reply to an ask at clock t, from the scan of the history
 unfoldable pub reply_at : LinkShape → ℕ → Scan → Ask → Reply

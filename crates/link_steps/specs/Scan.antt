@@ -13,7 +13,8 @@ use Rattle.link_steps.specs.declared.replies.Reply.{Reply}
 use Rattle.link_steps.specs.declared.replies.Reply.TheVariants as Is
 use Rattle.link_steps.specs.declared.shape.LinkShape.{LinkShape}
 use Rattle.link_steps.specs.Hold.{expires, stays}
-use Rattle.link_steps.specs.Reservation.{Reservation, tentative, committed, closing, is_of}
+use Rattle.link_steps.specs.Lists.{change_first, without_first}
+use Rattle.link_steps.specs.Reservation.{tentative, committed, closing, is_of, is_at_hop}
 use Rattle.link_steps.specs.Service.{Arrival, Start, here_at, starts_below}
 use Rattle.link_steps.specs.Sources.{Row, new_row, planned_from, is_before, eligible_next, arrival_at, with_packet, rows_after, source_packets}
 
@@ -31,12 +32,17 @@ unfoldable pub clock_of : List Entry → ℕ
 clock_of [] = 0
 clock_of (e ∷ past) = clock_with e.ask (clock_of past)
 
--- whether a row is this channel's, and whether it isn't
+-- whether a row is this channel's; and whether it is so at its first hop, or at a later one
 abbrev pub is_row_of : ChanNo → Row → Bool
 is_row_of chan row = is_of chan row.terms
 
-abbrev pub is_row_of_another : ChanNo → Row → Bool
-is_row_of_another chan row = not (is_row_of chan row)
+abbrev pub is_row_at_hop : ChanNo → Bool → Row → Bool
+is_row_at_hop chan first row = is_at_hop chan first row.terms
+
+-- a release that is told no count names a first hop, one that is told a count a later hop
+abbrev pub names_first_hop : Option ℕ → Bool
+names_first_hop None = true
+names_first_hop (Some told) = false
 
 -- the changes of a row by a relax, by a submit at clock t, and by a release at clock t, which cancels the planned
 -- packets whose tick isn't made yet
@@ -48,14 +54,6 @@ plan_row t count gap size row = record row { plan = row.plan ++ planned_from t g
 
 abbrev pub close_row : ℕ → ℕ → Row → Row
 close_row t count row = record row { terms = closing count row.terms; plan = filter (is_before t) row.plan }
-
--- the element changed where it passes the test
-abbrev pub change_if : {X : Type 0} → (X → Bool) → (X → X) → X → X
-change_if test change x = if test x then change x else x
-
--- the rows with those of the channel changed
-abbrev pub change_rows : ChanNo → (Row → Row) → List Row → List Row
-change_rows chan change rows = map (change_if (is_row_of chan) change) rows
 
 abbrev pub with_rows : Scan → List Row → Scan
 with_rows scan rows = record scan { rows = rows }
@@ -73,7 +71,7 @@ arrived_row t place packet row = with_packet place (arrived_tick t packet row) r
 unfoldable pub with_arrival : ℕ → Packet → Scan → Option Row → Scan
 with_arrival t packet scan None = scan
 with_arrival t packet scan (Some row) = record scan {
-  rows = change_rows packet.chan (arrived_row t (suc (length scan.packets)) packet) scan.rows;
+  rows = change_first (is_row_of packet.chan) (arrived_row t (suc (length scan.packets)) packet) scan.rows;
   packets = scan.packets ++ arrived_packet t (suc (length scan.packets)) packet row ∷ [];
 }
 
@@ -99,10 +97,13 @@ after_tick shape t scan = with_sources shape.bounds (here_at shape.rate scan.pac
 unfoldable pub after : LinkShape → ℕ → Scan → Ask → Reply → Scan
 after shape t scan (Reserve chan contract kind delay up_reach first next) (Is.Offer level reach) =
     with_rows scan (scan.rows ++ new_row (tentative chan contract kind first next up_reach level reach) ∷ [])
-after shape t scan (Relax chan level up_bound) (Is.Relaxed clock) = with_rows scan (change_rows chan (relax_row level up_bound) scan.rows)
-after shape t scan (Deny chan) Is.Denied = with_rows scan (filter (is_row_of_another chan) scan.rows)
-after shape t scan (Submit chan count gap size) (Is.Planned clock) = with_rows scan (change_rows chan (plan_row t count gap size) scan.rows)
-after shape t scan (Release chan upstream) (Is.Closing count cancelled) = with_rows scan (change_rows chan (close_row t count) scan.rows)
+after shape t scan (Relax chan level up_bound) (Is.Relaxed clock) =
+    with_rows scan (change_first (is_row_of chan) (relax_row level up_bound) scan.rows)
+after shape t scan (Deny chan) Is.Denied = with_rows scan (without_first (is_row_of chan) scan.rows)
+after shape t scan (Submit chan count gap size) (Is.Planned clock) =
+    with_rows scan (change_first (is_row_at_hop chan true) (plan_row t count gap size) scan.rows)
+after shape t scan (Release chan upstream) (Is.Closing count cancelled) =
+    with_rows scan (change_first (is_row_at_hop chan (names_first_hop upstream)) (close_row t count) scan.rows)
 after shape t scan (Arrive packet) (Is.Taken clock eligible) = with_arrival t packet scan (find (is_row_of packet.chan) scan.rows)
 after shape t scan Tick reply = after_tick shape t scan
 after shape t scan _ _ = scan
