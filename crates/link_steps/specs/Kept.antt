@@ -23,7 +23,7 @@ use Rattle.link_steps.specs.Hold.{hold_ended}
 use Rattle.link_steps.specs.Lists.{change_first, without_first}
 use Rattle.link_steps.specs.Replies.{reserve_reply, relax_reply, deny_reply, submit_reply, release_reply, arrive_reply, sent_of}
 use Rattle.link_steps.specs.Reservation.{Reservation, tentative, committed, closing, is_of, is_at_hop}
-use Rattle.link_steps.specs.Scan.{clock_with, clock_of, scan_of, names_first_hop}
+use Rattle.link_steps.specs.Scan.{Scan, clock_of, scan_of, names_first_hop}
 use Rattle.link_steps.specs.Service.{Arrival, Start, leaves_at, first_in_line, is_busy, starts_below, here_at}
 use Rattle.link_steps.specs.Sources.{Row, SourcePacket, SourceStep, Rests, Brings, Loses, planned_from, is_for, is_from, left_at, eligible_next, lead_with, arrival_at, source_step, taken_by, lost_by}
 
@@ -63,14 +63,18 @@ abbrev pub start_on : ℕ → List Start → ℕ → Option Start
 start_on rate [] t = None
 start_on rate (start ∷ earlier) t = if nat_lt t (leaves_at rate start) then Some start else None
 
-unfoldable pub kept_of : LinkShape → List Entry → Kept
-kept_of shape h = record {
-  clock = clock_of h;
-  taken = length (scan_of shape h).packets;
-  rows = map (kept_row (clock_of h)) (scan_of shape h).rows;
-  here = here_at shape.rate (scan_of shape h).packets (clock_of h);
-  on = start_on shape.rate (starts_below shape.rate (scan_of shape h).packets (clock_of h)) (clock_of h);
+-- what is kept at clock t, from the scan of the history
+unfoldable pub kept_at : LinkShape → ℕ → Scan → Kept
+kept_at shape t scan = record {
+  clock = t;
+  taken = length scan.packets;
+  rows = map (kept_row t) scan.rows;
+  here = here_at shape.rate scan.packets t;
+  on = start_on shape.rate (starts_below shape.rate scan.packets t) t;
 }
+
+abbrev pub kept_of : LinkShape → List Entry → Kept
+kept_of shape h = kept_at shape (clock_of h) (scan_of shape h)
 
 -- ---- the rows through a tick
 

@@ -12,3 +12,4 @@ pub mod Replies
 pub mod Legal
 pub mod HopGuarantee
 pub mod Kept
+pub mod Laws

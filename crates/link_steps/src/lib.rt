@@ -9,6 +9,7 @@
 #![tactic(auto)]
 
 pub mod asks;
+pub mod laws;
 pub mod link_step;
 pub mod replies;
 pub mod shape;
