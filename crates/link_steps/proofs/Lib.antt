@@ -7,3 +7,6 @@ pub mod ListFacts
 pub mod RefusalFacts
 pub mod AdmissionHolds
 pub mod ServiceFacts
+pub mod AccountOfService
+pub mod AccountOfRows
+pub mod Account

@@ -1,5 +1,5 @@
 -- Facts on lists: the first element that passes a test found, changed and taken out, filters, and sums.
-use Rattle.std.proofs.Common.{◌≡◌, ℕ, ◌+◌, ◌≤◌, Bool, true, false, cond, not, ◌&&◌, List, [], ◌∷◌, ◌++◌, length, map, Option, Some, None, inl, inr, refl, sym, ap, ◌∙◌, arith}
+use Rattle.std.proofs.Common.{◌≡◌, ℕ, ◌+◌, ◌≤◌, Bool, true, false, cond, not, ◌&&◌, List, [], ◌∷◌, ◌++◌, length, map, Option, Some, None, inl, inr, refl, sym, ap, ◌∙◌, subst, arith}
 use Rattle.std.proofs.lemmas.Bool.{cases_Bool, cond_both}
 use Rattle.std.specs.Prelude.{filter, find}
 use Rattle.std.specs.Option.{option_map}
@@ -132,3 +132,17 @@ total-without_first-le f test [] = omega arith
 total-without_first-le f test (x ∷ xs) =
     let rest = total-without_first-le f test xs in
     elim (test x) as (λ b. total f (cond b xs (x ∷ without_first test xs)) ≤ f x + total f xs) [ true ↦ omega arith | false ↦ omega arith ]
+
+-- ---- what is found
+
+some-same : {X : Type 0} (a b : X) → Some a ≡ Some b → a ≡ b
+some-same a b same = cc
+
+-- a fact of each element is one of what is found
+pub Each-find : {X : Type 0} (P : X → Type 0) (test : X → Bool) (xs : List X) (x : X) → Each P xs → find test xs ≡ Some x → P x
+Each-find P test [] x each found = cc
+Each-find P test (y ∷ xs) x each found =
+    elim (cases_Bool (test y)) [
+      inl passed ↦ subst P (some-same y x (rw passed at found)) each.0
+    | inr failed ↦ Each-find P test xs x each.1 (rw failed at found)
+    ]

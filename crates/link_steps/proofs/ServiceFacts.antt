@@ -69,6 +69,21 @@ unfolding starts_below
 starts-follow rate packets zero = tt
 starts-follow rate packets (suc t) = follow-tick rate packets t (starts_below rate packets t) (starts-follow rate packets t)
 
+-- a start that was made by tick t
+abbrev pub HasBegun : ℕ → Start → Type 0
+HasBegun t start = start.tick ≤ t
+
+pub starts-begun : (rate : ℕ) (packets : List Arrival) (t : ℕ) → Each (HasBegun t) (starts_below rate packets t)
+unfolding starts_below serve_tick
+starts-begun rate packets zero = tt
+starts-begun rate packets (suc t) =
+    let before = Each-if (HasBegun t) (HasBegun (suc t)) (starts_below rate packets t) (λ start h. omega arith) (starts-begun rate packets t) in
+    cond_both (is_busy rate (starts_below rate packets t) t) (starts_below rate packets t) (add_start (first_in_line (filter (is_waiting (starts_below rate packets t) t) packets)) t (starts_below rate packets t)) (Each (HasBegun (suc t)))
+    (λ _. before) (λ _. add-begun (first_in_line (filter (is_waiting (starts_below rate packets t) t) packets)) (starts_below rate packets t) before) where
+  add-begun : (best : Option Arrival) (starts : List Start) → Each (HasBegun (suc t)) starts → Each (HasBegun (suc t)) (add_start best t starts)
+  add-begun None starts before = before
+  add-begun (Some p) starts before = (omega arith, before)
+
 -- ---- what starts is one of the packets
 
 -- a fact of each packet is one of the first in line
