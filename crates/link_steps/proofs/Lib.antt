@@ -10,3 +10,4 @@ pub mod ServiceFacts
 pub mod AccountOfService
 pub mod AccountOfRows
 pub mod Account
+pub mod LegalRows

@@ -28,3 +28,7 @@ AccountGivesReply = (shape : LinkShape) (h : List Entry) (ask : Ask) → HasCont
 -- the account of a history with one more entry is the next of the account before
 abbrev pub AccountGoesOn : Type 0
 AccountGoesOn = (shape : LinkShape) (h : List Entry) (e : Entry) → HasContracts (kept_of shape h) → kept_of shape (e ∷ h) ≡ kept_after shape (kept_of shape h) e.ask e.reply
+
+-- the account of a legal history has contracts
+abbrev pub LegalHasContracts : Type 0
+LegalHasContracts = (shape : LinkShape) (h : List Entry) → IsLegal shape h → HasContracts (kept_of shape h)
