@@ -11,3 +11,4 @@ pub mod AccountOfService
 pub mod AccountOfRows
 pub mod Account
 pub mod LegalRows
+pub mod BusyPeriods

@@ -1,5 +1,5 @@
 -- Facts on lists: the first element that passes a test found, changed and taken out, filters, and sums.
-use Rattle.std.proofs.Common.{◌≡◌, ℕ, ◌+◌, ◌≤◌, Bool, true, false, cond, not, ◌&&◌, List, [], ◌∷◌, ◌++◌, length, map, Option, Some, None, inl, inr, refl, sym, ap, ◌∙◌, subst, arith}
+use Rattle.std.proofs.Common.{◌≡◌, ℕ, ◌+◌, ◌≤◌, Bool, true, false, cond, not, ◌&&◌, List, [], ◌∷◌, ◌++◌, length, map, Option, Some, None, inl, inr, ◌⊎◌, refl, sym, ap, ◌∙◌, subst, arith}
 use Rattle.std.proofs.lemmas.Bool.{cases_Bool, cond_both}
 use Rattle.std.specs.Prelude.{filter, find}
 use Rattle.std.specs.Option.{option_map}
@@ -146,3 +146,39 @@ Each-find P test (y ∷ xs) x each found =
       inl passed ↦ subst P (some-same y x (rw passed at found)) each.0
     | inr failed ↦ Each-find P test xs x each.1 (rw failed at found)
     ]
+
+-- ---- membership
+
+-- x is an element
+abbrev pub Among : {X : Type 0} → X → List X → Type 0
+Among x [] = ⊥
+Among x (y ∷ ys) = (x ≡ y) ⊎ Among x ys
+
+pub Each-among : {X : Type 0} (P : X → Type 0) (x : X) (xs : List X) → Each P xs → Among x xs → P x
+Each-among P x [] each among = absurd among
+Each-among P x (y ∷ ys) each (inl same) = subst P (sym same) each.0
+Each-among P x (y ∷ ys) each (inr among) = Each-among P x ys each.1 among
+
+-- what a filter passes is an element that passes its test
+pub Among-filter : {X : Type 0} (test : X → Bool) (x : X) (xs : List X) → Among x (filter test xs) → Among x xs × (test x ≡ true)
+Among-filter test x [] among = absurd among
+Among-filter test x (y ∷ ys) among = by-test (test y) refl among (Among-filter test x ys) where
+  by-test : (b : Bool) → test y ≡ b → Among x (cond b (y ∷ filter test ys) (filter test ys)) → (Among x (filter test ys) → Among x ys × (test x ≡ true)) → Among x (y ∷ ys) × (test x ≡ true)
+  by-test true passed (inl same) rest = (inl same, ap test same ∙ passed)
+  by-test true passed (inr among) rest = (inr (rest among).0, (rest among).1)
+  by-test false failed among rest = (inr (rest among).0, (rest among).1)
+
+-- a sum whose parts are no larger
+pub total-less : {X : Type 0} (f g : X → ℕ) (xs : List X) → ((y : X) → g y ≤ f y) → total g xs ≤ total f xs
+total-less f g [] less = omega arith
+total-less f g (y ∷ ys) less = omega (arith, less y, total-less f g ys less)
+
+-- a sum whose parts are no larger, and of which one part is smaller by d
+pub total-drop : {X : Type 0} (f g : X → ℕ) (d : ℕ) (x : X) (xs : List X) → ((y : X) → g y ≤ f y) → Among x xs → g x + d ≤ f x → total g xs + d ≤ total f xs
+total-drop f g d x [] less among drop = absurd among
+total-drop f g d x (y ∷ ys) less (inl same) drop =
+    let rest = total-less f g ys less in
+    let e : g x ≡ g y = ap g same in
+    let h : f x ≡ f y = ap f same in
+    omega (arith, rest, e, h)
+total-drop f g d x (y ∷ ys) less (inr among) drop = omega (arith, less y, total-drop f g d x ys less among drop)

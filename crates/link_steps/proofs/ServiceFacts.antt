@@ -69,9 +69,9 @@ unfolding starts_below
 starts-follow rate packets zero = tt
 starts-follow rate packets (suc t) = follow-tick rate packets t (starts_below rate packets t) (starts-follow rate packets t)
 
--- a start that was made by tick t
+-- a start that was made before tick t
 abbrev pub HasBegun : ℕ → Start → Type 0
-HasBegun t start = start.tick ≤ t
+HasBegun t start = start.tick < t
 
 pub starts-begun : (rate : ℕ) (packets : List Arrival) (t : ℕ) → Each (HasBegun t) (starts_below rate packets t)
 unfolding starts_below serve_tick

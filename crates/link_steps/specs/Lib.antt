@@ -12,4 +12,5 @@ pub mod Replies
 pub mod Legal
 pub mod HopGuarantee
 pub mod Kept
+pub mod BusyPeriod
 pub mod Laws

@@ -1,9 +1,16 @@
 //! Laws of a link's rules, each as the contract of a function that does nothing.
-ghost use Rattle.link_steps.specs.Laws.{HeldRowsAlwaysPass, AccountGivesReply, AccountGoesOn, LegalHasContracts};
+ghost use Rattle.link_steps.specs.Laws.{HeldRowsAlwaysPass, BusyPeriodEnds, AccountGivesReply, AccountGoesOn, LegalHasContracts};
 
 /// In every legal history of every link the held rows pass the admission test after every entry.
 pub fn held_rows_pass()
     ensures { HeldRowsAlwaysPass }
+{
+}
+
+/// A busy period of the levels up to some level, over any list of packets, ends within a window that the work of
+/// these levels' packets fits together with the blocking.
+pub fn busy_period_ends()
+    ensures { BusyPeriodEnds }
 {
 }
 
