@@ -1,5 +1,5 @@
 -- The account of a link gives the legal reply to each ask, and goes on with each entry.
-use Rattle.std.proofs.Common.{◌≡◌, ℕ, zero, suc, ◌+◌, ◌<◌, ◌≤◌, Bool, true, false, List, [], ◌∷◌, ◌++◌, length, map, Option, Some, None, refl, sym, ap, ◌∙◌, take, subst, arith, add-one, length-append}
+use Rattle.std.proofs.Common.{◌≡◌, ℕ, zero, suc, ◌+◌, ◌≤◌, Bool, true, List, [], ◌∷◌, ◌++◌, length, map, Option, Some, None, refl, sym, ap, ◌∙◌, take, arith, add-one, length-append}
 use Rattle.std.proofs.lemmas.List.{map-append, length_push}
 use Rattle.std.specs.Prelude.{filter, find}
 use Rattle.std.specs.Option.{option_map}
@@ -16,16 +16,16 @@ use Rattle.link_steps.specs.Buffer.{held_packets}
 use Rattle.link_steps.specs.Hold.{stays}
 use Rattle.link_steps.specs.Kept.{Kept, KeptRow, kept_row, start_on, new_kept, with_kept_rows, kept_at, kept_of, kept_terms, held_rows, brought, present, occupies, departs, kept_lost, kept_rows_after, kept_after_tick, kept_tick_reply, is_kept_of, is_kept_at_hop, kept_submit, kept_release, kept_arrive, kept_reply, kept_relaxed, kept_planned, kept_closed, kept_arrived_row, kept_arrived, kept_with_arrival, kept_after}
 use Rattle.link_steps.specs.Laws.{HasContract, HasContracts}
-use Rattle.link_steps.specs.Lists.{change_first, without_first, Each}
-use Rattle.link_steps.specs.Replies.{reserve_reply, relax_reply, deny_reply, submit_to, release_to, arrive_to, arrive_reply, tick_reply, reply_at, reply_to}
-use Rattle.link_steps.specs.Reservation.{Reservation, tentative, is_of}
+use Rattle.link_steps.specs.Lists.{Each}
+use Rattle.link_steps.specs.Replies.{submit_to, release_to, arrive_to, arrive_reply, tick_reply, reply_at, reply_to}
+use Rattle.link_steps.specs.Reservation.{Reservation, tentative}
 use Rattle.link_steps.specs.Scan.{Scan, clock_with, clock_of, is_row_of, is_row_at_hop, names_first_hop, relax_row, plan_row, close_row, with_rows, arrived_tick, arrived_row, arrived_packet, with_arrival, without_expired, with_sources, after_tick, after, scan_of}
 use Rattle.link_steps.specs.Service.{Arrival, starts_below, here_at}
-use Rattle.link_steps.specs.Sources.{Row, terms_of, new_row, lost_in, source_packets, rows_after}
+use Rattle.link_steps.specs.Sources.{Row, terms_of, new_row, lost_in, source_packets}
 use Rattle.link_steps.proofs.AccountOfRows.{RowHasContract, eligible-recent, left-planned, left-cancelled, held-kept, kept-packet, packets-kept, rows-kept, lost-kept, eligible-from, source_packets-above, source_packets-upto, source_packets-from}
-use Rattle.link_steps.proofs.AccountOfService.{IsAbove, IsUpTo, ShowsTick, here_at-append, shows-tick-append}
-use Rattle.link_steps.proofs.ListFacts.{Each-append, Each-filter, Each-from, Each-if, Each-find, Each-map, Each-mapped, find-map, map-change_first, map-without_first}
-use Rattle.link_steps.proofs.ServiceFacts.{IsFrom, starts_below-append}
+use Rattle.link_steps.proofs.AccountOfService.{IsUpTo, ShowsTick, here_at-append, shows-tick-append}
+use Rattle.link_steps.proofs.ListFacts.{Each-append, Each-filter, Each-if, Each-find, Each-mapped, find-map, map-change_first, map-without_first}
+use Rattle.link_steps.proofs.ServiceFacts.{starts_below-append}
 
 -- ---- arrival numbers
 
@@ -174,14 +174,14 @@ arrival-kept shape t packet scan None one each numbered = refl
 arrival-kept shape t packet scan (Some row) one each numbered =
     let later : t ≤ arrived_tick t packet row = eligible-from row.terms row.ticks t packet.due in
     let same : arrived_packet t (suc (length scan.packets)) packet row ≡ kept_arrived t (suc (length scan.packets)) packet (kept_row t row) =
-      rw (eligible-recent row.terms row.ticks t packet.due (one row refl)) refl in
+    rw (eligible-recent row.terms row.ticks t packet.due (one row refl)) refl in
     same-kept (kept_at shape t (with_arrival t packet scan (Some row))) (kept_with_arrival packet (kept_at shape t scan) (Some (kept_row t row)))
     refl
     (length_push scan.packets (arrived_packet t (suc (length scan.packets)) packet row) ∙ add-one (length scan.packets))
     (map-change_first RowHasContract (kept_row t) (is_row_of packet.chan) (is_kept_of packet.chan) (arrived_row t (suc (length scan.packets)) packet) (kept_arrived_row t (suc (length scan.packets)) packet)
-      (λ r. refl) (arrived-kept t (suc (length scan.packets)) packet) scan.rows each)
+    (λ r. refl) (arrived-kept t (suc (length scan.packets)) packet) scan.rows each)
     (here_at-append shape.rate t (length scan.packets) scan.packets (arrived_packet t (suc (length scan.packets)) packet row ∷ []) numbered (omega arith, tt) (later, tt)
-      ∙ ap (λ p. here_at shape.rate scan.packets t ++ p ∷ []) same)
+    ∙ ap (λ p. here_at shape.rate scan.packets t ++ p ∷ []) same)
     (ap (λ starts. start_on shape.rate starts t) (starts_below-append shape.rate scan.packets (arrived_packet t (suc (length scan.packets)) packet row ∷ []) t (later, tt)))
 
 -- a change of the rows alone

@@ -1,8 +1,8 @@
 -- What is kept of a row is all that the rules need of it.
-use Rattle.std.proofs.Common.{◌≡◌, ℕ, zero, suc, ◌+◌, ◌-◌, ◌<◌, ◌≤◌, Bool, true, false, not, cond, ◌&&◌, List, [], ◌∷◌, ◌++◌, length, take, map, Option, Some, None, refl, sym, ap, ◌∙◌, subst, inl, inr, ⊎_elim, arith, append-nil, length-append}
-use Rattle.std.proofs.lemmas.Bool.{leb-true, le-leb, lt-leb, eqb-true, cases_lt, le-ltb}
+use Rattle.std.proofs.Common.{◌≡◌, ℕ, zero, suc, ◌+◌, ◌-◌, ◌<◌, ◌≤◌, Bool, true, false, ◌&&◌, List, [], ◌∷◌, ◌++◌, length, take, map, refl, ap, ◌∙◌, ⊎_elim, arith, length-append}
+use Rattle.std.proofs.lemmas.Bool.{le-leb, lt-leb, eqb-true, cases_lt, le-ltb}
 use Rattle.std.proofs.lemmas.List.Elements.{filter-append}
-use Rattle.std.specs.Prelude.{filter, find, nat_le, max}
+use Rattle.std.specs.Prelude.{filter}
 use Rattle.net_units.specs.declared.Kind.{Kind}
 use Rattle.net_units.specs.declared.Kind.TheVariants.{Rate, Jitter}
 use Rattle.traffic_contract.specs.Contract.{Terms, IsContract, burst_of}
@@ -11,13 +11,13 @@ use Rattle.traffic_contract.specs.Keeping.{may_follow}
 use Rattle.traffic_contract.proofs.ContractFacts.{burst-least}
 use Rattle.traffic_contract.proofs.EligibleFacts.{eligible-take, first_from-reached}
 use Rattle.link_steps.specs.Buffer.{has_slot}
-use Rattle.link_steps.specs.Hold.{hold_ended, expires, stays}
-use Rattle.link_steps.specs.Kept.{KeptRow, recent_of, kept_row, kept_stays, kept_step, kept_tick, kept_packet, kept_with, past_tick, kept_after_step, kept_packets, kept_rows_after, kept_lost}
+use Rattle.link_steps.specs.Hold.{stays}
+use Rattle.link_steps.specs.Kept.{recent_of, kept_row, kept_stays, kept_step, kept_tick, kept_packet, kept_with, past_tick, kept_after_step, kept_packets, kept_rows_after, kept_lost}
 use Rattle.link_steps.specs.Lists.{Each}
 use Rattle.link_steps.specs.Reservation.{Reservation}
 use Rattle.link_steps.specs.Service.{Arrival}
-use Rattle.link_steps.specs.Sources.{Row, SourcePacket, SourceStep, Rests, Brings, Loses, planned_from, is_for, is_from, is_before, left_at, waits_until, eligible_next, lead_with, arrival_at, with_packet, source_step, step_of, source_tick, packet_of, row_after, taken_by, lost_by, source_packets, rows_after, lost_in}
-use Rattle.link_steps.proofs.ListFacts.{Each-from, Each-if, Each-append, Each-filter, filter-same, filter-none, filter-map, filter-filter, find-filter, filter-all}
+use Rattle.link_steps.specs.Sources.{Row, SourcePacket, SourceStep, Rests, Brings, Loses, planned_from, is_for, is_from, is_before, left_at, waits_until, eligible_next, with_packet, source_step, step_of, source_tick, packet_of, row_after, taken_by, source_packets, rows_after, lost_in}
+use Rattle.link_steps.proofs.ListFacts.{Each-from, Each-if, Each-append, filter-same, filter-none, filter-map, filter-filter, find-filter, filter-all}
 use Rattle.link_steps.proofs.ServiceFacts.{IsFrom}
 use Rattle.link_steps.proofs.AccountOfService.{IsAbove, IsUpTo}
 
@@ -47,6 +47,7 @@ recent-more contract e ticks = take-more (burst_of contract) e ticks where
   take-take zero ticks = refl
   take-take (suc n) [] = refl
   take-take (suc n) (t ∷ ticks) = ap (λ all. t ∷ all) (take-take n ticks)
+
   take-more : (n : ℕ) (e : ℕ) (ticks : List ℕ) → take n (e ∷ take n ticks) ≡ take n (e ∷ ticks)
   take-more zero e ticks = refl
   take-more (suc n) e ticks = ap (λ all. e ∷ all) (take-take n ticks)
@@ -58,10 +59,10 @@ eligible-from terms ticks t due =
     let low = waits-from terms.kind terms.first t due in
     let reached = first_from-reached (may_follow terms.contract ticks) (waits_until terms.kind terms.first t due) (newest ticks + terms.contract.interval - waits_until terms.kind terms.first t due) in
     omega (arith, low, reached) where
-  waits-from : (kind : Kind) (first : Bool) (t due : ℕ) → t ≤ waits_until kind first t due
-  waits-from Jitter false t due = omega arith
-  waits-from Jitter true t due = omega arith
-  waits-from Rate first t due = omega arith
+      waits-from : (kind : Kind) (first : Bool) (t due : ℕ) → t ≤ waits_until kind first t due
+      waits-from Jitter false t due = omega arith
+      waits-from Jitter true t due = omega arith
+      waits-from Rate first t due = omega arith
 
 -- ---- planned packets
 
@@ -69,15 +70,15 @@ eligible-from terms ticks t due =
 pub left-left : (t u : ℕ) (plan : List SourcePacket) → t ≤ u → left_at u (left_at t plan) ≡ left_at u plan
 left-left t u plan later =
     filter-filter (is_from u) (is_from t) plan ∙ filter-same (λ p. is_from t p && is_from u p) (is_from u) plan (Each-from _ plan both) where
-  both : (p : SourcePacket) → (is_from t p && is_from u p) ≡ is_from u p
-  both p =
-      ⊎_elim (λ (early : p.tick < u). (rw (lt-leb u p.tick early) (and-false (is_from t p))))
-      (λ (late : u ≤ p.tick). (rw (le-leb t p.tick (omega arith)) refl))
-      (cases_lt p.tick u)
-    where
-    and-false : (b : Bool) → (b && false) ≡ false
-    and-false true = refl
-    and-false false = refl
+      both : (p : SourcePacket) → (is_from t p && is_from u p) ≡ is_from u p
+      both p =
+          ⊎_elim (λ (early : p.tick < u). (rw (lt-leb u p.tick early) (and-false (is_from t p))))
+          (λ (late : u ≤ p.tick). (rw (le-leb t p.tick (omega arith)) refl))
+          (cases_lt p.tick u)
+        where
+          and-false : (b : Bool) → (b && false) ≡ false
+          and-false true = refl
+          and-false false = refl
 
 planned-later : (t u gap size count : ℕ) → t ≤ u → Each (λ p. is_from t p ≡ true) (planned_from u gap size count)
 unfolding planned_from
@@ -94,15 +95,15 @@ left-planned t count gap size plan =
 pub left-cancelled : (t : ℕ) (plan : List SourcePacket) → left_at t (filter (is_before t) plan) ≡ []
 left-cancelled t plan =
     filter-filter (is_from t) (is_before t) plan ∙ filter-none _ plan (Each-from _ plan neither) where
-  neither : (p : SourcePacket) → (is_before t p && is_from t p) ≡ false
-  neither p =
-      ⊎_elim (λ (early : p.tick < t). (rw (lt-leb t p.tick early) (and-false (is_before t p))))
-      (λ (late : t ≤ p.tick). (rw (le-ltb p.tick t late) refl))
-      (cases_lt p.tick t)
-    where
-    and-false : (b : Bool) → (b && false) ≡ false
-    and-false true = refl
-    and-false false = refl
+      neither : (p : SourcePacket) → (is_before t p && is_from t p) ≡ false
+      neither p =
+          ⊎_elim (λ (early : p.tick < t). (rw (lt-leb t p.tick early) (and-false (is_before t p))))
+          (λ (late : t ≤ p.tick). (rw (le-ltb p.tick t late) refl))
+          (cases_lt p.tick t)
+        where
+          and-false : (b : Bool) → (b && false) ≡ false
+          and-false true = refl
+          and-false false = refl
 
 -- ---- one row in tick t
 
@@ -170,10 +171,10 @@ source_packets-above bounds here t taken [] = tt
 source_packets-above bounds here t taken (row ∷ rows) =
     Each-append (IsAbove taken) (packet_of (step_of bounds here t row) t (suc taken) row) _ (packet-above (step_of bounds here t row))
     (Each-if (IsAbove (taken + taken_by (step_of bounds here t row))) (IsAbove taken) _ (λ p above. omega arith) (source_packets-above bounds here t (taken + taken_by (step_of bounds here t row)) rows)) where
-  packet-above : (step : SourceStep) → Each (IsAbove taken) (packet_of step t (suc taken) row)
-  packet-above (Brings size) = (omega arith, tt)
-  packet-above Rests = tt
-  packet-above Loses = tt
+      packet-above : (step : SourceStep) → Each (IsAbove taken) (packet_of step t (suc taken) row)
+      packet-above (Brings size) = (omega arith, tt)
+      packet-above Rests = tt
+      packet-above Loses = tt
 
 -- up to `taken` and their number
 pub source_packets-upto : (bounds : List ℕ) (here : List Arrival) (t taken : ℕ) (rows : List Row) → Each (IsUpTo (taken + length (source_packets bounds here t taken rows))) (source_packets bounds here t taken rows)
@@ -187,14 +188,15 @@ source_packets-upto bounds here t taken (row ∷ rows) =
     Each-append (IsUpTo (taken + length (packet_of (step_of bounds here t row) t (suc taken) row ++ source_packets bounds here t (taken + taken_by (step_of bounds here t row)) rows))) (packet_of (step_of bounds here t row) t (suc taken) row) _
     (Each-if (IsUpTo (taken + taken_by (step_of bounds here t row))) (IsUpTo (taken + length (packet_of (step_of bounds here t row) t (suc taken) row ++ source_packets bounds here t (taken + taken_by (step_of bounds here t row)) rows))) _ (λ p upto. omega (arith, n, m)) (packet-upto (step_of bounds here t row)))
     (Each-if (IsUpTo (taken + taken_by (step_of bounds here t row) + length (source_packets bounds here t (taken + taken_by (step_of bounds here t row)) rows))) (IsUpTo (taken + length (packet_of (step_of bounds here t row) t (suc taken) row ++ source_packets bounds here t (taken + taken_by (step_of bounds here t row)) rows))) _ (λ p upto. omega (arith, n, m)) (source_packets-upto bounds here t (taken + taken_by (step_of bounds here t row)) rows)) where
-  taken-length : (step : SourceStep) → length (packet_of step t (suc taken) row) ≡ taken_by step
-  taken-length (Brings size) = refl
-  taken-length Rests = refl
-  taken-length Loses = refl
-  packet-upto : (step : SourceStep) → Each (IsUpTo (taken + taken_by step)) (packet_of step t (suc taken) row)
-  packet-upto (Brings size) = (omega arith, tt)
-  packet-upto Rests = tt
-  packet-upto Loses = tt
+      taken-length : (step : SourceStep) → length (packet_of step t (suc taken) row) ≡ taken_by step
+      taken-length (Brings size) = refl
+      taken-length Rests = refl
+      taken-length Loses = refl
+
+      packet-upto : (step : SourceStep) → Each (IsUpTo (taken + taken_by step)) (packet_of step t (suc taken) row)
+      packet-upto (Brings size) = (omega arith, tt)
+      packet-upto Rests = tt
+      packet-upto Loses = tt
 
 -- and are eligible from t on
 pub source_packets-from : (bounds : List ℕ) (here : List Arrival) (t taken : ℕ) (rows : List Row) → Each (IsFrom t) (source_packets bounds here t taken rows)
@@ -202,7 +204,7 @@ unfolding source_packets
 source_packets-from bounds here t taken [] = tt
 source_packets-from bounds here t taken (row ∷ rows) =
     Each-append (IsFrom t) (packet_of (step_of bounds here t row) t (suc taken) row) _ (packet-from (step_of bounds here t row)) (source_packets-from bounds here t (taken + taken_by (step_of bounds here t row)) rows) where
-  packet-from : (step : SourceStep) → Each (IsFrom t) (packet_of step t (suc taken) row)
-  packet-from (Brings size) = (eligible-from row.terms row.ticks t 0, tt)
-  packet-from Rests = tt
-  packet-from Loses = tt
+      packet-from : (step : SourceStep) → Each (IsFrom t) (packet_of step t (suc taken) row)
+      packet-from (Brings size) = (eligible-from row.terms row.ticks t 0, tt)
+      packet-from Rests = tt
+      packet-from Loses = tt

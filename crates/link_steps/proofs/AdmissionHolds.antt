@@ -1,10 +1,10 @@
 -- In every legal history the held rows pass the admission test after every entry.
-use Rattle.std.proofs.Common.{◌≡◌, ℕ, zero, suc, ◌+◌, ◌-◌, ◌<◌, ◌≤◌, Bool, true, false, List, [], ◌∷◌, ◌++◌, length, map, Option, Some, None, refl, sym, ap, ◌∙◌, subst, inl, inr, ⊎_elim, arith}
+use Rattle.std.proofs.Common.{◌≡◌, ℕ, zero, suc, ◌+◌, ◌-◌, ◌<◌, ◌≤◌, Bool, true, List, [], ◌∷◌, ◌++◌, length, map, Option, Some, None, refl, sym, ap, ◌∙◌, subst, arith}
 use Rattle.std.proofs.lemmas.Bool.{and_parts}
 use Rattle.std.proofs.lemmas.List.{map-append}
 use Rattle.std.specs.Prelude.{filter, find, nat_lt, unwrap_or}
 use Rattle.std.specs.Option.{option_map}
-use Rattle.net_units.proofs.BoundFacts.{AreBounds, bounds_parts, above_low}
+use Rattle.net_units.proofs.BoundFacts.{bounds_parts, above_low}
 use Rattle.net_units.specs.Numbers.{level_number}
 use Rattle.net_units.specs.Quotient.{ceil_quotient}
 use Rattle.net_units.specs.Steps.{bound_at, are_bounds, rises_above}
@@ -12,7 +12,7 @@ use Rattle.net_units.specs.declared.Kind.{Kind}
 use Rattle.net_units.specs.declared.numbers.ChanNo.{ChanNo}
 use Rattle.net_units.specs.declared.numbers.Level.{Level}
 use Rattle.net_units.specs.declared.numbers.LinkNo.{LinkNo}
-use Rattle.traffic_contract.specs.Admission.{Server, Row as Admitted, total, work_up_to, load, level_sum, Passes, with_row, best_level, IsBest}
+use Rattle.traffic_contract.specs.Admission.{Row as Admitted, total, work_up_to, load, Passes, with_row, best_level}
 use Rattle.traffic_contract.specs.Contract.{Terms}
 use Rattle.traffic_contract.proofs.AdmissionFacts.{Passes-le, Passes-nil, total-map, total-filter-le, work_up_to-le, best_level-is}
 use Rattle.link_steps.specs.declared.asks.Ask.{Ask}
@@ -25,13 +25,12 @@ use Rattle.link_steps.specs.declared.shape.LinkShape.{LinkShape}
 use Rattle.link_steps.specs.HopGuarantee.{AfterEach, HeldRowsPass}
 use Rattle.link_steps.specs.Legal.{IsLegal}
 use Rattle.link_steps.specs.Levels.{level_of}
-use Rattle.link_steps.specs.Lists.{change_first, without_first}
-use Rattle.link_steps.specs.Refusals.{first_refusal, fits_cap, is_new, has_level, has_buffer}
+use Rattle.link_steps.specs.Lists.{change_first}
 use Rattle.link_steps.specs.Replies.{reserve_reply, reserve_reply_at, relax_reply, reply_at, reply_to}
 use Rattle.link_steps.specs.Reservation.{Reservation, tentative, admitted, is_of}
 use Rattle.link_steps.specs.Scan.{Scan, is_row_of, is_row_at_hop, names_first_hop, relax_row, plan_row, close_row, with_arrival, without_expired, with_sources, after_tick, after, scan_of}
 use Rattle.link_steps.specs.Service.{Arrival}
-use Rattle.link_steps.specs.Shape.{server_of, blocking_of}
+use Rattle.link_steps.specs.Shape.{server_of}
 use Rattle.link_steps.specs.Sources.{Row, SourceStep, Rests, Brings, Loses, terms_of, new_row, step_of, row_after, rows_after, taken_by}
 use Rattle.link_steps.proofs.ListFacts.{find-map, map-change_first-same, total-change_first-le, total-without_first-le}
 use Rattle.link_steps.proofs.RefusalFacts.{kept-rule, has_level-some, fits_offer-least}
@@ -116,7 +115,7 @@ Pass-reserved shape rows chan contract kind first next delay up_reach level reac
     let n : level_number level ≡ found.0 = ap level_number found.2 ∙ level_of-number found.0 best.from (omega (arith, best.upto)) in
     let row : Row = new_row (tentative chan contract kind first next up_reach level reach) in
     let e : as_admitted (rows ++ row ∷ []) ≡ with_row (as_admitted rows) contract (level_number level) =
-        ap (λ all. map admitted all) (map-append terms_of rows (row ∷ [])) ∙ map-append admitted (map terms_of rows) (row.terms ∷ []) in
+    ap (λ all. map admitted all) (map-append terms_of rows (row ∷ [])) ∙ map-append admitted (map terms_of rows) (row.terms ∷ []) in
     subst (Passes (server_of shape)) (sym (e ∙ ap (λ m. with_row (as_admitted rows) contract m) n)) best.passes
 
 -- ---- a relax moves a row to a level that is no smaller
@@ -135,8 +134,8 @@ Pass-relaxed : (shape : LinkShape) (t : ℕ) (rows : List Row) (chan : ChanNo) (
 Pass-relaxed shape t rows chan level up_bound clock same =
     Pass-lighter shape rows (change_first (is_row_of chan) (relax_row level up_bound) rows) (λ m w.
     total-change_first-le (row_load shape.rate m w) (is_row_of chan) (relax_row level up_bound) rows (λ row found.
-      work_up_to-le shape.rate m w (admitted row.terms) (admitted (relax_row level up_bound row).terms) refl
-      (relax-level t up_bound level row.terms clock (same ∙ ap (relax_reply t level up_bound) (find-terms chan rows ∙ ap (option_map terms_of) found)))))
+    work_up_to-le shape.rate m w (admitted row.terms) (admitted (relax_row level up_bound row).terms) refl
+    (relax-level t up_bound level row.terms clock (same ∙ ap (relax_reply t level up_bound) (find-terms chan rows ∙ ap (option_map terms_of) found)))))
 
 -- ---- the other changes don't touch what the test sees
 
@@ -146,10 +145,10 @@ rows_after-terms bounds here t taken [] = refl
 rows_after-terms bounds here t taken (row ∷ rows) =
     rw (row_after-terms (step_of bounds here t row) t (suc taken) row)
     (ap (λ all. row.terms ∷ all) (rows_after-terms bounds here t (taken + taken_by (step_of bounds here t row)) rows)) where
-  row_after-terms : (step : SourceStep) (t place : ℕ) (row : Row) → (row_after step t place row).terms ≡ row.terms
-  row_after-terms Rests t place row = refl
-  row_after-terms (Brings size) t place row = refl
-  row_after-terms Loses t place row = refl
+      row_after-terms : (step : SourceStep) (t place : ℕ) (row : Row) → (row_after step t place row).terms ≡ row.terms
+      row_after-terms Rests t place row = refl
+      row_after-terms (Brings size) t place row = refl
+      row_after-terms Loses t place row = refl
 
 Pass-tick : (shape : LinkShape) (t : ℕ) (scan : Scan) → Pass shape scan.rows → Pass shape (after_tick shape t scan).rows
 unfolding after_tick with_sources without_expired
@@ -195,6 +194,6 @@ held_rows-pass shape [] legal = Pass-none shape
 held_rows-pass shape (e ∷ past) legal =
     let before = held_rows-pass shape past legal.0 in
     (before, Pass-after shape _ (scan_of shape past) e.ask e.reply legal.1.answered (last-of shape past before)) where
-  last-of : (shape : LinkShape) (h : List Entry) → AfterEach (HeldRowsPass shape) h → HeldRowsPass shape h
-  last-of shape [] each = each
-  last-of shape (e ∷ past) each = each.1
+      last-of : (shape : LinkShape) (h : List Entry) → AfterEach (HeldRowsPass shape) h → HeldRowsPass shape h
+      last-of shape [] each = each
+      last-of shape (e ∷ past) each = each.1

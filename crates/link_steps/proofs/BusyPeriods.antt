@@ -1,14 +1,13 @@
 -- A busy period ends within a window that its work and the blocking fit.
-use Rattle.std.proofs.Common.{◌≡◌, ℕ, zero, suc, ◌+◌, ◌-◌, ◌<◌, ◌≤◌, ◌⊎◌, Bool, true, false, not, cond, ◌&&◌, ◌||◌, eqb, List, [], ◌∷◌, ◌++◌, length, Option, Some, None, refl, sym, ap, ◌∙◌, subst, inl, inr, ⊎_elim, arith}
-use Rattle.std.proofs.lemmas.Bool.{cases_Bool, leb-true, leb-false, le-leb, lt-leb, ltb-true, ltb-false, lt-ltb, le-ltb, eq-eqb, eqb-true, cases_lt, and_parts, and_from, or_cases, or_left, or_right, or_parts, false_from_ne_true, true≢false, not-true, cond_both}
+use Rattle.std.proofs.Common.{◌≡◌, ℕ, zero, suc, ◌+◌, ◌<◌, ◌≤◌, ◌⊎◌, Bool, true, false, cond, ◌&&◌, ◌||◌, List, [], ◌∷◌, Option, Some, None, refl, sym, ap, ◌∙◌, inl, inr, ⊎_elim, arith}
+use Rattle.std.proofs.lemmas.Bool.{cases_Bool, leb-true, le-leb, ltb-true, ltb-false, lt-ltb, eq-eqb, eqb-true, cases_lt, and_parts, and_from, or_cases, or_left, or_right, or_parts, true≢false, not-true, cond_both}
 use Rattle.std.specs.Prelude.{filter, nat_lt, nat_eq, if◌then◌else◌}
-use Rattle.std.specs.List.{list_any}
 use Rattle.traffic_contract.specs.Admission.{total}
 use Rattle.link_steps.specs.BusyPeriod.{IsGone, IsClear, HasWork, is_in_window, window_work, EndsWithin, FitsWindow}
 use Rattle.link_steps.specs.Lists.{Each}
 use Rattle.link_steps.specs.Service.{Arrival, Start, work_of, leaves_at, goes_before, sooner, first_in_line, is_start_of, has_started, is_waiting, is_busy, add_start, serve_tick, starts_below, is_departure_by, has_departed}
-use Rattle.link_steps.proofs.ListFacts.{Each-from, Each-if, Among, Each-among, Among-filter, total-less, total-drop}
-use Rattle.link_steps.proofs.ServiceFacts.{HasLeft, HasBegun, FollowEachOther, left-idle, starts-follow, starts-begun, starts-fact}
+use Rattle.link_steps.proofs.ListFacts.{Each-if, Among, Each-among, Among-filter, total-less, total-drop}
+use Rattle.link_steps.proofs.ServiceFacts.{HasLeft, HasBegun, left-idle, starts-follow, starts-begun, starts-fact}
 
 -- ---- started and departed
 
@@ -45,7 +44,7 @@ started-later rate packets t (suc k) p started =
     let e : suc k + t ≡ suc (k + t) = omega arith in
     let before = started-later rate packets t k p started in
     rw e (cond_both (is_busy rate (starts_below rate packets (k + t)) (k + t)) (starts_below rate packets (k + t)) (add_start (first_in_line (filter (is_waiting (starts_below rate packets (k + t)) (k + t)) packets)) (k + t) (starts_below rate packets (k + t))) (λ starts. has_started starts p ≡ true)
-      (λ _. before) (λ _. add-started (first_in_line (filter (is_waiting (starts_below rate packets (k + t)) (k + t)) packets)) (k + t) (starts_below rate packets (k + t)) p before))
+    (λ _. before) (λ _. add-started (first_in_line (filter (is_waiting (starts_below rate packets (k + t)) (k + t)) packets)) (k + t) (starts_below rate packets (k + t)) p before))
 
 -- ---- who starts
 
@@ -118,12 +117,12 @@ unfolding is_waiting
 gone-or-waits rate m t starts after p departs =
     ⊎_elim (λ (lower : m < p.level). inl (λ upto before. absurd (omega arith)))
     (λ (upto : p.level ≤ m).
-      ⊎_elim (λ (later : t < p.eligible). inl (λ _ before. absurd (omega arith)))
-      (λ (by : p.eligible ≤ t).
-        ⊎_elim (λ (started : has_started starts p ≡ true). inl (λ _ before. departs started))
-        (λ (waits : has_started starts p ≡ false). inr (rw (le-leb p.eligible t by, waits) refl, upto))
-        (cases_Bool (has_started starts p)))
-      (cases_lt t p.eligible))
+    ⊎_elim (λ (later : t < p.eligible). inl (λ _ before. absurd (omega arith)))
+    (λ (by : p.eligible ≤ t).
+    ⊎_elim (λ (started : has_started starts p ≡ true). inl (λ _ before. departs started))
+    (λ (waits : has_started starts p ≡ false). inr (rw (le-leb p.eligible t by, waits) refl, upto))
+    (cases_Bool (has_started starts p)))
+    (cases_lt t p.eligible))
     (cases_lt m p.level)
 
 -- where no packet occupies the link in tick t: either the link is clear at the next tick, or one of the levels up to
@@ -132,9 +131,9 @@ clear-or-served : (rate m t : ℕ) (starts after : List Start) (ps : List Arriva
 clear-or-served rate m t starts after [] departs = inl tt
 clear-or-served rate m t starts after (p ∷ ps) departs =
     ⊎_elim (λ (gone : Each (IsGone rate after m (suc t)) ps).
-      ⊎_elim (λ (own : IsGone rate after m (suc t) p). inl (own, gone))
-      (λ (waits : (is_waiting starts t p ≡ true) × (p.level ≤ m)). inr (served-first m t starts p ps waits.0 waits.1))
-      (gone-or-waits rate m t starts after p (departs p)))
+    ⊎_elim (λ (own : IsGone rate after m (suc t) p). inl (own, gone))
+    (λ (waits : (is_waiting starts t p ≡ true) × (p.level ≤ m)). inr (served-first m t starts p ps waits.0 waits.1))
+    (gone-or-waits rate m t starts after p (departs p)))
     (λ (served : IsServed m t starts ps). inr (served-behind m t starts p ps served))
     (clear-or-served rate m t starts after ps departs)
 
@@ -163,18 +162,18 @@ work_left-start rate m t0 w t packets starts q among waits inside =
     total-drop (waiting_work rate m t0 w starts) (waiting_work rate m t0 w (record { packet = q; tick = t } ∷ starts)) (work_of rate q) q packets
     (λ p. less (is_start_of p (record { packet = q; tick = t })) (has_started starts p) (window_work rate m t0 w p)) among
     (rw (eq-eqb q.place q.place refl, waits, inside) (omega arith)) where
-  less : (own other : Bool) (work : ℕ) → cond (own || other) 0 work ≤ cond other 0 work
-  less true true work = omega arith
-  less true false work = omega arith
-  less false other work = omega arith
+      less : (own other : Bool) (work : ℕ) → cond (own || other) 0 work ≤ cond other 0 work
+      less true true work = omega arith
+      less true false work = omega arith
+      less false other work = omega arith
 
 -- what is left is at most what the window brings
 work_left-most : (rate m t0 w : ℕ) (packets : List Arrival) (starts : List Start) → work_left rate m t0 w packets starts ≤ total (window_work rate m t0 w) packets
 work_left-most rate m t0 w packets starts =
     total-less (window_work rate m t0 w) (waiting_work rate m t0 w starts) packets (λ p. less (has_started starts p) (window_work rate m t0 w p)) where
-  less : (b : Bool) (work : ℕ) → cond b 0 work ≤ work
-  less true work = omega arith
-  less false work = omega arith
+      less : (b : Bool) (work : ℕ) → cond b 0 work ≤ work
+      less true work = omega arith
+      less false work = omega arith
 
 -- the packet that started last leaves within the blocking
 free_at-blocking : (rate blocking t : ℕ) (starts : List Start) → 1 ≤ blocking → Each (HasBegun t) starts → Each (λ start. HasWork rate blocking start.packet) starts → free_at rate starts < t + blocking
@@ -224,11 +223,11 @@ waits-inside rate packets m t0 w k q clear within among upto waits =
     let by = leb-true q.eligible (k + t0) both.0 in
     let fresh = not-true _ both.1 in
     ⊎_elim (λ (early : q.eligible < t0).
-      let gone = Each-among (IsGone rate (starts_below rate packets t0) m t0) q packets clear among upto early in
-      let started = started-later rate packets t0 k q (departed-has-started rate t0 (starts_below rate packets t0) q gone) in
-      absurd (true≢false (sym started ∙ fresh)))
+    let gone = Each-among (IsGone rate (starts_below rate packets t0) m t0) q packets clear among upto early in
+    let started = started-later rate packets t0 k q (departed-has-started rate t0 (starts_below rate packets t0) q gone) in
+    absurd (true≢false (sym started ∙ fresh)))
     (λ (late : t0 ≤ q.eligible).
-      and_from _ _ (le-leb q.level m upto) (and_from _ _ (le-leb t0 q.eligible late) (lt-ltb q.eligible (t0 + w) (omega (arith, by)))))
+    and_from _ _ (le-leb q.level m upto) (and_from _ _ (le-leb t0 q.eligible late) (lt-ltb q.eligible (t0 + w) (omega (arith, by)))))
     (cases_lt q.eligible t0)
 
 -- the link that works on takes up one of the window's packets
@@ -250,14 +249,14 @@ goes-on : (rate blocking : ℕ) (packets : List Arrival) (m t0 w k : ℕ) → Ea
 goes-on rate blocking packets m t0 w k works clear within on =
     ⊎_elim (λ (busy : is_busy rate (starts_below rate packets (k + t0)) (k + t0) ≡ true). inr (works-busy rate m t0 w (k + t0) packets busy on))
     (λ (idle : is_busy rate (starts_below rate packets (k + t0)) (k + t0) ≡ false).
-      let left = left-idle rate (k + t0) (starts_below rate packets (k + t0)) (starts-follow rate packets (k + t0)) idle in
-      let after : List Start = add_start (first_in_line (filter (is_waiting (starts_below rate packets (k + t0)) (k + t0)) packets)) (k + t0) (starts_below rate packets (k + t0)) in
-      ⊎_elim (λ (gone : Each (IsGone rate (add_start (first_in_line (filter (is_waiting (starts_below rate packets (k + t0)) (k + t0)) packets)) (k + t0) (starts_below rate packets (k + t0))) m (suc (k + t0))) packets).
-        inl (rw (starts-idle rate packets (k + t0) _ idle refl) gone))
-      (λ (served : IsServed m (k + t0) (starts_below rate packets (k + t0)) packets). inr (works-served rate blocking packets m t0 w k works clear within idle on served))
-      (clear-or-served rate m (k + t0) (starts_below rate packets (k + t0)) _ packets (λ p started.
-        add-departed rate (suc (k + t0)) (first_in_line (filter (is_waiting (starts_below rate packets (k + t0)) (k + t0)) packets)) (k + t0) (starts_below rate packets (k + t0)) p
-        (started-has-departed rate (suc (k + t0)) (starts_below rate packets (k + t0)) p (Each-if (HasLeft rate (k + t0)) (HasLeft rate (suc (k + t0))) (starts_below rate packets (k + t0)) (λ start h. omega arith) left) started))))
+    let left = left-idle rate (k + t0) (starts_below rate packets (k + t0)) (starts-follow rate packets (k + t0)) idle in
+    let after : List Start = add_start (first_in_line (filter (is_waiting (starts_below rate packets (k + t0)) (k + t0)) packets)) (k + t0) (starts_below rate packets (k + t0)) in
+    ⊎_elim (λ (gone : Each (IsGone rate (add_start (first_in_line (filter (is_waiting (starts_below rate packets (k + t0)) (k + t0)) packets)) (k + t0) (starts_below rate packets (k + t0))) m (suc (k + t0))) packets).
+    inl (rw (starts-idle rate packets (k + t0) _ idle refl) gone))
+    (λ (served : IsServed m (k + t0) (starts_below rate packets (k + t0)) packets). inr (works-served rate blocking packets m t0 w k works clear within idle on served))
+    (clear-or-served rate m (k + t0) (starts_below rate packets (k + t0)) _ packets (λ p started.
+    add-departed rate (suc (k + t0)) (first_in_line (filter (is_waiting (starts_below rate packets (k + t0)) (k + t0)) packets)) (k + t0) (starts_below rate packets (k + t0)) p
+    (started-has-departed rate (suc (k + t0)) (starts_below rate packets (k + t0)) p (Each-if (HasLeft rate (k + t0)) (HasLeft rate (suc (k + t0))) (starts_below rate packets (k + t0)) (λ start h. omega arith) left) started))))
     (cases_Bool (is_busy rate (starts_below rate packets (k + t0)) (k + t0)))
 
 -- so a clear tick comes, or the link works on
@@ -267,9 +266,9 @@ comes-or-works rate blocking packets m t0 w zero some works clear fits within =
 comes-or-works rate blocking packets m t0 w (suc k) some works clear fits within =
     ⊎_elim (λ (ends : EndsWithin rate packets m t0 w). inl ends)
     (λ (on : WorksOn rate m t0 w (k + t0) packets).
-      ⊎_elim (λ (comes : IsClear rate packets m (suc (k + t0))). inl (record { end = suc (k + t0); after = omega arith; within = omega arith; clear = comes }))
-      (λ (works_on : WorksOn rate m t0 w (suc (k + t0)) packets). (let e : suc k + t0 ≡ suc (k + t0) = omega arith in inr (rw e works_on)))
-      (goes-on rate blocking packets m t0 w k works clear (omega arith) on))
+    ⊎_elim (λ (comes : IsClear rate packets m (suc (k + t0))). inl (record { end = suc (k + t0); after = omega arith; within = omega arith; clear = comes }))
+    (λ (works_on : WorksOn rate m t0 w (suc (k + t0)) packets). (let e : suc k + t0 ≡ suc (k + t0) = omega arith in inr (rw e works_on)))
+    (goes-on rate blocking packets m t0 w k works clear (omega arith) on))
     (comes-or-works rate blocking packets m t0 w k some works clear fits (omega arith))
 
 pub busy_period-ends : (rate blocking : ℕ) (packets : List Arrival) (m t w : ℕ) → Each (HasWork rate blocking) packets → IsClear rate packets m t → FitsWindow rate blocking packets m t w → EndsWithin rate packets m t w

@@ -1,5 +1,5 @@
 -- The rows of a legal history have contracts.
-use Rattle.std.proofs.Common.{◌≡◌, ℕ, suc, ◌+◌, Bool, true, List, [], ◌∷◌, ◌++◌, length, map, Option, Some, None, refl}
+use Rattle.std.proofs.Common.{ℕ, suc, ◌+◌, true, List, [], ◌∷◌, length, Option, Some, None}
 use Rattle.std.specs.Prelude.{filter, find}
 use Rattle.link_steps.specs.declared.asks.Ask.{Ask}
 use Rattle.link_steps.specs.declared.asks.Ask.TheVariants.{Reserve, Relax, Deny, Submit, Release, Arrive, Tick}
@@ -12,7 +12,7 @@ use Rattle.link_steps.specs.Hold.{stays}
 use Rattle.link_steps.specs.Kept.{kept_row, kept_at, kept_of}
 use Rattle.link_steps.specs.Laws.{HasContract, HasContracts}
 use Rattle.link_steps.specs.Legal.{AskFits, IsLegal}
-use Rattle.link_steps.specs.Lists.{Each, change_first, without_first}
+use Rattle.link_steps.specs.Lists.{Each}
 use Rattle.link_steps.specs.Reservation.{tentative}
 use Rattle.link_steps.specs.Scan.{Scan, clock_of, is_row_of, is_row_at_hop, names_first_hop, relax_row, plan_row, close_row, arrived_row, with_arrival, without_expired, with_sources, after_tick, after, scan_of}
 use Rattle.link_steps.specs.Service.{Arrival}
@@ -25,10 +25,10 @@ unfolding rows_after
 rows_after-contracts bounds here t taken [] each = tt
 rows_after-contracts bounds here t taken (row ∷ rows) each =
     (row_after-contract (step_of bounds here t row) each.0, rows_after-contracts bounds here t (taken + taken_by (step_of bounds here t row)) rows each.1) where
-  row_after-contract : (step : SourceStep) → RowHasContract row → RowHasContract (row_after step t (suc taken) row)
-  row_after-contract (Brings size) is = is
-  row_after-contract Rests is = is
-  row_after-contract Loses is = is
+      row_after-contract : (step : SourceStep) → RowHasContract row → RowHasContract (row_after step t (suc taken) row)
+      row_after-contract (Brings size) is = is
+      row_after-contract Rests is = is
+      row_after-contract Loses is = is
 
 arrival-contracts : (t : ℕ) (packet : Packet) (scan : Scan) (found : Option Row) → Each RowHasContract scan.rows → Each RowHasContract (with_arrival t packet scan found).rows
 unfolding with_arrival

@@ -1,5 +1,5 @@
 -- Facts on lists: the first element that passes a test found, changed and taken out, filters, and sums.
-use Rattle.std.proofs.Common.{◌≡◌, ℕ, ◌+◌, ◌≤◌, Bool, true, false, cond, not, ◌&&◌, List, [], ◌∷◌, ◌++◌, length, map, Option, Some, None, inl, inr, ◌⊎◌, refl, sym, ap, ◌∙◌, subst, arith}
+use Rattle.std.proofs.Common.{◌≡◌, ℕ, ◌+◌, ◌≤◌, Bool, true, false, cond, ◌&&◌, List, [], ◌∷◌, ◌++◌, map, Some, inl, inr, ◌⊎◌, refl, sym, ap, ◌∙◌, subst, arith}
 use Rattle.std.proofs.lemmas.Bool.{cases_Bool, cond_both}
 use Rattle.std.specs.Prelude.{filter, find}
 use Rattle.std.specs.Option.{option_map}
@@ -61,7 +61,7 @@ unfolding change_first
 map-change_first P g test seen change changed same alike [] each = refl
 map-change_first P g test seen change changed same alike (x ∷ xs) each =
     rw (same x) (elim (test x) as (λ b. map g (cond b (change x ∷ xs) (x ∷ change_first test change xs)) ≡ cond b (changed (g x) ∷ map g xs) (g x ∷ change_first seen changed (map g xs)))
-      [ true ↦ ap (λ y. y ∷ map g xs) (sym (alike x each.0)) | false ↦ ap (λ ys. g x ∷ ys) (map-change_first P g test seen change changed same alike xs each.1) ])
+    [ true ↦ ap (λ y. y ∷ map g xs) (sym (alike x each.0)) | false ↦ ap (λ ys. g x ∷ ys) (map-change_first P g test seen change changed same alike xs each.1) ])
 
 -- a change that the map doesn't see
 pub map-change_first-same : {X Y : Type 0} (g : X → Y) (test : X → Bool) (change : X → X) → ((x : X) → g (change x) ≡ g x) → (xs : List X) → map g (change_first test change xs) ≡ map g xs
@@ -76,7 +76,7 @@ unfolding without_first
 map-without_first g test seen same [] = refl
 map-without_first g test seen same (x ∷ xs) =
     rw (same x) (elim (test x) as (λ b. map g (cond b xs (x ∷ without_first test xs)) ≡ cond b (map g xs) (g x ∷ without_first seen (map g xs)))
-      [ true ↦ refl | false ↦ ap (λ ys. g x ∷ ys) (map-without_first g test seen same xs) ])
+    [ true ↦ refl | false ↦ ap (λ ys. g x ∷ ys) (map-without_first g test seen same xs) ])
 
 -- ---- filters
 
@@ -89,7 +89,7 @@ pub filter-map : {X Y : Type 0} (g : X → Y) (p : X → Bool) (seen : Y → Boo
 filter-map g p seen [] same = refl
 filter-map g p seen (x ∷ xs) same =
     rw same.0 (elim (p x) as (λ b. cond b (g x ∷ filter seen (map g xs)) (filter seen (map g xs)) ≡ map g (cond b (x ∷ filter p xs) (filter p xs)))
-      [ true ↦ ap (λ ys. g x ∷ ys) (filter-map g p seen xs same.1) | false ↦ filter-map g p seen xs same.1 ])
+    [ true ↦ ap (λ ys. g x ∷ ys) (filter-map g p seen xs same.1) | false ↦ filter-map g p seen xs same.1 ])
 
 pub filter-all : {X : Type 0} (p : X → Bool) (xs : List X) → Each (λ x. p x ≡ true) xs → filter p xs ≡ xs
 filter-all p [] each = refl
@@ -111,8 +111,8 @@ pub find-filter : {X : Type 0} (p q : X → Bool) → ((x : X) → p x ≡ true 
 find-filter p q passes [] = refl
 find-filter p q passes (x ∷ xs) =
     elim (cases_Bool (p x)) [
-      inl passed ↦ rw (passes x passed, passed) refl
-    | inr failed ↦ rw failed (elim (q x) as (λ b. find p (cond b (x ∷ filter q xs) (filter q xs)) ≡ find p xs) [ true ↦ rw failed (find-filter p q passes xs) | false ↦ find-filter p q passes xs ])
+      | inl passed ↦ rw (passes x passed, passed) refl
+      | inr failed ↦ rw failed (elim (q x) as (λ b. find p (cond b (x ∷ filter q xs) (filter q xs)) ≡ find p xs) [ true ↦ rw failed (find-filter p q passes xs) | false ↦ find-filter p q passes xs ])
     ]
 
 -- ---- sums
@@ -122,8 +122,8 @@ unfolding change_first
 total-change_first-le f test change [] less = omega arith
 total-change_first-le f test change (x ∷ xs) less =
     elim (cases_Bool (test x)) [
-      inl passed ↦ (let h = less x (rw passed refl) in rw passed (omega (arith, h)))
-    | inr failed ↦ (let rest = total-change_first-le f test change xs (λ y found. less y (rw failed found)) in rw failed (omega (arith, rest)))
+      | inl passed ↦ (let h = less x (rw passed refl) in rw passed (omega (arith, h)))
+      | inr failed ↦ (let rest = total-change_first-le f test change xs (λ y found. less y (rw failed found)) in rw failed (omega (arith, rest)))
     ]
 
 pub total-without_first-le : {X : Type 0} (f : X → ℕ) (test : X → Bool) (xs : List X) → total f (without_first test xs) ≤ total f xs
@@ -143,8 +143,8 @@ pub Each-find : {X : Type 0} (P : X → Type 0) (test : X → Bool) (xs : List X
 Each-find P test [] x each found = cc
 Each-find P test (y ∷ xs) x each found =
     elim (cases_Bool (test y)) [
-      inl passed ↦ subst P (some-same y x (rw passed at found)) each.0
-    | inr failed ↦ Each-find P test xs x each.1 (rw failed at found)
+      | inl passed ↦ subst P (some-same y x (rw passed at found)) each.0
+      | inr failed ↦ Each-find P test xs x each.1 (rw failed at found)
     ]
 
 -- ---- membership

@@ -1,15 +1,14 @@
 -- What a reply that is no refusal says of the rules that were tried.
-use Rattle.std.proofs.Common.{◌≡◌, ℕ, ◌≤◌, ◌&&◌, Bool, true, false, cond, List, [], ◌∷◌, Option, Some, None, refl, subst}
+use Rattle.std.proofs.Common.{◌≡◌, ℕ, ◌≤◌, Bool, true, false, List, Option, Some, None, refl, subst}
 use Rattle.std.proofs.lemmas.Bool.{leb-true, and_parts}
 use Rattle.net_units.specs.Numbers.{level_number}
 use Rattle.net_units.specs.declared.numbers.Level.{Level}
 use Rattle.traffic_contract.specs.Admission.{Server, Row as Admitted}
 use Rattle.traffic_contract.specs.Contract.{Terms}
 use Rattle.link_steps.specs.declared.replies.Refusal.{Refusal}
-use Rattle.link_steps.specs.declared.replies.Refusal.TheVariants.{NoLevel, Unfit}
 use Rattle.link_steps.specs.declared.replies.Reply.{Reply}
-use Rattle.link_steps.specs.declared.replies.Reply.TheVariants.{Offer, Relaxed, Denied, Planned, Closing, Taken, Ticked, Refused}
-use Rattle.link_steps.specs.Refusals.{Rule, unless, refused_or, first_refusal, has_level, fits_offer}
+use Rattle.link_steps.specs.declared.replies.Reply.TheVariants.{Refused}
+use Rattle.link_steps.specs.Refusals.{Rule, unless, refused_or, has_level, fits_offer}
 use Rattle.link_steps.specs.Reservation.{Reservation}
 
 -- the reply refuses nothing

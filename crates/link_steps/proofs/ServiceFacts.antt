@@ -1,12 +1,11 @@
 -- Facts on the service of packets: which starts a tick may add, and which packets are here after it.
-use Rattle.std.proofs.Common.{◌≡◌, ℕ, zero, suc, ◌+◌, ◌<◌, ◌≤◌, Bool, true, false, not, cond, ◌&&◌, ◌||◌, eqb, List, [], ◌∷◌, ◌++◌, length, Option, Some, None, refl, sym, ap, ◌∙◌, subst, inl, inr, ⊎_elim, arith, append-nil}
-use Rattle.std.proofs.lemmas.Bool.{cases_Bool, leb-true, leb-false, le-leb, lt-leb, ltb-true, ltb-false, lt-ltb, le-ltb, cond_both}
+use Rattle.std.proofs.Common.{◌≡◌, ℕ, zero, suc, ◌<◌, ◌≤◌, false, List, [], ◌∷◌, ◌++◌, Option, Some, None, refl, ap, ◌∙◌, subst, arith, append-nil}
+use Rattle.std.proofs.lemmas.Bool.{lt-leb, ltb-false, cond_both}
 use Rattle.std.proofs.lemmas.List.Elements.{filter-append}
 use Rattle.std.specs.Prelude.{filter}
-use Rattle.std.specs.List.{list_any}
 use Rattle.link_steps.specs.Lists.{Each}
-use Rattle.link_steps.specs.Service.{Arrival, Start, work_of, leaves_at, first_in_line, sooner, goes_before, is_start_of, has_started, is_waiting, is_busy, add_start, serve_tick, starts_below, is_departure_by, has_departed, is_here, here_at}
-use Rattle.link_steps.proofs.ListFacts.{Each-append, Each-filter, Each-from, Each-if, filter-same, filter-all, filter-none, filter-filter}
+use Rattle.link_steps.specs.Service.{Arrival, Start, leaves_at, first_in_line, sooner, goes_before, is_waiting, is_busy, add_start, serve_tick, starts_below}
+use Rattle.link_steps.proofs.ListFacts.{Each-filter, Each-if, filter-none}
 
 -- ---- packets that are eligible later change nothing
 
@@ -24,10 +23,10 @@ starts_below-before rate packets new t zero within later = refl
 starts_below-before rate packets new t (suc u) within later =
     let s : List Start = starts_below rate packets u in
     let e : filter (is_waiting (starts_below rate packets u) u) (packets ++ new) ≡ filter (is_waiting (starts_below rate packets u) u) packets =
-        filter-append _ packets new
-        ∙ ap (λ xs. filter (is_waiting (starts_below rate packets u) u) packets ++ xs)
-          (filter-none _ new (Each-if (IsFrom t) _ new (not_waiting (starts_below rate packets u) u t (omega arith)) later))
-        ∙ append-nil _ in
+    filter-append _ packets new
+    ∙ ap (λ xs. filter (is_waiting (starts_below rate packets u) u) packets ++ xs)
+    (filter-none _ new (Each-if (IsFrom t) _ new (not_waiting (starts_below rate packets u) u t (omega arith)) later))
+    ∙ append-nil _ in
     rw (starts_below-before rate packets new t u (omega arith) later, e) refl
 
 -- packets that are eligible at t or later change no start below t
@@ -60,9 +59,9 @@ unfolding serve_tick
 follow-tick rate packets t starts follow =
     cond_both (is_busy rate starts t) starts (add_start (first_in_line (filter (is_waiting starts t) packets)) t starts) (FollowEachOther rate)
     (λ _. follow) (λ idle. follow-add (first_in_line (filter (is_waiting starts t) packets)) (left-idle rate t starts follow idle)) where
-  follow-add : (p : Option Arrival) → Each (HasLeft rate t) starts → FollowEachOther rate (add_start p t starts)
-  follow-add None left = follow
-  follow-add (Some p) left = (left, follow)
+      follow-add : (p : Option Arrival) → Each (HasLeft rate t) starts → FollowEachOther rate (add_start p t starts)
+      follow-add None left = follow
+      follow-add (Some p) left = (left, follow)
 
 pub starts-follow : (rate : ℕ) (packets : List Arrival) (t : ℕ) → FollowEachOther rate (starts_below rate packets t)
 unfolding starts_below
@@ -80,9 +79,9 @@ starts-begun rate packets (suc t) =
     let before = Each-if (HasBegun t) (HasBegun (suc t)) (starts_below rate packets t) (λ start h. omega arith) (starts-begun rate packets t) in
     cond_both (is_busy rate (starts_below rate packets t) t) (starts_below rate packets t) (add_start (first_in_line (filter (is_waiting (starts_below rate packets t) t) packets)) t (starts_below rate packets t)) (Each (HasBegun (suc t)))
     (λ _. before) (λ _. add-begun (first_in_line (filter (is_waiting (starts_below rate packets t) t) packets)) (starts_below rate packets t) before) where
-  add-begun : (best : Option Arrival) (starts : List Start) → Each (HasBegun (suc t)) starts → Each (HasBegun (suc t)) (add_start best t starts)
-  add-begun None starts before = before
-  add-begun (Some p) starts before = (omega arith, before)
+      add-begun : (best : Option Arrival) (starts : List Start) → Each (HasBegun (suc t)) starts → Each (HasBegun (suc t)) (add_start best t starts)
+      add-begun None starts before = before
+      add-begun (Some p) starts before = (omega arith, before)
 
 -- ---- what starts is one of the packets
 
@@ -93,6 +92,7 @@ first_in_line-fact P [] p each found = cc
 first_in_line-fact P (q ∷ ps) p each found = subst P (some-same _ _ found) (sooner-fact q (first_in_line ps) each.0 (λ r first. first_in_line-fact P ps r each.1 first)) where
   some-same : (a b : Arrival) → Some a ≡ Some b → a ≡ b
   some-same a b same = cc
+
   sooner-fact : (q : Arrival) (best : Option Arrival) → P q → ((r : Arrival) → best ≡ Some r → P r) → P (sooner q best)
   sooner-fact q None here best = here
   sooner-fact q (Some r) here best = cond_both (goes_before r q) r q P (λ _. best r refl) (λ _. here)
@@ -106,7 +106,7 @@ starts-fact P rate packets (suc t) each =
     cond_both (is_busy rate (starts_below rate packets t) t) (starts_below rate packets t) (add_start (first_in_line (filter (is_waiting (starts_below rate packets t) t) packets)) t (starts_below rate packets t)) (Each (λ start. P start.packet))
     (λ _. before)
     (λ _. add-fact (first_in_line (filter (is_waiting (starts_below rate packets t) t) packets)) (starts_below rate packets t)
-      (λ p first. first_in_line-fact P (filter (is_waiting (starts_below rate packets t) t) packets) p (Each-filter P _ packets each) first) before) where
-  add-fact : (best : Option Arrival) (starts : List Start) → ((p : Arrival) → best ≡ Some p → P p) → Each (λ start. P start.packet) starts → Each (λ start. P start.packet) (add_start best t starts)
-  add-fact None starts fact before = before
-  add-fact (Some p) starts fact before = (fact p refl, before)
+    (λ p first. first_in_line-fact P (filter (is_waiting (starts_below rate packets t) t) packets) p (Each-filter P _ packets each) first) before) where
+      add-fact : (best : Option Arrival) (starts : List Start) → ((p : Arrival) → best ≡ Some p → P p) → Each (λ start. P start.packet) starts → Each (λ start. P start.packet) (add_start best t starts)
+      add-fact None starts fact before = before
+      add-fact (Some p) starts fact before = (fact p refl, before)

@@ -1,5 +1,5 @@
 -- The same link as a hop past a channel's first: packets arrive from the link before.
-use Rattle.std.proofs.Common.{◌≡◌, ℕ, true, false, [], ◌∷◌, ◌++◌, None, Some, refl, ◌∙◌}
+use Rattle.std.proofs.Common.{◌≡◌, ℕ, false, [], ◌∷◌, ◌++◌, None, Some, refl, ◌∙◌}
 use Rattle.net_units.specs.declared.Kind.{Kind}
 use Rattle.net_units.specs.declared.Kind.TheVariants.{Rate, Jitter}
 use Rattle.net_units.specs.declared.numbers.ChanNo.{ChanNo}
@@ -26,8 +26,8 @@ arrive chan number size due = Arrive (record { chan = chan; number = number; siz
 -- under delay-jitter control packets that arrive at 4 and 14 wait until 22 and 32, at which they are due
 waits-until-due : legal_replies shape_a []
     ((reserve_behind chan1 Jitter ∷ relax_behind chan1 1 ∷ ticks 4)
-     ++ (arrive chan1 1 2 22 ∷ ticks 10)
-     ++ (arrive chan1 2 2 32 ∷ ticks 26))
+    ++ (arrive chan1 1 2 22 ∷ ticks 10)
+    ++ (arrive chan1 2 2 32 ∷ ticks 26))
     ≡ (offer 1 3 ∷ Relaxed 0 ∷ quiet 0 4)
     ++ (Taken 4 22 ∷ quiet 4 10)
     ++ (Taken 14 32 ∷ quiet 14 9)
@@ -40,22 +40,22 @@ waits-until-due = replied-legal shape_a _ ∙ refl
 -- of 5, more than are taken
 packets-without-a-place : legal_replies shape_a []
     ((reserve chan2 voice 12
-      ∷ arrive chan2 1 2 0
-      ∷ reserve_behind chan1 Rate
-      ∷ arrive chan1 1 2 0
-      ∷ relax_behind chan1 2
-      ∷ arrive chan1 2 2 0
-      ∷ arrive chan1 1 3 0
-      ∷ arrive chan1 1 2 0
-      ∷ arrive chan1 2 2 0
-      ∷ arrive chan1 3 2 0
-      ∷ arrive chan1 4 2 0
-      ∷ arrive chan1 5 2 0
-      ∷ Submit chan1 1 1 1
-      ∷ Release chan1 None
-      ∷ Release chan1 (Some 5)
-      ∷ ticks 2)
-     ++ (arrive chan1 5 2 0 ∷ arrive chan1 6 2 0 ∷ []))
+    ∷ arrive chan2 1 2 0
+    ∷ reserve_behind chan1 Rate
+    ∷ arrive chan1 1 2 0
+    ∷ relax_behind chan1 2
+    ∷ arrive chan1 2 2 0
+    ∷ arrive chan1 1 3 0
+    ∷ arrive chan1 1 2 0
+    ∷ arrive chan1 2 2 0
+    ∷ arrive chan1 3 2 0
+    ∷ arrive chan1 4 2 0
+    ∷ arrive chan1 5 2 0
+    ∷ Submit chan1 1 1 1
+    ∷ Release chan1 None
+    ∷ Release chan1 (Some 5)
+    ∷ ticks 2)
+    ++ (arrive chan1 5 2 0 ∷ arrive chan1 6 2 0 ∷ []))
     ≡ offer 1 1
     ∷ Refused (Stray FirstHop)
     ∷ offer 2 3
@@ -83,9 +83,9 @@ packets-without-a-place = replied-legal shape_a _ ∙ refl
 -- which arrives at 4, has been eligible for the 40 ticks of the link's largest bound
 held-for-a-packet-on-its-way : legal_replies shape_a []
     ((reserve_behind chan1 Rate ∷ relax_behind chan1 2 ∷ ticks 2)
-     ++ (Release chan1 (Some 1) ∷ ticks 2)
-     ++ (arrive chan1 1 2 22 ∷ ticks 40)
-     ++ (reserve_behind chan1 Rate ∷ Tick ∷ reserve_behind chan1 Rate ∷ []))
+    ++ (Release chan1 (Some 1) ∷ ticks 2)
+    ++ (arrive chan1 1 2 22 ∷ ticks 40)
+    ++ (reserve_behind chan1 Rate ∷ Tick ∷ reserve_behind chan1 Rate ∷ []))
     ≡ (offer 1 3 ∷ Relaxed 0 ∷ quiet 0 2)
     ++ (Closing 1 0 ∷ quiet 2 2)
     ++ (Taken 4 4 ∷ quiet 4 1)

@@ -1,15 +1,13 @@
 -- A link for worked histories: it sends a unit in a tick, carries packets of up to 4 units, propagates in 2 ticks,
 -- has 100 units of buffer, and levels with the bounds 10, 20 and 40. A contract for them: packets at least 5 ticks
 -- apart, 2 in any 20 ticks, of up to 2 units.
-use Rattle.std.proofs.Common.{ℕ, suc, zero, ◌+◌, ◌≤◌, true, Bool, List, [], ◌∷◌, Option, None, Some, refl, lit≤, lit<}
-use Rattle.net_units.specs.declared.Kind.{Kind}
+use Rattle.std.proofs.Common.{ℕ, suc, zero, ◌+◌, ◌≤◌, true, List, [], ◌∷◌, None, Some, refl, lit≤, lit<}
 use Rattle.net_units.specs.declared.Kind.TheVariants.{Rate}
 use Rattle.net_units.specs.declared.numbers.ChanNo.{ChanNo}
-use Rattle.net_units.specs.declared.numbers.Level.{Level}
 use Rattle.net_units.specs.declared.numbers.LinkNo.{LinkNo}
 use Rattle.traffic_contract.specs.Contract.{Terms, terms_of}
 use Rattle.link_steps.specs.declared.asks.Ask.{Ask}
-use Rattle.link_steps.specs.declared.asks.Ask.TheVariants.{Reserve, Relax, Deny, Submit, Release, Arrive, Tick}
+use Rattle.link_steps.specs.declared.asks.Ask.TheVariants.{Reserve, Relax, Tick}
 use Rattle.link_steps.specs.declared.replies.Reply.{Reply}
 use Rattle.link_steps.specs.declared.replies.Reply.TheVariants.{Ticked, Offer}
 use Rattle.link_steps.specs.declared.replies.Sent.{Sent}

@@ -54,18 +54,18 @@ fast-source = replied-legal shape_a _ ∙ refl
 -- a packet of the third level has started when one of the first comes, and is not interrupted
 never-interrupted : legal_replies shape_a []
     ((reserve chan2 wide 50
-      ∷ relax chan2 3
-      ∷ reserve chan1 voice 12
-      ∷ relax chan1 1
-      ∷ Submit chan2 1 1 4
-      ∷ ticks 1)
-     ++ (Submit chan1 1 1 2 ∷ ticks 19))
+    ∷ relax chan2 3
+    ∷ reserve chan1 voice 12
+    ∷ relax chan1 1
+    ∷ Submit chan2 1 1 4
+    ∷ ticks 1)
+    ++ (Submit chan1 1 1 2 ∷ ticks 19))
     ≡ (offer 2 3
-       ∷ Relaxed 0
-       ∷ offer 1 1
-       ∷ Relaxed 0
-       ∷ Planned 0
-       ∷ quiet 0 1)
+    ∷ Relaxed 0
+    ∷ offer 1 1
+    ∷ Relaxed 0
+    ∷ Planned 0
+    ∷ quiet 0 1)
     ++ (Planned 1 ∷ quiet 1 2)
     ++ (sends 3 (left chan2 1 4 0 0 4 40) ∷ quiet 4 1)
     ++ (sends 5 (left chan1 1 2 1 1 6 10) ∷ quiet 6 14)
@@ -76,23 +76,23 @@ never-interrupted = replied-legal shape_a _ ∙ refl
 -- 2. The one of the first level starts first
 least-level-first : legal_replies shape_a []
     ((reserve chan3 wide 50
-      ∷ relax chan3 3
-      ∷ reserve chan1 voice 12
-      ∷ relax chan1 1
-      ∷ reserve chan2 voice 22
-      ∷ relax chan2 2
-      ∷ Submit chan3 1 1 4
-      ∷ ticks 1)
-     ++ (Submit chan2 1 1 2 ∷ ticks 1)
-     ++ (Submit chan1 1 1 2 ∷ ticks 8))
+    ∷ relax chan3 3
+    ∷ reserve chan1 voice 12
+    ∷ relax chan1 1
+    ∷ reserve chan2 voice 22
+    ∷ relax chan2 2
+    ∷ Submit chan3 1 1 4
+    ∷ ticks 1)
+    ++ (Submit chan2 1 1 2 ∷ ticks 1)
+    ++ (Submit chan1 1 1 2 ∷ ticks 8))
     ≡ (offer 2 3
-       ∷ Relaxed 0
-       ∷ offer 1 1
-       ∷ Relaxed 0
-       ∷ offer 2 2
-       ∷ Relaxed 0
-       ∷ Planned 0
-       ∷ quiet 0 1)
+    ∷ Relaxed 0
+    ∷ offer 1 1
+    ∷ Relaxed 0
+    ∷ offer 2 2
+    ∷ Relaxed 0
+    ∷ Planned 0
+    ∷ quiet 0 1)
     ++ (Planned 1 ∷ quiet 1 1)
     ++ (Planned 2 ∷ quiet 2 1)
     ++ (sends 3 (left chan3 1 4 0 0 4 40) ∷ quiet 4 1)
@@ -104,19 +104,19 @@ least-level-first = replied-legal shape_a _ ∙ refl
 -- two packets of one level, eligible at the same tick, are served in the order in which their rows were reserved
 order-of-the-reserves : legal_replies shape_a []
     (reserve chan2 voice 22
-     ∷ relax chan2 2
-     ∷ reserve chan1 voice 22
-     ∷ relax chan1 2
-     ∷ Submit chan1 1 1 2
-     ∷ Submit chan2 1 1 2
-     ∷ ticks 5)
+    ∷ relax chan2 2
+    ∷ reserve chan1 voice 22
+    ∷ relax chan1 2
+    ∷ Submit chan1 1 1 2
+    ∷ Submit chan2 1 1 2
+    ∷ ticks 5)
     ≡ (offer 1 2
-       ∷ Relaxed 0
-       ∷ offer 1 2
-       ∷ Relaxed 0
-       ∷ Planned 0
-       ∷ Planned 0
-       ∷ quiet 0 1)
+    ∷ Relaxed 0
+    ∷ offer 1 2
+    ∷ Relaxed 0
+    ∷ Planned 0
+    ∷ Planned 0
+    ∷ quiet 0 1)
     ++ (sends 1 (left chan2 1 2 0 0 2 20) ∷ quiet 2 1)
     ++ (sends 3 (left chan1 1 2 0 0 4 20) ∷ quiet 4 1)
 unfolding replied ticks quiet
@@ -126,8 +126,8 @@ order-of-the-reserves = replied-legal shape_a _ ∙ refl
 -- ticks of the link's largest bound
 held-until-the-hold-ends : legal_replies shape_a []
     ((reserve chan1 voice 12 ∷ relax chan1 1 ∷ Submit chan1 3 10 2 ∷ ticks 30)
-     ++ (Release chan1 None ∷ ticks 30)
-     ++ (reserve chan2 voice 12 ∷ Deny chan2 ∷ Tick ∷ reserve chan2 voice 12 ∷ []))
+    ++ (Release chan1 None ∷ ticks 30)
+    ++ (reserve chan2 voice 12 ∷ Deny chan2 ∷ Tick ∷ reserve chan2 voice 12 ∷ []))
     ≡ (offer 1 1 ∷ Relaxed 0 ∷ Planned 0 ∷ quiet 0 1)
     ++ (sends 1 (left chan1 1 2 0 0 2 10) ∷ quiet 2 9)
     ++ (sends 11 (left chan1 2 2 10 10 12 10) ∷ quiet 12 9)

@@ -3,7 +3,7 @@
 -- as its contract lets packets into such a window, each of the size of its largest packet. A tentative
 -- reservation doesn't know its level yet, nor the hop before: it reckons with the reach of both. A packet holds
 -- its slot from its arrival until it departs. What the held reservations don't keep is free.
-use Rattle.std.specs.Prelude.{ℕ, ◌+◌, ◌-◌, ◌*◌, Bool, nat_eq, nat_lt, List, map, filter, length}
+use Rattle.std.specs.Prelude.{ℕ, ◌+◌, ◌-◌, ◌*◌, Bool, nat_eq, nat_lt, List, filter, length}
 use Rattle.net_units.specs.Numbers.{level_number}
 use Rattle.net_units.specs.Steps.{bound_at}
 use Rattle.traffic_contract.specs.Admission.{total}

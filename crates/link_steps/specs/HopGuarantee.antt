@@ -12,7 +12,7 @@ use Rattle.link_steps.specs.Reservation.{admitted}
 use Rattle.link_steps.specs.Scan.{clock_of, scan_of, starts_of}
 use Rattle.link_steps.specs.Service.{Arrival, Start, leaves_at, has_departed}
 use Rattle.link_steps.specs.Shape.{server_of}
-use Rattle.link_steps.specs.Sources.{Row, terms_of}
+use Rattle.link_steps.specs.Sources.{terms_of}
 
 -- P holds after each entry of a history, and at its beginning
 abbrev pub AfterEach : (List Entry → Type 0) → List Entry → Type 0

@@ -7,12 +7,11 @@ use Rattle.net_units.specs.declared.numbers.Level.{Level}
 use Rattle.traffic_contract.specs.Admission.{Server, Row as Admitted, refused_sum}
 use Rattle.traffic_contract.specs.Contract.{Terms}
 use Rattle.link_steps.specs.declared.replies.Phase.{Phase}
-use Rattle.link_steps.specs.declared.replies.Phase.TheVariants.{Tentative, Committed, Closing}
+use Rattle.link_steps.specs.declared.replies.Phase.TheVariants.{Tentative, Closing}
 use Rattle.link_steps.specs.declared.replies.Refusal.{Refusal}
 use Rattle.link_steps.specs.declared.replies.Refusal.TheVariants.{NoLevel, NoBuffer, Twice, TooWide, NotInPhase, Unfit, Busy, TooBig, Full, Stray}
 use Rattle.link_steps.specs.declared.replies.Reply.{Reply}
 use Rattle.link_steps.specs.declared.replies.Reply.TheVariants.{Refused}
-use Rattle.link_steps.specs.declared.replies.Why.{Why}
 use Rattle.link_steps.specs.declared.replies.Why.TheVariants.{FirstHop, Uncommitted, WrongNumber, PastCount, Big}
 use Rattle.link_steps.specs.Reservation.{Reservation, is_phase}
 

@@ -6,8 +6,7 @@
 -- later hop's answers the larger of its own count and the one that it was told, and cancels nothing. A packet that
 -- arrives is taken where the reservation is ready for it and has a slot free, and the reply says at which tick it is
 -- eligible. A tick says how many source packets were dropped in it, and which packet departs at its end.
-use Rattle.std.specs.Prelude.{ℕ, suc, ◌+◌, ◌*◌, Bool, true, false, nat_eq, if◌then◌else◌, Option, Some, None, List, [], ◌∷◌, length, map, find, max, unwrap_or}
-use Rattle.net_units.specs.Numbers.{level_number}
+use Rattle.std.specs.Prelude.{ℕ, suc, ◌+◌, true, nat_eq, if◌then◌else◌, Option, Some, None, List, [], ◌∷◌, length, map, find, max, unwrap_or}
 use Rattle.net_units.specs.Steps.{bound_at, levels_within}
 use Rattle.net_units.specs.declared.numbers.ChanNo.{ChanNo}
 use Rattle.net_units.specs.declared.numbers.Level.{Level}
@@ -31,7 +30,7 @@ use Rattle.link_steps.specs.Reservation.{Reservation, admitted, is_of}
 use Rattle.link_steps.specs.Scan.{Scan, clock_of, scan_of, without_expired, after_tick, is_row_of, is_row_at_hop, names_first_hop}
 use Rattle.link_steps.specs.Service.{Arrival, Start, leaves_at, starts_below, here_at}
 use Rattle.link_steps.specs.Shape.{server_of}
-use Rattle.link_steps.specs.Sources.{Row, SourcePacket, terms_of, left_at, eligible_next, lost_in}
+use Rattle.link_steps.specs.Sources.{Row, terms_of, left_at, eligible_next, lost_in}
 
 -- the number of the reach for an offered level: the largest level whose bound is at most `delay` or the offer's bound
 abbrev pub reach_of : List ℕ → ℕ → ℕ → ℕ
@@ -42,10 +41,10 @@ abbrev pub reserve_reply_at : LinkShape → List Reservation → ChanNo → Term
 reserve_reply_at shape held chan contract delay up_reach best =
     first_refusal
     (fits_cap contract shape.cap
-     ∷ is_new (find (is_of chan) held)
-     ∷ has_level (server_of shape) (map admitted held) contract best
-     ∷ has_buffer (units_for contract (up_reach + bound_at shape.bounds (reach_of shape.bounds delay (unwrap_or best 0)))) (free_units shape held)
-     ∷ [])
+    ∷ is_new (find (is_of chan) held)
+    ∷ has_level (server_of shape) (map admitted held) contract best
+    ∷ has_buffer (units_for contract (up_reach + bound_at shape.bounds (reach_of shape.bounds delay (unwrap_or best 0)))) (free_units shape held)
+    ∷ [])
     (Offer (level_of (unwrap_or best 0)) (level_of (reach_of shape.bounds delay (unwrap_or best 0))))
 
 unfoldable pub reserve_reply : LinkShape → List Reservation → ChanNo → Terms → ℕ → ℕ → Reply
@@ -82,12 +81,12 @@ unfoldable pub arrive_reply : List ℕ → ℕ → Packet → Reservation → �
 arrive_reply bounds t packet terms taken held e =
     first_refusal
     (is_past_first terms
-     ∷ was_committed terms
-     ∷ is_next packet.number (suc taken)
-     ∷ is_counted terms taken
-     ∷ is_small terms packet.size
-     ∷ has_room held (slots_of bounds terms)
-     ∷ [])
+    ∷ was_committed terms
+    ∷ is_next packet.number (suc taken)
+    ∷ is_counted terms taken
+    ∷ is_small terms packet.size
+    ∷ has_room held (slots_of bounds terms)
+    ∷ [])
     (Taken t e)
 
 -- a packet as it leaves the link

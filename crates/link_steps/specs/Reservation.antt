@@ -1,7 +1,7 @@
 -- A reservation is what the setup of a channel has fixed at one link. It begins with a reserve that was answered
 -- with an offer, and is tentative. A relax commits it at its level; a release makes it closing. Its level is the
 -- offered one until it is relaxed, and the one in the relax from then on.
-use Rattle.std.specs.Prelude.{ℕ, Bool, true, false, nat_eq, ◌&&◌, Option, List, map}
+use Rattle.std.specs.Prelude.{ℕ, Bool, true, false, nat_eq, ◌&&◌, Option}
 use Rattle.net_units.specs.Numbers.{channel_number, level_number}
 use Rattle.net_units.specs.declared.Kind.{Kind}
 use Rattle.net_units.specs.declared.numbers.ChanNo.{ChanNo}

@@ -2,7 +2,7 @@
 -- ticks, which is the number of the next one. One scan of the history, from its beginning on, finds what the rules
 -- speak of: the rows held, in the order of their reserves; the rows gone, whose hold has ended; and all packets
 -- taken, in the order of their arrival numbers. An ask that was refused changes nothing.
-use Rattle.std.specs.Prelude.{ℕ, suc, ◌+◌, Bool, true, false, not, if◌then◌else◌, Option, Some, None, List, [], ◌∷◌, ◌++◌, length, map, filter, find}
+use Rattle.std.specs.Prelude.{ℕ, suc, Bool, true, false, Option, Some, None, List, [], ◌∷◌, ◌++◌, length, filter, find}
 use Rattle.net_units.specs.declared.numbers.ChanNo.{ChanNo}
 use Rattle.net_units.specs.declared.numbers.Level.{Level}
 use Rattle.link_steps.specs.declared.asks.Ask.{Ask}

@@ -3,7 +3,7 @@
 -- that are eligible and haven't started starts: of the least level, among these the one that was eligible first,
 -- and among these the one that arrived first. A packet that starts at u and takes w ticks departs at u + w, and
 -- until then it is here.
-use Rattle.std.specs.Prelude.{ℕ, zero, suc, ◌+◌, Bool, true, false, not, nat_eq, nat_lt, nat_le, ◌&&◌, ◌||◌, if◌then◌else◌, Option, Some, None, List, [], ◌∷◌, filter}
+use Rattle.std.specs.Prelude.{ℕ, zero, suc, ◌+◌, Bool, false, not, nat_eq, nat_lt, nat_le, ◌&&◌, ◌||◌, if◌then◌else◌, Option, Some, None, List, [], ◌∷◌, filter}
 use Rattle.std.specs.List.{list_any}
 use Rattle.net_units.specs.Quotient.{ceil_quotient}
 use Rattle.net_units.specs.declared.numbers.ChanNo.{ChanNo}

@@ -8,7 +8,7 @@
 use Rattle.std.specs.Prelude.{ℕ, zero, suc, ◌+◌, Bool, true, false, nat_eq, nat_lt, nat_le, if◌then◌else◌, Option, Some, None, List, [], ◌∷◌, ◌++◌, length, map, filter, find, max}
 use Rattle.net_units.specs.Numbers.{level_number}
 use Rattle.net_units.specs.declared.Kind.{Kind}
-use Rattle.net_units.specs.declared.Kind.TheVariants.{Rate, Jitter}
+use Rattle.net_units.specs.declared.Kind.TheVariants.{Jitter}
 use Rattle.traffic_contract.specs.Eligible.{eligible}
 use Rattle.link_steps.specs.Buffer.{has_slot}
 use Rattle.link_steps.specs.Reservation.{Reservation}

@@ -38,7 +38,9 @@ pub enum Ask {
         up_bound: u64,
     },
     /// Give a tentative reservation back.
-    Deny { chan: ChanNo },
+    Deny {
+        chan: ChanNo,
+    },
     /// Plan `count` packets of `size` units at the first hop, the first at the link's clock and then one each
     /// `gap` ticks.
     Submit {
@@ -54,7 +56,9 @@ pub enum Ask {
         upstream: Option<u64>,
     },
     /// Take a packet from the link before.
-    Arrive { packet: Packet },
+    Arrive {
+        packet: Packet,
+    },
     /// Let one tick pass.
     Tick,
 }

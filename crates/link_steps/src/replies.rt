@@ -32,18 +32,31 @@ pub struct Sent {
 #[derive(Clone, Copy, Debug, PartialEq, Eq)]
 pub enum Reply {
     /// A reserve holds: the least level that admits the contract, and the largest to which it may be relaxed.
-    Offer { level: Level, reach: Level },
+    Offer {
+        level: Level,
+        reach: Level,
+    },
     /// A relax holds, at this clock.
-    Relaxed { clock: u64 },
+    Relaxed {
+        clock: u64,
+    },
     /// A tentative reservation was given back.
     Denied,
     /// Source packets are planned, the first at this tick.
-    Planned { clock: u64 },
+    Planned {
+        clock: u64,
+    },
     /// A reservation is closing: the packets that it has taken or will still take, and the planned ones that
     /// were cancelled.
-    Closing { count: u64, cancelled: u64 },
+    Closing {
+        count: u64,
+        cancelled: u64,
+    },
     /// A packet was taken at this clock, and is eligible at this tick.
-    Taken { clock: u64, eligible: u64 },
+    Taken {
+        clock: u64,
+        eligible: u64,
+    },
     /// The tick of this number was made. So many source packets were dropped in it, and this packet left.
     Ticked {
         clock: u64,
@@ -58,17 +71,30 @@ pub enum Reply {
 #[derive(Clone, Copy, Debug, PartialEq, Eq)]
 pub enum Refusal {
     /// No level admits the contract: the load of the last level with it, and that level's bound, in ticks.
-    NoLevel { sum: u64, bound: u64 },
+    NoLevel {
+        sum: u64,
+        bound: u64,
+    },
     /// The units that it would keep are more than are free.
-    NoBuffer { need: u64, free: u64 },
+    NoBuffer {
+        need: u64,
+        free: u64,
+    },
     /// A reservation of this channel is held, in this phase.
-    Twice { phase: Phase },
+    Twice {
+        phase: Phase,
+    },
     /// The largest packet of the contract is over that of the link, in units.
-    TooWide { smax: u64, cap: u64 },
+    TooWide {
+        smax: u64,
+        cap: u64,
+    },
     /// No reservation of this channel is held here, or none that the ask may name.
     NoSuch,
     /// The reservation is in this phase, and the ask wants another.
-    NotInPhase { phase: Phase },
+    NotInPhase {
+        phase: Phase,
+    },
     /// The level is below the offer or above the reach, or the bound before is over the reach before.
     Unfit {
         offer: Level,
@@ -76,13 +102,23 @@ pub enum Refusal {
         up_reach: u64,
     },
     /// So many planned packets are left.
-    Busy { left: u64 },
+    Busy {
+        left: u64,
+    },
     /// The packets are larger than the contract allows, in units.
-    TooBig { size: u64, smax: u64 },
+    TooBig {
+        size: u64,
+        smax: u64,
+    },
     /// Each slot of the reservation holds a packet.
-    Full { held: u64, slots: u64 },
+    Full {
+        held: u64,
+        slots: u64,
+    },
     /// The packet has no place here.
-    Stray { why: Why },
+    Stray {
+        why: Why,
+    },
 }
 
 /// Why a packet has no place at a link.

@@ -61,21 +61,38 @@ impl LinkShape {
         ensures value { IfOk result (IsShapeOf link rate cap prop buffer bounds) }
     {
         if !(1..=65_536).contains(&rate) {
-            return Err(BadShape { field: ShapeField::Rate });
+            return Err(BadShape {
+                field: ShapeField::Rate,
+            });
         }
         if !(1..=65_536).contains(&cap) {
-            return Err(BadShape { field: ShapeField::Cap });
+            return Err(BadShape {
+                field: ShapeField::Cap,
+            });
         }
         if prop > 1_048_576 {
-            return Err(BadShape { field: ShapeField::Prop });
+            return Err(BadShape {
+                field: ShapeField::Prop,
+            });
         }
         if buffer > 262_144 {
-            return Err(BadShape { field: ShapeField::Buffer });
+            return Err(BadShape {
+                field: ShapeField::Buffer,
+            });
         }
         if ceil_div(u64::from(cap), u64::from(rate)) > u64::from(bounds.at(Level::LEAST)) {
-            return Err(BadShape { field: ShapeField::Bounds });
+            return Err(BadShape {
+                field: ShapeField::Bounds,
+            });
         }
-        Ok(LinkShape { link, rate, cap, prop, buffer, bounds })
+        Ok(LinkShape {
+            link,
+            rate,
+            cap,
+            prop,
+            buffer,
+            bounds,
+        })
     }
 
     /// The blocking: the ticks that a packet of the largest size occupies the link, from 1 to 65,536.
