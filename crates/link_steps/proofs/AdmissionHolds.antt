@@ -32,6 +32,7 @@ use Rattle.link_steps.specs.Scan.{Scan, is_row_of, is_row_at_hop, names_first_ho
 use Rattle.link_steps.specs.Service.{Arrival}
 use Rattle.link_steps.specs.Shape.{server_of}
 use Rattle.link_steps.specs.Sources.{Row, SourceStep, Rests, Brings, Loses, terms_of, new_row, step_of, row_after, rows_after, taken_by}
+use Rattle.link_steps.proofs.LevelFacts.{level_of-number}
 use Rattle.link_steps.proofs.ListFacts.{find-map, map-change_first-same, total-change_first-le, total-without_first-le}
 use Rattle.link_steps.proofs.RefusalFacts.{kept-rule, has_level-some, fits_offer-least}
 
@@ -88,9 +89,6 @@ Pass-none shape =
     omega (arith, least, first))
 
 -- ---- a reserve
-
-level_of-number : (m : ℕ) → 1 ≤ m → m ≤ 8 → level_number (level_of m) ≡ m
-level_of-number m least most = omega arith
 
 offer-level : (level other reach far : Level) → Is.Offer level reach ≡ Is.Offer other far → level ≡ other
 offer-level level other reach far same = cc
