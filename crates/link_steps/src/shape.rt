@@ -8,10 +8,15 @@ use net_units::{Bounds, Level, LinkNo, ceil_div};
 /// A number of a link's shape, or its bounds.
 #[derive(Clone, Copy, Debug, PartialEq, Eq)]
 pub enum ShapeField {
+    /// The rate, in units a tick.
     Rate,
+    /// The largest packet, in units.
     Cap,
+    /// The propagation, in ticks.
     Prop,
+    /// The buffer, in units.
     Buffer,
+    /// The bounds of the levels, in ticks.
     Bounds,
 }
 
@@ -21,15 +26,20 @@ pub struct BadShape {
     pub field: ShapeField,
 }
 
-/// A link: its number, its rate in units a tick, its largest packet in units, its propagation in ticks, its
-/// buffer in units, and the delay bounds of its levels in ticks.
+/// A link: its number and its numbers, each within its limit. A packet of the largest size fits the first bound.
 #[derive(Clone, Copy)]
 pub struct LinkShape {
+    /// Its place among the links of the network.
     pub link: LinkNo,
+    /// What it sends in a tick, from 1 to 65,536 units.
     pub rate: u32,
+    /// The largest packet that it carries, from 1 to 65,536 units.
     pub cap: u32,
+    /// Its propagation: the ticks between a departure here and the arrival behind it, up to 1,048,576.
     pub prop: u32,
+    /// Its buffer, up to 262,144 units.
     pub buffer: u32,
+    /// The delay bounds of its levels, in ticks.
     pub bounds: Bounds,
     ghost rate_least: { 1 ≤ rate },
     ghost rate_most: { rate ≤ 65536 },
@@ -102,5 +112,31 @@ impl LinkShape {
         ensures most { result ≤ 65536 }
     {
         self.cap.div_ceil(self.rate)
+    }
+}
+
+#[cfg(test)]
+mod tests {
+    use super::*;
+    use std::test::Fail;
+
+    #[test]
+    fn shapes_and_their_blocking(rt: HostRuntime) -> Result<(), Fail> {
+        let link = LinkNo::new(0).ok_or("no such link")?;
+        let bounds = Bounds::new(&[10, 20, 40]).ok_or("no such bounds")?;
+        for (rate, cap, prop, buffer, want) in [
+            (1, 4, 2, 100, Ok(4)),
+            (125, 1250, 50, 65_536, Ok(10)),
+            (1, 11, 2, 100, Err(ShapeField::Bounds)),
+            (0, 0, 2, 100, Err(ShapeField::Rate)),
+            (1, 65_537, 2, 100, Err(ShapeField::Cap)),
+            (1, 4, 1_048_577, 262_145, Err(ShapeField::Prop)),
+            (1, 4, 2, 262_145, Err(ShapeField::Buffer)),
+        ] {
+            let made = LinkShape::new(link, rate, cap, prop, buffer, bounds);
+            let blocking = made.map(|shape| shape.blocking()).map_err(|bad| bad.field);
+            assert_eq!(rt; blocking, want, "rate {rate}, cap {cap}");
+        }
+        Ok(())
     }
 }
