@@ -1,0 +1,4 @@
+pub mod QueueLemmas
+pub mod RoomLemmas
+pub mod PickLemmas
+mod Worked
