@@ -7,7 +7,7 @@ use Rattle.std.proofs.lemmas.List.Elements.{All-head, All-tail}
 use Rattle.std.specs.List.{All, filter}
 use Rattle.net_units.specs.Steps.{bound_at}
 use Rattle.traffic_contract.specs.Contract.{Terms}
-use Rattle.traffic_contract.specs.Admission.{Server, Row, total, work_in, work_up_to, load, level_sum, Passes, passes_at, passes_up_to, passes, with_row, admits, first_level, best_level, IsBest}
+use Rattle.traffic_contract.specs.Admission.{Server, Row, total, work_in, work_up_to, load, level_sum, Passes, passes_at, passes_up_to, passes, with_row, admits, first_level, best_level, IsBest, IsRefused}
 
 -- ---- sums over lists
 
@@ -94,16 +94,26 @@ Passes-raised server rows row raised later same larger =
     let g = work_up_to-le server.rate m (bound_at server.bounds m) row raised same larger in
     omega (arith, e, f, g))
 
--- or when many do: f and g give the rows before and after
-pub Passes-raised_all : {X : Type 0} (server : Server) (f g : X → Row) (xs : List X) → All (λ x. ((g x).terms ≡ (f x).terms) × ((f x).level ≤ (g x).level)) xs → Passes server (map f xs) → Passes server (map g xs)
+-- f gives the row of an item: the rows of fewer items pass
+pub Passes-kept : {X : Type 0} (server : Server) (f : X → Row) (test : X → Bool) (xs : List X) → Passes server (map f xs) → Passes server (map f (filter test xs))
 unfolding load
-Passes-raised_all server f g xs raised =
-    Passes-le server (map f xs) (map g xs) (λ m.
-    let work : Row → ℕ = work_up_to server.rate m (bound_at server.bounds m) in
+Passes-kept server f test xs =
+    Passes-le server (map f xs) (map f (filter test xs)) (λ m.
     let e = total-map (work_up_to server.rate m (bound_at server.bounds m)) f xs in
-    let h = total-map (work_up_to server.rate m (bound_at server.bounds m)) g xs in
-    let less = total-le (λ x. work_up_to server.rate m (bound_at server.bounds m) (g x)) (λ x. work_up_to server.rate m (bound_at server.bounds m) (f x)) xs (λ k d inside. work_up_to-le server.rate m (bound_at server.bounds m) _ _ (raised k d inside).0 (raised k d inside).1) in
+    let h = total-map (work_up_to server.rate m (bound_at server.bounds m)) f (filter test xs) in
+    let less = total-filter-le (λ x. work_up_to server.rate m (bound_at server.bounds m) (f x)) test xs in
     omega (arith, e, h, less))
+
+-- and so do those of items that changed to no smaller levels
+pub Passes-changed : {X : Type 0} (server : Server) (f : X → Row) (change : X → X) (xs : List X) → All (λ x. ((f (change x)).terms ≡ (f x).terms) × ((f x).level ≤ (f (change x)).level)) xs → Passes server (map f xs) → Passes server (map f (map change xs))
+unfolding load
+Passes-changed server f change xs raised =
+    Passes-le server (map f xs) (map f (map change xs)) (λ m.
+    let e = total-map (work_up_to server.rate m (bound_at server.bounds m)) f xs in
+    let h = total-map (work_up_to server.rate m (bound_at server.bounds m)) f (map change xs) in
+    let i = total-map (λ x. work_up_to server.rate m (bound_at server.bounds m) (f x)) change xs in
+    let less = total-le (λ x. work_up_to server.rate m (bound_at server.bounds m) (f (change x))) (λ x. work_up_to server.rate m (bound_at server.bounds m) (f x)) xs (λ k d inside. work_up_to-le server.rate m (bound_at server.bounds m) _ _ (raised k d inside).0 (raised k d inside).1) in
+    omega (arith, e, h, i, less))
 
 -- a row that passes at a level passes at every larger level
 pub Passes-larger : (server : Server) (rows : List Row) (terms : Terms) (m larger : ℕ) → m ≤ larger → Passes server (with_row rows terms m) → Passes server (with_row rows terms larger)
@@ -198,10 +208,26 @@ best_level-found server rows terms m best =
     (λ k from below. false_from_ne_true _ (λ passed. absurd (omega (arith, best.least k from (omega (arith, best.upto)) ((Decides-admits server rows terms k).0 passed)))))
 
 -- there is none exactly where no level passes
-pub best_level-none : (server : Server) (rows : List Row) (terms : Terms) → ((m : ℕ) → 1 ≤ m → m ≤ length server.bounds → Passes server (with_row rows terms m) → ⊥) → best_level server rows terms ≡ None
+pub best_level-none : (server : Server) (rows : List Row) (terms : Terms) → IsRefused server rows terms → best_level server rows terms ≡ None
 unfolding best_level
-best_level-none server rows terms fails =
-    first_level-none (admits server rows terms) 1 (length server.bounds) (λ k from upto. false_from_ne_true _ (λ passed. fails k from (omega arith) ((Decides-admits server rows terms k).0 passed)))
+best_level-none server rows terms refused =
+    first_level-none (admits server rows terms) 1 (length server.bounds) (λ k from upto. false_from_ne_true _ (λ passed. refused.each k from (omega arith) ((Decides-admits server rows terms k).0 passed)))
+
+-- where a level up to m passes, the search finds one
+some_level : (test : ℕ → Bool) (m count k : ℕ) → m ≤ k → k < m + count → test k ≡ true → first_level test m count ≡ None → ⊥
+unfolding first_level
+some_level test m zero k from upto holds e = absurd (omega arith)
+some_level test m (suc count) k from upto holds e =
+    ⊎_elim (λ (here : test m ≡ true). (let f = rw here at e in cc))
+    (λ (not_here : test m ≡ false).
+    some_level test (m + 1) count k (⊎_elim (λ (same : m ≡ k). absurd (true≢false (sym holds ∙ sym (ap test same) ∙ not_here))) (λ (other : m ≡ k → ⊥). omega arith) (cases_eq m k)) (omega arith) holds (rw not_here at e))
+    (cases_Bool (test m))
+
+pub IsRefused-from_none : (server : Server) (rows : List Row) (terms : Terms) → best_level server rows terms ≡ None → IsRefused server rows terms
+unfolding best_level
+IsRefused-from_none server rows terms e = record {
+  each = λ m from upto passed. some_level (admits server rows terms) 1 (length server.bounds) m from (omega arith) ((Decides-admits server rows terms m).1 passed) e;
+}
 
 -- ---- room for a new row at each level
 

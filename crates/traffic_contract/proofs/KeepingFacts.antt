@@ -66,4 +66,4 @@ are_spaced-broken gap least i ticks from h broken =
     let far = ((Decides-are_spaced gap least ticks).0 all).apart (i - gap) (omega arith) in
     let near = rw e at far in omega arith)))
 
-pub ruleset spacing = (are_spaced-each, are_spaced-broken, Decides-keeps)
+pub ruleset spacing = (are_spaced-each, are_spaced-broken)

@@ -2,5 +2,6 @@ pub mod ContractFacts
 pub mod KeepingFacts
 pub mod NewestFirst
 pub mod EligibleFacts
+pub mod WindowFacts
 pub mod AdmissionFacts
 pub mod Worked

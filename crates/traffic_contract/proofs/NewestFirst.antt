@@ -2,10 +2,11 @@
 use Rattle.std.proofs.Common.{◌≡◌, ℕ, ◌+◌, ◌-◌, ◌<◌, ◌≤◌, ⊎_elim, List, [], ◌∷◌, ◌++◌, length, get_or, drop, Decides, refl, sym, ap, ◌∙◌, subst, arith, length-drop}
 use Rattle.std.proofs.lemmas.Bool.{leb-true, le-leb, cases_lt, and_parts, and_from}
 use Rattle.std.proofs.lemmas.Bool.Decides.{Decides-like, Decides-and, same_from_decides}
-use Rattle.std.proofs.lemmas.List.{get_or-drop, get_or_append_left, get_or_push, get_or-reverse, length_push, length-reverse, reverse-append}
+use Rattle.std.proofs.lemmas.List.{get_or-drop, get_or_append_left, get_or_push, get_or-reverse, length_push, length-reverse, reverse-append, reverse-reverse}
 use Rattle.std.specs.Prelude.{reverse}
-use Rattle.traffic_contract.specs.Contract.{Terms, burst_of}
+use Rattle.traffic_contract.specs.Contract.{Terms, IsContract, burst_of}
 use Rattle.traffic_contract.specs.Keeping.{Spaced, Keeps, keeps, starts_before, may_follow, keeps_newest_first}
+use Rattle.traffic_contract.proofs.ContractFacts.{burst-least}
 use Rattle.traffic_contract.proofs.KeepingFacts.{Decides-keeps}
 
 -- a list, newest first, starts early enough exactly where its first entry, if there is one, does
@@ -101,3 +102,7 @@ Decides-keeps_newest_first c (t ∷ past) some =
 -- the two tests agree
 pub keeps-reverse : (c : Terms) (past : List ℕ) → 1 ≤ burst_of c → keeps c (reverse past) ≡ keeps_newest_first c past
 keeps-reverse c past some = same_from_decides _ _ (Decides-keeps c (reverse past)) (Decides-keeps_newest_first c past some)
+
+-- and the same of a list in order of time
+pub keeps-newest_first : (c : Terms) (ticks : List ℕ) → IsContract c → keeps c ticks ≡ keeps_newest_first c (reverse ticks)
+keeps-newest_first c ticks valid = ap (keeps c) (sym (reverse-reverse ticks)) ∙ keeps-reverse c (reverse ticks) (burst-least c valid)

@@ -84,6 +84,10 @@ pub record IsBest (server : Server) (rows : List Row) (terms : Terms) (m : ℕ) 
   pub passes : Passes server (with_row rows terms m)
   pub least : (lower : ℕ) → 1 ≤ lower → lower ≤ length server.bounds → Passes server (with_row rows terms lower) → m ≤ lower
 
+-- a new contract has no level
+pub record IsRefused (server : Server) (rows : List Row) (terms : Terms) : Type 0 where
+  pub each : (m : ℕ) → 1 ≤ m → m ≤ length server.bounds → ¬ Passes server (with_row rows terms m)
+
 -- what the last level comes to with the new row there, which a refusal carries
 abbrev pub refused_sum : Server → List Row → Terms → ℕ
 refused_sum server rows terms = level_sum server (with_row rows terms (length server.bounds)) (length server.bounds)

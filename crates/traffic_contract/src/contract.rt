@@ -1,5 +1,5 @@
 //! The contract of a channel.
-ghost use Rattle.std.specs.Prelude.{◌≡◌, ◌↔◌, ◌+◌, ◌^◌, ◌<◌, ◌≤◌, IsTrue, IfOk, MatchResult};
+ghost use Rattle.std.specs.Prelude.{◌≡◌, ◌↔◌, ◌+◌, ◌^◌, ◌<◌, ◌≤◌, ℕ, List, reverse, IsTrue, IfOk, MatchResult};
 ghost use Rattle.traffic_contract.specs.Keeping.{are_spaced};
 
 use net_units::ceil_div;
@@ -29,7 +29,7 @@ pub struct BadContract {
 /// Packets are at least `xmin` ticks apart, at most a burst of them falls into any `interval` ticks, and none is
 /// larger than `smax` units. The burst is the number of average gaps of `xave` ticks in an interval, rounded
 /// down. A contract sees the record of the four numbers.
-#[derive(Clone, Copy)]
+#[derive(Clone, Copy, Debug, PartialEq, Eq)]
 pub struct Contract {
     xmin: u32,
     xave: u32,
@@ -52,7 +52,8 @@ impl Model for Contract {
 impl Contract {
     ghost use Rattle.traffic_contract.specs.Contract.{Terms, IsContract, burst_of, most_in, terms_of};
     ghost use Rattle.traffic_contract.specs.Refusal.{first_bad};
-    ghost use Rattle.traffic_contract.specs.Keeping.{Keeps, keeps};
+    ghost use Rattle.traffic_contract.specs.Keeping.{Keeps, keeps, keeps_newest_first};
+    ghost use Rattle.traffic_contract.specs.Window.{count_in};
 
     /// The contract of these four numbers. An `Err` names the first that fails: `Xmin` where it isn't from 1 to
     /// 1,048,576, `Xave` where it is below `xmin` or over 1,048,576, `Interval` where it is below `xave`, over
@@ -93,10 +94,10 @@ impl Contract {
     }
 
     /// The most packets in any `w` consecutive ticks of a list that keeps the contract.
-    #[tactic(auto, unfolding(crate::specs::Contract::most_in))]
     pub fn bound(&self, w: u64) -> u64
         requires { w < 2 ^ 40 }
         ensures value { result ≡ most_in self.now w }
+        ensures every_window { (ticks : List ℕ) (from : ℕ) → Keeps self.now ticks → count_in ticks from w ≤ result }
         ensures most { result ≤ w + 256 }
     {
         let interval = u64::from(self.interval);
@@ -106,10 +107,10 @@ impl Contract {
     }
 
     /// Whether these ticks, in order of time, keep the contract.
-    #[tactic(auto, unfolding(crate::specs::Keeping::keeps), using(crate::proofs::KeepingFacts::spacing))]
     pub fn keeps(&self, ticks: &[u64]) -> bool
         ensures test { result ≡ keeps self.now ticks.now }
         ensures fact { IsTrue result ↔ Keeps self.now ticks.now }
+        ensures newest_first { result ≡ keeps_newest_first self.now (reverse ticks.now) }
     {
         is_spaced(ticks, 1, u64::from(self.xmin))
             && is_spaced(ticks, self.burst() as usize, u64::from(self.interval))

@@ -1,0 +1,3 @@
+pub mod RowFacts
+pub mod SumsFacts
+pub mod RoomFacts

@@ -1,0 +1,138 @@
+-- What is kept of a link stays admitted through each change.
+use Rattle.std.proofs.Common.{◌≡◌, ◌≢◌, ℕ, zero, suc, ◌+◌, ◌-◌, ◌<◌, ◌≤◌, ⊎_elim, Bool, true, false, cond, eqb, ltb, List, [], ◌∷◌, length, map, get_or, refl, sym, ap, ◌∙◌, subst, arith}
+use Rattle.std.proofs.lemmas.Bool.{eqb-true, eqb-false, ne_eqb, cases_order, cases_Bool, and_parts}
+use Rattle.std.proofs.lemmas.List.{map_push, length-map, get_or-map, get_or_default}
+use Rattle.std.proofs.lemmas.List.Quantifiers.{all_pairs_push}
+use Rattle.std.proofs.lemmas.List.Kept.{AllPairs-filter}
+use Rattle.std.proofs.lemmas.List.Elements.{Contains-push_cases}
+use Rattle.std.specs.List.{filter}
+use Rattle.std.specs.Prelude.{Contains}
+use Rattle.net_units.specs.Steps.{are_bounds, bound_at, rises_above}
+use Rattle.net_units.proofs.BoundFacts.{bounds_parts, above_low}
+use Rattle.traffic_contract.specs.Contract.{Terms}
+use Rattle.traffic_contract.specs.Admission.{Passes, with_row}
+use Rattle.traffic_contract.proofs.AdmissionFacts.{Passes-nil, Passes-kept, Passes-changed}
+use Rattle.rcsp_admission.specs.Sums.{Held, Sums, row_of, key_of, rows_of, held_at, has_key, Holds, HoldsUpTo, added, put_at, move_row, moved, has_other_key, without, IsDistinct, IsServer, AreAdmitted}
+
+-- ---- a link without rows
+
+least_of : (low : ℕ) (bounds : List ℕ) (m : ℕ) → rises_above low bounds ≡ true → 1 ≤ m → m ≤ length bounds → bound_at bounds 1 ≤ bound_at bounds m
+least_of low [] m rising from upto = absurd (omega arith)
+least_of low (b ∷ bs) zero rising from upto = absurd (omega arith)
+least_of low (b ∷ bs) (suc zero) rising from upto = omega arith
+least_of low (b ∷ bs) (suc (suc j)) rising from upto =
+    let e : suc (suc j) - 1 ≡ suc j = omega arith in
+    let above : b < get_or bs j 0 = above_low b bs j (and_parts (ltb low b) (rises_above b bs) rising).1 (omega arith) in
+    rw e (omega arith)
+
+-- the first bound is the least
+first_is_least : (bounds : List ℕ) (m : ℕ) → are_bounds bounds ≡ true → 1 ≤ m → m ≤ length bounds → bound_at bounds 1 ≤ bound_at bounds m
+first_is_least bounds m valid from upto = least_of 0 bounds m (bounds_parts bounds valid).rising from upto
+
+pub AreAdmitted-new : (sums : Sums) → IsServer sums.server → sums.rows ≡ [] → AreAdmitted sums
+AreAdmitted-new sums server none = record {
+  server = server;
+  passes = rw none (Passes-nil sums.server (λ m from upto. omega (arith, server.first, first_is_least sums.server.bounds m server.bounds from upto)));
+  distinct = rw none (record { apart = λ i j d h inside. absurd (omega arith) });
+}
+
+-- ---- a row more
+
+-- a key that isn't held differs from each that is
+keys_differ : (rows : List Held) (key : ℕ) → (Holds rows key → ⊥) → (k : ℕ) (d : Held) → k < length rows → (get_or rows k d).key ≢ key
+keys_differ rows key new k d inside same =
+    new (k, omega (arith, length-map rows key_of), get_or-map key_of rows k d key inside ∙ same)
+
+pub AreAdmitted-added : (before after : Sums) (key : ℕ) (terms : Terms) (level : ℕ) → AreAdmitted before → (Holds before.rows key → ⊥) → Passes before.server (with_row (rows_of before.rows) terms level) → after.server ≡ before.server → after.rows ≡ added before.rows key terms level → AreAdmitted after
+AreAdmitted-added before after key terms level held new passed same rows = record {
+  server = rw same held.server;
+  passes = rw (same, rows, map_push row_of before.rows (held_at key terms level)) passed;
+  distinct = rw rows (record { apart = all_pairs_push (λ one other. one.key ≢ other.key) before.rows (held_at key terms level) held.distinct.apart (keys_differ before.rows key new) });
+}
+
+-- ---- a row at another level
+
+move_row-key : (key level : ℕ) (held : Held) → (move_row key level held).key ≡ held.key
+move_row-key key level held = elim (has_key key held) as (λ b. (cond b (put_at level held) held).key ≡ held.key) [ true ↦ refl | false ↦ refl ]
+
+-- a row that has the key only at a level up to this one isn't moved down
+move_row-up : (key level : ℕ) (held : Held) → (held.key ≡ key → held.row.level ≤ level) → ((row_of (move_row key level held)).terms ≡ (row_of held).terms) × ((row_of held).level ≤ (row_of (move_row key level held)).level)
+move_row-up key level held up =
+    ⊎_elim (λ (mine : has_key key held ≡ true). (rw mine (refl, up (eqb-true held.key key mine))))
+    (λ (other : has_key key held ≡ false). (rw other (refl, omega arith)))
+    (cases_Bool (has_key key held))
+
+-- where keys differ, the row of the key is the one that is at the level or below it
+all_up : (rows : List Held) (key level : ℕ) → IsDistinct rows → HoldsUpTo rows key level → (k : ℕ) (d : Held) → k < length rows → (get_or rows k d).key ≡ key → (get_or rows k d).row.level ≤ level
+all_up rows key level distinct (j, held, inside_j, at_j, found) k d inside_k same =
+    let there : get_or rows j d ≡ held = get_or_default rows j d held inside_j ∙ at_j in
+    let its_key : (get_or rows j d).key ≡ key = ap key_of there ∙ found.0 in
+    ⊎_elim (λ (e : k ≡ j). (rw (e, there) found.1))
+    (λ other. ⊎_elim (λ (before : k < j). absurd (distinct.apart k j d before inside_j (same ∙ sym its_key)))
+    (λ (after : j < k). absurd (distinct.apart j k d after inside_k (its_key ∙ sym same))) other)
+    (cases_order k j)
+
+-- keys stay apart where rows move
+IsDistinct-moved : (rows : List Held) (key level : ℕ) → IsDistinct rows → IsDistinct (moved rows key level)
+IsDistinct-moved rows key level distinct = record {
+  apart = λ i j d before inside.
+      let n : length (moved rows key level) ≡ length rows = length-map rows (move_row key level) in
+      let at : (k : ℕ) → k < length rows → (get_or (moved rows key level) k d).key ≡ (get_or rows k d).key = λ k h. ap key_of (get_or-map (move_row key level) rows k d d h) ∙ move_row-key key level (get_or rows k d) in
+      λ same. distinct.apart i j d before (omega arith) (sym (at i (omega arith)) ∙ same ∙ at j (omega arith));
+}
+
+pub AreAdmitted-moved : (before after : Sums) (key level : ℕ) → AreAdmitted before → HoldsUpTo before.rows key level → after.server ≡ before.server → after.rows ≡ moved before.rows key level → AreAdmitted after
+AreAdmitted-moved before after key level held up same rows = record {
+  server = rw same held.server;
+  passes = rw (same, rows) (Passes-changed before.server row_of (move_row key level) before.rows (λ k d inside. move_row-up key level _ (all_up before.rows key level held.distinct up k d inside)) held.passes);
+  distinct = rw rows (IsDistinct-moved before.rows key level held.distinct);
+}
+
+-- ---- a row less
+
+pub AreAdmitted-without : (before after : Sums) (key : ℕ) → AreAdmitted before → after.server ≡ before.server → after.rows ≡ without before.rows key → AreAdmitted after
+AreAdmitted-without before after key held same rows = record {
+  server = rw same held.server;
+  passes = rw (same, rows) (Passes-kept before.server row_of (has_other_key key) before.rows held.passes);
+  distinct = rw rows (record { apart = AllPairs-filter (λ one other. one.key ≢ other.key) (has_other_key key) before.rows held.distinct.apart });
+}
+
+-- rows of other keys all stay
+without-none : (rows : List Held) (key : ℕ) → ((k : ℕ) (d : Held) → k < length rows → (get_or rows k d).key ≢ key) → length (without rows key) ≡ length rows
+without-none [] key others = refl
+without-none (held ∷ rows) key others =
+    let other : eqb held.key key ≡ false = ne_eqb held.key key (others 0 held (omega arith)) in
+    rw other (ap suc (without-none rows key (λ k d inside. others (suc k) d (omega arith))))
+
+-- a key that is held and isn't the first row's is held by a later one
+held_later : (held : Held) (rows : List Held) (key k : ℕ) → k < length (map key_of (held ∷ rows)) → get_or (map key_of (held ∷ rows)) k key ≡ key → (held.key ≡ key → ⊥) → Holds rows key
+held_later held rows key zero inside at other = absurd (other at)
+held_later held rows key (suc k) inside at other = (k, omega arith, at)
+
+-- where keys differ, taking out one that is held takes out one row
+pub length-without : (rows : List Held) (key : ℕ) → IsDistinct rows → Holds rows key → length (without rows key) + 1 ≡ length rows
+length-without [] key distinct (k, inside, at) = absurd (omega arith)
+length-without (held ∷ rows) key distinct (k, inside, at) =
+    let rest : IsDistinct rows = record { apart = λ i j d before within. distinct.apart (suc i) (suc j) d (omega arith) (omega arith) } in
+    ⊎_elim (λ (mine : eqb held.key key ≡ true).
+    let same : held.key ≡ key = eqb-true held.key key mine in
+    rw mine (let e = without-none rows key (λ i d within. λ again. distinct.apart 0 (suc i) d (omega arith) (omega arith) (same ∙ sym again)) in omega (arith, e)))
+    (λ (other : eqb held.key key ≡ false). (rw other (let e = length-without rows key rest (held_later held rows key k inside at (eqb-false held.key key other)) in omega (arith, e))))
+    (cases_Bool (eqb held.key key))
+
+-- what is taken out of kept rows is what the key says
+pub map-filter : {X Y : Type 0} (f : X → Y) (test : Y → Bool) (xs : List X) → map f (filter (λ x. test (f x)) xs) ≡ filter test (map f xs)
+map-filter f test [] = refl
+map-filter f test (x ∷ xs) =
+    let rest = map-filter f test xs in
+    ⊎_elim (λ (kept : test (f x) ≡ true). (rw kept (ap (λ ys. f x ∷ ys) rest))) (λ (out : test (f x) ≡ false). (rw out rest)) (cases_Bool (test (f x)))
+
+-- no key is held of a link without rows, and one row more holds no other key
+pub not_held-none : (rows : List Held) (key : ℕ) → rows ≡ [] → Holds rows key → ⊥
+not_held-none rows key none (k, inside, at) = omega (arith, length-map rows key_of, ap length none)
+
+pub not_held-added : (before after : List Held) (key other level : ℕ) (terms : Terms) → after ≡ added before other terms level → key ≢ other → (Holds before key → ⊥) → Holds after key → ⊥
+not_held-added before after key other level terms e apart new held =
+    ⊎_elim new (λ same. apart (sym same)) (Contains-push_cases (map key_of before) other key (subst (λ keys. Contains keys key) (ap (map key_of) e ∙ map_push key_of before (held_at other terms level)) held))
+
+pub ruleset not_held = (not_held-none, not_held-added)

@@ -1,0 +1,12 @@
+-- What is kept of a link, from its fields. Spare is the capacity that isn't used.
+use Rattle.std.specs.Prelude.{◌-◌, map, vec_len, vec_capacity}
+use Rattle.rcsp_admission.specs.Sums.{Sums, server_of}
+use Rattle.rcsp_admission.specs.Kept.{held_of}
+use Rattle.rcsp_admission.specs.declared.level_sums.LevelSums.TheInside.{Inside}
+
+abbrev pub sums_of : Inside → Sums
+sums_of s = record {
+  server = server_of s.bounds s.rate s.blocking;
+  rows = map held_of s.rows.items;
+  spare = vec_capacity s.rows - vec_len s.rows;
+}

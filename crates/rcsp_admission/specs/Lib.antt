@@ -1,0 +1,4 @@
+pub mod Sums
+pub mod Room
+pub mod Kept
+pub mod Fields

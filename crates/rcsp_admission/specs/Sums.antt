@@ -1,0 +1,87 @@
+-- A link keeps the channels that it has admitted as a list of rows, each under a key of its own, in the order in
+-- which they were added. Adding puts a row at the end, moving a row changes its level alone, and taking one out
+-- leaves all others as they are. `spare` is the number of rows for which memory is at hand.
+use Rattle.std.specs.Prelude.{◌≡◌, ◌≢◌, ◌==◌, ℕ, ◌≤◌, Bool, not, if◌then◌else◌, IsTrue, List, [], ◌∷◌, ◌++◌, map, Contains}
+use Rattle.std.specs.List.{filter, Any, AllPairs}
+use Rattle.net_units.specs.Steps.{are_bounds, bound_at}
+use Rattle.traffic_contract.specs.Contract.{Terms}
+use Rattle.traffic_contract.specs.Admission.{Server, Row, Passes}
+
+-- an admitted channel: its row under its key
+pub record Held : Type 0 where
+  pub key : ℕ
+  pub row : Row
+
+-- what a link keeps of admission
+pub record Sums : Type 0 where
+  pub server : Server
+  pub rows : List Held
+  pub spare : ℕ
+
+abbrev pub server_of : List ℕ → ℕ → ℕ → Server
+server_of bounds rate blocking = record { bounds = bounds; rate = rate; blocking = blocking }
+
+abbrev pub row_of : Held → Row
+row_of held = held.row
+
+abbrev pub key_of : Held → ℕ
+key_of held = held.key
+
+-- the rows alone, as the admission test sums them
+abbrev pub rows_of : List Held → List Row
+rows_of rows = map row_of rows
+
+abbrev pub held_at : ℕ → Terms → ℕ → Held
+held_at key terms level = record { key = key; row = record { terms = terms; level = level } }
+
+abbrev pub has_key : ℕ → Held → Bool
+has_key key held = held.key == key
+
+-- a row of this key is held
+abbrev pub Holds : List Held → ℕ → Type 0
+Holds rows key = Contains (map key_of rows) key
+
+-- a row of this key is held at this level or a smaller one
+abbrev pub HoldsUpTo : List Held → ℕ → ℕ → Type 0
+HoldsUpTo rows key level = Any (λ held. (held.key ≡ key) × (held.row.level ≤ level)) rows
+
+-- the rows with a new one at the end
+abbrev pub added : List Held → ℕ → Terms → ℕ → List Held
+added rows key terms level = rows ++ held_at key terms level ∷ []
+
+-- a row with another level
+abbrev pub put_at : ℕ → Held → Held
+put_at level held = held_at held.key held.row.terms level
+
+-- this row, at the level where it has the key
+abbrev pub move_row : ℕ → ℕ → Held → Held
+move_row key level held = if has_key key held then put_at level held else held
+
+-- the rows with that of the key at the level
+abbrev pub moved : List Held → ℕ → ℕ → List Held
+moved rows key level = map (move_row key level) rows
+
+abbrev pub has_other_key : ℕ → Held → Bool
+has_other_key key held = not (has_key key held)
+
+-- the rows of the other keys
+abbrev pub without : List Held → ℕ → List Held
+without rows key = filter (has_other_key key) rows
+
+-- no key stands twice
+pub record IsDistinct (rows : List Held) : Type 0 where
+  pub apart : AllPairs (λ one other. one.key ≢ other.key) rows
+
+-- a link on which an admission test makes sense: its bounds are those of a link, it sends at least a unit a tick,
+-- and a packet of at least a tick blocks it no longer than the first bound
+pub record IsServer (server : Server) : Type 0 where
+  pub bounds : IsTrue (are_bounds server.bounds)
+  pub rate : 1 ≤ server.rate
+  pub blocking : 1 ≤ server.blocking
+  pub first : server.blocking ≤ bound_at server.bounds 1
+
+-- what is kept always: the rows pass, and their keys differ
+pub record AreAdmitted (sums : Sums) : Type 0 where
+  pub server : IsServer sums.server
+  pub passes : Passes sums.server (rows_of sums.rows)
+  pub distinct : IsDistinct sums.rows

@@ -1,0 +1,250 @@
+//! The rows of a link and their sums at its levels.
+ghost use Rattle.std.specs.Prelude.{◌≡◌, ◌+◌, ◌<◌, ◌≤◌, ℕ, [], None, Some, IfOk, IfErr, OnOk, OnErr, MatchResult, IsOk, length};
+ghost use Rattle.net_units.specs.Numbers.{level_number};
+ghost use Rattle.net_units.specs.Steps.{bound_at, last_bound};
+ghost use Rattle.traffic_contract.specs.Admission.{Passes, IsBest, IsRefused, with_row, level_sum, best_level, refused_sum};
+ghost use Rattle.rcsp_admission.specs.Room.{IsLastFull, sum_with};
+ghost use Rattle.rcsp_admission.specs.Sums.{Holds, HoldsUpTo, AreAdmitted, server_of, rows_of, added, moved, without};
+
+use crate::rows::{KeptRow, move_in, work, work_of};
+use net_units::{Bounds, Level, OutOfMemory};
+use std::alloc::Global;
+use std::marker::Model;
+use traffic_contract::Contract;
+
+/// A new contract passes at no level: the sum of the last level with its row there, and the last bound, both in
+/// ticks. The sum is over the bound.
+#[derive(Clone, Copy, Debug, PartialEq, Eq)]
+pub struct NoLevel {
+    pub sum: u64,
+    pub bound: u64,
+}
+
+/// The channels that a link has admitted, each as a row with its key, contract and level.
+///
+/// The rows always pass: for every level m, the blocking and the work that the rows at levels 1 to m may bring in
+/// a window as long as the bound of m are together at most that bound. A contract sees the record `Sums`: the
+/// link, the rows in the order in which they were added, and the number of rows for which memory is spare.
+#[derive(Drop)]
+pub struct LevelSums {
+    bounds: Bounds,
+    rate: u32,
+    blocking: u32,
+    rows: Vec<KeptRow>,
+}
+
+impl Model for LevelSums {
+    ghost use Rattle.rcsp_admission.specs.Sums.{Sums, AreAdmitted};
+
+    ghost Value = { Sums };
+
+    ghost use Rattle.rcsp_admission.specs.Fields.{sums_of};
+
+    ghost view = { sums_of };
+
+    ghost invariant = { λ s. AreAdmitted (sums_of s) };
+}
+
+impl LevelSums {
+    /// A link without rows. `rate` is in units a tick. `blocking` is the time in ticks that the link's largest
+    /// packet takes, at most the first bound.
+    pub fn new(alloc: Global, bounds: Bounds, rate: u32, blocking: u32) -> LevelSums
+        requires rate { 1 ≤ rate }
+        requires blocking { 1 ≤ blocking }
+        requires first { blocking ≤ bound_at bounds 1 }
+        ensures value { result ≡ record { server = server_of bounds rate blocking; rows = []; spare = 0 } }
+        ensures admitted { AreAdmitted result }
+    {
+        // `len` tells that the bounds rise, so the blocking fits all of them where it fits the first.
+        let _levels = bounds.len();
+        LevelSums {
+            bounds,
+            rate,
+            blocking,
+            rows: Vec::new(alloc),
+        }
+    }
+
+    /// Makes room for `more` rows beside those that are here. An `Err` leaves all as it was, and comes only
+    /// where there was less room.
+    pub fn reserve(&mut self, more: usize) -> Result<(), OutOfMemory>
+        ensures server { self.new.server ≡ self.old.server }
+        ensures rows { self.new.rows ≡ self.old.rows }
+        ensures ok { OnOk result (more ≤ self.new.spare) }
+        ensures err { OnErr result (self.new ≡ self.old) }
+        ensures enough { more ≤ self.old.spare → IsOk result }
+        ensures more { self.old.spare ≤ self.new.spare }
+        ensures admitted { AreAdmitted self.new }
+    {
+        self.rows.reserve(more)?;
+        Ok(())
+    }
+
+    /// The best level of a new contract: the least at which it passes with the rows. An `Err` comes exactly
+    /// where it passes at none, with the sum of the last level with the new row there, and the last bound.
+    pub fn best(&self, contract: &Contract) -> Result<Level, NoLevel>
+        ensures level { MatchResult result
+            (λ level. best_level self.now.server (rows_of self.now.rows) contract.now ≡ Some (level_number level))
+            (λ _. best_level self.now.server (rows_of self.now.rows) contract.now ≡ None) }
+        ensures least { IfOk result (λ level. IsBest self.now.server (rows_of self.now.rows) contract.now (level_number level)) }
+        ensures larger { IfOk result (λ level. (m : ℕ) → level_number level ≤ m → Passes self.now.server (with_row (rows_of self.now.rows) contract.now m)) }
+        ensures none { IfErr result (λ _. IsRefused self.now.server (rows_of self.now.rows) contract.now) }
+        ensures sum { IfErr result (λ none. none.sum ≡ refused_sum self.now.server (rows_of self.now.rows) contract.now) }
+        ensures bound { IfErr result (λ none. none.bound ≡ last_bound self.now.server.bounds) }
+        ensures over { IfErr result (λ none. none.bound < none.sum) }
+        ensures admitted { AreAdmitted self.now }
+    {
+        let levels = self.bounds.len();
+        let full = self.last_full(contract);
+        if full == levels {
+            let last = level_at(levels);
+            return Err(NoLevel {
+                sum: self.sum_with(contract, last),
+                bound: u64::from(self.bounds.at(last)),
+            });
+        }
+        Ok(level_at(full + 1))
+    }
+
+    /// Adds a row under a new key.
+    pub fn add(&mut self, key: u32, contract: Contract, level: Level)
+        requires spare { 1 ≤ self.old.spare }
+        requires new { ¬ Holds self.old.rows key }
+        requires within { level_number level ≤ length self.old.server.bounds }
+        requires passes { Passes self.old.server (with_row (rows_of self.old.rows) contract (level_number level)) }
+        ensures server { self.new.server ≡ self.old.server }
+        ensures rows { self.new.rows ≡ added self.old.rows key contract (level_number level) }
+        ensures spare { self.new.spare + 1 ≡ self.old.spare }
+        ensures admitted { AreAdmitted self.new }
+    {
+        self.rows.push_reserved(KeptRow {
+            key,
+            contract,
+            level,
+        });
+    }
+
+    /// Moves the row of a key to a level that is no smaller.
+    pub fn move_to(&mut self, key: u32, level: Level)
+        requires held { HoldsUpTo self.old.rows key (level_number level) }
+        requires within { level_number level ≤ length self.old.server.bounds }
+        ensures server { self.new.server ≡ self.old.server }
+        ensures rows { self.new.rows ≡ moved self.old.rows key (level_number level) }
+        ensures spare { self.new.spare ≡ self.old.spare }
+        ensures admitted { AreAdmitted self.new }
+    {
+        move_in(&mut self.rows, key, level);
+    }
+
+    /// Takes out the row of a key. All other rows stay.
+    pub fn remove(&mut self, key: u32)
+        requires held { Holds self.old.rows key }
+        ensures server { self.new.server ≡ self.old.server }
+        ensures rows { self.new.rows ≡ without self.old.rows key }
+        ensures spare { self.new.spare ≡ self.old.spare + 1 }
+        ensures admitted { AreAdmitted self.new }
+    {
+        self.rows.retain(|row| row.key != key);
+    }
+
+    /// What the test compares with the bound of a level, in ticks: the blocking, and the work of the rows at
+    /// this level and the smaller ones in a window as long as its bound. It is at most the bound.
+    pub fn sum(&self, level: Level) -> u64
+        requires within { level_number level ≤ length self.now.server.bounds }
+        ensures value { result ≡ level_sum self.now.server (rows_of self.now.rows) (level_number level) }
+        ensures fits { result ≤ bound_at self.now.server.bounds (level_number level) }
+        ensures admitted { AreAdmitted self.now }
+    {
+        let window = u64::from(self.bounds.at(level));
+        u64::from(self.blocking) + work_of(&self.rows, self.rate, level, window)
+    }
+
+    // What the level comes to with a row of this contract at it.
+    fn sum_with(&self, contract: &Contract, level: Level) -> u64
+        requires within { level_number level ≤ length self.now.server.bounds }
+        ensures { result ≡ sum_with self.now.server (rows_of self.now.rows) contract.now (level_number level) }
+    {
+        let window = u64::from(self.bounds.at(level));
+        self.sum(level) + work(contract, self.rate, window)
+    }
+
+    // The last level that has no room for a row of this contract, or 0.
+    fn last_full(&self, contract: &Contract) -> u8
+        ensures { IsLastFull self.now.server (rows_of self.now.rows) contract.now (length self.now.server.bounds) result }
+    {
+        let mut full = 0;
+        for index in 0..self.bounds.len() {
+            let level = level_at(index + 1);
+            if self.sum_with(contract, level) > u64::from(self.bounds.at(level)) {
+                full = index + 1;
+            }
+        }
+        full
+    }
+}
+
+// The level of a number from 1 to 8.
+fn level_at(number: u8) -> Level
+    requires least { 1 ≤ number }
+    requires most { number ≤ 8 }
+    ensures { level_number result ≡ number }
+{
+    Level::new(number).unwrap()
+}
+
+#[cfg(test)]
+mod tests {
+    use super::*;
+    use std::test::Fail;
+
+    // The best level of the contract, at which it's then added.
+    fn admit(sums: &mut LevelSums, key: u32, contract: &Contract) -> Result<u8, NoLevel>
+        requires spare { 1 ≤ sums.old.spare }
+        requires new { ¬ Holds sums.old.rows key }
+        ensures server { sums.new.server ≡ sums.old.server }
+        ensures rows { IfOk result (λ level. sums.new.rows ≡ added sums.old.rows key contract.now level) }
+        ensures spare { OnOk result (sums.new.spare + 1 ≡ sums.old.spare) }
+    {
+        let level = sums.best(contract)?;
+        sums.add(key, *contract, level);
+        Ok(level.get())
+    }
+
+    #[test]
+    #[tactic(auto, using(crate::proofs::SumsFacts::not_held))]
+    fn admits_until_no_level_passes(rt: HostRuntime) -> Result<(), Fail> {
+        let bounds = Bounds::new(&[10, 20, 40]).ok_or("bounds")?;
+        assert_eq!(rt; bounds.len(), 3);
+        let contract = Contract::new(5, 10, 20, 2)?;
+        let mut sums = LevelSums::new(rt.alloc(), bounds, 1, 4);
+        sums.reserve(5)?;
+        assert_eq!(rt; admit(&mut sums, 1, &contract)?, 1);
+        assert_eq!(rt; admit(&mut sums, 2, &contract)?, 2);
+        assert_eq!(rt; admit(&mut sums, 3, &contract)?, 2);
+        assert_eq!(rt; admit(&mut sums, 4, &contract)?, 2);
+        assert_eq!(rt;
+            sums.best(&contract).err(),
+            Some(NoLevel { sum: 44, bound: 40 })
+        );
+        assert_eq!(rt; sums.sum(level_at(1)), 8);
+        assert_eq!(rt; sums.sum(level_at(2)), 20);
+        assert_eq!(rt; sums.sum(level_at(3)), 36);
+        Ok(())
+    }
+
+    // Two packets of two ticks each come within 20 ticks, and four within 40.
+    #[test]
+    fn follows_a_row_that_moves_and_goes(rt: HostRuntime) -> Result<(), Fail> {
+        let bounds = Bounds::new(&[10, 20, 40]).ok_or("bounds")?;
+        assert_eq!(rt; bounds.len(), 3);
+        let contract = Contract::new(5, 10, 20, 2)?;
+        let mut sums = LevelSums::new(rt.alloc(), bounds, 1, 4);
+        sums.reserve(1)?;
+        assert_eq!(rt; admit(&mut sums, 7, &contract)?, 1);
+        sums.move_to(7, level_at(3));
+        assert_eq!(rt; (sums.sum(level_at(2)), sums.sum(level_at(3))), (4, 12));
+        sums.remove(7);
+        assert_eq!(rt; sums.sum(level_at(3)), 4);
+        Ok(())
+    }
+}
