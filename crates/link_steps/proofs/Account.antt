@@ -21,7 +21,8 @@ use Rattle.link_steps.specs.Replies.{submit_to, release_to, arrive_to, arrive_re
 use Rattle.link_steps.specs.Reservation.{Reservation, tentative}
 use Rattle.link_steps.specs.Scan.{Scan, clock_with, clock_of, is_row_of, is_row_at_hop, names_first_hop, relax_row, plan_row, close_row, with_rows, arrived_tick, arrived_row, arrived_packet, with_arrival, without_expired, with_sources, after_tick, after, scan_of}
 use Rattle.link_steps.specs.Service.{Arrival, starts_below, here_at}
-use Rattle.link_steps.specs.Sources.{Row, terms_of, new_row, lost_in, source_packets}
+use Rattle.link_steps.specs.Rows.{Row, row_terms, new_row}
+use Rattle.link_steps.specs.Sources.{lost_in, source_packets}
 use Rattle.link_steps.proofs.AccountOfRows.{RowHasContract, eligible-recent, left-planned, left-cancelled, held-kept, kept-packet, packets-kept, rows-kept, lost-kept, eligible-from, source_packets-above, source_packets-upto, source_packets-from}
 use Rattle.link_steps.proofs.AccountOfService.{IsUpTo, ShowsTick, here_at-append, shows-tick-append}
 use Rattle.link_steps.proofs.ListFacts.{Each-append, Each-filter, Each-if, Each-find, Each-mapped, find-map, map-change_first, map-without_first}
@@ -124,7 +125,7 @@ after-tick shape t scan each numbered =
 
 -- ---- the other asks
 
-terms-kept : (t : ℕ) (rows : List Row) → map kept_terms (map (kept_row t) rows) ≡ map terms_of rows
+terms-kept : (t : ℕ) (rows : List Row) → map kept_terms (map (kept_row t) rows) ≡ map row_terms rows
 terms-kept t [] = refl
 terms-kept t (row ∷ rows) = ap (λ all. row.terms ∷ all) (terms-kept t rows)
 

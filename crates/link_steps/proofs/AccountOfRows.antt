@@ -16,7 +16,9 @@ use Rattle.link_steps.specs.Kept.{recent_of, kept_row, kept_stays, kept_step, ke
 use Rattle.link_steps.specs.Lists.{Each}
 use Rattle.link_steps.specs.Reservation.{Reservation}
 use Rattle.link_steps.specs.Service.{Arrival}
-use Rattle.link_steps.specs.Sources.{Row, SourcePacket, SourceStep, Rests, Brings, Loses, planned_from, is_for, is_from, is_before, left_at, waits_until, eligible_next, with_packet, source_step, step_of, source_tick, packet_of, row_after, taken_by, source_packets, rows_after, lost_in}
+use Rattle.link_steps.specs.Regulator.{waits_until, eligible_next}
+use Rattle.link_steps.specs.Rows.{Row, SourcePacket, planned_from, is_for, is_from, is_before, left_at, made_by}
+use Rattle.link_steps.specs.Sources.{SourceStep, Rests, Brings, Loses, with_packet, source_step, step_of, source_tick, packet_of, row_after, taken_by, source_packets, rows_after, lost_in}
 use Rattle.link_steps.proofs.ListFacts.{Each-from, Each-if, Each-append, filter-same, filter-none, filter-map, filter-filter, find-filter, filter-all}
 use Rattle.link_steps.proofs.ServiceFacts.{IsFrom}
 use Rattle.link_steps.proofs.AccountOfService.{IsAbove, IsUpTo}
@@ -92,7 +94,7 @@ left-planned t count gap size plan =
     ∙ ap (λ all. left_at t plan ++ all) (filter-all (is_from t) (planned_from t gap size count) (planned-later t t gap size count (omega arith)))
 
 -- a cancelled plan is not left
-pub left-cancelled : (t : ℕ) (plan : List SourcePacket) → left_at t (filter (is_before t) plan) ≡ []
+pub left-cancelled : (t : ℕ) (plan : List SourcePacket) → left_at t (made_by t plan) ≡ []
 left-cancelled t plan =
     filter-filter (is_from t) (is_before t) plan ∙ filter-none _ plan (Each-from _ plan neither) where
       neither : (p : SourcePacket) → (is_before t p && is_from t p) ≡ false

@@ -31,7 +31,8 @@ use Rattle.link_steps.specs.Reservation.{Reservation, tentative, admitted, is_of
 use Rattle.link_steps.specs.Scan.{Scan, is_row_of, is_row_at_hop, names_first_hop, relax_row, plan_row, close_row, with_arrival, without_expired, with_sources, after_tick, after, scan_of}
 use Rattle.link_steps.specs.Service.{Arrival}
 use Rattle.link_steps.specs.Shape.{server_of}
-use Rattle.link_steps.specs.Sources.{Row, SourceStep, Rests, Brings, Loses, terms_of, new_row, step_of, row_after, rows_after, taken_by}
+use Rattle.link_steps.specs.Rows.{Row, row_terms, new_row}
+use Rattle.link_steps.specs.Sources.{SourceStep, Rests, Brings, Loses, step_of, row_after, rows_after, taken_by}
 use Rattle.link_steps.proofs.LevelFacts.{level_of-number}
 use Rattle.link_steps.proofs.ListFacts.{find-map, map-change_first-same, total-change_first-le, total-without_first-le}
 use Rattle.link_steps.proofs.RefusalFacts.{kept-rule, has_level-some, fits_offer-least}
@@ -42,14 +43,14 @@ row_load rate m w row = work_up_to rate m w (admitted row.terms)
 
 -- the rows as the admission test sees them
 abbrev as_admitted : List Row → List Admitted
-as_admitted rows = map admitted (map terms_of rows)
+as_admitted rows = map admitted (map row_terms rows)
 
 abbrev Pass : LinkShape → List Row → Type 0
 Pass shape rows = Passes (server_of shape) (as_admitted rows)
 
 total-as_admitted : (rate m w : ℕ) (rows : List Row) → total (work_up_to rate m w) (as_admitted rows) ≡ total (row_load rate m w) rows
 total-as_admitted rate m w rows =
-    total-map (work_up_to rate m w) admitted (map terms_of rows) ∙ total-map (λ terms. work_up_to rate m w (admitted terms)) terms_of rows
+    total-map (work_up_to rate m w) admitted (map row_terms rows) ∙ total-map (λ terms. work_up_to rate m w (admitted terms)) row_terms rows
 
 -- rows that are no heavier than rows that pass do pass
 Pass-lighter : (shape : LinkShape) (rows others : List Row) → ((m w : ℕ) → total (row_load shape.rate m w) others ≤ total (row_load shape.rate m w) rows) → Pass shape rows → Pass shape others
@@ -63,7 +64,7 @@ Pass-lighter shape rows others lighter =
     omega (arith, e, f, g))
 
 -- rows with the same terms pass alike
-Pass-same : (shape : LinkShape) (rows others : List Row) → map terms_of others ≡ map terms_of rows → Pass shape rows → Pass shape others
+Pass-same : (shape : LinkShape) (rows others : List Row) → map row_terms others ≡ map row_terms rows → Pass shape rows → Pass shape others
 Pass-same shape rows others same pass = subst (λ all. Passes (server_of shape) (map admitted all)) (sym same) pass
 
 -- ---- no rows
@@ -104,16 +105,16 @@ offer-best shape held chan contract delay up_reach best level reach same =
     (found.0, found.1, offer-level level _ reach _ room.1 ∙ ap (λ o. level_of (unwrap_or o 0)) found.1)
 
 -- the rows with the one reserved pass
-Pass-reserved : (shape : LinkShape) (rows : List Row) (chan : ChanNo) (contract : Terms) (kind : Kind) (first : Bool) (next : Option LinkNo) (delay up_reach : ℕ) (level reach : Level) → Is.Offer level reach ≡ reserve_reply shape (map terms_of rows) chan contract delay up_reach → Pass shape (rows ++ new_row (tentative chan contract kind first next up_reach level reach) ∷ [])
+Pass-reserved : (shape : LinkShape) (rows : List Row) (chan : ChanNo) (contract : Terms) (kind : Kind) (first : Bool) (next : Option LinkNo) (delay up_reach : ℕ) (level reach : Level) → Is.Offer level reach ≡ reserve_reply shape (map row_terms rows) chan contract delay up_reach → Pass shape (rows ++ new_row (tentative chan contract kind first next up_reach level reach) ∷ [])
 unfolding reserve_reply
 Pass-reserved shape rows chan contract kind first next delay up_reach level reach same =
-    let found = offer-best shape (map terms_of rows) chan contract delay up_reach (best_level (server_of shape) (as_admitted rows) contract) level reach same in
+    let found = offer-best shape (map row_terms rows) chan contract delay up_reach (best_level (server_of shape) (as_admitted rows) contract) level reach same in
     let best = best_level-is (server_of shape) (as_admitted rows) contract found.0 found.1 in
     let most = (bounds_parts shape.bounds shape.bounds_rise).most in
     let n : level_number level ≡ found.0 = ap level_number found.2 ∙ level_of-number found.0 best.from (omega (arith, best.upto)) in
     let row : Row = new_row (tentative chan contract kind first next up_reach level reach) in
     let e : as_admitted (rows ++ row ∷ []) ≡ with_row (as_admitted rows) contract (level_number level) =
-    ap (λ all. map admitted all) (map-append terms_of rows (row ∷ [])) ∙ map-append admitted (map terms_of rows) (row.terms ∷ []) in
+    ap (λ all. map admitted all) (map-append row_terms rows (row ∷ [])) ∙ map-append admitted (map row_terms rows) (row.terms ∷ []) in
     subst (Passes (server_of shape)) (sym (e ∙ ap (λ m. with_row (as_admitted rows) contract m) n)) best.passes
 
 -- ---- a relax moves a row to a level that is no smaller
@@ -125,19 +126,19 @@ relax-level t up_bound level terms clock same =
     let fits = kept-rule _ _ (Is.Relaxed clock) tt phase.1 in
     fits_offer-least terms level up_bound fits.0
 
-find-terms : (chan : ChanNo) (rows : List Row) → find (is_of chan) (map terms_of rows) ≡ option_map terms_of (find (is_row_of chan) rows)
-find-terms chan rows = find-map terms_of (is_row_of chan) (is_of chan) (λ row. refl) rows
+find-terms : (chan : ChanNo) (rows : List Row) → find (is_of chan) (map row_terms rows) ≡ option_map row_terms (find (is_row_of chan) rows)
+find-terms chan rows = find-map row_terms (is_row_of chan) (is_of chan) (λ row. refl) rows
 
-Pass-relaxed : (shape : LinkShape) (t : ℕ) (rows : List Row) (chan : ChanNo) (level : Level) (up_bound clock : ℕ) → Is.Relaxed clock ≡ relax_reply t level up_bound (find (is_of chan) (map terms_of rows)) → Pass shape rows → Pass shape (change_first (is_row_of chan) (relax_row level up_bound) rows)
+Pass-relaxed : (shape : LinkShape) (t : ℕ) (rows : List Row) (chan : ChanNo) (level : Level) (up_bound clock : ℕ) → Is.Relaxed clock ≡ relax_reply t level up_bound (find (is_of chan) (map row_terms rows)) → Pass shape rows → Pass shape (change_first (is_row_of chan) (relax_row level up_bound) rows)
 Pass-relaxed shape t rows chan level up_bound clock same =
     Pass-lighter shape rows (change_first (is_row_of chan) (relax_row level up_bound) rows) (λ m w.
     total-change_first-le (row_load shape.rate m w) (is_row_of chan) (relax_row level up_bound) rows (λ row found.
     work_up_to-le shape.rate m w (admitted row.terms) (admitted (relax_row level up_bound row).terms) refl
-    (relax-level t up_bound level row.terms clock (same ∙ ap (relax_reply t level up_bound) (find-terms chan rows ∙ ap (option_map terms_of) found)))))
+    (relax-level t up_bound level row.terms clock (same ∙ ap (relax_reply t level up_bound) (find-terms chan rows ∙ ap (option_map row_terms) found)))))
 
 -- ---- the other changes don't touch what the test sees
 
-rows_after-terms : (bounds : List ℕ) (here : List Arrival) (t taken : ℕ) (rows : List Row) → map terms_of (rows_after bounds here t taken rows) ≡ map terms_of rows
+rows_after-terms : (bounds : List ℕ) (here : List Arrival) (t taken : ℕ) (rows : List Row) → map row_terms (rows_after bounds here t taken rows) ≡ map row_terms rows
 unfolding rows_after
 rows_after-terms bounds here t taken [] = refl
 rows_after-terms bounds here t taken (row ∷ rows) =
@@ -158,7 +159,7 @@ Pass-arrival : (shape : LinkShape) (t : ℕ) (packet : Packet) (scan : Scan) (fo
 unfolding with_arrival
 Pass-arrival shape t packet scan None pass = pass
 Pass-arrival shape t packet scan (Some row) pass =
-    Pass-same shape scan.rows _ (map-change_first-same terms_of _ _ (λ row. refl) scan.rows) pass
+    Pass-same shape scan.rows _ (map-change_first-same row_terms _ _ (λ row. refl) scan.rows) pass
 
 Pass-closed : (shape : LinkShape) (t count : ℕ) (test : Row → Bool) (rows : List Row) → Pass shape rows → Pass shape (change_first test (close_row t count) rows)
 Pass-closed shape t count test rows =
@@ -176,7 +177,7 @@ Pass-after shape t scan (Relax chan level up_bound) (Is.Relaxed clock) same pass
 Pass-after shape t scan (Deny chan) Is.Denied same pass =
     Pass-lighter shape scan.rows _ (λ m w. total-without_first-le (row_load shape.rate m w) (is_row_of chan) scan.rows) pass
 Pass-after shape t scan (Submit chan count gap size) (Is.Planned clock) same pass =
-    Pass-same shape scan.rows _ (map-change_first-same terms_of (is_row_at_hop chan true) (plan_row t count gap size) (λ row. refl) scan.rows) pass
+    Pass-same shape scan.rows _ (map-change_first-same row_terms (is_row_at_hop chan true) (plan_row t count gap size) (λ row. refl) scan.rows) pass
 Pass-after shape t scan (Release chan upstream) (Is.Closing count cancelled) same pass =
     Pass-closed shape t count (is_row_at_hop chan (names_first_hop upstream)) scan.rows pass
 Pass-after shape t scan (Arrive packet) (Is.Taken clock eligible) same pass =

@@ -16,7 +16,8 @@ use Rattle.link_steps.specs.Lists.{Each}
 use Rattle.link_steps.specs.Reservation.{tentative}
 use Rattle.link_steps.specs.Scan.{Scan, clock_of, is_row_of, is_row_at_hop, names_first_hop, relax_row, plan_row, close_row, arrived_row, with_arrival, without_expired, with_sources, after_tick, after, scan_of}
 use Rattle.link_steps.specs.Service.{Arrival}
-use Rattle.link_steps.specs.Sources.{Row, SourceStep, Rests, Brings, Loses, new_row, step_of, row_after, taken_by, rows_after}
+use Rattle.link_steps.specs.Rows.{Row, new_row}
+use Rattle.link_steps.specs.Sources.{SourceStep, Rests, Brings, Loses, step_of, row_after, taken_by, rows_after}
 use Rattle.link_steps.proofs.AccountOfRows.{RowHasContract}
 use Rattle.link_steps.proofs.ListFacts.{Each-append, Each-filter, Each-map, Each-change_first, Each-without_first}
 

@@ -13,3 +13,4 @@ pub mod AccountOfRows
 pub mod Account
 pub mod LegalRows
 pub mod BusyPeriods
+pub mod RuleFacts

@@ -8,13 +8,15 @@ use Rattle.link_steps.specs.declared.asks.Ask.{Ask}
 use Rattle.link_steps.specs.declared.replies.Entry.{Entry}
 use Rattle.link_steps.specs.declared.replies.Reply.{Reply}
 use Rattle.link_steps.specs.declared.shape.LinkShape.{LinkShape}
-use Rattle.link_steps.specs.Buffer.{slots_of, kept_units, free_units, held_packets}
+use Rattle.link_steps.specs.Buffer.{slots_of, need_of, kept_units, free_units, held_packets}
 use Rattle.link_steps.specs.Hold.{hold_ended}
 use Rattle.link_steps.specs.Lists.{change_first, without_first}
 use Rattle.link_steps.specs.Replies.{reserve_reply, relax_reply, deny_reply, submit_reply, release_reply, arrive_reply, sent_at, reply_at, reply_to}
 use Rattle.link_steps.specs.Scan.{Scan, clock_with, clock_of, with_arrival, without_expired, with_sources, after_tick, after, scan_of}
 use Rattle.link_steps.specs.Service.{goes_before, first_in_line, is_waiting, serve_tick, starts_below, here_at}
-use Rattle.link_steps.specs.Sources.{planned_from, eligible_next, step_of, source_packets, rows_after, lost_in}
+use Rattle.link_steps.specs.Regulator.{eligible_next}
+use Rattle.link_steps.specs.Rows.{planned_from}
+use Rattle.link_steps.specs.Sources.{step_of, source_packets, rows_after, lost_in}
 
 -- the entry of an ask that gets its legal reply
 abbrev pub answered : LinkShape → List Entry → Ask → Entry
@@ -39,7 +41,7 @@ replies_from-scan shape past (ask ∷ asks) =
 
 -- the same after the empty history; a proof that unfolds it computes with all the rules
 unfoldable pub replied : LinkShape → List Ask → List Reply
-unfolding replies_from reply_at reserve_reply relax_reply deny_reply submit_reply release_reply arrive_reply sent_at clock_of scan_of after with_arrival after_tick change_first without_first without_expired with_sources hold_ended here_at starts_below serve_tick is_waiting first_in_line goes_before held_packets slots_of kept_units free_units planned_from eligible_next step_of source_packets rows_after lost_in work_in work_up_to load passes_up_to passes admits first_level best_level most_in first_from eligible may_follow
+unfolding replies_from reply_at reserve_reply relax_reply deny_reply submit_reply release_reply arrive_reply sent_at clock_of scan_of after with_arrival after_tick change_first without_first without_expired with_sources hold_ended here_at starts_below serve_tick is_waiting first_in_line goes_before held_packets slots_of need_of kept_units free_units planned_from eligible_next step_of source_packets rows_after lost_in work_in work_up_to load passes_up_to passes admits first_level best_level most_in first_from eligible may_follow
 replied shape asks = replies_from shape (clock_of []) (scan_of shape []) asks
 
 pub replied-legal : (shape : LinkShape) (asks : List Ask) → legal_replies shape [] asks ≡ replied shape asks

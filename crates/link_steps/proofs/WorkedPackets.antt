@@ -6,7 +6,7 @@ use Rattle.link_steps.specs.declared.asks.Ask.TheVariants.{Deny, Submit, Release
 use Rattle.link_steps.specs.declared.replies.Reply.TheVariants.{Relaxed, Denied, Planned, Closing, Ticked}
 use Rattle.link_steps.specs.Levels.{level_of}
 use Rattle.link_steps.specs.Reservation.{Reservation, tentative}
-use Rattle.link_steps.specs.Sources.{eligible_next}
+use Rattle.link_steps.specs.Regulator.{eligible_next}
 use Rattle.traffic_contract.specs.Eligible.{first_from, eligible}
 use Rattle.traffic_contract.specs.Keeping.{may_follow}
 use Rattle.link_steps.proofs.Play.{legal_replies, replied, replied-legal}

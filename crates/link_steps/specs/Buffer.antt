@@ -35,6 +35,10 @@ slots_of bounds terms = most_in terms.contract (stay_of bounds terms)
 unfoldable pub kept_units : List ℕ → Reservation → ℕ
 kept_units bounds terms = units_for terms.contract (stay_of bounds terms)
 
+-- the need of a new reservation: the units that it would keep as a tentative one
+unfoldable pub need_of : List ℕ → Terms → ℕ → ℕ → ℕ
+need_of bounds contract up_reach reach = units_for contract (up_reach + bound_at bounds reach)
+
 -- the free units of a link that holds these reservations
 unfoldable pub free_units : LinkShape → List Reservation → ℕ
 free_units shape held = shape.buffer - total (kept_units shape.bounds) held

@@ -8,7 +8,7 @@ use Rattle.net_units.specs.Steps.{last_bound}
 use Rattle.traffic_contract.specs.Eligible.{newest}
 use Rattle.link_steps.specs.declared.replies.Phase.TheVariants.{Closing}
 use Rattle.link_steps.specs.Reservation.{Reservation, is_phase}
-use Rattle.link_steps.specs.Sources.{Row}
+use Rattle.link_steps.specs.Rows.{Row}
 
 -- whether the hold of a closing reservation has ended by tick t, after `taken` packets of which the last was
 -- eligible at the tick `last`

@@ -12,7 +12,7 @@ use Rattle.link_steps.specs.Reservation.{admitted}
 use Rattle.link_steps.specs.Scan.{clock_of, scan_of, starts_of}
 use Rattle.link_steps.specs.Service.{Arrival, Start, leaves_at, has_departed}
 use Rattle.link_steps.specs.Shape.{server_of}
-use Rattle.link_steps.specs.Sources.{terms_of}
+use Rattle.link_steps.specs.Rows.{row_terms}
 
 -- P holds after each entry of a history, and at its beginning
 abbrev pub AfterEach : (List Entry → Type 0) → List Entry → Type 0
@@ -21,7 +21,7 @@ AfterEach P (e ∷ past) = AfterEach P past × P (e ∷ past)
 
 -- the rows held after a history pass the admission test of the link
 abbrev pub HeldRowsPass : LinkShape → List Entry → Type 0
-HeldRowsPass shape h = Passes (server_of shape) (map admitted (map terms_of (scan_of shape h).rows))
+HeldRowsPass shape h = Passes (server_of shape) (map admitted (map row_terms (scan_of shape h).rows))
 
 -- the last tick by which a packet is to depart
 abbrev pub deadline_of : LinkShape → Arrival → ℕ

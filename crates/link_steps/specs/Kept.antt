@@ -25,7 +25,9 @@ use Rattle.link_steps.specs.Replies.{reserve_reply, relax_reply, deny_reply, sub
 use Rattle.link_steps.specs.Reservation.{Reservation, tentative, committed, closing, is_of, is_at_hop}
 use Rattle.link_steps.specs.Scan.{Scan, clock_of, scan_of, names_first_hop}
 use Rattle.link_steps.specs.Service.{Arrival, Start, leaves_at, first_in_line, starts_below, here_at}
-use Rattle.link_steps.specs.Sources.{Row, SourcePacket, SourceStep, Brings, planned_from, is_for, left_at, eligible_next, lead_with, arrival_at, source_step, taken_by, lost_by}
+use Rattle.link_steps.specs.Regulator.{eligible_next}
+use Rattle.link_steps.specs.Rows.{Row, SourcePacket, planned_from, is_for, left_at}
+use Rattle.link_steps.specs.Sources.{SourceStep, Brings, lead_with, arrival_at, source_step, taken_by, lost_by}
 
 -- `taken` counts the row's packets, and `recent` are the newest of their eligible ticks, newest first
 pub record KeptRow : Type 0 where

@@ -4,6 +4,8 @@ pub mod Shape
 pub mod Reservation
 pub mod Service
 pub mod Buffer
+pub mod Rows
+pub mod Regulator
 pub mod Sources
 pub mod Hold
 pub mod Scan

@@ -23,14 +23,16 @@ use Rattle.link_steps.specs.declared.replies.Reply.TheVariants.{Offer, Relaxed, 
 use Rattle.link_steps.specs.declared.replies.Sent.{Sent}
 use Rattle.link_steps.specs.declared.replies.Why.TheVariants.{NoRow}
 use Rattle.link_steps.specs.declared.shape.LinkShape.{LinkShape}
-use Rattle.link_steps.specs.Buffer.{units_for, slots_of, free_units, held_packets}
+use Rattle.link_steps.specs.Buffer.{need_of, slots_of, free_units, held_packets}
 use Rattle.link_steps.specs.Levels.{level_of}
 use Rattle.link_steps.specs.Refusals.{first_refusal, fits_cap, is_new, has_level, has_buffer, in_phase, fits_offer, is_idle, fits_contract, is_past_first, was_committed, is_next, is_counted, is_small, has_room}
 use Rattle.link_steps.specs.Reservation.{Reservation, admitted, is_of}
 use Rattle.link_steps.specs.Scan.{Scan, clock_of, scan_of, without_expired, after_tick, is_row_of, is_row_at_hop, names_first_hop}
 use Rattle.link_steps.specs.Service.{Arrival, Start, leaves_at, starts_below, here_at}
 use Rattle.link_steps.specs.Shape.{server_of}
-use Rattle.link_steps.specs.Sources.{Row, terms_of, left_at, eligible_next, lost_in}
+use Rattle.link_steps.specs.Regulator.{eligible_next}
+use Rattle.link_steps.specs.Rows.{Row, row_terms, left_at}
+use Rattle.link_steps.specs.Sources.{lost_in}
 
 -- the number of the reach for an offered level: the largest level whose bound is at most `delay` or the offer's bound
 abbrev pub reach_of : List ℕ → ℕ → ℕ → ℕ
@@ -43,7 +45,7 @@ reserve_reply_at shape held chan contract delay up_reach best =
     (fits_cap contract shape.cap
     ∷ is_new (find (is_of chan) held)
     ∷ has_level (server_of shape) (map admitted held) contract best
-    ∷ has_buffer (units_for contract (up_reach + bound_at shape.bounds (reach_of shape.bounds delay (unwrap_or best 0)))) (free_units shape held)
+    ∷ has_buffer (need_of shape.bounds contract up_reach (reach_of shape.bounds delay (unwrap_or best 0))) (free_units shape held)
     ∷ [])
     (Offer (level_of (unwrap_or best 0)) (level_of (reach_of shape.bounds delay (unwrap_or best 0))))
 
@@ -131,9 +133,9 @@ tick_reply shape t scan =
 
 -- the reply to an ask at clock t, from the scan of the history
 unfoldable pub reply_at : LinkShape → ℕ → Scan → Ask → Reply
-reply_at shape t scan (Reserve chan contract kind delay up_reach first next) = reserve_reply shape (map terms_of scan.rows) chan contract delay up_reach
-reply_at shape t scan (Relax chan level up_bound) = relax_reply t level up_bound (find (is_of chan) (map terms_of scan.rows))
-reply_at shape t scan (Deny chan) = deny_reply (find (is_of chan) (map terms_of scan.rows))
+reply_at shape t scan (Reserve chan contract kind delay up_reach first next) = reserve_reply shape (map row_terms scan.rows) chan contract delay up_reach
+reply_at shape t scan (Relax chan level up_bound) = relax_reply t level up_bound (find (is_of chan) (map row_terms scan.rows))
+reply_at shape t scan (Deny chan) = deny_reply (find (is_of chan) (map row_terms scan.rows))
 reply_at shape t scan (Submit chan count gap size) = submit_to t size (find (is_row_at_hop chan true) scan.rows)
 reply_at shape t scan (Release chan upstream) = release_to t upstream (find (is_row_at_hop chan (names_first_hop upstream)) scan.rows)
 reply_at shape t scan (Arrive packet) = arrive_to shape t scan.packets packet (find (is_row_of packet.chan) scan.rows)

@@ -16,7 +16,9 @@ use Rattle.link_steps.specs.Hold.{expires, stays}
 use Rattle.link_steps.specs.Lists.{change_first, without_first}
 use Rattle.link_steps.specs.Reservation.{tentative, committed, closing, is_of, is_at_hop}
 use Rattle.link_steps.specs.Service.{Arrival, Start, here_at, starts_below}
-use Rattle.link_steps.specs.Sources.{Row, new_row, planned_from, is_before, eligible_next, arrival_at, with_packet, rows_after, source_packets}
+use Rattle.link_steps.specs.Regulator.{eligible_next}
+use Rattle.link_steps.specs.Rows.{Row, new_row, planned_from, made_by}
+use Rattle.link_steps.specs.Sources.{arrival_at, with_packet, rows_after, source_packets}
 
 pub record Scan : Type 0 where
   pub rows : List Row
@@ -53,7 +55,7 @@ abbrev pub plan_row : ℕ → ℕ → ℕ → ℕ → Row → Row
 plan_row t count gap size row = record row { plan = row.plan ++ planned_from t gap size count }
 
 abbrev pub close_row : ℕ → ℕ → Row → Row
-close_row t count row = record row { terms = closing count row.terms; plan = filter (is_before t) row.plan }
+close_row t count row = record row { terms = closing count row.terms; plan = made_by t row.plan }
 
 abbrev pub with_rows : Scan → List Row → Scan
 with_rows scan rows = record scan { rows = rows }

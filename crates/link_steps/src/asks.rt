@@ -16,7 +16,7 @@ pub struct Packet {
 }
 
 /// One ask of a link. Each names its channel, but for a tick.
-#[derive(Clone, Copy)]
+#[derive(Clone, Copy, Debug, PartialEq, Eq)]
 pub enum Ask {
     /// Reserve for a channel, with this contract and jitter control, and an end-to-end bound of `delay` ticks.
     /// `up_reach` is the bound of the reach at the hop before, or 0 at the first hop, in ticks. `first` says

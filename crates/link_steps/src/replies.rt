@@ -139,7 +139,7 @@ pub enum Why {
 }
 
 /// An ask and its reply, as they stand in a link's history.
-#[derive(Clone, Copy)]
+#[derive(Clone, Copy, Debug, PartialEq, Eq)]
 pub struct Entry {
     pub ask: Ask,
     pub reply: Reply,
