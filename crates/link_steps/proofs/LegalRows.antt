@@ -37,7 +37,7 @@ arrival-contracts t packet scan None each = each
 arrival-contracts t packet scan (Some row) each = Each-change_first RowHasContract (is_row_of packet.chan) (arrived_row t (suc (length scan.packets)) packet) scan.rows (λ r is. is) each
 
 after-contracts : (shape : LinkShape) (t : ℕ) (scan : Scan) (ask : Ask) (reply : Reply) → AskFits shape ask → Each RowHasContract scan.rows → Each RowHasContract (after shape t scan ask reply).rows
-unfolding after AskFits after_tick with_sources without_expired
+unfolding after after_tick with_sources without_expired
 after-contracts shape t scan (Reserve chan contract kind delay up_reach first next) (Is.Offer level reach) fits each =
     Each-append RowHasContract scan.rows (new_row (tentative chan contract kind first next up_reach level reach) ∷ []) each (fits.is_contract, tt)
 after-contracts shape t scan (Relax chan level up_bound) (Is.Relaxed clock) fits each = Each-change_first RowHasContract (is_row_of chan) (relax_row level up_bound) scan.rows (λ row is. is) each

@@ -36,7 +36,7 @@ pub record PacketFits (packet : Packet) : Type 0 where
   pub due_most : packet.due < 2 ^ 62
 
 -- the ask meets the conditions at a link of this shape
-unfoldable pub AskFits : LinkShape → Ask → Type 0
+abbrev pub AskFits : LinkShape → Ask → Type 0
 AskFits shape (Reserve chan contract kind delay up_reach first next) = ReserveFits contract up_reach first
 AskFits shape (Relax chan level up_bound) = RelaxFits (length shape.bounds) (level_number level) up_bound
 AskFits shape (Deny chan) = Unit {0}

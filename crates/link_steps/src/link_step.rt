@@ -5,7 +5,7 @@ ghost use Rattle.link_steps.specs.declared.replies.Entry.{Entry};
 ghost use Rattle.link_steps.specs.declared.shape.LinkShape.{LinkShape};
 ghost use Rattle.link_steps.specs.Legal.{AskFits};
 ghost use Rattle.link_steps.specs.Replies.{reply_to};
-ghost use Rattle.link_steps.specs.Scan.{clock_of};
+ghost use Rattle.link_steps.specs.Scan.{clock_of, clock_with};
 
 use crate::asks::Ask;
 use crate::replies::Reply;
@@ -42,7 +42,11 @@ pub trait LinkStep: Drop {
         ensures shape { shape_of self.new ≡ shape_of self.old }
         ensures legal { IfOk result (λ reply. (h : List Entry) → stands_for self.old h → reply ≡ reply_to (shape_of self.old) h ask.now) }
         ensures entered { IfOk result (λ reply. (h : List Entry) → stands_for self.old h → stands_for self.new (record { ask = ask.now; reply = reply } ∷ h)) }
-        ensures memory { OnErr result ((h : List Entry) → stands_for self.old h → stands_for self.new h) };
+        ensures memory { OnErr result ((h : List Entry) → stands_for self.old h → stands_for self.new h) }
+
+        // The same of the clock, where no history is at hand.
+        ensures ticked { IfOk result (λ _. clock_at self.new ≡ clock_with ask.now (clock_at self.old)) }
+        ensures stopped { OnErr result (clock_at self.new ≡ clock_at self.old) };
 
     /// The clock is that of every history that the link stands for.
     ghost tells_time: { (link : Self) (h : List Entry) → stands_for link h → clock_at link ≡ clock_of h };
