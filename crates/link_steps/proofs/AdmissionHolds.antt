@@ -35,7 +35,7 @@ use Rattle.link_steps.specs.Rows.{Row, row_terms, new_row}
 use Rattle.link_steps.specs.Sources.{SourceStep, Rests, Brings, Loses, step_of, row_after, rows_after, taken_by}
 use Rattle.link_steps.proofs.LevelFacts.{level_of-number}
 use Rattle.link_steps.proofs.ListFacts.{find-map, map-change_first-same, total-change_first-le, total-without_first-le}
-use Rattle.link_steps.proofs.RefusalFacts.{kept-rule, has_level-some, fits_offer-least}
+use Rattle.link_steps.proofs.RefusalFacts.{kept-rule, no_level-some, unfit-least}
 
 -- what a row adds to the load of the levels up to m in a window of w ticks
 abbrev row_load : ℕ → ℕ → ℕ → Row → ℕ
@@ -100,7 +100,7 @@ offer-best shape held chan contract delay up_reach best level reach same =
     let wide = kept-rule _ _ (Is.Offer level reach) tt same in
     let new = kept-rule _ _ (Is.Offer level reach) tt wide.1 in
     let some = kept-rule _ _ (Is.Offer level reach) tt new.1 in
-    let found = has_level-some _ _ _ best some.0 in
+    let found = no_level-some _ _ _ best some.0 in
     let room = kept-rule _ _ (Is.Offer level reach) tt some.1 in
     (found.0, found.1, offer-level level _ reach _ room.1 ∙ ap (λ o. level_of (unwrap_or o 0)) found.1)
 
@@ -124,7 +124,7 @@ unfolding relax_reply
 relax-level t up_bound level terms clock same =
     let phase = kept-rule _ _ (Is.Relaxed clock) tt same in
     let fits = kept-rule _ _ (Is.Relaxed clock) tt phase.1 in
-    fits_offer-least terms level up_bound fits.0
+    unfit-least terms level up_bound fits.0
 
 find-terms : (chan : ChanNo) (rows : List Row) → find (is_of chan) (map row_terms rows) ≡ option_map row_terms (find (is_row_of chan) rows)
 find-terms chan rows = find-map row_terms (is_row_of chan) (is_of chan) (λ row. refl) rows

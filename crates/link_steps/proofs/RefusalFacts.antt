@@ -8,7 +8,7 @@ use Rattle.traffic_contract.specs.Contract.{Terms}
 use Rattle.link_steps.specs.declared.replies.Refusal.{Refusal}
 use Rattle.link_steps.specs.declared.replies.Reply.{Reply}
 use Rattle.link_steps.specs.declared.replies.Reply.TheVariants.{Refused}
-use Rattle.link_steps.specs.Refusals.{Rule, unless, refused_or, has_level, fits_offer}
+use Rattle.link_steps.specs.Refusals.{Rule, unless, refused_or, no_level, unfit}
 use Rattle.link_steps.specs.Reservation.{Reservation}
 
 -- the reply refuses nothing
@@ -27,13 +27,13 @@ unless-none true refusal none = refl
 unless-none false refusal none = cc
 
 -- the rule on the level finds one
-pub has_level-some : (server : Server) (rows : List Admitted) (contract : Terms) (best : Option ℕ) → has_level server rows contract best ≡ None → (level : ℕ) × (best ≡ Some level)
-has_level-some server rows contract None none = cc
-has_level-some server rows contract (Some level) none = (level, refl)
+pub no_level-some : (server : Server) (rows : List Admitted) (contract : Terms) (best : Option ℕ) → no_level server rows contract best ≡ None → (level : ℕ) × (best ≡ Some level)
+no_level-some server rows contract None none = cc
+no_level-some server rows contract (Some level) none = (level, refl)
 
 -- a level that fits the offer is no smaller
-pub fits_offer-least : (terms : Reservation) (level : Level) (up_bound : ℕ) → fits_offer terms level up_bound ≡ None → level_number terms.level ≤ level_number level
-fits_offer-least terms level up_bound none =
+pub unfit-least : (terms : Reservation) (level : Level) (up_bound : ℕ) → unfit terms level up_bound ≡ None → level_number terms.level ≤ level_number level
+unfit-least terms level up_bound none =
     let all = unless-none _ _ none in
     let both = and_parts _ _ (and_parts _ _ all).0 in
     leb-true (level_number terms.level) (level_number level) both.0

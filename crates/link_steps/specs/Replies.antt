@@ -25,7 +25,7 @@ use Rattle.link_steps.specs.declared.replies.Why.TheVariants.{NoRow}
 use Rattle.link_steps.specs.declared.shape.LinkShape.{LinkShape}
 use Rattle.link_steps.specs.Buffer.{need_of, slots_of, free_units, held_packets}
 use Rattle.link_steps.specs.Levels.{level_of}
-use Rattle.link_steps.specs.Refusals.{first_refusal, fits_cap, is_new, has_level, has_buffer, in_phase, fits_offer, is_idle, fits_contract, is_past_first, was_committed, is_next, is_counted, is_small, has_room}
+use Rattle.link_steps.specs.Refusals.{first_refusal, too_wide, twice, no_level, no_buffer, not_in_phase, unfit, busy, too_big, first_hop, uncommitted, wrong_number, past_count, big, full}
 use Rattle.link_steps.specs.Reservation.{Reservation, admitted, is_of}
 use Rattle.link_steps.specs.Scan.{Scan, clock_of, scan_of, without_expired, after_tick, is_row_of, is_row_at_hop, names_first_hop}
 use Rattle.link_steps.specs.Service.{Arrival, Start, leaves_at, starts_below, here_at}
@@ -42,10 +42,10 @@ reach_of bounds delay offer = levels_within bounds (max delay (bound_at bounds o
 abbrev pub reserve_reply_at : LinkShape → List Reservation → ChanNo → Terms → ℕ → ℕ → Option ℕ → Reply
 reserve_reply_at shape held chan contract delay up_reach best =
     first_refusal
-    (fits_cap contract shape.cap
-    ∷ is_new (find (is_of chan) held)
-    ∷ has_level (server_of shape) (map admitted held) contract best
-    ∷ has_buffer (need_of shape.bounds contract up_reach (reach_of shape.bounds delay (unwrap_or best 0))) (free_units shape held)
+    (too_wide contract shape.cap
+    ∷ twice (find (is_of chan) held)
+    ∷ no_level (server_of shape) (map admitted held) contract best
+    ∷ no_buffer (need_of shape.bounds contract up_reach (reach_of shape.bounds delay (unwrap_or best 0))) (free_units shape held)
     ∷ [])
     (Offer (level_of (unwrap_or best 0)) (level_of (reach_of shape.bounds delay (unwrap_or best 0))))
 
@@ -56,15 +56,15 @@ reserve_reply shape held chan contract delay up_reach =
 -- a relax of the reservation held, if there is one
 unfoldable pub relax_reply : ℕ → Level → ℕ → Option Reservation → Reply
 relax_reply t level up_bound None = Refused NoSuch
-relax_reply t level up_bound (Some terms) = first_refusal (in_phase Tentative terms ∷ fits_offer terms level up_bound ∷ []) (Relaxed t)
+relax_reply t level up_bound (Some terms) = first_refusal (not_in_phase Tentative terms ∷ unfit terms level up_bound ∷ []) (Relaxed t)
 
 unfoldable pub deny_reply : Option Reservation → Reply
 deny_reply None = Refused NoSuch
-deny_reply (Some terms) = first_refusal (in_phase Tentative terms ∷ []) Denied
+deny_reply (Some terms) = first_refusal (not_in_phase Tentative terms ∷ []) Denied
 
 -- a submit where `left` planned packets are left
 unfoldable pub submit_reply : ℕ → ℕ → Reservation → ℕ → Reply
-submit_reply t size terms left = first_refusal (in_phase Committed terms ∷ is_idle left ∷ fits_contract terms size ∷ []) (Planned t)
+submit_reply t size terms left = first_refusal (not_in_phase Committed terms ∷ busy left ∷ too_big terms size ∷ []) (Planned t)
 
 -- a release that is told a count, or none, where so many packets are taken and so many planned ones are left
 abbrev pub count_at_release : Option ℕ → ℕ → ℕ
@@ -76,18 +76,18 @@ cancelled_at_release None left = left
 cancelled_at_release (Some told) left = 0
 
 unfoldable pub release_reply : Option ℕ → Reservation → ℕ → ℕ → Reply
-release_reply upstream terms taken left = first_refusal (in_phase Committed terms ∷ []) (Closing (count_at_release upstream taken) (cancelled_at_release upstream left))
+release_reply upstream terms taken left = first_refusal (not_in_phase Committed terms ∷ []) (Closing (count_at_release upstream taken) (cancelled_at_release upstream left))
 
 -- a packet that arrives where so many are taken, so many are here, and this would be its eligible tick
 unfoldable pub arrive_reply : List ℕ → ℕ → Packet → Reservation → ℕ → ℕ → ℕ → Reply
 arrive_reply bounds t packet terms taken held e =
     first_refusal
-    (is_past_first terms
-    ∷ was_committed terms
-    ∷ is_next packet.number (suc taken)
-    ∷ is_counted terms taken
-    ∷ is_small terms packet.size
-    ∷ has_room held (slots_of bounds terms)
+    (first_hop terms
+    ∷ uncommitted terms
+    ∷ wrong_number packet.number (suc taken)
+    ∷ past_count terms taken
+    ∷ big terms packet.size
+    ∷ full held (slots_of bounds terms)
     ∷ [])
     (Taken t e)
 
