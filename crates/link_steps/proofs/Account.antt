@@ -1,5 +1,5 @@
 -- The account of a link gives the legal reply to each ask, and goes on with each entry.
-use Rattle.std.proofs.Common.{◌≡◌, ℕ, zero, suc, ◌+◌, ◌≤◌, Bool, true, List, [], ◌∷◌, ◌++◌, length, map, Option, Some, None, refl, sym, ap, ◌∙◌, take, arith, add-one, length-append}
+use Rattle.std.proofs.Common.{◌≡◌, ℕ, zero, suc, ◌+◌, ◌≤◌, Bool, true, List, [], ◌∷◌, ◌++◌, length, map, Option, Some, None, refl, sym, ap, ◌∙◌, subst, take, arith, add-one, length-append}
 use Rattle.std.proofs.lemmas.List.{map-append, length_push}
 use Rattle.std.specs.Prelude.{filter, find}
 use Rattle.std.specs.Option.{option_map}
@@ -14,8 +14,7 @@ use Rattle.link_steps.specs.declared.replies.Reply.TheVariants as Is
 use Rattle.link_steps.specs.declared.shape.LinkShape.{LinkShape}
 use Rattle.link_steps.specs.Buffer.{held_packets}
 use Rattle.link_steps.specs.Hold.{stays}
-use Rattle.link_steps.specs.Kept.{Kept, KeptRow, kept_row, start_on, new_kept, with_kept_rows, kept_at, kept_of, kept_terms, held_rows, brought, present, occupies, departs, kept_lost, kept_rows_after, kept_after_tick, kept_tick_reply, is_kept_of, is_kept_at_hop, kept_submit, kept_release, kept_arrive, kept_reply, kept_relaxed, kept_planned, kept_closed, kept_arrived_row, kept_arrived, kept_with_arrival, kept_after}
-use Rattle.link_steps.specs.Laws.{HasContract, HasContracts}
+use Rattle.link_steps.specs.Kept.{HasContract, HasContracts, StandsFor, nothing_kept, Kept, KeptRow, kept_row, start_on, new_kept, with_kept_rows, kept_at, kept_of, kept_terms, held_rows, brought, present, occupies, departs, kept_lost, kept_rows_after, kept_after_tick, kept_tick_reply, is_kept_of, is_kept_at_hop, kept_submit, kept_release, kept_arrive, kept_reply, kept_relaxed, kept_planned, kept_closed, kept_arrived_row, kept_arrived, kept_with_arrival, kept_after}
 use Rattle.link_steps.specs.Lists.{Each}
 use Rattle.link_steps.specs.Replies.{submit_to, release_to, arrive_to, arrive_reply, tick_reply, reply_at, reply_to}
 use Rattle.link_steps.specs.Reservation.{Reservation, tentative}
@@ -243,3 +242,19 @@ reply_to-account shape h ask each = reply-at shape (clock_of h) (scan_of shape h
 pub kept_of-entry : (shape : LinkShape) (h : List Entry) (e : Entry) → HasContracts (kept_of shape h) → kept_of shape (e ∷ h) ≡ kept_after shape (kept_of shape h) e.ask e.reply
 unfolding clock_of scan_of
 kept_of-entry shape h e each = after-at shape (clock_of h) (scan_of shape h) e.ask e.reply (contracts-scan shape h each) (scan-numbered shape h)
+
+-- ---- what stands for a history
+
+pub nothing-stands : (shape : LinkShape) → StandsFor shape nothing_kept []
+unfolding kept_at clock_of scan_of here_at starts_below
+nothing-stands shape = refl
+
+-- a link that stands for a history gives the legal reply from what it keeps
+pub stands-reply : (shape : LinkShape) (k : Kept) (h : List Entry) (ask : Ask) → HasContracts k → StandsFor shape k h → kept_reply shape k ask ≡ reply_to shape h ask
+stands-reply shape k h ask each stands =
+    ap (λ kept. kept_reply shape kept ask) stands ∙ sym (reply_to-account shape h ask (subst HasContracts stands each))
+
+-- and stands for it with the entry added, once it keeps what follows
+pub stands-entry : (shape : LinkShape) (k : Kept) (h : List Entry) (ask : Ask) (reply : Reply) → HasContracts k → StandsFor shape k h → StandsFor shape (kept_after shape k ask reply) (record { ask = ask; reply = reply } ∷ h)
+stands-entry shape k h ask reply each stands =
+    ap (λ kept. kept_after shape kept ask reply) stands ∙ sym (kept_of-entry shape h (record { ask = ask; reply = reply }) (subst HasContracts stands each))

@@ -138,7 +138,7 @@ Pass-relaxed shape t rows chan level up_bound clock same =
 
 -- ---- the other changes don't touch what the test sees
 
-rows_after-terms : (bounds : List ℕ) (here : List Arrival) (t taken : ℕ) (rows : List Row) → map row_terms (rows_after bounds here t taken rows) ≡ map row_terms rows
+pub rows_after-terms : (bounds : List ℕ) (here : List Arrival) (t taken : ℕ) (rows : List Row) → map row_terms (rows_after bounds here t taken rows) ≡ map row_terms rows
 unfolding rows_after
 rows_after-terms bounds here t taken [] = refl
 rows_after-terms bounds here t taken (row ∷ rows) =

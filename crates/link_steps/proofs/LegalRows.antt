@@ -9,8 +9,7 @@ use Rattle.link_steps.specs.declared.replies.Reply.{Reply}
 use Rattle.link_steps.specs.declared.replies.Reply.TheVariants as Is
 use Rattle.link_steps.specs.declared.shape.LinkShape.{LinkShape}
 use Rattle.link_steps.specs.Hold.{stays}
-use Rattle.link_steps.specs.Kept.{kept_row, kept_at, kept_of}
-use Rattle.link_steps.specs.Laws.{HasContract, HasContracts}
+use Rattle.link_steps.specs.Kept.{HasContract, HasContracts, kept_row, kept_at, kept_of}
 use Rattle.link_steps.specs.Legal.{AskFits, IsLegal}
 use Rattle.link_steps.specs.Lists.{Each}
 use Rattle.link_steps.specs.Reservation.{tentative}

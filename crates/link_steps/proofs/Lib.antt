@@ -14,3 +14,4 @@ pub mod Account
 pub mod LegalRows
 pub mod BusyPeriods
 pub mod RuleFacts
+pub mod LegalChannels

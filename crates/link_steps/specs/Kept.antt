@@ -3,10 +3,10 @@
 -- that occupies it. Of a row it keeps the terms, the lead, how many packets were taken, their newest eligible ticks,
 -- a burst of them, and the planned packets that are left. The account gives the reply to each ask, and the account
 -- after it: no rule needs more of the history.
-use Rattle.std.specs.Prelude.{ℕ, suc, ◌+◌, Bool, true, not, nat_eq, nat_le, nat_lt, if◌then◌else◌, Option, Some, None, List, [], ◌∷◌, ◌++◌, length, map, filter, find, take}
+use Rattle.std.specs.Prelude.{◌≡◌, ℕ, suc, ◌+◌, Bool, true, not, nat_eq, nat_le, nat_lt, if◌then◌else◌, Option, Some, None, List, [], ◌∷◌, ◌++◌, length, map, filter, find, take}
 use Rattle.net_units.specs.declared.numbers.ChanNo.{ChanNo}
 use Rattle.net_units.specs.declared.numbers.Level.{Level}
-use Rattle.traffic_contract.specs.Contract.{Terms, burst_of}
+use Rattle.traffic_contract.specs.Contract.{Terms, IsContract, burst_of}
 use Rattle.traffic_contract.specs.Eligible.{newest}
 use Rattle.link_steps.specs.declared.asks.Ask.{Ask}
 use Rattle.link_steps.specs.declared.asks.Ask.TheVariants.{Reserve, Relax, Deny, Submit, Release, Arrive, Tick}
@@ -20,7 +20,7 @@ use Rattle.link_steps.specs.declared.replies.Why.TheVariants.{NoRow}
 use Rattle.link_steps.specs.declared.shape.LinkShape.{LinkShape}
 use Rattle.link_steps.specs.Buffer.{has_slot, held_packets}
 use Rattle.link_steps.specs.Hold.{hold_ended}
-use Rattle.link_steps.specs.Lists.{change_first, without_first}
+use Rattle.link_steps.specs.Lists.{change_first, without_first, Each}
 use Rattle.link_steps.specs.Replies.{reserve_reply, relax_reply, deny_reply, submit_reply, release_reply, arrive_reply, sent_of}
 use Rattle.link_steps.specs.Reservation.{Reservation, tentative, committed, closing, is_of, is_at_hop}
 use Rattle.link_steps.specs.Scan.{Scan, clock_of, scan_of, names_first_hop}
@@ -77,6 +77,21 @@ kept_at shape t scan = record {
 
 abbrev pub kept_of : LinkShape → List Entry → Kept
 kept_of shape h = kept_at shape (clock_of h) (scan_of shape h)
+
+-- what is kept of no history
+abbrev pub nothing_kept : Kept
+nothing_kept = record { clock = 0; taken = 0; rows = []; here = []; on = None }
+
+-- a link that keeps this stands for the history
+abbrev pub StandsFor : LinkShape → Kept → List Entry → Type 0
+StandsFor shape k h = k ≡ kept_of shape h
+
+-- the rows have contracts, as those of every legal history do
+abbrev pub HasContract : KeptRow → Type 0
+HasContract row = IsContract row.terms.contract
+
+abbrev pub HasContracts : Kept → Type 0
+HasContracts k = Each HasContract k.rows
 
 -- ---- the rows through a tick
 

@@ -1,12 +1,11 @@
 -- Laws of the rules: facts of every legal history, of every list of packets, or of every history.
 use Rattle.std.specs.Prelude.{◌≡◌, ℕ, List, ◌∷◌}
-use Rattle.traffic_contract.specs.Contract.{IsContract}
 use Rattle.link_steps.specs.declared.asks.Ask.{Ask}
 use Rattle.link_steps.specs.declared.replies.Entry.{Entry}
 use Rattle.link_steps.specs.declared.shape.LinkShape.{LinkShape}
 use Rattle.link_steps.specs.BusyPeriod.{HasWork, IsClear, FitsWindow, EndsWithin}
 use Rattle.link_steps.specs.HopGuarantee.{AfterEach, HeldRowsPass}
-use Rattle.link_steps.specs.Kept.{Kept, KeptRow, kept_of, kept_reply, kept_after}
+use Rattle.link_steps.specs.Kept.{HasContracts, kept_of, kept_reply, kept_after}
 use Rattle.link_steps.specs.Legal.{IsLegal}
 use Rattle.link_steps.specs.Lists.{Each}
 use Rattle.link_steps.specs.Replies.{reply_to}
@@ -15,13 +14,6 @@ use Rattle.link_steps.specs.Service.{Arrival}
 -- in every legal history the held rows pass the admission test after every entry
 abbrev pub HeldRowsAlwaysPass : Type 0
 HeldRowsAlwaysPass = (shape : LinkShape) (h : List Entry) → IsLegal shape h → AfterEach (HeldRowsPass shape) h
-
--- the rows of an account have contracts, as those of every legal history do
-abbrev pub HasContract : KeptRow → Type 0
-HasContract row = IsContract row.terms.contract
-
-abbrev pub HasContracts : Kept → Type 0
-HasContracts k = Each HasContract k.rows
 
 -- the legal reply to an ask after a history is that of the account
 abbrev pub AccountGivesReply : Type 0
