@@ -24,6 +24,7 @@ stay_in Tentative bounds terms = terms.up_reach + bound_at bounds (level_number 
 stay_in Committed bounds terms = terms.up_bound + bound_at bounds (level_number terms.level)
 stay_in Closing bounds terms = terms.up_bound + bound_at bounds (level_number terms.level)
 
+-- the same in its own phase
 abbrev pub stay_of : List ℕ → Reservation → ℕ
 stay_of bounds terms = stay_in terms.phase bounds terms
 

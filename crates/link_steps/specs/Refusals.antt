@@ -15,6 +15,7 @@ use Rattle.link_steps.specs.declared.replies.Reply.TheVariants.{Refused}
 use Rattle.link_steps.specs.declared.replies.Why.TheVariants.{FirstHop, Uncommitted, WrongNumber, PastCount, Big}
 use Rattle.link_steps.specs.Reservation.{Reservation, is_phase}
 
+-- a refusal where it applies, or none
 abbrev pub Rule : Type 0
 Rule = Option Refusal
 
@@ -27,6 +28,7 @@ abbrev pub refused_or : Rule → Reply → Reply
 refused_or None reply = reply
 refused_or (Some refusal) reply = Refused refusal
 
+-- the same of a list of rules
 abbrev pub first_refusal : List Rule → Reply → Reply
 first_refusal [] reply = reply
 first_refusal (rule ∷ rules) reply = refused_or rule (first_refusal rules reply)

@@ -49,6 +49,7 @@ reserve_reply_at shape held chan contract delay up_reach best =
     ∷ [])
     (Offer (level_of (unwrap_or best 0)) (level_of (reach_of shape.bounds delay (unwrap_or best 0))))
 
+-- the same, with that level found
 unfoldable pub reserve_reply : LinkShape → List Reservation → ChanNo → Terms → ℕ → ℕ → Reply
 reserve_reply shape held chan contract delay up_reach =
     reserve_reply_at shape held chan contract delay up_reach (best_level (server_of shape) (map admitted held) contract)
@@ -58,6 +59,7 @@ unfoldable pub relax_reply : ℕ → Level → ℕ → Option Reservation → Re
 relax_reply t level up_bound None = Refused NoSuch
 relax_reply t level up_bound (Some terms) = first_refusal (not_in_phase Tentative terms ∷ unfit terms level up_bound ∷ []) (Relaxed t)
 
+-- a deny of it
 unfoldable pub deny_reply : Option Reservation → Reply
 deny_reply None = Refused NoSuch
 deny_reply (Some terms) = first_refusal (not_in_phase Tentative terms ∷ []) Denied
@@ -66,15 +68,17 @@ deny_reply (Some terms) = first_refusal (not_in_phase Tentative terms ∷ []) De
 unfoldable pub submit_reply : ℕ → ℕ → Reservation → ℕ → Reply
 submit_reply t size terms left = first_refusal (not_in_phase Committed terms ∷ busy left ∷ too_big terms size ∷ []) (Planned t)
 
--- a release that is told a count, or none, where so many packets are taken and so many planned ones are left
+-- the count of a release that is told a count, or none, where so many packets are taken
 abbrev pub count_at_release : Option ℕ → ℕ → ℕ
 count_at_release None taken = taken
 count_at_release (Some told) taken = max told taken
 
+-- the planned packets that it cancels, of so many that are left
 abbrev pub cancelled_at_release : Option ℕ → ℕ → ℕ
 cancelled_at_release None left = left
 cancelled_at_release (Some told) left = 0
 
+-- a release where so many packets are taken and so many planned ones are left
 unfoldable pub release_reply : Option ℕ → Reservation → ℕ → ℕ → Reply
 release_reply upstream terms taken left = first_refusal (not_in_phase Committed terms ∷ []) (Closing (count_at_release upstream taken) (cancelled_at_release upstream left))
 
@@ -125,6 +129,7 @@ arrive_to shape t packets packet None = Refused (Stray NoRow)
 arrive_to shape t packets packet (Some row) =
     arrive_reply shape.bounds t packet row.terms (length row.ticks) (held_packets row.lead (here_at shape.rate packets t)) (eligible_next row.terms row.ticks t packet.due)
 
+-- a tick: its number, the source packets dropped in it, and the packet that departs at its end
 abbrev pub tick_reply : LinkShape → ℕ → Scan → Reply
 tick_reply shape t scan =
     Ticked t

@@ -19,6 +19,7 @@ pub record Row : Type 0 where
   pub plan : List SourcePacket
   pub dropped : List ℕ
 
+-- its reservation
 abbrev pub row_terms : Row → Reservation
 row_terms row = row.terms
 
@@ -49,6 +50,7 @@ left_at t plan = filter (is_from t) plan
 abbrev pub made_by : ℕ → List SourcePacket → List SourcePacket
 made_by t plan = filter (is_before t) plan
 
+-- its tick
 abbrev pub tick_of : SourcePacket → ℕ
 tick_of p = p.tick
 

@@ -30,6 +30,7 @@ abbrev pub clock_with : Ask → ℕ → ℕ
 clock_with Tick t = suc t
 clock_with _ t = t
 
+-- the clock of a history: the ticks made, and the number of the next one
 unfoldable pub clock_of : List Entry → ℕ
 clock_of [] = 0
 clock_of (e ∷ past) = clock_with e.ask (clock_of past)
@@ -57,6 +58,7 @@ plan_row t count gap size row = record row { plan = row.plan ++ planned_from t g
 abbrev pub close_row : ℕ → ℕ → Row → Row
 close_row t count row = record row { terms = closing count row.terms; plan = made_by t row.plan }
 
+-- the scan with other rows
 abbrev pub with_rows : Scan → List Row → Scan
 with_rows scan rows = record scan { rows = rows }
 
@@ -70,6 +72,7 @@ arrived_packet t place packet row = arrival_at row.terms row.lead place packet.n
 abbrev pub arrived_row : ℕ → ℕ → Packet → Row → Row
 arrived_row t place packet row = with_packet place (arrived_tick t packet row) row
 
+-- the scan with the packet taken, where there is a row for it
 unfoldable pub with_arrival : ℕ → Packet → Scan → Option Row → Scan
 with_arrival t packet scan None = scan
 with_arrival t packet scan (Some row) = record scan {

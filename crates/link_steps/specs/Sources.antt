@@ -38,6 +38,7 @@ pub data SourceStep : Type 0 where
   Brings : ℕ → SourceStep
   Loses : SourceStep
 
+-- by whether a slot is free, and by the packet that is planned for the tick
 abbrev pub source_step : Bool → Option SourcePacket → SourceStep
 source_step slot None = Rests
 source_step true (Some p) = Brings p.size
