@@ -1,0 +1,10 @@
+pub mod Answers
+pub mod Cutting
+pub mod Faults
+pub mod Held
+pub mod Reading
+pub mod Steps
+pub mod Store
+pub mod Supply
+pub mod WholeLines
+pub mod Writing

@@ -1,0 +1,146 @@
+//! The regulator of one channel at one link.
+ghost use Rattle.std.specs.Prelude.{◌≡◌, ◌+◌, ◌-◌, ◌^◌, ◌<◌, ◌≤◌, ℕ, List, [], ◌∷◌, reverse, max, drop, slice_index, IfOk};
+ghost use Rattle.traffic_contract.specs.Contract.{IsContract};
+ghost use Rattle.traffic_contract.specs.Eligible.{IsEligible, newest, eligible};
+ghost use Rattle.traffic_contract.specs.Keeping.{Keeps};
+ghost use Rattle.regulator_core.specs.Kept.{StandsFor, kept_of, kept_with, earliest_tick, first_after};
+
+use circular_buffer::HeapCircularBuffer;
+use net_units::{Kind, OutOfMemory};
+use std::alloc::Global;
+use std::marker::Model;
+use traffic_contract::Contract;
+
+/// The regulator of one channel at one link.
+///
+/// It enforces the contract on whatever comes, and keeps as many eligible ticks as the contract's burst. A contract
+/// sees the record `Kept`: the channel's contract, its kind of control, and those ticks, newest first.
+#[derive(Drop)]
+pub struct Regulator {
+    contract: Contract,
+    kind: Kind,
+    recent: HeapCircularBuffer<u64>,
+}
+
+impl Model for Regulator {
+    ghost use Rattle.std.specs.Prelude.{◌≡◌};
+    ghost use Rattle.traffic_contract.specs.Contract.{burst_of};
+    ghost use Rattle.regulator_core.specs.Kept.{Kept, StandsFor, kept_of};
+
+    ghost Value = { Kept };
+
+    ghost view = { λ r. kept_of r.contract r.kind r.recent.items };
+
+    ghost invariant = { λ r. (r.recent.capacity ≡ burst_of r.contract)
+        × StandsFor (kept_of r.contract r.kind r.recent.items) r.recent.items };
+}
+
+impl Regulator {
+    /// A regulator that has answered no tick yet. It takes all memory that it will ever need; an `Err` comes only
+    /// where that isn't there.
+    pub fn new(alloc: Global, contract: Contract, kind: Kind) -> Result<Regulator, OutOfMemory>
+        ensures value { IfOk result (λ regulator. regulator ≡ kept_of contract kind []) }
+        ensures stands { IfOk result (λ regulator. StandsFor regulator []) }
+    {
+        let recent = HeapCircularBuffer::with_capacity(alloc, contract.burst() as usize)?;
+        Ok(Regulator {
+            contract,
+            kind,
+            recent,
+        })
+    }
+
+    /// The eligible tick of the channel's next packet, which arrives at the tick `at` and is due at the tick `due`:
+    /// the least tick that isn't below `at`, nor below `due` under delay-jitter control, and with which all ticks
+    /// answered so far keep the contract. Rate-jitter control doesn't count `due`, and a channel's first hop passes 0.
+    ///
+    /// `at` and `due` are below 2^62, and the tick that it answered last is below 2^63. The call takes no memory.
+    pub fn admit(&mut self, at: u64, due: u64) -> u64
+        requires at { at < 2 ^ 62 }
+        requires due { due < 2 ^ 62 }
+        requires last { newest self.old.recent < 2 ^ 63 }
+        ensures value { result ≡
+            eligible self.old.terms self.old.recent (earliest_tick self.old.kind at due) }
+        ensures kept { self.new ≡ kept_with self.old result }
+
+        // The same of every list of ticks that the regulator stands for, and so of all that it has answered.
+        ensures every_value { (past : List ℕ) → StandsFor self.old past →
+            result ≡ eligible self.old.terms past (earliest_tick self.old.kind at due) }
+        ensures every_list { (past : List ℕ) → StandsFor self.old past →
+            IsEligible self.old.terms (reverse past) (earliest_tick self.old.kind at due) result }
+        ensures stands { (past : List ℕ) → StandsFor self.old past → StandsFor self.new (result ∷ past) }
+
+        // The ticks that it keeps are such a list, and the answer joins them as the newest. No packet waits
+        // longer than an interval after the newest before.
+        ensures own { StandsFor self.old self.old.recent }
+        ensures last { newest self.new.recent ≡ result }
+        ensures most { result ≤ max (earliest_tick self.old.kind at due)
+            (newest self.old.recent + self.old.terms.interval) }
+    {
+        let eligible = least_eligible(&self.contract, &self.recent, earliest(self.kind, at, due));
+        self.recent.push_front(eligible);
+        eligible
+    }
+}
+
+// The tick from which a packet may go.
+fn earliest(kind: Kind, at: u64, due: u64) -> u64
+    ensures { result ≡ earliest_tick kind at due }
+{
+    match kind {
+        Kind::Rate => at,
+        Kind::Jitter => at.max(due),
+    }
+}
+
+// The least tick from `low` on that may follow these, newest first: it is far enough after the newest of them, and
+// after the one that is a burst before it.
+fn least_eligible(contract: &Contract, recent: &HeapCircularBuffer<u64>, low: u64) -> u64
+    requires last { newest recent.now.items < 2 ^ 63 }
+    requires keeps { Keeps contract.now (reverse recent.now.items) }
+    ensures value { result ≡ eligible contract.now recent.now.items low }
+    ensures valid { IsContract contract.now }
+{
+    let after_gap = first_after_place(recent, 0, contract.xmin());
+    let after_burst = first_after_place(recent, contract.burst() as usize - 1, contract.interval());
+    low.max(after_gap).max(after_burst)
+}
+
+// The first tick that is `least` ticks after the one at this place, newest first, or 0 where there is none.
+fn first_after_place(recent: &HeapCircularBuffer<u64>, place: usize, least: u32) -> u64
+    requires { slice_index recent.now.items place < 2 ^ 63 }
+    ensures { result ≡ first_after least (drop place recent.now.items) }
+{
+    match recent.get(place) {
+        Some(tick) => tick + u64::from(least),
+        None => 0,
+    }
+}
+
+#[cfg(test)]
+mod tests {
+    use super::*;
+    use std::test::Fail;
+
+    // A packet each 5 ticks and two in any 20, of up to 2 units.
+    fn paced() -> Result<Contract, traffic_contract::BadContract> {
+        Contract::new(5, 10, 20, 2)
+    }
+
+    #[test]
+    fn spaces_packets_under_rate_jitter_control(rt: HostRuntime) -> Result<(), Fail> {
+        let mut regulator = Regulator::new(rt.alloc(), paced()?, Kind::Rate)?;
+        assert_eq!(rt; regulator.admit(0, 0), 0);
+        assert_eq!(rt; regulator.admit(2, 0), 5);
+        assert_eq!(rt; regulator.admit(4, 0), 20);
+        assert_eq!(rt; regulator.admit(50, 0), 50);
+        Ok(())
+    }
+
+    #[test]
+    fn holds_an_early_packet_under_delay_jitter_control(rt: HostRuntime) -> Result<(), Fail> {
+        let mut regulator = Regulator::new(rt.alloc(), paced()?, Kind::Jitter)?;
+        assert_eq!(rt; regulator.admit(4, 22), 22);
+        Ok(())
+    }
+}

@@ -1,0 +1,17 @@
+//! A contract speaks of distances between ticks alone.
+ghost use Rattle.std.specs.Prelude.{◌≡◌, ◌↔◌, ℕ, List};
+ghost use Rattle.traffic_contract.specs.Contract.{Terms};
+ghost use Rattle.traffic_contract.specs.Keeping.{Keeps, keeps_newest_first};
+ghost use Rattle.regulator_core.specs.Shifted.{shifted_by};
+
+/// A list of ticks that keeps a contract, shifted by a constant, keeps it, and a list keeps a contract that keeps it
+/// when shifted. So packets that all leave a hop the same time after their eligible ticks still keep the contract.
+///
+/// The call does nothing: the law is its contract, for the list in order of time and for the test of a list with the
+/// newest tick first.
+pub fn shifted_ticks_keep()
+    ensures fact { (terms : Terms) (ticks : List ℕ) (shift : ℕ) →
+        (Keeps terms (shifted_by shift ticks) ↔ Keeps terms ticks) }
+    ensures newest_first { (terms : Terms) (past : List ℕ) (shift : ℕ) →
+        keeps_newest_first terms (shifted_by shift past) ≡ keeps_newest_first terms past }
+{}
