@@ -136,3 +136,13 @@ held-until-the-hold-ends : legal_replies shape_a []
     ++ (offer 2 2 ∷ Denied ∷ Ticked 60 0 None ∷ offer 1 1 ∷ [])
 unfolding replied ticks quiet
 held-until-the-hold-ends = replied-legal shape_a _ ∙ refl
+
+-- a release at clock 5 cancels the packets planned for 10 and 20, which never arrive
+cancelled-packets-never-arrive : legal_replies shape_a []
+    ((reserve chan1 voice 12 ∷ relax chan1 1 ∷ Submit chan1 3 10 2 ∷ ticks 5)
+    ++ (Release chan1 None ∷ ticks 20))
+    ≡ (offer 1 1 ∷ Relaxed 0 ∷ Planned 0 ∷ quiet 0 1)
+    ++ (sends 1 (left chan1 1 2 0 0 2 10) ∷ quiet 2 3)
+    ++ (Closing 1 2 ∷ quiet 5 20)
+unfolding replied ticks quiet
+cancelled-packets-never-arrive = replied-legal shape_a _ ∙ refl
