@@ -1,0 +1,260 @@
+-- The account of a link gives the legal reply to each ask, and goes on with each entry.
+use Rattle.std.proofs.Common.{◌≡◌, ℕ, zero, suc, ◌+◌, ◌≤◌, Bool, true, List, [], ◌∷◌, ◌++◌, length, map, Option, Some, None, refl, sym, ap, ◌∙◌, subst, take, arith, add-one, length-append}
+use Rattle.std.proofs.lemmas.List.{map-append, length_push}
+use Rattle.std.specs.Prelude.{filter, find}
+use Rattle.std.specs.Option.{option_map}
+use Rattle.net_units.specs.declared.numbers.ChanNo.{ChanNo}
+use Rattle.traffic_contract.specs.Contract.{burst_of}
+use Rattle.link_steps.specs.declared.asks.Ask.{Ask}
+use Rattle.link_steps.specs.declared.asks.Ask.TheVariants.{Reserve, Relax, Deny, Submit, Release, Arrive, Tick}
+use Rattle.link_steps.specs.declared.asks.Packet.{Packet}
+use Rattle.link_steps.specs.declared.replies.Entry.{Entry}
+use Rattle.link_steps.specs.declared.replies.Reply.{Reply}
+use Rattle.link_steps.specs.declared.replies.Reply.TheVariants as Is
+use Rattle.link_steps.specs.declared.shape.LinkShape.{LinkShape}
+use Rattle.link_steps.specs.Buffer.{held_packets}
+use Rattle.link_steps.specs.Hold.{stays}
+use Rattle.link_steps.specs.Kept.{HasContract, HasContracts, StandsFor, nothing_kept, Kept, KeptRow, kept_row, start_on, new_kept, with_kept_rows, kept_at, kept_of, kept_terms, held_rows, brought, present, occupies, departs, kept_lost, kept_rows_after, kept_after_tick, kept_tick_reply, is_kept_of, is_kept_at_hop, kept_submit, kept_release, kept_arrive, kept_reply, kept_relaxed, kept_planned, kept_closed, kept_arrived_row, kept_arrived, kept_with_arrival, kept_after}
+use Rattle.link_steps.specs.Lists.{Each}
+use Rattle.link_steps.specs.Replies.{submit_to, release_to, arrive_to, arrive_reply, tick_reply, reply_at, reply_to}
+use Rattle.link_steps.specs.Reservation.{Reservation, tentative}
+use Rattle.link_steps.specs.Scan.{Scan, clock_with, clock_of, is_row_of, is_row_at_hop, names_first_hop, relax_row, plan_row, close_row, with_rows, arrived_tick, arrived_row, arrived_packet, with_arrival, without_expired, with_sources, after_tick, after, scan_of}
+use Rattle.link_steps.specs.Service.{Arrival, starts_below, here_at}
+use Rattle.link_steps.specs.Rows.{Row, row_terms, new_row}
+use Rattle.link_steps.specs.Sources.{lost_in, source_packets}
+use Rattle.link_steps.proofs.AccountOfRows.{RowHasContract, eligible-recent, left-planned, left-cancelled, held-kept, kept-packet, packets-kept, rows-kept, lost-kept, eligible-from, source_packets-above, source_packets-upto, source_packets-from}
+use Rattle.link_steps.proofs.AccountOfService.{IsUpTo, ShowsTick, here_at-append, shows-tick-append}
+use Rattle.link_steps.proofs.ListFacts.{Each-append, Each-filter, Each-if, Each-find, Each-mapped, find-map, map-change_first, map-without_first}
+use Rattle.link_steps.proofs.ServiceFacts.{starts_below-append}
+
+-- ---- arrival numbers
+
+-- no packet of the scan has an arrival number above their count
+abbrev IsNumbered : Scan → Type 0
+IsNumbered scan = Each (IsUpTo (length scan.packets)) scan.packets
+
+numbered-append : (packets new : List Arrival) → Each (IsUpTo (length packets)) packets → Each (IsUpTo (length packets + length new)) new → Each (IsUpTo (length (packets ++ new))) (packets ++ new)
+numbered-append packets new before behind =
+    rw (length-append packets new)
+    (Each-append (IsUpTo (length packets + length new)) packets new (Each-if (IsUpTo (length packets)) (IsUpTo (length packets + length new)) packets (λ p upto. omega arith) before) behind)
+
+numbered-arrival : (t : ℕ) (packet : Packet) (scan : Scan) (found : Option Row) → IsNumbered scan → IsNumbered (with_arrival t packet scan found)
+unfolding with_arrival
+numbered-arrival t packet scan None before = before
+numbered-arrival t packet scan (Some row) before = numbered-append scan.packets (arrived_packet t (suc (length scan.packets)) packet row ∷ []) before (omega arith, tt)
+
+numbered-after : (shape : LinkShape) (t : ℕ) (scan : Scan) (ask : Ask) (reply : Reply) → IsNumbered scan → IsNumbered (after shape t scan ask reply)
+unfolding after after_tick with_sources without_expired
+numbered-after shape t scan (Reserve chan contract kind delay up_reach first next) (Is.Offer level reach) before = before
+numbered-after shape t scan (Relax chan level up_bound) (Is.Relaxed clock) before = before
+numbered-after shape t scan (Deny chan) Is.Denied before = before
+numbered-after shape t scan (Submit chan count gap size) (Is.Planned clock) before = before
+numbered-after shape t scan (Release chan upstream) (Is.Closing count cancelled) before = before
+numbered-after shape t scan (Arrive packet) (Is.Taken clock eligible) before = numbered-arrival t packet scan (find (is_row_of packet.chan) scan.rows) before
+numbered-after shape t scan Tick reply before =
+    numbered-append scan.packets _ before (source_packets-upto shape.bounds (here_at shape.rate scan.packets t) t (length scan.packets) _)
+numbered-after shape t scan _ _ before = before
+
+pub scan-numbered : (shape : LinkShape) (h : List Entry) → IsNumbered (scan_of shape h)
+unfolding scan_of
+scan-numbered shape [] = tt
+scan-numbered shape (e ∷ past) = numbered-after shape (clock_of past) (scan_of shape past) e.ask e.reply (scan-numbered shape past)
+
+-- ---- a tick
+
+abbrev HaveContracts : Scan → Type 0
+HaveContracts scan = Each RowHasContract scan.rows
+
+-- the rows that stay held in tick t, and the packets that their sources bring
+abbrev held_in : LinkShape → ℕ → Scan → List Row
+held_in shape t scan = filter (stays shape.bounds t) scan.rows
+
+abbrev new_in : LinkShape → ℕ → Scan → List Arrival
+new_in shape t scan = source_packets shape.bounds (here_at shape.rate scan.packets t) t (length scan.packets) (held_in shape t scan)
+
+held-tick : (shape : LinkShape) (t : ℕ) (scan : Scan) → HaveContracts scan → held_rows shape (kept_at shape t scan) ≡ map (kept_row t) (held_in shape t scan)
+unfolding kept_at
+held-tick shape t scan each = held-kept shape.bounds t scan.rows each
+
+brought-tick : (shape : LinkShape) (t : ℕ) (scan : Scan) → HaveContracts scan → brought shape (kept_at shape t scan) ≡ new_in shape t scan
+unfolding kept_at
+brought-tick shape t scan each =
+    rw (held-kept shape.bounds t scan.rows each)
+    (packets-kept shape.bounds (here_at shape.rate scan.packets t) t (length scan.packets) (held_in shape t scan) (Each-filter RowHasContract (stays shape.bounds t) scan.rows each))
+
+shows-after : (shape : LinkShape) (t : ℕ) (scan : Scan) → HaveContracts scan → IsNumbered scan → ShowsTick shape t (after_tick shape t scan).packets (present shape (kept_at shape t scan)) (occupies shape (kept_at shape t scan)) (starts_below shape.rate (after_tick shape t scan).packets (suc t))
+shows-after shape t scan each numbered =
+    rw (brought-tick shape t scan each)
+    (unfold after_tick with_sources without_expired kept_at in
+    shows-tick-append shape t (length scan.packets) scan.packets (new_in shape t scan) numbered
+    (source_packets-above shape.bounds (here_at shape.rate scan.packets t) t (length scan.packets) (held_in shape t scan))
+    (source_packets-from shape.bounds (here_at shape.rate scan.packets t) t (length scan.packets) (held_in shape t scan)))
+
+lost-tick : (shape : LinkShape) (t : ℕ) (scan : Scan) → HaveContracts scan → lost_in shape.bounds (here_at shape.rate scan.packets t) t (without_expired shape.bounds t scan).rows ≡ kept_lost shape.bounds (kept_at shape t scan).here (kept_at shape t scan).clock (held_rows shape (kept_at shape t scan))
+unfolding kept_at without_expired
+lost-tick shape t scan each =
+    rw (held-kept shape.bounds t scan.rows each) (sym (lost-kept shape.bounds (here_at shape.rate scan.packets t) t (held_in shape t scan)))
+
+taken-tick : (shape : LinkShape) (t : ℕ) (scan : Scan) → HaveContracts scan → (kept_at shape (suc t) (after_tick shape t scan)).taken ≡ (kept_at shape t scan).taken + length (brought shape (kept_at shape t scan))
+unfolding kept_at after_tick with_sources without_expired
+taken-tick shape t scan each = length-append scan.packets (new_in shape t scan) ∙ ap (λ all. length scan.packets + length all) (sym (brought-tick shape t scan each))
+
+rows-tick : (shape : LinkShape) (t : ℕ) (scan : Scan) → HaveContracts scan → (kept_at shape (suc t) (after_tick shape t scan)).rows ≡ kept_rows_after shape.bounds (kept_at shape t scan).here (kept_at shape t scan).clock (kept_at shape t scan).taken (held_rows shape (kept_at shape t scan))
+unfolding kept_at after_tick with_sources without_expired
+rows-tick shape t scan each =
+    rw (held-kept shape.bounds t scan.rows each)
+    (sym (rows-kept shape.bounds (here_at shape.rate scan.packets t) t (length scan.packets) (held_in shape t scan) (Each-filter RowHasContract (stays shape.bounds t) scan.rows each)))
+
+reply-tick : (shape : LinkShape) (t : ℕ) (scan : Scan) → HaveContracts scan → IsNumbered scan → tick_reply shape t scan ≡ kept_tick_reply shape (kept_at shape t scan)
+unfolding kept_tick_reply kept_at
+reply-tick shape t scan each numbered =
+    ap (λ sent. Is.Ticked t (lost_in shape.bounds (here_at shape.rate scan.packets t) t (without_expired shape.bounds t scan).rows) sent) (shows-after shape t scan each numbered).departure
+    ∙ ap (λ lost. Is.Ticked t lost (departs shape t (occupies shape (kept_at shape t scan)))) (lost-tick shape t scan each)
+
+-- accounts with the same parts
+same-kept : (k other : Kept) → k.clock ≡ other.clock → k.taken ≡ other.taken → k.rows ≡ other.rows → k.here ≡ other.here → k.on ≡ other.on → k ≡ other
+same-kept k other clock taken rows here on = λ i. record { clock = clock i; taken = taken i; rows = rows i; here = here i; on = on i }
+
+after-tick : (shape : LinkShape) (t : ℕ) (scan : Scan) → HaveContracts scan → IsNumbered scan → kept_at shape (suc t) (after_tick shape t scan) ≡ kept_after_tick shape (kept_at shape t scan)
+unfolding kept_at kept_after_tick here_at after_tick
+after-tick shape t scan each numbered =
+    let shows = shows-after shape t scan each numbered in
+    same-kept (kept_at shape (suc t) (after_tick shape t scan)) (kept_after_tick shape (kept_at shape t scan))
+    refl (taken-tick shape t scan each) (rows-tick shape t scan each) shows.next_here shows.next_on
+
+-- ---- the other asks
+
+terms-kept : (t : ℕ) (rows : List Row) → map kept_terms (map (kept_row t) rows) ≡ map row_terms rows
+terms-kept t [] = refl
+terms-kept t (row ∷ rows) = ap (λ all. row.terms ∷ all) (terms-kept t rows)
+
+find-kept : (t : ℕ) (chan : ChanNo) (rows : List Row) → find (is_kept_of chan) (map (kept_row t) rows) ≡ option_map (kept_row t) (find (is_row_of chan) rows)
+find-kept t chan rows = find-map (kept_row t) (is_row_of chan) (is_kept_of chan) (λ row. refl) rows
+
+find-kept-hop : (t : ℕ) (chan : ChanNo) (first : Bool) (rows : List Row) → find (is_kept_at_hop chan first) (map (kept_row t) rows) ≡ option_map (kept_row t) (find (is_row_at_hop chan first) rows)
+find-kept-hop t chan first rows = find-map (kept_row t) (is_row_at_hop chan first) (is_kept_at_hop chan first) (λ row. refl) rows
+
+submit-kept : (t size : ℕ) (found : Option Row) → submit_to t size found ≡ kept_submit t size (option_map (kept_row t) found)
+submit-kept t size None = refl
+submit-kept t size (Some row) = refl
+
+release-kept : (t : ℕ) (upstream : Option ℕ) (found : Option Row) → release_to t upstream found ≡ kept_release upstream (option_map (kept_row t) found)
+release-kept t upstream None = refl
+release-kept t upstream (Some row) = refl
+
+arrive-kept : (shape : LinkShape) (t : ℕ) (packets : List Arrival) (packet : Packet) (found : Option Row) → ((row : Row) → found ≡ Some row → RowHasContract row) → arrive_to shape t packets packet found ≡ kept_arrive shape t (here_at shape.rate packets t) packet (option_map (kept_row t) found)
+arrive-kept shape t packets packet None each = refl
+arrive-kept shape t packets packet (Some row) each =
+    ap (λ e. arrive_reply shape.bounds t packet row.terms (length row.ticks) (held_packets row.lead (here_at shape.rate packets t)) e)
+    (sym (eligible-recent row.terms row.ticks t packet.due (each row refl)))
+
+reply-at : (shape : LinkShape) (t : ℕ) (scan : Scan) (ask : Ask) → HaveContracts scan → IsNumbered scan → reply_at shape t scan ask ≡ kept_reply shape (kept_at shape t scan) ask
+unfolding reply_at kept_reply kept_at
+reply-at shape t scan (Reserve chan contract kind delay up_reach first next) each numbered = rw (terms-kept t scan.rows) refl
+reply-at shape t scan (Relax chan level up_bound) each numbered = rw (terms-kept t scan.rows) refl
+reply-at shape t scan (Deny chan) each numbered = rw (terms-kept t scan.rows) refl
+reply-at shape t scan (Submit chan count gap size) each numbered = rw (find-kept-hop t chan true scan.rows) (submit-kept t size (find (is_row_at_hop chan true) scan.rows))
+reply-at shape t scan (Release chan upstream) each numbered =
+    rw (find-kept-hop t chan (names_first_hop upstream) scan.rows) (release-kept t upstream (find (is_row_at_hop chan (names_first_hop upstream)) scan.rows))
+reply-at shape t scan (Arrive packet) each numbered =
+    rw (find-kept t packet.chan scan.rows)
+    (arrive-kept shape t scan.packets packet (find (is_row_of packet.chan) scan.rows) (λ row found. Each-find RowHasContract (is_row_of packet.chan) scan.rows row each found))
+reply-at shape t scan Tick each numbered = reply-tick shape t scan each numbered
+
+-- ---- the account goes on
+
+-- a row that takes a packet that arrives, as it is kept
+arrived-kept : (t place : ℕ) (packet : Packet) (row : Row) → RowHasContract row → kept_arrived_row t place packet (kept_row t row) ≡ kept_row t (arrived_row t place packet row)
+arrived-kept t place packet row is =
+    rw (eligible-recent row.terms row.ticks t packet.due is) (kept-packet t place (arrived_tick t packet row) row)
+
+arrival-kept : (shape : LinkShape) (t : ℕ) (packet : Packet) (scan : Scan) (found : Option Row) → ((row : Row) → found ≡ Some row → RowHasContract row) → HaveContracts scan → IsNumbered scan → kept_at shape t (with_arrival t packet scan found) ≡ kept_with_arrival packet (kept_at shape t scan) (option_map (kept_row t) found)
+unfolding with_arrival kept_with_arrival kept_at
+arrival-kept shape t packet scan None one each numbered = refl
+arrival-kept shape t packet scan (Some row) one each numbered =
+    let later : t ≤ arrived_tick t packet row = eligible-from row.terms row.ticks t packet.due in
+    let same : arrived_packet t (suc (length scan.packets)) packet row ≡ kept_arrived t (suc (length scan.packets)) packet (kept_row t row) =
+    rw (eligible-recent row.terms row.ticks t packet.due (one row refl)) refl in
+    same-kept (kept_at shape t (with_arrival t packet scan (Some row))) (kept_with_arrival packet (kept_at shape t scan) (Some (kept_row t row)))
+    refl
+    (length_push scan.packets (arrived_packet t (suc (length scan.packets)) packet row) ∙ add-one (length scan.packets))
+    (map-change_first RowHasContract (kept_row t) (is_row_of packet.chan) (is_kept_of packet.chan) (arrived_row t (suc (length scan.packets)) packet) (kept_arrived_row t (suc (length scan.packets)) packet)
+    (λ r. refl) (arrived-kept t (suc (length scan.packets)) packet) scan.rows each)
+    (here_at-append shape.rate t (length scan.packets) scan.packets (arrived_packet t (suc (length scan.packets)) packet row ∷ []) numbered (omega arith, tt) (later, tt)
+    ∙ ap (λ p. here_at shape.rate scan.packets t ++ p ∷ []) same)
+    (ap (λ starts. start_on shape.rate starts t) (starts_below-append shape.rate scan.packets (arrived_packet t (suc (length scan.packets)) packet row ∷ []) t (later, tt)))
+
+-- a change of the rows alone
+rows-kept-at : (shape : LinkShape) (t : ℕ) (scan : Scan) (rows : List Row) (kept : List KeptRow) → map (kept_row t) rows ≡ kept → kept_at shape t (with_rows scan rows) ≡ with_kept_rows (kept_at shape t scan) kept
+unfolding kept_at
+rows-kept-at shape t scan rows kept same = ap (λ all. with_kept_rows (kept_at shape t scan) all) same
+
+new-kept : (t : ℕ) (terms : Reservation) → kept_row t (new_row terms) ≡ new_kept terms
+new-kept t terms = rw (take-none (burst_of terms.contract)) refl where
+  take-none : (n : ℕ) → take {A = ℕ} n [] ≡ []
+  take-none zero = refl
+  take-none (suc n) = refl
+
+planned-kept : (t count gap size : ℕ) (row : Row) → RowHasContract row → kept_planned t count gap size (kept_row t row) ≡ kept_row t (plan_row t count gap size row)
+planned-kept t count gap size row is = rw (left-planned t count gap size row.plan) refl
+
+closed-kept : (t count : ℕ) (row : Row) → RowHasContract row → kept_closed count (kept_row t row) ≡ kept_row t (close_row t count row)
+closed-kept t count row is = rw (left-cancelled t row.plan) refl
+
+after-at : (shape : LinkShape) (t : ℕ) (scan : Scan) (ask : Ask) (reply : Reply) → HaveContracts scan → IsNumbered scan → kept_at shape (clock_with ask t) (after shape t scan ask reply) ≡ kept_after shape (kept_at shape t scan) ask reply
+unfolding after kept_after kept_at
+after-at shape t scan (Reserve chan contract kind delay up_reach first next) (Is.Offer level reach) each numbered =
+    let row : Row = new_row (tentative chan contract kind first next up_reach level reach) in
+    rows-kept-at shape t scan (scan.rows ++ row ∷ []) _ (map-append (kept_row t) scan.rows (row ∷ []) ∙ ap (λ k. map (kept_row t) scan.rows ++ k ∷ []) (new-kept t row.terms))
+after-at shape t scan (Relax chan level up_bound) (Is.Relaxed clock) each numbered =
+    rows-kept-at shape t scan _ _
+    (map-change_first RowHasContract (kept_row t) (is_row_of chan) (is_kept_of chan) (relax_row level up_bound) (kept_relaxed level up_bound) (λ row. refl) (λ row is. refl) scan.rows each)
+after-at shape t scan (Deny chan) Is.Denied each numbered =
+    rows-kept-at shape t scan _ _ (map-without_first (kept_row t) (is_row_of chan) (is_kept_of chan) (λ row. refl) scan.rows)
+after-at shape t scan (Submit chan count gap size) (Is.Planned clock) each numbered =
+    rows-kept-at shape t scan _ _
+    (map-change_first RowHasContract (kept_row t) (is_row_at_hop chan true) (is_kept_at_hop chan true) (plan_row t count gap size) (kept_planned t count gap size) (λ row. refl) (planned-kept t count gap size) scan.rows each)
+after-at shape t scan (Release chan upstream) (Is.Closing count cancelled) each numbered =
+    rows-kept-at shape t scan _ _
+    (map-change_first RowHasContract (kept_row t) (is_row_at_hop chan (names_first_hop upstream)) (is_kept_at_hop chan (names_first_hop upstream)) (close_row t count) (kept_closed count) (λ row. refl) (closed-kept t count) scan.rows each)
+after-at shape t scan (Arrive packet) (Is.Taken clock eligible) each numbered =
+    arrival-kept shape t packet scan (find (is_row_of packet.chan) scan.rows) (λ row found. Each-find RowHasContract (is_row_of packet.chan) scan.rows row each found) each numbered
+    ∙ ap (λ found. kept_with_arrival packet (kept_at shape t scan) found) (sym (find-kept t packet.chan scan.rows))
+after-at shape t scan Tick reply each numbered = after-tick shape t scan each numbered
+after-at shape t scan (Reserve _ _ _ _ _ _ _) _ each numbered = refl
+after-at shape t scan (Relax _ _ _) _ each numbered = refl
+after-at shape t scan (Deny _) _ each numbered = refl
+after-at shape t scan (Submit _ _ _ _) _ each numbered = refl
+after-at shape t scan (Release _ _) _ each numbered = refl
+after-at shape t scan (Arrive _) _ each numbered = refl
+
+-- ---- every history
+
+-- the rows of an account have contracts where those of the scan have
+contracts-scan : (shape : LinkShape) (h : List Entry) → HasContracts (kept_of shape h) → HaveContracts (scan_of shape h)
+unfolding kept_at
+contracts-scan shape h each = Each-mapped HasContract (kept_row (clock_of h)) (scan_of shape h).rows each
+
+pub reply_to-account : (shape : LinkShape) (h : List Entry) (ask : Ask) → HasContracts (kept_of shape h) → reply_to shape h ask ≡ kept_reply shape (kept_of shape h) ask
+unfolding reply_to
+reply_to-account shape h ask each = reply-at shape (clock_of h) (scan_of shape h) ask (contracts-scan shape h each) (scan-numbered shape h)
+
+pub kept_of-entry : (shape : LinkShape) (h : List Entry) (e : Entry) → HasContracts (kept_of shape h) → kept_of shape (e ∷ h) ≡ kept_after shape (kept_of shape h) e.ask e.reply
+unfolding clock_of scan_of
+kept_of-entry shape h e each = after-at shape (clock_of h) (scan_of shape h) e.ask e.reply (contracts-scan shape h each) (scan-numbered shape h)
+
+-- ---- what stands for a history
+
+pub nothing-stands : (shape : LinkShape) → StandsFor shape nothing_kept []
+unfolding kept_at clock_of scan_of here_at starts_below
+nothing-stands shape = refl
+
+-- a link that stands for a history gives the legal reply from what it keeps
+pub stands-reply : (shape : LinkShape) (k : Kept) (h : List Entry) (ask : Ask) → HasContracts k → StandsFor shape k h → kept_reply shape k ask ≡ reply_to shape h ask
+stands-reply shape k h ask each stands =
+    ap (λ kept. kept_reply shape kept ask) stands ∙ sym (reply_to-account shape h ask (subst HasContracts stands each))
+
+-- and stands for it with the entry added, once it keeps what follows
+pub stands-entry : (shape : LinkShape) (k : Kept) (h : List Entry) (ask : Ask) (reply : Reply) → HasContracts k → StandsFor shape k h → StandsFor shape (kept_after shape k ask reply) (record { ask = ask; reply = reply } ∷ h)
+stands-entry shape k h ask reply each stands =
+    ap (λ kept. kept_after shape kept ask reply) stands ∙ sym (kept_of-entry shape h (record { ask = ask; reply = reply }) (subst HasContracts stands each))

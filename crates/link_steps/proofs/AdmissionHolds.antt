@@ -1,0 +1,198 @@
+-- In every legal history the held rows pass the admission test after every entry.
+use Rattle.std.proofs.Common.{◌≡◌, ℕ, zero, suc, ◌+◌, ◌-◌, ◌<◌, ◌≤◌, Bool, true, List, [], ◌∷◌, ◌++◌, length, map, Option, Some, None, refl, sym, ap, ◌∙◌, subst, arith}
+use Rattle.std.proofs.lemmas.Bool.{and_parts}
+use Rattle.std.proofs.lemmas.List.{map-append}
+use Rattle.std.specs.Prelude.{filter, find, nat_lt, unwrap_or}
+use Rattle.std.specs.Option.{option_map}
+use Rattle.net_units.proofs.BoundFacts.{bounds_parts, above_low}
+use Rattle.net_units.specs.Numbers.{level_number}
+use Rattle.net_units.specs.Quotient.{ceil_quotient}
+use Rattle.net_units.specs.Steps.{bound_at, are_bounds, rises_above}
+use Rattle.net_units.specs.declared.Kind.{Kind}
+use Rattle.net_units.specs.declared.numbers.ChanNo.{ChanNo}
+use Rattle.net_units.specs.declared.numbers.Level.{Level}
+use Rattle.net_units.specs.declared.numbers.LinkNo.{LinkNo}
+use Rattle.traffic_contract.specs.Admission.{Row as Admitted, total, work_up_to, load, Passes, with_row, best_level}
+use Rattle.traffic_contract.specs.Contract.{Terms}
+use Rattle.traffic_contract.proofs.AdmissionFacts.{Passes-le, Passes-nil, total-map, total-filter-le, work_up_to-le, best_level-is}
+use Rattle.link_steps.specs.declared.asks.Ask.{Ask}
+use Rattle.link_steps.specs.declared.asks.Ask.TheVariants.{Reserve, Relax, Deny, Submit, Release, Arrive, Tick}
+use Rattle.link_steps.specs.declared.asks.Packet.{Packet}
+use Rattle.link_steps.specs.declared.replies.Entry.{Entry}
+use Rattle.link_steps.specs.declared.replies.Reply.{Reply}
+use Rattle.link_steps.specs.declared.replies.Reply.TheVariants as Is
+use Rattle.link_steps.specs.declared.shape.LinkShape.{LinkShape}
+use Rattle.link_steps.specs.HopGuarantee.{AfterEach, HeldRowsPass}
+use Rattle.link_steps.specs.Legal.{IsLegal}
+use Rattle.link_steps.specs.Levels.{level_of}
+use Rattle.link_steps.specs.Lists.{change_first}
+use Rattle.link_steps.specs.Replies.{reserve_reply, reserve_reply_at, relax_reply, reply_at, reply_to}
+use Rattle.link_steps.specs.Reservation.{Reservation, tentative, admitted, is_of}
+use Rattle.link_steps.specs.Scan.{Scan, is_row_of, is_row_at_hop, names_first_hop, relax_row, plan_row, close_row, with_arrival, without_expired, with_sources, after_tick, after, scan_of}
+use Rattle.link_steps.specs.Service.{Arrival}
+use Rattle.link_steps.specs.Shape.{server_of}
+use Rattle.link_steps.specs.Rows.{Row, row_terms, new_row}
+use Rattle.link_steps.specs.Sources.{SourceStep, Rests, Brings, Loses, step_of, row_after, rows_after, taken_by}
+use Rattle.link_steps.proofs.LevelFacts.{level_of-number}
+use Rattle.link_steps.proofs.ListFacts.{find-map, map-change_first-same, total-change_first-le, total-without_first-le}
+use Rattle.link_steps.proofs.RefusalFacts.{kept-rule, no_level-some, unfit-least}
+
+-- what a row adds to the load of the levels up to m in a window of w ticks
+abbrev row_load : ℕ → ℕ → ℕ → Row → ℕ
+row_load rate m w row = work_up_to rate m w (admitted row.terms)
+
+-- the rows as the admission test sees them
+abbrev as_admitted : List Row → List Admitted
+as_admitted rows = map admitted (map row_terms rows)
+
+abbrev Pass : LinkShape → List Row → Type 0
+Pass shape rows = Passes (server_of shape) (as_admitted rows)
+
+total-as_admitted : (rate m w : ℕ) (rows : List Row) → total (work_up_to rate m w) (as_admitted rows) ≡ total (row_load rate m w) rows
+total-as_admitted rate m w rows =
+    total-map (work_up_to rate m w) admitted (map row_terms rows) ∙ total-map (λ terms. work_up_to rate m w (admitted terms)) row_terms rows
+
+-- rows that are no heavier than rows that pass do pass
+Pass-lighter : (shape : LinkShape) (rows others : List Row) → ((m w : ℕ) → total (row_load shape.rate m w) others ≤ total (row_load shape.rate m w) rows) → Pass shape rows → Pass shape others
+unfolding load
+Pass-lighter shape rows others lighter =
+    Passes-le (server_of shape) (as_admitted rows) (as_admitted others) (λ m.
+    let w : ℕ = bound_at shape.bounds m in
+    let e = total-as_admitted shape.rate m (bound_at shape.bounds m) rows in
+    let f = total-as_admitted shape.rate m (bound_at shape.bounds m) others in
+    let g = lighter m (bound_at shape.bounds m) in
+    omega (arith, e, f, g))
+
+-- rows with the same terms pass alike
+Pass-same : (shape : LinkShape) (rows others : List Row) → map row_terms others ≡ map row_terms rows → Pass shape rows → Pass shape others
+Pass-same shape rows others same pass = subst (λ all. Passes (server_of shape) (map admitted all)) (sym same) pass
+
+-- ---- no rows
+
+-- the first bound is the least
+bound_at-first : (bs : List ℕ) (m : ℕ) → are_bounds bs ≡ true → 1 ≤ m → m ≤ length bs → bound_at bs 1 ≤ bound_at bs m
+bound_at-first [] m rise from upto = absurd (omega arith)
+bound_at-first (b ∷ bs) zero rise from upto = absurd (omega arith)
+bound_at-first (b ∷ bs) (suc zero) rise from upto = omega arith
+bound_at-first (b ∷ bs) (suc (suc k)) rise from upto =
+    let rising : rises_above b bs ≡ true = (and_parts (nat_lt 0 b) (rises_above b bs) (bounds_parts (b ∷ bs) rise).rising).1 in
+    let inside : k < length bs = omega arith in
+    let above = above_low b bs k rising inside in
+    let e : suc (suc k) - 1 ≡ suc k = omega arith in
+    rw e (omega (arith, above))
+
+-- the blocking is at most the first bound, and so at most each
+Pass-none : (shape : LinkShape) → Pass shape []
+Pass-none shape =
+    Passes-nil (server_of shape) (λ m from upto.
+    let least = bound_at-first shape.bounds m shape.bounds_rise from upto in
+    let first : ceil_quotient shape.cap shape.rate ≤ bound_at shape.bounds 1 = shape.blocking_fits in
+    omega (arith, least, first))
+
+-- ---- a reserve
+
+offer-level : (level other reach far : Level) → Is.Offer level reach ≡ Is.Offer other far → level ≡ other
+offer-level level other reach far same = cc
+
+-- an offer is the best level of its contract
+offer-best : (shape : LinkShape) (held : List Reservation) (chan : ChanNo) (contract : Terms) (delay up_reach : ℕ) (best : Option ℕ) (level reach : Level) → Is.Offer level reach ≡ reserve_reply_at shape held chan contract delay up_reach best → (m : ℕ) × (best ≡ Some m) × (level ≡ level_of m)
+offer-best shape held chan contract delay up_reach best level reach same =
+    let wide = kept-rule _ _ (Is.Offer level reach) tt same in
+    let new = kept-rule _ _ (Is.Offer level reach) tt wide.1 in
+    let some = kept-rule _ _ (Is.Offer level reach) tt new.1 in
+    let found = no_level-some _ _ _ best some.0 in
+    let room = kept-rule _ _ (Is.Offer level reach) tt some.1 in
+    (found.0, found.1, offer-level level _ reach _ room.1 ∙ ap (λ o. level_of (unwrap_or o 0)) found.1)
+
+-- the rows with the one reserved pass
+Pass-reserved : (shape : LinkShape) (rows : List Row) (chan : ChanNo) (contract : Terms) (kind : Kind) (first : Bool) (next : Option LinkNo) (delay up_reach : ℕ) (level reach : Level) → Is.Offer level reach ≡ reserve_reply shape (map row_terms rows) chan contract delay up_reach → Pass shape (rows ++ new_row (tentative chan contract kind first next up_reach level reach) ∷ [])
+unfolding reserve_reply
+Pass-reserved shape rows chan contract kind first next delay up_reach level reach same =
+    let found = offer-best shape (map row_terms rows) chan contract delay up_reach (best_level (server_of shape) (as_admitted rows) contract) level reach same in
+    let best = best_level-is (server_of shape) (as_admitted rows) contract found.0 found.1 in
+    let most = (bounds_parts shape.bounds shape.bounds_rise).most in
+    let n : level_number level ≡ found.0 = ap level_number found.2 ∙ level_of-number found.0 best.from (omega (arith, best.upto)) in
+    let row : Row = new_row (tentative chan contract kind first next up_reach level reach) in
+    let e : as_admitted (rows ++ row ∷ []) ≡ with_row (as_admitted rows) contract (level_number level) =
+    ap (λ all. map admitted all) (map-append row_terms rows (row ∷ [])) ∙ map-append admitted (map row_terms rows) (row.terms ∷ []) in
+    subst (Passes (server_of shape)) (sym (e ∙ ap (λ m. with_row (as_admitted rows) contract m) n)) best.passes
+
+-- ---- a relax moves a row to a level that is no smaller
+
+relax-level : (t up_bound : ℕ) (level : Level) (terms : Reservation) (clock : ℕ) → Is.Relaxed clock ≡ relax_reply t level up_bound (Some terms) → level_number terms.level ≤ level_number level
+unfolding relax_reply
+relax-level t up_bound level terms clock same =
+    let phase = kept-rule _ _ (Is.Relaxed clock) tt same in
+    let fits = kept-rule _ _ (Is.Relaxed clock) tt phase.1 in
+    unfit-least terms level up_bound fits.0
+
+find-terms : (chan : ChanNo) (rows : List Row) → find (is_of chan) (map row_terms rows) ≡ option_map row_terms (find (is_row_of chan) rows)
+find-terms chan rows = find-map row_terms (is_row_of chan) (is_of chan) (λ row. refl) rows
+
+Pass-relaxed : (shape : LinkShape) (t : ℕ) (rows : List Row) (chan : ChanNo) (level : Level) (up_bound clock : ℕ) → Is.Relaxed clock ≡ relax_reply t level up_bound (find (is_of chan) (map row_terms rows)) → Pass shape rows → Pass shape (change_first (is_row_of chan) (relax_row level up_bound) rows)
+Pass-relaxed shape t rows chan level up_bound clock same =
+    Pass-lighter shape rows (change_first (is_row_of chan) (relax_row level up_bound) rows) (λ m w.
+    total-change_first-le (row_load shape.rate m w) (is_row_of chan) (relax_row level up_bound) rows (λ row found.
+    work_up_to-le shape.rate m w (admitted row.terms) (admitted (relax_row level up_bound row).terms) refl
+    (relax-level t up_bound level row.terms clock (same ∙ ap (relax_reply t level up_bound) (find-terms chan rows ∙ ap (option_map row_terms) found)))))
+
+-- ---- the other changes don't touch what the test sees
+
+pub rows_after-terms : (bounds : List ℕ) (here : List Arrival) (t taken : ℕ) (rows : List Row) → map row_terms (rows_after bounds here t taken rows) ≡ map row_terms rows
+unfolding rows_after
+rows_after-terms bounds here t taken [] = refl
+rows_after-terms bounds here t taken (row ∷ rows) =
+    rw (row_after-terms (step_of bounds here t row) t (suc taken) row)
+    (ap (λ all. row.terms ∷ all) (rows_after-terms bounds here t (taken + taken_by (step_of bounds here t row)) rows)) where
+      row_after-terms : (step : SourceStep) (t place : ℕ) (row : Row) → (row_after step t place row).terms ≡ row.terms
+      row_after-terms Rests t place row = refl
+      row_after-terms (Brings size) t place row = refl
+      row_after-terms Loses t place row = refl
+
+Pass-tick : (shape : LinkShape) (t : ℕ) (scan : Scan) → Pass shape scan.rows → Pass shape (after_tick shape t scan).rows
+unfolding after_tick with_sources without_expired
+Pass-tick shape t scan pass =
+    Pass-same shape (filter _ scan.rows) _ (rows_after-terms _ _ _ _ (filter _ scan.rows))
+    (Pass-lighter shape scan.rows (filter _ scan.rows) (λ m w. total-filter-le (row_load shape.rate m w) _ scan.rows) pass)
+
+Pass-arrival : (shape : LinkShape) (t : ℕ) (packet : Packet) (scan : Scan) (found : Option Row) → Pass shape scan.rows → Pass shape (with_arrival t packet scan found).rows
+unfolding with_arrival
+Pass-arrival shape t packet scan None pass = pass
+Pass-arrival shape t packet scan (Some row) pass =
+    Pass-same shape scan.rows _ (map-change_first-same row_terms _ _ (λ row. refl) scan.rows) pass
+
+Pass-closed : (shape : LinkShape) (t count : ℕ) (test : Row → Bool) (rows : List Row) → Pass shape rows → Pass shape (change_first test (close_row t count) rows)
+Pass-closed shape t count test rows =
+    Pass-lighter shape rows (change_first test (close_row t count) rows)
+    (λ m w. total-change_first-le (row_load shape.rate m w) test (close_row t count) rows (λ row found. omega arith))
+
+-- ---- one entry
+
+Pass-after : (shape : LinkShape) (t : ℕ) (scan : Scan) (ask : Ask) (reply : Reply) → reply ≡ reply_at shape t scan ask → Pass shape scan.rows → Pass shape (after shape t scan ask reply).rows
+unfolding after reply_at
+Pass-after shape t scan (Reserve chan contract kind delay up_reach first next) (Is.Offer level reach) same pass =
+    Pass-reserved shape scan.rows chan contract kind first next delay up_reach level reach same
+Pass-after shape t scan (Relax chan level up_bound) (Is.Relaxed clock) same pass =
+    Pass-relaxed shape t scan.rows chan level up_bound clock same pass
+Pass-after shape t scan (Deny chan) Is.Denied same pass =
+    Pass-lighter shape scan.rows _ (λ m w. total-without_first-le (row_load shape.rate m w) (is_row_of chan) scan.rows) pass
+Pass-after shape t scan (Submit chan count gap size) (Is.Planned clock) same pass =
+    Pass-same shape scan.rows _ (map-change_first-same row_terms (is_row_at_hop chan true) (plan_row t count gap size) (λ row. refl) scan.rows) pass
+Pass-after shape t scan (Release chan upstream) (Is.Closing count cancelled) same pass =
+    Pass-closed shape t count (is_row_at_hop chan (names_first_hop upstream)) scan.rows pass
+Pass-after shape t scan (Arrive packet) (Is.Taken clock eligible) same pass =
+    Pass-arrival shape t packet scan (find (is_row_of packet.chan) scan.rows) pass
+Pass-after shape t scan Tick reply same pass = Pass-tick shape t scan pass
+Pass-after shape t scan _ _ same pass = pass
+
+-- ---- every entry
+
+pub held_rows-pass : (shape : LinkShape) (h : List Entry) → IsLegal shape h → AfterEach (HeldRowsPass shape) h
+unfolding IsLegal scan_of reply_to
+held_rows-pass shape [] legal = Pass-none shape
+held_rows-pass shape (e ∷ past) legal =
+    let before = held_rows-pass shape past legal.0 in
+    (before, Pass-after shape _ (scan_of shape past) e.ask e.reply legal.1.answered (last-of shape past before)) where
+      last-of : (shape : LinkShape) (h : List Entry) → AfterEach (HeldRowsPass shape) h → HeldRowsPass shape h
+      last-of shape [] each = each
+      last-of shape (e ∷ past) each = each.1

@@ -1,0 +1,17 @@
+pub mod Play
+pub mod WorkedLink
+pub mod WorkedSetup
+pub mod WorkedPackets
+pub mod WorkedLaterHop
+pub mod LevelFacts
+pub mod ListFacts
+pub mod RefusalFacts
+pub mod AdmissionHolds
+pub mod ServiceFacts
+pub mod AccountOfService
+pub mod AccountOfRows
+pub mod Account
+pub mod LegalRows
+pub mod BusyPeriods
+pub mod RuleFacts
+pub mod LegalChannels

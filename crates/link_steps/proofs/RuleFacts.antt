@@ -1,0 +1,120 @@
+-- That the rules say what they are meant to, where a definition takes a short way.
+use Rattle.std.proofs.Common.{◌≡◌, ℕ, suc, ◌+◌, ◌≤◌, Bool, true, false, ◌||◌, List, [], ◌∷◌, length, map, Option, Some, None, refl, sym, ap, ◌∙◌, arith}
+use Rattle.std.proofs.lemmas.Bool.{le-ltb}
+use Rattle.std.specs.Prelude.{find, nat_lt}
+use Rattle.std.specs.List.{list_any}
+use Rattle.net_units.specs.Numbers.{level_number}
+use Rattle.net_units.specs.declared.Kind.{Kind}
+use Rattle.net_units.specs.declared.numbers.ChanNo.{ChanNo}
+use Rattle.net_units.specs.declared.numbers.Level.{Level}
+use Rattle.net_units.specs.declared.numbers.LinkNo.{LinkNo}
+use Rattle.traffic_contract.specs.Contract.{Terms}
+use Rattle.link_steps.specs.declared.asks.Ask.{Ask}
+use Rattle.link_steps.specs.declared.asks.Ask.TheVariants.{Reserve, Relax, Deny, Submit, Release, Arrive, Tick}
+use Rattle.link_steps.specs.declared.asks.Packet.{Packet}
+use Rattle.link_steps.specs.declared.replies.Entry.{Entry}
+use Rattle.link_steps.specs.declared.replies.Reply.{Reply}
+use Rattle.link_steps.specs.declared.replies.Reply.TheVariants as Is
+use Rattle.link_steps.specs.declared.shape.LinkShape.{LinkShape}
+use Rattle.link_steps.specs.Buffer.{need_of, kept_units}
+use Rattle.link_steps.specs.Legal.{AskFits, IsLegal}
+use Rattle.link_steps.specs.Lists.{Each}
+use Rattle.link_steps.specs.Replies.{reply_to}
+use Rattle.link_steps.specs.Reservation.{tentative}
+use Rattle.link_steps.specs.Rows.{Row}
+use Rattle.link_steps.specs.Scan.{Scan, clock_of, is_row_of, with_arrival, without_expired, with_sources, after_tick, after, scan_of}
+use Rattle.link_steps.specs.Service.{Arrival, Start, leaves_at, is_busy, here_at}
+use Rattle.link_steps.specs.Sources.{SourceStep, Rests, Brings, Loses, step_of, packet_of, taken_by, source_packets}
+use Rattle.link_steps.proofs.AccountOfRows.{eligible-from}
+use Rattle.link_steps.proofs.ListFacts.{Each-append, Each-if}
+use Rattle.link_steps.proofs.Play.{answered}
+use Rattle.link_steps.proofs.ServiceFacts.{HasLeft, HasBegun, FollowEachOther}
+
+-- ---- a new reservation keeps what it needed
+
+need-kept : (bounds : List ℕ) (chan : ChanNo) (contract : Terms) (kind : Kind) (first : Bool) (next : Option LinkNo) (up_reach : ℕ) (level reach : Level) → kept_units bounds (tentative chan contract kind first next up_reach level reach) ≡ need_of bounds contract up_reach (level_number reach)
+unfolding kept_units need_of
+need-kept bounds chan contract kind first next up_reach level reach = refl
+
+-- ---- the packet that started last is the only one that can occupy the link
+
+-- whether a packet that has started occupies the link in tick t
+abbrev is_on : ℕ → ℕ → Start → Bool
+is_on rate t start = nat_lt t (leaves_at rate start)
+
+none-on : (rate t : ℕ) (starts : List Start) → Each (HasLeft rate t) starts → list_any (is_on rate t) starts ≡ false
+none-on rate t [] left = refl
+none-on rate t (start ∷ earlier) left = rw (le-ltb t (leaves_at rate start) left.0, none-on rate t earlier left.1) refl
+
+pub busy-any : (rate t : ℕ) (starts : List Start) → FollowEachOther rate starts → Each (HasBegun t) starts → list_any (is_on rate t) starts ≡ is_busy rate starts t
+busy-any rate t [] follow begun = refl
+busy-any rate t (start ∷ earlier) follow begun =
+    let left = Each-if (HasLeft rate start.tick) (HasLeft rate t) earlier (λ other h. omega (arith, begun.0)) follow.0 in
+    rw (none-on rate t earlier left) (or-false (nat_lt t (leaves_at rate start))) where
+      or-false : (b : Bool) → (b || false) ≡ b
+      or-false true = refl
+      or-false false = refl
+
+-- ---- no packet is eligible before it arrives
+
+abbrev IsPatient : Arrival → Type 0
+IsPatient p = p.at ≤ p.eligible
+
+source_packets-patient : (bounds : List ℕ) (here : List Arrival) (t taken : ℕ) (rows : List Row) → Each IsPatient (source_packets bounds here t taken rows)
+unfolding source_packets
+source_packets-patient bounds here t taken [] = tt
+source_packets-patient bounds here t taken (row ∷ rows) =
+    Each-append IsPatient (packet_of (step_of bounds here t row) t (suc taken) row) _ (packet-patient (step_of bounds here t row)) (source_packets-patient bounds here t (taken + taken_by (step_of bounds here t row)) rows) where
+      packet-patient : (step : SourceStep) → Each IsPatient (packet_of step t (suc taken) row)
+      packet-patient (Brings size) = (eligible-from row.terms row.ticks t 0, tt)
+      packet-patient Rests = tt
+      packet-patient Loses = tt
+
+arrival-patient : (t : ℕ) (packet : Packet) (scan : Scan) (found : Option Row) → Each IsPatient scan.packets → Each IsPatient (with_arrival t packet scan found).packets
+unfolding with_arrival
+arrival-patient t packet scan None before = before
+arrival-patient t packet scan (Some row) before = Each-append IsPatient scan.packets _ before (eligible-from row.terms row.ticks t packet.due, tt)
+
+after-patient : (shape : LinkShape) (t : ℕ) (scan : Scan) (ask : Ask) (reply : Reply) → Each IsPatient scan.packets → Each IsPatient (after shape t scan ask reply).packets
+unfolding after after_tick with_sources without_expired
+after-patient shape t scan (Reserve chan contract kind delay up_reach first next) (Is.Offer level reach) before = before
+after-patient shape t scan (Relax chan level up_bound) (Is.Relaxed clock) before = before
+after-patient shape t scan (Deny chan) Is.Denied before = before
+after-patient shape t scan (Submit chan count gap size) (Is.Planned clock) before = before
+after-patient shape t scan (Release chan upstream) (Is.Closing count cancelled) before = before
+after-patient shape t scan (Arrive packet) (Is.Taken clock eligible) before = arrival-patient t packet scan (find (is_row_of packet.chan) scan.rows) before
+after-patient shape t scan Tick reply before = Each-append IsPatient scan.packets _ before (source_packets-patient shape.bounds (here_at shape.rate scan.packets t) t (length scan.packets) _)
+after-patient shape t scan _ _ before = before
+
+pub scan-patient : (shape : LinkShape) (h : List Entry) → Each IsPatient (scan_of shape h).packets
+unfolding scan_of
+scan-patient shape [] = tt
+scan-patient shape (e ∷ past) = after-patient shape (clock_of past) (scan_of shape past) e.ask e.reply (scan-patient shape past)
+
+-- ---- a legal history goes on with every ask that meets the conditions, and its asks determine it
+
+pub legal-answered : (shape : LinkShape) (past : List Entry) (ask : Ask) → IsLegal shape past → AskFits shape ask → IsLegal shape (answered shape past ask ∷ past)
+unfolding IsLegal
+legal-answered shape past ask legal fits = (legal, record { fits = fits; answered = refl })
+
+abbrev ask_of : Entry → Ask
+ask_of e = e.ask
+
+pub legal-determined : (shape : LinkShape) (h other : List Entry) → IsLegal shape h → IsLegal shape other → map ask_of h ≡ map ask_of other → h ≡ other
+unfolding IsLegal
+legal-determined shape [] [] legal other_legal same = refl
+legal-determined shape [] (e ∷ other) legal other_legal same = cc
+legal-determined shape (d ∷ h) [] legal other_legal same = cc
+legal-determined shape (d ∷ h) (e ∷ other) legal other_legal same =
+    let past = legal-determined shape h other legal.0 other_legal.0 (tails d.ask e.ask _ _ same) in
+    let ask = heads d.ask e.ask _ _ same in
+    let reply : d.reply ≡ e.reply = legal.1.answered ∙ ap (λ p. reply_to shape p d.ask) past ∙ ap (λ a. reply_to shape other a) ask ∙ sym other_legal.1.answered in
+    ap (λ es. d ∷ es) past ∙ ap (λ first. first ∷ other) (entries d e ask reply) where
+      heads : (a b : Ask) (more others : List Ask) → a ∷ more ≡ b ∷ others → a ≡ b
+      heads a b more others same = cc
+
+      tails : (a b : Ask) (more others : List Ask) → a ∷ more ≡ b ∷ others → more ≡ others
+      tails a b more others same = cc
+
+      entries : (d e : Entry) → d.ask ≡ e.ask → d.reply ≡ e.reply → d ≡ e
+      entries d e ask reply = λ i. record { ask = ask i; reply = reply i }

@@ -1,0 +1,293 @@
+-- The account of a link: what it keeps of its history. It keeps its clock, how many packets it has taken, a row for
+-- each reservation held, in the order of the reserves, the packets here, in the order of their arrival, and the one
+-- that occupies it. Of a row it keeps the terms, the lead, how many packets were taken, their newest eligible ticks,
+-- a burst of them, and the planned packets that are left. The account gives the reply to each ask, and the account
+-- after it: no rule needs more of the history.
+use Rattle.std.specs.Prelude.{◌≡◌, ℕ, suc, ◌+◌, Bool, true, not, nat_eq, nat_le, nat_lt, if◌then◌else◌, Option, Some, None, List, [], ◌∷◌, ◌++◌, length, map, filter, find, take}
+use Rattle.net_units.specs.declared.numbers.ChanNo.{ChanNo}
+use Rattle.net_units.specs.declared.numbers.Level.{Level}
+use Rattle.traffic_contract.specs.Contract.{Terms, IsContract, burst_of}
+use Rattle.traffic_contract.specs.Eligible.{newest}
+use Rattle.link_steps.specs.declared.asks.Ask.{Ask}
+use Rattle.link_steps.specs.declared.asks.Ask.TheVariants.{Reserve, Relax, Deny, Submit, Release, Arrive, Tick}
+use Rattle.link_steps.specs.declared.asks.Packet.{Packet}
+use Rattle.link_steps.specs.declared.replies.Entry.{Entry}
+use Rattle.link_steps.specs.declared.replies.Refusal.TheVariants.{NoSuch, Stray}
+use Rattle.link_steps.specs.declared.replies.Reply.{Reply}
+use Rattle.link_steps.specs.declared.replies.Reply.TheVariants as Is
+use Rattle.link_steps.specs.declared.replies.Sent.{Sent}
+use Rattle.link_steps.specs.declared.replies.Why.TheVariants.{NoRow}
+use Rattle.link_steps.specs.declared.shape.LinkShape.{LinkShape}
+use Rattle.link_steps.specs.Buffer.{has_slot, held_packets}
+use Rattle.link_steps.specs.Hold.{hold_ended}
+use Rattle.link_steps.specs.Lists.{change_first, without_first, Each}
+use Rattle.link_steps.specs.Replies.{reserve_reply, relax_reply, deny_reply, submit_reply, release_reply, arrive_reply, sent_of}
+use Rattle.link_steps.specs.Reservation.{Reservation, tentative, committed, closing, is_of, is_at_hop}
+use Rattle.link_steps.specs.Scan.{Scan, clock_of, scan_of, names_first_hop}
+use Rattle.link_steps.specs.Service.{Arrival, Start, leaves_at, first_in_line, starts_below, here_at}
+use Rattle.link_steps.specs.Regulator.{eligible_next}
+use Rattle.link_steps.specs.Rows.{Row, SourcePacket, planned_from, is_for, left_at}
+use Rattle.link_steps.specs.Sources.{SourceStep, Brings, lead_with, arrival_at, source_step, taken_by, lost_by}
+
+-- `taken` counts the row's packets, and `recent` are the newest of their eligible ticks, newest first
+pub record KeptRow : Type 0 where
+  pub terms : Reservation
+  pub lead : ℕ
+  pub taken : ℕ
+  pub recent : List ℕ
+  pub left : List SourcePacket
+
+-- `taken` counts the link's packets, and `on` is the start of the one that occupies it
+pub record Kept : Type 0 where
+  pub clock : ℕ
+  pub taken : ℕ
+  pub rows : List KeptRow
+  pub here : List Arrival
+  pub on : Option Start
+
+-- ---- what is kept of a history
+
+-- as many of the eligible ticks as the contract's burst
+abbrev pub recent_of : Terms → List ℕ → List ℕ
+recent_of contract ticks = take (burst_of contract) ticks
+
+abbrev pub kept_row : ℕ → Row → KeptRow
+kept_row t row = record {
+  terms = row.terms;
+  lead = row.lead;
+  taken = length row.ticks;
+  recent = recent_of row.terms.contract row.ticks;
+  left = left_at t row.plan;
+}
+
+-- the start of the packet that occupies the link in tick t, of these starts, newest first
+abbrev pub start_on : ℕ → List Start → ℕ → Option Start
+start_on rate [] t = None
+start_on rate (start ∷ earlier) t = if nat_lt t (leaves_at rate start) then Some start else None
+
+-- what is kept at clock t, from the scan of the history
+unfoldable pub kept_at : LinkShape → ℕ → Scan → Kept
+kept_at shape t scan = record {
+  clock = t;
+  taken = length scan.packets;
+  rows = map (kept_row t) scan.rows;
+  here = here_at shape.rate scan.packets t;
+  on = start_on shape.rate (starts_below shape.rate scan.packets t) t;
+}
+
+abbrev pub kept_of : LinkShape → List Entry → Kept
+kept_of shape h = kept_at shape (clock_of h) (scan_of shape h)
+
+-- what is kept of no history
+abbrev pub nothing_kept : Kept
+nothing_kept = record { clock = 0; taken = 0; rows = []; here = []; on = None }
+
+-- a link that keeps this stands for the history
+abbrev pub StandsFor : LinkShape → Kept → List Entry → Type 0
+StandsFor shape k h = k ≡ kept_of shape h
+
+-- the rows have contracts, as those of every legal history do
+abbrev pub HasContract : KeptRow → Type 0
+HasContract row = IsContract row.terms.contract
+
+abbrev pub HasContracts : Kept → Type 0
+HasContracts k = Each HasContract k.rows
+
+-- ---- the rows through a tick
+
+abbrev pub kept_terms : KeptRow → Reservation
+kept_terms row = row.terms
+
+-- whether a row stays held in tick t
+abbrev pub kept_stays : List ℕ → ℕ → KeptRow → Bool
+kept_stays bounds t row = not (hold_ended bounds row.terms row.taken (newest row.recent) t)
+
+-- what a row's source does in tick t
+unfoldable pub kept_step : List ℕ → List Arrival → ℕ → KeptRow → SourceStep
+kept_step bounds here t row = source_step (has_slot bounds row.terms row.lead here) (find (is_for t) row.left)
+
+abbrev pub kept_tick : KeptRow → ℕ → ℕ
+kept_tick row t = eligible_next row.terms row.recent t 0
+
+-- the packet taken from a source, if there is one
+abbrev pub kept_packet : SourceStep → ℕ → ℕ → KeptRow → List Arrival
+kept_packet (Brings size) t place row = arrival_at row.terms row.lead place (suc row.taken) size t (kept_tick row t) ∷ []
+kept_packet _ t place row = []
+
+-- the row with one more packet, of this arrival number and eligible at e
+abbrev pub kept_with : ℕ → ℕ → KeptRow → KeptRow
+kept_with place e row = record row {
+  lead = lead_with row.lead place;
+  taken = suc row.taken;
+  recent = recent_of row.terms.contract (e ∷ row.recent);
+}
+
+-- the row after its source's step in tick t: what was planned for t is no longer left
+abbrev pub past_tick : ℕ → KeptRow → KeptRow
+past_tick t row = record row { left = left_at (suc t) row.left }
+
+abbrev pub kept_after_step : SourceStep → ℕ → ℕ → KeptRow → KeptRow
+kept_after_step (Brings size) t place row = kept_with place (kept_tick row t) (past_tick t row)
+kept_after_step _ t place row = past_tick t row
+
+unfoldable pub kept_packets : List ℕ → List Arrival → ℕ → ℕ → List KeptRow → List Arrival
+kept_packets bounds here t taken [] = []
+kept_packets bounds here t taken (row ∷ rows) =
+    kept_packet (kept_step bounds here t row) t (suc taken) row
+    ++ kept_packets bounds here t (taken + taken_by (kept_step bounds here t row)) rows
+
+unfoldable pub kept_rows_after : List ℕ → List Arrival → ℕ → ℕ → List KeptRow → List KeptRow
+kept_rows_after bounds here t taken [] = []
+kept_rows_after bounds here t taken (row ∷ rows) =
+    kept_after_step (kept_step bounds here t row) t (suc taken) row
+    ∷ kept_rows_after bounds here t (taken + taken_by (kept_step bounds here t row)) rows
+
+unfoldable pub kept_lost : List ℕ → List Arrival → ℕ → List KeptRow → ℕ
+kept_lost bounds here t [] = 0
+kept_lost bounds here t (row ∷ rows) = lost_by (kept_step bounds here t row) + kept_lost bounds here t rows
+
+-- ---- the packets through a tick
+
+-- whether a packet that is here is eligible by tick t
+abbrev pub is_eligible_by : ℕ → Arrival → Bool
+is_eligible_by t p = nat_le p.eligible t
+
+-- the start of this packet in tick t, where there is one
+abbrev pub start_at : ℕ → Option Arrival → Option Start
+start_at t None = None
+start_at t (Some p) = Some (record { packet = p; tick = t })
+
+-- the packet that occupies the link in tick t: the one that did, or else the first in line of those here
+abbrev pub served : ℕ → List Arrival → Option Start → Option Start
+served t here (Some start) = Some start
+served t here None = start_at t (first_in_line (filter (is_eligible_by t) here))
+
+-- whether it leaves by the end of tick t, and the one that still occupies the link then
+abbrev pub leaves_by : ℕ → ℕ → Start → Bool
+leaves_by rate t start = nat_le (leaves_at rate start) (suc t)
+
+abbrev pub still_on : ℕ → ℕ → Option Start → Option Start
+still_on rate t None = None
+still_on rate t (Some start) = if leaves_by rate t start then None else Some start
+
+-- the packet that departs at the end of tick t
+abbrev pub departs : LinkShape → ℕ → Option Start → Option Sent
+departs shape t None = None
+departs shape t (Some start) = if nat_eq (leaves_at shape.rate start) (suc t) then Some (sent_of shape start) else None
+
+-- the packets that are still here then
+abbrev pub is_other : Start → Arrival → Bool
+is_other start p = not (nat_eq start.packet.place p.place)
+
+abbrev pub still_here : ℕ → ℕ → Option Start → List Arrival → List Arrival
+still_here rate t None here = here
+still_here rate t (Some start) here = if leaves_by rate t start then filter (is_other start) here else here
+
+-- ---- the account through a tick
+
+-- the rows that stay held in the tick at hand, the packets here once the sources have brought theirs, and the packet
+-- that then occupies the link
+abbrev pub held_rows : LinkShape → Kept → List KeptRow
+held_rows shape k = filter (kept_stays shape.bounds k.clock) k.rows
+
+abbrev pub brought : LinkShape → Kept → List Arrival
+brought shape k = kept_packets shape.bounds k.here k.clock k.taken (held_rows shape k)
+
+abbrev pub present : LinkShape → Kept → List Arrival
+present shape k = k.here ++ brought shape k
+
+abbrev pub occupies : LinkShape → Kept → Option Start
+occupies shape k = served k.clock (present shape k) k.on
+
+unfoldable pub kept_after_tick : LinkShape → Kept → Kept
+kept_after_tick shape k = record {
+  clock = suc k.clock;
+  taken = k.taken + length (brought shape k);
+  rows = kept_rows_after shape.bounds k.here k.clock k.taken (held_rows shape k);
+  here = still_here shape.rate k.clock (occupies shape k) (present shape k);
+  on = still_on shape.rate k.clock (occupies shape k);
+}
+
+unfoldable pub kept_tick_reply : LinkShape → Kept → Reply
+kept_tick_reply shape k =
+    Is.Ticked k.clock
+    (kept_lost shape.bounds k.here k.clock (held_rows shape k))
+    (departs shape k.clock (occupies shape k))
+
+-- ---- the reply to an ask
+
+abbrev pub is_kept_of : ChanNo → KeptRow → Bool
+is_kept_of chan row = is_of chan row.terms
+
+abbrev pub is_kept_at_hop : ChanNo → Bool → KeptRow → Bool
+is_kept_at_hop chan first row = is_at_hop chan first row.terms
+
+abbrev pub kept_submit : ℕ → ℕ → Option KeptRow → Reply
+kept_submit t size None = Is.Refused NoSuch
+kept_submit t size (Some row) = submit_reply t size row.terms (length row.left)
+
+abbrev pub kept_release : Option ℕ → Option KeptRow → Reply
+kept_release upstream None = Is.Refused NoSuch
+kept_release upstream (Some row) = release_reply upstream row.terms row.taken (length row.left)
+
+abbrev pub kept_arrive : LinkShape → ℕ → List Arrival → Packet → Option KeptRow → Reply
+kept_arrive shape t here packet None = Is.Refused (Stray NoRow)
+kept_arrive shape t here packet (Some row) =
+    arrive_reply shape.bounds t packet row.terms row.taken (held_packets row.lead here) (eligible_next row.terms row.recent t packet.due)
+
+unfoldable pub kept_reply : LinkShape → Kept → Ask → Reply
+kept_reply shape k (Reserve chan contract kind delay up_reach first next) = reserve_reply shape (map kept_terms k.rows) chan contract delay up_reach
+kept_reply shape k (Relax chan level up_bound) = relax_reply k.clock level up_bound (find (is_of chan) (map kept_terms k.rows))
+kept_reply shape k (Deny chan) = deny_reply (find (is_of chan) (map kept_terms k.rows))
+kept_reply shape k (Submit chan count gap size) = kept_submit k.clock size (find (is_kept_at_hop chan true) k.rows)
+kept_reply shape k (Release chan upstream) = kept_release upstream (find (is_kept_at_hop chan (names_first_hop upstream)) k.rows)
+kept_reply shape k (Arrive packet) = kept_arrive shape k.clock k.here packet (find (is_kept_of packet.chan) k.rows)
+kept_reply shape k Tick = kept_tick_reply shape k
+
+-- ---- the account after an ask and its reply
+
+abbrev pub new_kept : Reservation → KeptRow
+new_kept terms = record { terms = terms; lead = 0; taken = 0; recent = []; left = [] }
+
+abbrev pub kept_relaxed : Level → ℕ → KeptRow → KeptRow
+kept_relaxed level up_bound row = record row { terms = committed level up_bound row.terms }
+
+abbrev pub kept_planned : ℕ → ℕ → ℕ → ℕ → KeptRow → KeptRow
+kept_planned t count gap size row = record row { left = row.left ++ planned_from t gap size count }
+
+abbrev pub kept_closed : ℕ → KeptRow → KeptRow
+kept_closed count row = record row { terms = closing count row.terms; left = [] }
+
+abbrev pub kept_arrived_tick : ℕ → Packet → KeptRow → ℕ
+kept_arrived_tick t packet row = eligible_next row.terms row.recent t packet.due
+
+abbrev pub kept_arrived_row : ℕ → ℕ → Packet → KeptRow → KeptRow
+kept_arrived_row t place packet row = kept_with place (kept_arrived_tick t packet row) row
+
+abbrev pub kept_arrived : ℕ → ℕ → Packet → KeptRow → Arrival
+kept_arrived t place packet row = arrival_at row.terms row.lead place packet.number packet.size t (kept_arrived_tick t packet row)
+
+abbrev pub with_kept_rows : Kept → List KeptRow → Kept
+with_kept_rows k rows = record k { rows = rows }
+
+unfoldable pub kept_with_arrival : Packet → Kept → Option KeptRow → Kept
+kept_with_arrival packet k None = k
+kept_with_arrival packet k (Some row) = record k {
+  taken = suc k.taken;
+  rows = change_first (is_kept_of packet.chan) (kept_arrived_row k.clock (suc k.taken) packet) k.rows;
+  here = k.here ++ kept_arrived k.clock (suc k.taken) packet row ∷ [];
+}
+
+unfoldable pub kept_after : LinkShape → Kept → Ask → Reply → Kept
+kept_after shape k (Reserve chan contract kind delay up_reach first next) (Is.Offer level reach) =
+    with_kept_rows k (k.rows ++ new_kept (tentative chan contract kind first next up_reach level reach) ∷ [])
+kept_after shape k (Relax chan level up_bound) (Is.Relaxed clock) =
+    with_kept_rows k (change_first (is_kept_of chan) (kept_relaxed level up_bound) k.rows)
+kept_after shape k (Deny chan) Is.Denied = with_kept_rows k (without_first (is_kept_of chan) k.rows)
+kept_after shape k (Submit chan count gap size) (Is.Planned clock) =
+    with_kept_rows k (change_first (is_kept_at_hop chan true) (kept_planned k.clock count gap size) k.rows)
+kept_after shape k (Release chan upstream) (Is.Closing count cancelled) =
+    with_kept_rows k (change_first (is_kept_at_hop chan (names_first_hop upstream)) (kept_closed count) k.rows)
+kept_after shape k (Arrive packet) (Is.Taken clock eligible) = kept_with_arrival packet k (find (is_kept_of packet.chan) k.rows)
+kept_after shape k Tick reply = kept_after_tick shape k
+kept_after shape k _ _ = k

@@ -1,0 +1,151 @@
+-- The legal reply to each ask, from the history before it. A reserve is offered the best level of its contract, and
+-- its reach: the largest level whose bound is within the end-to-end bound or that of the offer, whichever is larger.
+-- A relax, a deny, a submit and a release are answered where a reservation of the channel is held in the phase that
+-- they want; a submit, and a release that is told no count, name it at its first hop, a release that is told a
+-- count at a later one. The first hop's release answers the count of packets taken and cancels what is planned. A
+-- later hop's answers the larger of its own count and the one that it was told, and cancels nothing. A packet that
+-- arrives is taken where the reservation is ready for it and has a slot free, and the reply says at which tick it is
+-- eligible. A tick says how many source packets were dropped in it, and which packet departs at its end.
+use Rattle.std.specs.Prelude.{ℕ, suc, ◌+◌, true, nat_eq, if◌then◌else◌, Option, Some, None, List, [], ◌∷◌, length, map, find, max, unwrap_or}
+use Rattle.net_units.specs.Steps.{bound_at, levels_within}
+use Rattle.net_units.specs.declared.numbers.ChanNo.{ChanNo}
+use Rattle.net_units.specs.declared.numbers.Level.{Level}
+use Rattle.traffic_contract.specs.Admission.{best_level}
+use Rattle.traffic_contract.specs.Contract.{Terms}
+use Rattle.link_steps.specs.declared.asks.Ask.{Ask}
+use Rattle.link_steps.specs.declared.asks.Ask.TheVariants.{Reserve, Relax, Deny, Submit, Release, Arrive, Tick}
+use Rattle.link_steps.specs.declared.asks.Packet.{Packet}
+use Rattle.link_steps.specs.declared.replies.Entry.{Entry}
+use Rattle.link_steps.specs.declared.replies.Phase.TheVariants.{Tentative, Committed}
+use Rattle.link_steps.specs.declared.replies.Refusal.TheVariants.{NoSuch, Stray}
+use Rattle.link_steps.specs.declared.replies.Reply.{Reply}
+use Rattle.link_steps.specs.declared.replies.Reply.TheVariants.{Offer, Relaxed, Denied, Planned, Closing, Taken, Ticked, Refused}
+use Rattle.link_steps.specs.declared.replies.Sent.{Sent}
+use Rattle.link_steps.specs.declared.replies.Why.TheVariants.{NoRow}
+use Rattle.link_steps.specs.declared.shape.LinkShape.{LinkShape}
+use Rattle.link_steps.specs.Buffer.{need_of, slots_of, free_units, held_packets}
+use Rattle.link_steps.specs.Levels.{level_of}
+use Rattle.link_steps.specs.Refusals.{first_refusal, too_wide, twice, no_level, no_buffer, not_in_phase, unfit, busy, too_big, first_hop, uncommitted, wrong_number, past_count, big, full}
+use Rattle.link_steps.specs.Reservation.{Reservation, admitted, is_of}
+use Rattle.link_steps.specs.Scan.{Scan, clock_of, scan_of, without_expired, after_tick, is_row_of, is_row_at_hop, names_first_hop}
+use Rattle.link_steps.specs.Service.{Arrival, Start, leaves_at, starts_below, here_at}
+use Rattle.link_steps.specs.Shape.{server_of}
+use Rattle.link_steps.specs.Regulator.{eligible_next}
+use Rattle.link_steps.specs.Rows.{Row, row_terms, left_at}
+use Rattle.link_steps.specs.Sources.{lost_in}
+
+-- the number of the reach for an offered level: the largest level whose bound is at most `delay` or the offer's bound
+abbrev pub reach_of : List ℕ → ℕ → ℕ → ℕ
+reach_of bounds delay offer = levels_within bounds (max delay (bound_at bounds offer))
+
+-- a reserve at a link that holds these reservations, where `best` is the best level of its contract
+abbrev pub reserve_reply_at : LinkShape → List Reservation → ChanNo → Terms → ℕ → ℕ → Option ℕ → Reply
+reserve_reply_at shape held chan contract delay up_reach best =
+    first_refusal
+    (too_wide contract shape.cap
+    ∷ twice (find (is_of chan) held)
+    ∷ no_level (server_of shape) (map admitted held) contract best
+    ∷ no_buffer (need_of shape.bounds contract up_reach (reach_of shape.bounds delay (unwrap_or best 0))) (free_units shape held)
+    ∷ [])
+    (Offer (level_of (unwrap_or best 0)) (level_of (reach_of shape.bounds delay (unwrap_or best 0))))
+
+-- the same, with that level found
+unfoldable pub reserve_reply : LinkShape → List Reservation → ChanNo → Terms → ℕ → ℕ → Reply
+reserve_reply shape held chan contract delay up_reach =
+    reserve_reply_at shape held chan contract delay up_reach (best_level (server_of shape) (map admitted held) contract)
+
+-- a relax of the reservation held, if there is one
+unfoldable pub relax_reply : ℕ → Level → ℕ → Option Reservation → Reply
+relax_reply t level up_bound None = Refused NoSuch
+relax_reply t level up_bound (Some terms) = first_refusal (not_in_phase Tentative terms ∷ unfit terms level up_bound ∷ []) (Relaxed t)
+
+-- a deny of it
+unfoldable pub deny_reply : Option Reservation → Reply
+deny_reply None = Refused NoSuch
+deny_reply (Some terms) = first_refusal (not_in_phase Tentative terms ∷ []) Denied
+
+-- a submit where `left` planned packets are left
+unfoldable pub submit_reply : ℕ → ℕ → Reservation → ℕ → Reply
+submit_reply t size terms left = first_refusal (not_in_phase Committed terms ∷ busy left ∷ too_big terms size ∷ []) (Planned t)
+
+-- the count of a release that is told a count, or none, where so many packets are taken
+abbrev pub count_at_release : Option ℕ → ℕ → ℕ
+count_at_release None taken = taken
+count_at_release (Some told) taken = max told taken
+
+-- the planned packets that it cancels, of so many that are left
+abbrev pub cancelled_at_release : Option ℕ → ℕ → ℕ
+cancelled_at_release None left = left
+cancelled_at_release (Some told) left = 0
+
+-- a release where so many packets are taken and so many planned ones are left
+unfoldable pub release_reply : Option ℕ → Reservation → ℕ → ℕ → Reply
+release_reply upstream terms taken left = first_refusal (not_in_phase Committed terms ∷ []) (Closing (count_at_release upstream taken) (cancelled_at_release upstream left))
+
+-- a packet that arrives where so many are taken, so many are here, and this would be its eligible tick
+unfoldable pub arrive_reply : List ℕ → ℕ → Packet → Reservation → ℕ → ℕ → ℕ → Reply
+arrive_reply bounds t packet terms taken held e =
+    first_refusal
+    (first_hop terms
+    ∷ uncommitted terms
+    ∷ wrong_number packet.number (suc taken)
+    ∷ past_count terms taken
+    ∷ big terms packet.size
+    ∷ full held (slots_of bounds terms)
+    ∷ [])
+    (Taken t e)
+
+-- a packet as it leaves the link
+abbrev pub sent_of : LinkShape → Start → Sent
+sent_of shape start = record {
+  packet = record {
+    chan = start.packet.chan;
+    number = start.packet.number;
+    size = start.packet.size;
+    due = start.packet.eligible + bound_at shape.bounds start.packet.level + shape.prop;
+  };
+  at = start.packet.at;
+  eligible = start.packet.eligible;
+  arrives = leaves_at shape.rate start + shape.prop;
+  next = start.packet.next;
+}
+
+-- the packet that departs at this tick: the one that started last, if that is its last tick
+unfoldable pub sent_at : LinkShape → ℕ → List Start → Option Sent
+sent_at shape t [] = None
+sent_at shape t (start ∷ earlier) = if nat_eq (leaves_at shape.rate start) t then Some (sent_of shape start) else None
+
+-- what a row, if there is one, replies to a submit, a release and a packet that arrives
+abbrev pub submit_to : ℕ → ℕ → Option Row → Reply
+submit_to t size None = Refused NoSuch
+submit_to t size (Some row) = submit_reply t size row.terms (length (left_at t row.plan))
+
+abbrev pub release_to : ℕ → Option ℕ → Option Row → Reply
+release_to t upstream None = Refused NoSuch
+release_to t upstream (Some row) = release_reply upstream row.terms (length row.ticks) (length (left_at t row.plan))
+
+abbrev pub arrive_to : LinkShape → ℕ → List Arrival → Packet → Option Row → Reply
+arrive_to shape t packets packet None = Refused (Stray NoRow)
+arrive_to shape t packets packet (Some row) =
+    arrive_reply shape.bounds t packet row.terms (length row.ticks) (held_packets row.lead (here_at shape.rate packets t)) (eligible_next row.terms row.ticks t packet.due)
+
+-- a tick: its number, the source packets dropped in it, and the packet that departs at its end
+abbrev pub tick_reply : LinkShape → ℕ → Scan → Reply
+tick_reply shape t scan =
+    Ticked t
+    (lost_in shape.bounds (here_at shape.rate scan.packets t) t (without_expired shape.bounds t scan).rows)
+    (sent_at shape (suc t) (starts_below shape.rate (after_tick shape t scan).packets (suc t)))
+
+-- the reply to an ask at clock t, from the scan of the history
+unfoldable pub reply_at : LinkShape → ℕ → Scan → Ask → Reply
+reply_at shape t scan (Reserve chan contract kind delay up_reach first next) = reserve_reply shape (map row_terms scan.rows) chan contract delay up_reach
+reply_at shape t scan (Relax chan level up_bound) = relax_reply t level up_bound (find (is_of chan) (map row_terms scan.rows))
+reply_at shape t scan (Deny chan) = deny_reply (find (is_of chan) (map row_terms scan.rows))
+reply_at shape t scan (Submit chan count gap size) = submit_to t size (find (is_row_at_hop chan true) scan.rows)
+reply_at shape t scan (Release chan upstream) = release_to t upstream (find (is_row_at_hop chan (names_first_hop upstream)) scan.rows)
+reply_at shape t scan (Arrive packet) = arrive_to shape t scan.packets packet (find (is_row_of packet.chan) scan.rows)
+reply_at shape t scan Tick = tick_reply shape t scan
+
+-- the legal reply to an ask after a history
+unfoldable pub reply_to : LinkShape → List Entry → Ask → Reply
+reply_to shape past ask = reply_at shape (clock_of past) (scan_of shape past) ask

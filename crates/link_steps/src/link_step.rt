@@ -1,0 +1,53 @@
+//! What a type owes that acts as a link.
+ghost use Rattle.std.specs.Prelude.{◌≡◌, ℕ, ◌^◌, ◌<◌, List, ◌∷◌, IfOk, OnErr};
+ghost use Rattle.link_steps.specs.declared.asks.Ask.{Ask};
+ghost use Rattle.link_steps.specs.declared.replies.Entry.{Entry};
+ghost use Rattle.link_steps.specs.declared.shape.LinkShape.{LinkShape};
+ghost use Rattle.link_steps.specs.Legal.{AskFits};
+ghost use Rattle.link_steps.specs.Replies.{reply_to};
+ghost use Rattle.link_steps.specs.Scan.{clock_of, clock_with};
+
+use crate::asks::Ask;
+use crate::replies::Reply;
+use crate::shape::LinkShape;
+use net_units::OutOfMemory;
+
+/// A link that is asked one step at a time.
+///
+/// It stands for a history when what it keeps is what the rules give for that history. For every history that it
+/// stands for, a step answers the legal reply at that point, and the link then stands for that history with the
+/// one entry added, newest first.
+pub trait LinkStep: Drop {
+    /// Its shape.
+    ghost shape_of: { Self → LinkShape };
+
+    /// The number of its next tick.
+    ghost clock_at: { Self → ℕ };
+
+    /// Whether it stands for this history, newest first.
+    ghost stands_for: { Self → List Entry → Type 0 };
+
+    /// Its shape, which never changes.
+    fn shape(&self) -> LinkShape
+        ensures { result ≡ shape_of self.now };
+
+    /// The number of its next tick, which is the number of ticks that it has made.
+    fn clock(&self) -> u64
+        ensures { result ≡ clock_at self.now };
+
+    /// Makes one step. A refusal among the replies leaves the link as it was, and so does want of memory.
+    fn step(&mut self, ask: &Ask) -> Result<Reply, OutOfMemory>
+        requires fits { AskFits (shape_of self.old) ask.now }
+        requires early { clock_at self.old < 2 ^ 61 }
+        ensures shape { shape_of self.new ≡ shape_of self.old }
+        ensures legal { IfOk result (λ reply. (h : List Entry) → stands_for self.old h → reply ≡ reply_to (shape_of self.old) h ask.now) }
+        ensures entered { IfOk result (λ reply. (h : List Entry) → stands_for self.old h → stands_for self.new (record { ask = ask.now; reply = reply } ∷ h)) }
+        ensures memory { OnErr result ((h : List Entry) → stands_for self.old h → stands_for self.new h) }
+
+        // The same of the clock, where no history is at hand.
+        ensures ticked { IfOk result (λ _. clock_at self.new ≡ clock_with ask.now (clock_at self.old)) }
+        ensures stopped { OnErr result (clock_at self.new ≡ clock_at self.old) };
+
+    /// The clock is that of every history that the link stands for.
+    ghost tells_time: { (link : Self) (h : List Entry) → stands_for link h → clock_at link ≡ clock_of h };
+}

@@ -1,0 +1,142 @@
+//! What a link is, apart from what it does.
+ghost use Rattle.std.specs.Prelude.{◌≡◌, ◌≤◌, IsTrue, IfOk, MatchResult, None, Some};
+ghost use Rattle.net_units.specs.Quotient.{ceil_quotient};
+ghost use Rattle.net_units.specs.Steps.{are_bounds, bound_at};
+
+use net_units::{Bounds, Level, LinkNo, ceil_div};
+
+/// A number of a link's shape, or its bounds.
+#[derive(Clone, Copy, Debug, PartialEq, Eq)]
+pub enum ShapeField {
+    /// The rate, in units a tick.
+    Rate,
+    /// The largest packet, in units.
+    Cap,
+    /// The propagation, in ticks.
+    Prop,
+    /// The buffer, in units.
+    Buffer,
+    /// The bounds of the levels, in ticks.
+    Bounds,
+}
+
+/// Numbers that aren't a link's, with the first field that fails.
+#[derive(Clone, Copy, Debug, PartialEq, Eq)]
+pub struct BadShape {
+    pub field: ShapeField,
+}
+
+/// A link: its number and its numbers, each within its limit. A packet of the largest size fits the first bound.
+#[derive(Clone, Copy)]
+pub struct LinkShape {
+    /// Its place among the links of the network.
+    pub link: LinkNo,
+    /// What it sends in a tick, from 1 to 65,536 units.
+    pub rate: u32,
+    /// The largest packet that it carries, from 1 to 65,536 units.
+    pub cap: u32,
+    /// Its propagation: the ticks between a departure here and the arrival behind it, up to 1,048,576.
+    pub prop: u32,
+    /// Its buffer, up to 262,144 units.
+    pub buffer: u32,
+    /// The delay bounds of its levels, in ticks.
+    pub bounds: Bounds,
+    ghost rate_least: { 1 ≤ rate },
+    ghost rate_most: { rate ≤ 65536 },
+    ghost cap_least: { 1 ≤ cap },
+    ghost cap_most: { cap ≤ 65536 },
+    ghost prop_most: { prop ≤ 1048576 },
+    ghost buffer_most: { buffer ≤ 262144 },
+    ghost bounds_rise: { IsTrue (are_bounds bounds) },
+    ghost blocking_fits: { ceil_quotient cap rate ≤ bound_at bounds 1 },
+}
+
+impl LinkShape {
+    ghost use Rattle.link_steps.specs.Shape.{first_bad_field, blocking_of, IsShapeOf};
+
+    /// A link of these numbers, refused for the first field, in this order, that is out of its limit: a rate or a
+    /// cap from 1 to 65,536 units, a propagation of at most 1,048,576 ticks, a buffer of at most 262,144 units,
+    /// and bounds of which the first is at least the ticks of the largest packet.
+    pub fn new(
+        link: LinkNo,
+        rate: u32,
+        cap: u32,
+        prop: u32,
+        buffer: u32,
+        bounds: Bounds,
+    ) -> Result<LinkShape, BadShape>
+        ensures refusal { MatchResult result
+            (λ _. first_bad_field rate cap prop buffer bounds ≡ None)
+            (λ bad. first_bad_field rate cap prop buffer bounds ≡ Some bad.field) }
+        ensures value { IfOk result (IsShapeOf link rate cap prop buffer bounds) }
+    {
+        if !(1..=65_536).contains(&rate) {
+            return Err(BadShape {
+                field: ShapeField::Rate,
+            });
+        }
+        if !(1..=65_536).contains(&cap) {
+            return Err(BadShape {
+                field: ShapeField::Cap,
+            });
+        }
+        if prop > 1_048_576 {
+            return Err(BadShape {
+                field: ShapeField::Prop,
+            });
+        }
+        if buffer > 262_144 {
+            return Err(BadShape {
+                field: ShapeField::Buffer,
+            });
+        }
+        if ceil_div(u64::from(cap), u64::from(rate)) > u64::from(bounds.at(Level::LEAST)) {
+            return Err(BadShape {
+                field: ShapeField::Bounds,
+            });
+        }
+        Ok(LinkShape {
+            link,
+            rate,
+            cap,
+            prop,
+            buffer,
+            bounds,
+        })
+    }
+
+    /// The blocking: the ticks that a packet of the largest size occupies the link, from 1 to 65,536.
+    pub fn blocking(&self) -> u32
+        ensures value { result ≡ blocking_of self.now }
+        ensures least { 1 ≤ result }
+        ensures most { result ≤ 65536 }
+    {
+        self.cap.div_ceil(self.rate)
+    }
+}
+
+#[cfg(test)]
+mod tests {
+    use super::*;
+    use std::test::Fail;
+
+    #[test]
+    fn shapes_and_their_blocking(rt: HostRuntime) -> Result<(), Fail> {
+        let link = LinkNo::new(0).ok_or("no such link")?;
+        let bounds = Bounds::new(&[10, 20, 40]).ok_or("no such bounds")?;
+        for (rate, cap, prop, buffer, want) in [
+            (1, 4, 2, 100, Ok(4)),
+            (125, 1250, 50, 65_536, Ok(10)),
+            (1, 11, 2, 100, Err(ShapeField::Bounds)),
+            (0, 0, 2, 100, Err(ShapeField::Rate)),
+            (1, 65_537, 2, 100, Err(ShapeField::Cap)),
+            (1, 4, 1_048_577, 262_145, Err(ShapeField::Prop)),
+            (1, 4, 2, 262_145, Err(ShapeField::Buffer)),
+        ] {
+            let made = LinkShape::new(link, rate, cap, prop, buffer, bounds);
+            let blocking = made.map(|shape| shape.blocking()).map_err(|bad| bad.field);
+            assert_eq!(rt; blocking, want, "rate {rate}, cap {cap}");
+        }
+        Ok(())
+    }
+}
