@@ -250,7 +250,14 @@ fn a_run_that_stops_says_why(rt: HostRuntime) -> Result<(), Fail> {
         ..failing_end
     };
     let told = (refused(1), "refused 1 later\n");
-    ends_with(&rt, alloc, &["play"], b"tenet 2\nlink", failing_behind, told)?;
+    ends_with(
+        &rt,
+        alloc,
+        &["play"],
+        b"tenet 2\nlink",
+        failing_behind,
+        told,
+    )?;
     let told = (Status::Words, "");
     ends_with(&rt, alloc, &[], first, SOUND, told)?;
     ends_with(&rt, alloc, &["fly"], first, SOUND, told)?;
