@@ -13,7 +13,7 @@ use Rattle.traffic_contract.specs.Admission.{Passes}
 use Rattle.tenet_app.specs.Fields.{ended_line}
 use Rattle.tenet_app.specs.PlanText.{plan_text}
 use Rattle.tenet_app.specs.Plans.{Said, IsPlan}
-use Rattle.tenet_app.specs.Reading.{Reading, IsRead, IsBad, IsOver, reading}
+use Rattle.tenet_app.specs.Reading.{Reading, IsRead, IsBad, IsOver, reading, LetsPass}
 use Rattle.tenet_app.specs.Establishment.{Settlement, settlements, server_over, held_after_steps}
 use Rattle.tenet_app.specs.Report.{report_of}
 use Rattle.tenet_app.specs.declared.scenario.cause.Cause.{Cause}
@@ -76,8 +76,9 @@ pub record PlaysTooLong (before after : Ends) : Type 0 where
   pub over : ComesTo before.left (λ r. r ≡ IsOver)
   pub written : Keeps before.written after.written
 
--- the source failed, and nothing was written
+-- the source failed before a whole line that is refused was taken from it, and nothing was written
 pub record PlaysReadFault (before after : Ends) : Type 0 where
+  pub passing : LetsPass MOST_BYTES before.left after.left
   pub rises : Rises before.read_faults after.read_faults
   pub written : Keeps before.written after.written
 

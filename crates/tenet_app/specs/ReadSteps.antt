@@ -1,13 +1,13 @@
 -- How a scenario is read line by line: after each line, what is to come of the bytes ahead, after what was read so
 -- far, comes to the same. So the answer is a function of all bytes, where the source tells them.
 use Rattle.std.specs.Prelude.{◌≡◌, ℕ, ◌+◌, ◌++◌, Bool, true, false, List, Option, Some, None, IfSome, Result, Ok, Err, ⊤}
-use Rattle.std.specs.Io.KnownBytes.{IsAtEnd}
+use Rattle.std.specs.Io.KnownBytes.{Consumes, IsAtEnd}
 use Rattle.byte_ends.specs.Cutting.{Cutting, IsCutting, IsOf, allowance}
-use Rattle.byte_ends.specs.WholeLines.{all_given, outlook}
+use Rattle.byte_ends.specs.WholeLines.{all_given, outlook, whole_lines}
 use Rattle.byte_ends.specs.Faults.{Rises}
 use Rattle.tenet_app.specs.Plans.{Said, with_item}
 use Rattle.tenet_app.specs.Grammar.{judge}
-use Rattle.tenet_app.specs.Reading.{Reading, IsRead, IsBad, IsOver, at_end, reading_on, reading}
+use Rattle.tenet_app.specs.Reading.{Reading, IsRead, IsBad, IsOver, at_end, reading_on, reading, are_let_pass}
 use Rattle.tenet_app.specs.declared.scenario.plan.Item.{Item}
 use Rattle.tenet_app.specs.declared.scenario.reader.ReadRefusal.{ReadRefusal}
 use Rattle.tenet_app.specs.declared.scenario.reader.ReadRefusal.TheVariants as refusal
@@ -33,6 +33,24 @@ pub record IsAdded (said after : Said) : Type 0 where
   pub judged : judge said line ≡ Ok item
   pub added : after ≡ with_item item said
 
+-- bytes were taken, and what they say was added: whatever stands behind them, the lines that were ahead are let pass
+-- exactly where those that are ahead now are
+pub record PassesOn (s t : Cutting) (said after : Said) (left left' : Option (List ℕ)) : Type 0 where
+  pub bytes : List ℕ
+  pub from_source : Consumes left left' bytes
+  pub same : (more : List ℕ) → are_let_pass (whole_lines (allowance s) (s.pending ++ (bytes ++ more))) said ≡ are_let_pass (whole_lines (allowance t) (t.pending ++ more)) after
+
+-- bytes were taken, and no whole line that is refused is ahead in them
+pub record StopsPassing (s : Cutting) (said : Said) (left left' : Option (List ℕ)) : Type 0 where
+  pub bytes : List ℕ
+  pub from_source : Consumes left left' bytes
+  pub passing : are_let_pass (whole_lines (allowance s) (s.pending ++ bytes)) said ≡ true
+
+-- the source failed where no whole line that is refused had been taken from it
+pub record Fails (s : Cutting) (said : Said) (left left' : Option (List ℕ)) (faults faults' : ℕ) : Type 0 where
+  pub rises : Rises faults faults'
+  pub stops : StopsPassing s said left left'
+
 -- one line more was read and added
 pub record GoesOn (s t : Cutting) (said after : Said) (left left' : Option (List ℕ)) : Type 0 where
   pub number : t.number ≡ s.number + 1
@@ -40,6 +58,7 @@ pub record GoesOn (s t : Cutting) (said after : Said) (left left' : Option (List
   pub cutting : IsCutting t
   pub source : IsOf t left'
   pub adds : IsAdded said after
+  pub passes : PassesOn s t said after left left'
   pub same : IfSome (reading_ahead s said left) (λ r. reading_ahead t after left' ≡ Some r)
 
 -- the input was at its end
@@ -54,7 +73,7 @@ abbrev pub ReadsLine : Result Bool ReadRefusal → Cutting → Cutting → Said 
 ReadsLine (Ok true) s t said after left left' faults faults' = GoesOn s t said after left left'
 ReadsLine (Ok false) s t said after left left' faults faults' = ComesToEnd s t said after left left'
 ReadsLine (Err refusal.Memory) s t said after left left' faults faults' = ⊤
-ReadsLine (Err refusal.ReadFault) s t said after left left' faults faults' = Rises faults faults'
+ReadsLine (Err refusal.ReadFault) s t said after left left' faults faults' = Fails s said left left' faults faults'
 ReadsLine (Err (refusal.TooLong taken)) s t said after left left' faults faults' = IfSome (reading_ahead s said left) (λ r. r ≡ IsOver) × (taken ≡ s.most + 1)
 ReadsLine (Err (refusal.Refused line cause)) s t said after left left' faults faults' = IfSome (reading_ahead s said left) (λ r. r ≡ IsBad line cause)
 

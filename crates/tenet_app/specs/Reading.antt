@@ -2,8 +2,9 @@
 -- said; the first that is refused gives the verdict. A line ends with a line feed, and only the lines that are
 -- whole within the first `most` bytes are judged. Where none is refused, more bytes than that are too many; a rest
 -- behind the last line feed is a line that was cut; and without a `tail` line the input ended too early.
-use Rattle.std.specs.Prelude.{ℕ, suc, if◌then◌else◌, Result, Ok, Err, List, [], ◌∷◌}
-use Rattle.byte_ends.specs.WholeLines.{Ending, all_given, cut_short, too_long, Outlook, outlook}
+use Rattle.std.specs.Prelude.{◌≡◌, ℕ, suc, Bool, true, false, if◌then◌else◌, Option, Result, Ok, Err, List, [], ◌∷◌}
+use Rattle.std.specs.Io.KnownBytes.{Consumes}
+use Rattle.byte_ends.specs.WholeLines.{Ending, all_given, cut_short, too_long, Outlook, outlook, whole_lines}
 use Rattle.tenet_app.specs.Plans.{Said, nothing_said, with_item, is_complete}
 use Rattle.tenet_app.specs.Grammar.{judge}
 use Rattle.tenet_app.specs.declared.scenario.cause.Cause.{Cause}
@@ -40,3 +41,19 @@ reading_on count rest said = reading_of count rest.lines rest.ending said
 -- what a scenario of at most `most` bytes comes to
 unfoldable pub reading : ℕ → List ℕ → Reading
 reading most bytes = reading_on 0 (outlook most bytes) nothing_said
+
+-- a line that is let pass, and then those behind it
+abbrev pub passes_and : Result Item Cause → Said → (Said → Bool) → Bool
+passes_and (Ok item) said go_on = go_on (with_item item said)
+passes_and (Err cause) said go_on = false
+
+-- each of these lines is let pass, after what was said and the lines before it
+abbrev pub are_let_pass : List (List ℕ) → Said → Bool
+are_let_pass [] said = true
+are_let_pass (line ∷ lines) said = passes_and (judge said line) said (λ after. are_let_pass lines after)
+
+-- the bytes taken from a source, `left` being what it told before and after, hold no whole line that is refused
+pub record LetsPass (most : ℕ) (left left' : Option (List ℕ)) : Type 0 where
+  pub bytes : List ℕ
+  pub from_source : Consumes left left' bytes
+  pub passing : are_let_pass (whole_lines most bytes) nothing_said ≡ true

@@ -1,6 +1,11 @@
 //! The program `tenet`: from the bytes of a scenario to the bytes of a report.
 #![tactic(auto)]
 
+ghost use Rattle.std.specs.Prelude.{◌≡◌, ◌↔◌};
+ghost use Rattle.std.specs.IoError.{error_kind};
+ghost use Rattle.std.specs.declared.io.ErrorKind.TheVariants.{OutOfMemory};
+ghost use Rattle.tenet_app.specs.declared.status.Status.TheVariants.{Memory, Words};
+
 pub mod establishment;
 pub mod playing;
 pub mod report;
@@ -49,7 +54,10 @@ fn read_words(rt: &(impl Env + AllocGlobal)) -> io::Result<Vec<String>> {
 }
 
 /// Words that can't be read aren't accepted, unless only memory for them lacks.
-fn unread_words(error: &io::Error) -> Status {
+fn unread_words(error: &io::Error) -> Status
+    ensures memory { (result ≡ Memory) ↔ (error_kind error.now ≡ OutOfMemory) }
+    ensures words { (result ≡ Words) ↔ ¬ (error_kind error.now ≡ OutOfMemory) }
+{
     if error.kind() == ErrorKind::OutOfMemory {
         Status::Memory
     } else {

@@ -148,16 +148,18 @@ end steps 7
     },
 ];
 
-// How the ends of a run behave: the bytes that a write takes at most, and the read and the write that fail, counted
-// from 1.
+// How the ends of a run behave: the bytes that a read gives and a write takes at most, and the read and the write
+// that fail, counted from 1.
 #[derive(Clone, Copy)]
 struct Ends {
+    block: usize,
     piece: usize,
     failing_read: u64,
     failing_write: u64,
 }
 
 const SOUND: Ends = Ends {
+    block: 65_536,
     piece: 65_536,
     failing_read: 0,
     failing_write: 0,
@@ -176,11 +178,11 @@ fn ends_with<R: Threads + Wait + Abort + Sync>(
     for word in words {
         said.push(String::from_str(alloc, word)?)?;
     }
-    assert!(rt; 1 <= ends.piece);
+    assert!(rt; 1 <= ends.block && 1 <= ends.piece);
     let input = Vec::from_slice(alloc, input)?;
     let failing_reads = Vec::from_slice(alloc, &[ends.failing_read])?;
     let failing_writes = Vec::from_slice(alloc, &[ends.failing_write])?;
-    let mut source = MemSource::new(input, 65_536, failing_reads);
+    let mut source = MemSource::new(input, ends.block, failing_reads);
     let mut sink = MemSink::new(alloc, 2_000, ends.piece, failing_writes)?;
     let ended = top(rt, alloc, said.as_slice(), &mut source, &mut sink, &NoGate);
     assert_eq!(rt; ended.status, status);
@@ -236,6 +238,26 @@ fn a_run_that_stops_says_why(rt: HostRuntime) -> Result<(), Fail> {
     };
     let told = (Status::ReadFault, "");
     ends_with(&rt, alloc, &["play"], first, failing_source, told)?;
+    // The first read gives all bytes, and the second fails where it would tell their end.
+    let failing_end = Ends {
+        failing_read: 2,
+        ..SOUND
+    };
+    ends_with(&rt, alloc, &["play"], first, failing_end, told)?;
+    // The first read gives a whole line that is refused, so there is no second one to fail.
+    let failing_behind = Ends {
+        block: 8,
+        ..failing_end
+    };
+    let told = (refused(1), "refused 1 later\n");
+    ends_with(
+        &rt,
+        alloc,
+        &["play"],
+        b"tenet 2\nlink",
+        failing_behind,
+        told,
+    )?;
     let told = (Status::Words, "");
     ends_with(&rt, alloc, &[], first, SOUND, told)?;
     ends_with(&rt, alloc, &["fly"], first, SOUND, told)?;

@@ -5,6 +5,7 @@ ghost use Rattle.byte_ends.specs.Cutting.{IsCutting, IsOf};
 ghost use Rattle.byte_ends.specs.Faults.{Rises};
 ghost use Rattle.tenet_app.specs.Plans.{IsPlan};
 ghost use Rattle.tenet_app.specs.ReadSteps.{Adds, ReadsLine, Tells};
+ghost use Rattle.tenet_app.specs.Reading.{LetsPass};
 
 use crate::scenario::cause::Cause;
 use crate::scenario::draft::Draft;
@@ -54,6 +55,7 @@ pub fn read_scenario<S: Source>(alloc: Global, source: &mut S) -> Result<Draft, 
     ensures plan { IfOk result IsPlan }
     ensures ended { OnOk result (IsAtEnd (S.left source.new)) }
     ensures fault { result ≡ Err ReadRefusal.ReadFault → Rises (S.faults source.old) (S.faults source.new) }
+    ensures passing { result ≡ Err ReadRefusal.ReadFault → LetsPass MOST_BYTES (S.left source.old) (S.left source.new) }
     ensures counts { S.faults source.old ≤ S.faults source.new }
 {
     let mut lines = Lines::new(alloc, MOST_BYTES)?;
@@ -70,6 +72,7 @@ pub fn read_scenario<S: Source>(alloc: Global, source: &mut S) -> Result<Draft, 
 }
 
 /// Reads the next line and adds what it says. It answers whether there was one.
+#[tactic(auto, using(crate::proofs::ReadFacts::passes_line))]
 fn read_line<S: Source>(
     lines: &mut Lines,
     draft: &mut Draft,
