@@ -15,3 +15,5 @@ pub mod LegalRows
 pub mod BusyPeriods
 pub mod RuleFacts
 pub mod LegalChannels
+pub mod ChangeFacts
+pub mod LegalRowFacts
