@@ -95,7 +95,7 @@ offer-level : (level other reach far : Level) → Is.Offer level reach ≡ Is.Of
 offer-level level other reach far same = cc
 
 -- an offer is the best level of its contract
-offer-best : (shape : LinkShape) (held : List Reservation) (chan : ChanNo) (contract : Terms) (delay up_reach : ℕ) (best : Option ℕ) (level reach : Level) → Is.Offer level reach ≡ reserve_reply_at shape held chan contract delay up_reach best → (m : ℕ) × (best ≡ Some m) × (level ≡ level_of m)
+pub offer-best : (shape : LinkShape) (held : List Reservation) (chan : ChanNo) (contract : Terms) (delay up_reach : ℕ) (best : Option ℕ) (level reach : Level) → Is.Offer level reach ≡ reserve_reply_at shape held chan contract delay up_reach best → (m : ℕ) × (best ≡ Some m) × (level ≡ level_of m)
 offer-best shape held chan contract delay up_reach best level reach same =
     let wide = kept-rule _ _ (Is.Offer level reach) tt same in
     let new = kept-rule _ _ (Is.Offer level reach) tt wide.1 in

@@ -17,3 +17,5 @@ pub mod RuleFacts
 pub mod LegalChannels
 pub mod ChangeFacts
 pub mod LegalRowFacts
+pub mod LegalOrder
+pub mod Departures
