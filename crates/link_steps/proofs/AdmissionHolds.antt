@@ -126,7 +126,7 @@ relax-level t up_bound level terms clock same =
     let fits = kept-rule _ _ (Is.Relaxed clock) tt phase.1 in
     unfit-least terms level up_bound fits.0
 
-find-terms : (chan : ChanNo) (rows : List Row) → find (is_of chan) (map row_terms rows) ≡ option_map row_terms (find (is_row_of chan) rows)
+pub find-terms : (chan : ChanNo) (rows : List Row) → find (is_of chan) (map row_terms rows) ≡ option_map row_terms (find (is_row_of chan) rows)
 find-terms chan rows = find-map row_terms (is_row_of chan) (is_of chan) (λ row. refl) rows
 
 Pass-relaxed : (shape : LinkShape) (t : ℕ) (rows : List Row) (chan : ChanNo) (level : Level) (up_bound clock : ℕ) → Is.Relaxed clock ≡ relax_reply t level up_bound (find (is_of chan) (map row_terms rows)) → Pass shape rows → Pass shape (change_first (is_row_of chan) (relax_row level up_bound) rows)

@@ -64,7 +64,7 @@ pub record ScanInOrder (shape : LinkShape) (clock : ℕ) (scan : Scan) : Type 0 
 
 -- ---- what the rules say
 
-phase-is : (a b : Phase) → is_phase a b ≡ true → a ≡ b
+pub phase-is : (a b : Phase) → is_phase a b ≡ true → a ≡ b
 phase-is Tentative Tentative same = refl
 phase-is Committed Committed same = refl
 phase-is Closing Closing same = refl
@@ -105,7 +105,7 @@ pub record TakesPacket (row : Row) (packet : Packet) : Type 0 where
   pub counts : row.terms.phase ≡ Closing → length row.ticks < row.terms.count
   pub fits : packet.size ≤ row.terms.contract.smax
 
-arrive-tells : (shape : LinkShape) (t : ℕ) (packets : List Arrival) (packet : Packet) (row : Row) (clock e : ℕ) → Is.Taken clock e ≡ arrive_to shape t packets packet (Some row) → TakesPacket row packet
+pub arrive-tells : (shape : LinkShape) (t : ℕ) (packets : List Arrival) (packet : Packet) (row : Row) (clock e : ℕ) → Is.Taken clock e ≡ arrive_to shape t packets packet (Some row) → TakesPacket row packet
 unfolding arrive_reply
 arrive-tells shape t packets packet row clock e same =
     let hop = kept-rule (first_hop row.terms) _ (Is.Taken clock e) tt same in

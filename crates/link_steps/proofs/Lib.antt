@@ -18,4 +18,5 @@ pub mod LegalChannels
 pub mod ChangeFacts
 pub mod LegalRowFacts
 pub mod LegalOrder
+pub mod WindowWork
 pub mod Departures
