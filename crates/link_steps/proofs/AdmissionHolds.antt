@@ -38,17 +38,17 @@ use Rattle.link_steps.proofs.ListFacts.{find-map, map-change_first-same, total-c
 use Rattle.link_steps.proofs.RefusalFacts.{kept-rule, no_level-some, unfit-least}
 
 -- what a row adds to the load of the levels up to m in a window of w ticks
-abbrev row_load : ℕ → ℕ → ℕ → Row → ℕ
+abbrev pub row_load : ℕ → ℕ → ℕ → Row → ℕ
 row_load rate m w row = work_up_to rate m w (admitted row.terms)
 
 -- the rows as the admission test sees them
-abbrev as_admitted : List Row → List Admitted
+abbrev pub as_admitted : List Row → List Admitted
 as_admitted rows = map admitted (map row_terms rows)
 
 abbrev Pass : LinkShape → List Row → Type 0
 Pass shape rows = Passes (server_of shape) (as_admitted rows)
 
-total-as_admitted : (rate m w : ℕ) (rows : List Row) → total (work_up_to rate m w) (as_admitted rows) ≡ total (row_load rate m w) rows
+pub total-as_admitted : (rate m w : ℕ) (rows : List Row) → total (work_up_to rate m w) (as_admitted rows) ≡ total (row_load rate m w) rows
 total-as_admitted rate m w rows =
     total-map (work_up_to rate m w) admitted (map row_terms rows) ∙ total-map (λ terms. work_up_to rate m w (admitted terms)) row_terms rows
 

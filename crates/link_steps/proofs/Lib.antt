@@ -19,4 +19,5 @@ pub mod ChangeFacts
 pub mod LegalRowFacts
 pub mod LegalOrder
 pub mod WindowWork
+pub mod WindowFits
 pub mod Departures

@@ -6,6 +6,7 @@ use Rattle.std.proofs.lemmas.Grind.{div_ceil_times}
 use Rattle.std.proofs.lemmas.List.{reverse-append}
 use Rattle.std.proofs.lemmas.List.Elements.{filter-append}
 use Rattle.std.proofs.Math.Nat.{mul-le-mul_right, lt_of_mul-lt-mul_right}
+use Rattle.std.specs.Option.{option_map}
 use Rattle.std.specs.Prelude.{filter, find, reverse, nat_le}
 use Rattle.net_units.specs.Numbers.{level_number}
 use Rattle.net_units.specs.Quotient.{ceil_quotient}
@@ -31,10 +32,10 @@ use Rattle.link_steps.specs.BusyPeriod.{is_in_window, window_work}
 use Rattle.link_steps.specs.Buffer.{has_slot}
 use Rattle.link_steps.specs.Hold.{expires, stays}
 use Rattle.link_steps.specs.Legal.{IsLegal}
-use Rattle.link_steps.specs.Lists.{Each}
+use Rattle.link_steps.specs.Lists.{Each, change_first, without_first}
 use Rattle.link_steps.specs.Replies.{relax_reply, deny_reply, arrive_to, reply_at, reply_to}
-use Rattle.link_steps.specs.Reservation.{Reservation, is_of, is_phase, admitted}
-use Rattle.link_steps.specs.Rows.{Row, SourcePacket, row_terms, is_for}
+use Rattle.link_steps.specs.Reservation.{Reservation, is_of, is_phase, tentative, admitted}
+use Rattle.link_steps.specs.Rows.{Row, SourcePacket, row_terms, new_row, is_for}
 use Rattle.link_steps.specs.Scan.{Scan, clock_of, is_row_of, is_row_at_hop, names_first_hop, relax_row, plan_row, close_row, arrived_tick, arrived_row, arrived_packet, with_arrival, without_expired, with_sources, after_tick, after, scan_of}
 use Rattle.link_steps.specs.Service.{Arrival, work_of, here_at}
 use Rattle.link_steps.specs.Sources.{arrival_at, with_packet, source_step, source_tick, step_of, packet_of, row_after, source_packets, rows_after, taken_by}
@@ -158,3 +159,77 @@ unfolding deny_reply
 deny-tells row same =
     let phase = kept-rule _ _ Is.Denied tt same in
     phase-is row.terms.phase Tentative (unless-none _ _ phase.0)
+
+work-relaxed : (shape : LinkShape) (m u w t up_bound clock : ℕ) (level : Level) (chan : ChanNo) (rows : List Row) → Is.Relaxed clock ≡ relax_reply t level up_bound (find (is_of chan) (map row_terms rows)) → Each (IsInOrder shape t) rows → total (row_work shape.rate m u w) rows ≤ total (row_work shape.rate m u w) (change_first (is_row_of chan) (relax_row level up_bound) rows)
+work-relaxed shape m u w t up_bound clock level chan rows same order =
+    total-change_first-ge (row_work shape.rate m u w) (is_row_of chan) (relax_row level up_bound) rows (λ row found.
+    let tentative = relax-tells t up_bound level row clock (same ∙ ap (relax_reply t level up_bound) (find-terms chan rows ∙ ap (option_map row_terms) found)) in
+    let own = Each-find (IsInOrder shape t) (is_row_of chan) rows row order found in
+    let none = row_work-none shape.rate m u w row (own.fresh tentative).0 in
+    omega (arith, none))
+
+work-denied : (shape : LinkShape) (m u w t : ℕ) (chan : ChanNo) (rows : List Row) → Is.Denied ≡ deny_reply (find (is_of chan) (map row_terms rows)) → Each (IsInOrder shape t) rows → total (row_work shape.rate m u w) rows ≤ total (row_work shape.rate m u w) (without_first (is_row_of chan) rows)
+work-denied shape m u w t chan rows same order =
+    total-without_first-ge (row_work shape.rate m u w) (is_row_of chan) rows (λ row found.
+    let tentative = deny-tells row (same ∙ ap deny_reply (find-terms chan rows ∙ ap (option_map row_terms) found)) in
+    let own = Each-find (IsInOrder shape t) (is_row_of chan) rows row order found in
+    row_work-none shape.rate m u w row (own.fresh tentative).0)
+
+work-after : (shape : LinkShape) (m u w t : ℕ) (scan : Scan) (ask : Ask) (reply : Reply) → reply ≡ reply_at shape t scan ask → ScanInOrder shape t scan → CountsWork shape m u w scan → CountsWork shape m u w (after shape t scan ask reply)
+unfolding after reply_at
+work-after shape m u w t scan (Reserve chan contract kind delay up_reach first next) (Is.Offer level reach) same order counts =
+    (let more = total-append (row_work shape.rate m u w) scan.rows (new_row (tentative chan contract kind first next up_reach level reach) ∷ []) in work-with shape m u w scan _ (omega (arith, more)) counts)
+work-after shape m u w t scan (Relax chan level up_bound) (Is.Relaxed clock) same order counts =
+    work-with shape m u w scan _ (work-relaxed shape m u w t up_bound clock level chan scan.rows same order.held) counts
+work-after shape m u w t scan (Deny chan) Is.Denied same order counts =
+    work-with shape m u w scan _ (work-denied shape m u w t chan scan.rows same order.held) counts
+work-after shape m u w t scan (Submit chan count gap size) (Is.Planned clock) same order counts =
+    work-with shape m u w scan _ (total-change_first-ge (row_work shape.rate m u w) (is_row_at_hop chan true) (plan_row t count gap size) scan.rows (λ row found. omega arith)) counts
+work-after shape m u w t scan (Release chan upstream) (Is.Closing count cancelled) same order counts =
+    work-with shape m u w scan _ (total-change_first-ge (row_work shape.rate m u w) (is_row_at_hop chan (names_first_hop upstream)) (close_row t count) scan.rows (λ row found. omega arith)) counts
+work-after shape m u w t scan (Arrive packet) (Is.Taken clock eligible) same order counts =
+    work-arrival shape m u w t packet scan (find (is_row_of packet.chan) scan.rows) clock eligible refl same counts
+work-after shape m u w t scan Tick reply same order counts = work-tick shape m u w t scan order counts
+work-after shape m u w t scan _ _ same order counts = counts
+
+-- after every legal history the packets bring no more into a window than the ticks of the rows, held or gone
+pub legal-work : (shape : LinkShape) (h : List Entry) (m u w : ℕ) → IsLegal shape h → CountsWork shape m u w (scan_of shape h)
+unfolding IsLegal scan_of reply_to
+legal-work shape [] m u w legal = record { most = omega arith }
+legal-work shape (e ∷ past) m u w legal =
+    work-after shape m u w (clock_of past) (scan_of shape past) e.ask e.reply legal.1.answered (legal-order shape past legal.0) (legal-work shape past m u w legal.0)
+
+-- ---- what the contract lets a row bring
+
+-- as many ticks fall into a window in whichever order they are listed
+count-reverse : (ticks : List ℕ) (u w : ℕ) → count_in (reverse ticks) u w ≡ count_in ticks u w
+unfolding count_in
+count-reverse [] u w = refl
+count-reverse (e ∷ ticks) u w =
+    let rest = count-reverse ticks u w in
+    let turned : reverse (e ∷ ticks) ≡ reverse ticks ++ e ∷ [] = reverse-append (e ∷ []) ticks in
+    let parts = filter-append (is_tick_in u w) (reverse ticks) (e ∷ []) in
+    let sizes = length-append (filter (is_tick_in u w) (reverse ticks)) (filter (is_tick_in u w) (e ∷ [])) in
+    rw (turned, parts, sizes) (by-test (is_tick_in u w e) rest) where
+      by-test : (b : Bool) → length (filter (is_tick_in u w) (reverse ticks)) ≡ length (filter (is_tick_in u w) ticks) → length (filter (is_tick_in u w) (reverse ticks)) + length (cond b (e ∷ []) []) ≡ length (cond b (e ∷ filter (is_tick_in u w) ticks) (filter (is_tick_in u w) ticks))
+      by-test true rest = omega (arith, rest)
+      by-test false rest = omega (arith, rest)
+
+-- the eligible ticks of a row keep its contract, so no window has more of them than it allows
+pub row-count : (shape : LinkShape) (clock u w : ℕ) (row : Row) → IsInOrder shape clock row → count_in row.ticks u w ≤ most_in row.terms.contract w
+row-count shape clock u w row order =
+    let some = burst-least row.terms.contract order.contract in
+    let kept = (Decides-keeps_newest_first row.terms.contract row.ticks some).0 order.keeps in
+    let most = count_in-le row.terms.contract (reverse row.ticks) u w order.contract kept in
+    let same = count-reverse row.ticks u w in
+    omega (arith, most, same)
+
+-- a row brings no more than admission reckons
+pub row_work-admitted : (shape : LinkShape) (clock m u w : ℕ) (row : Row) → IsInOrder shape clock row → row_work shape.rate m u w row ≤ work_up_to shape.rate m w (admitted row.terms)
+unfolding work_up_to work_in
+row_work-admitted shape clock m u w row order =
+    let times : count_in row.ticks u w * ceil_quotient row.terms.contract.smax shape.rate ≤ most_in row.terms.contract w * ceil_quotient row.terms.contract.smax shape.rate = mul-le-mul_right (ceil_quotient row.terms.contract.smax shape.rate) (row-count shape clock u w row order) in
+    either (nat_le (level_number row.terms.level) m) times where
+      either : (b : Bool) → count_in row.ticks u w * ceil_quotient row.terms.contract.smax shape.rate ≤ most_in row.terms.contract w * ceil_quotient row.terms.contract.smax shape.rate → cond b (count_in row.ticks u w * ceil_quotient row.terms.contract.smax shape.rate) 0 ≤ cond b (most_in row.terms.contract w * ceil_quotient row.terms.contract.smax shape.rate) 0
+      either true times = times
+      either false times = omega arith
