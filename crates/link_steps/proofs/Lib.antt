@@ -20,4 +20,5 @@ pub mod LegalRowFacts
 pub mod LegalOrder
 pub mod WindowWork
 pub mod WindowFits
+pub mod HopHolds
 pub mod Departures

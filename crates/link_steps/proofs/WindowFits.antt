@@ -91,7 +91,7 @@ held-most shape clock m u w (row ∷ rows) order =
     let rest = held-most shape clock m u w rows order.1 in
     omega (arith, first, rest)
 
-last-pass : (shape : LinkShape) (h : List Entry) → AfterEach (HeldRowsPass shape) h → HeldRowsPass shape h
+pub last-pass : (shape : LinkShape) (h : List Entry) → AfterEach (HeldRowsPass shape) h → HeldRowsPass shape h
 last-pass shape [] each = each
 last-pass shape (e ∷ past) each = each.1
 
