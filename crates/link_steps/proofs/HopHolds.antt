@@ -10,8 +10,10 @@ use Rattle.link_steps.specs.declared.replies.Entry.{Entry}
 use Rattle.link_steps.specs.declared.shape.LinkShape.{LinkShape}
 use Rattle.link_steps.specs.BusyPeriod.{HasWork}
 use Rattle.link_steps.specs.HopGuarantee.{LeavesInTime, HasLeftInTime, IsGuaranteed, HopGuarantee, deadline_of}
+use Rattle.link_steps.specs.Laws.{KeepsItsContract, RowsKeep}
 use Rattle.link_steps.specs.Legal.{IsLegal}
 use Rattle.link_steps.specs.Lists.{Each}
+use Rattle.link_steps.specs.Rows.{Row}
 use Rattle.link_steps.specs.Scan.{clock_of, scan_of, starts_of}
 use Rattle.link_steps.specs.Service.{Arrival, Start, leaves_at, starts_below}
 use Rattle.link_steps.specs.Shape.{blocking_of}
@@ -19,6 +21,7 @@ use Rattle.link_steps.proofs.AdmissionHolds.{held_rows-pass}
 use Rattle.link_steps.proofs.ChangeFacts.{Each-from_among}
 use Rattle.link_steps.proofs.Departures.{DepartsWithin, departs-within, departed-at, starts-once, IsEligibleStart, starts-eligible, leaves-once}
 use Rattle.link_steps.proofs.LegalOrder.{IsCarried, legal-order}
+use Rattle.link_steps.proofs.LegalRowFacts.{IsInOrder}
 use Rattle.link_steps.proofs.ListFacts.{Among, Each-among, Each-if}
 use Rattle.link_steps.proofs.ServiceFacts.{starts-fact}
 use Rattle.link_steps.proofs.WindowFits.{last-pass, packets-have_work, window-fits}
@@ -77,3 +80,14 @@ pub hop-guarantee : (shape : LinkShape) (h : List Entry) → IsLegal shape h →
 unfolding IsLegal
 hop-guarantee shape [] legal = guaranteed shape [] legal
 hop-guarantee shape (e ∷ past) legal = (hop-guarantee shape past legal.0, guaranteed shape (e ∷ past) legal)
+
+-- ---- the eligible ticks of the rows
+
+row-keeps : (shape : LinkShape) (clock : ℕ) (row : Row) → IsInOrder shape clock row → KeepsItsContract row
+row-keeps shape clock row order = (Decides-keeps_newest_first row.terms.contract row.ticks (burst-least row.terms.contract order.contract)).0 order.keeps
+
+pub rows-keep : (shape : LinkShape) (h : List Entry) → IsLegal shape h → RowsKeep shape h
+rows-keep shape h legal = (let order = legal-order shape h legal in record {
+  held = Each-if (IsInOrder shape (clock_of h)) KeepsItsContract (scan_of shape h).rows (row-keeps shape (clock_of h)) order.held;
+  gone = Each-if (IsInOrder shape (clock_of h)) KeepsItsContract (scan_of shape h).gone (row-keeps shape (clock_of h)) order.gone;
+})

@@ -133,13 +133,13 @@ arrive-tells shape t packets packet row clock e same =
 offer-tells : (shape : LinkShape) (held : List Reservation) (chan : ChanNo) (contract : Terms) (delay up_reach : ℕ) (level reach : Level) → Is.Offer level reach ≡ reserve_reply shape held chan contract delay up_reach → (contract.smax ≤ shape.cap) × (1 ≤ level_number level) × (level_number level ≤ length shape.bounds)
 unfolding reserve_reply
 offer-tells shape held chan contract delay up_reach level reach same =
-    let wide = kept-rule _ _ (Is.Offer level reach) tt same in
     let found = offer-best shape held chan contract delay up_reach (best_level (server_of shape) (map admitted held) contract) level reach same in
     let best = best_level-is (server_of shape) (map admitted held) contract found.0 found.1 in
     let most = (bounds_parts shape.bounds shape.bounds_rise).most in
     let n : level_number level ≡ found.0 = ap level_number found.2 ∙ level_of-number found.0 best.from (omega (arith, best.upto)) in
     let from = best.from in
     let upto = best.upto in
+    let wide = kept-rule _ _ (Is.Offer level reach) tt same in
     (leb-true contract.smax shape.cap (unless-none _ _ wide.0), rw n from, rw n upto)
 
 -- ---- expiry
