@@ -1,14 +1,14 @@
 -- Over a list of packets of which every window of w ticks leaves room for the blocking, each packet of the levels up to
 -- m departs within w ticks of its eligible tick, and later than that tick.
-use Rattle.std.proofs.Common.{◌≡◌, ℕ, zero, suc, ◌+◌, ◌-◌, ◌<◌, ◌≤◌, Bool, true, false, not, List, [], ◌∷◌, Option, Some, None, inl, inr, ⊎_elim, refl, sym, ap, ◌∙◌, subst, arith}
-use Rattle.std.proofs.lemmas.Bool.{cases_lt, leb-true, le-leb, eq-eqb, eqb-true, and_parts, and_from, or_cases, or_left, or_right, or_parts, not-true, true≢false, cond_both}
+use Rattle.std.proofs.Common.{◌≡◌, ℕ, zero, suc, ◌+◌, ◌-◌, ◌<◌, ◌≤◌, true, false, List, [], ◌∷◌, Option, Some, None, inl, inr, ⊎_elim, refl, sym, ◌∙◌, subst, arith}
+use Rattle.std.proofs.lemmas.Bool.{cases_lt, leb-true, le-leb, eq-eqb, eqb-true, and_parts, and_from, or_cases, or_left, or_right, or_parts, true≢false, cond_both}
 use Rattle.std.specs.Prelude.{filter, nat_eq}
 use Rattle.link_steps.specs.BusyPeriod.{IsClear, IsGone, HasWork, FitsWindow}
 use Rattle.link_steps.specs.Lists.{Each}
-use Rattle.link_steps.specs.Service.{Arrival, Start, work_of, leaves_at, first_in_line, is_start_of, has_started, is_waiting, is_busy, add_start, serve_tick, starts_below, is_departure_by, has_departed}
+use Rattle.link_steps.specs.Service.{Arrival, Start, leaves_at, first_in_line, is_start_of, has_started, is_waiting, is_busy, add_start, serve_tick, starts_below, is_departure_by, has_departed}
 use Rattle.link_steps.proofs.BusyPeriods.{busy_period-ends, add-departed, departed-has-started, waits-fresh}
 use Rattle.link_steps.proofs.ChangeFacts.{Each-passes}
-use Rattle.link_steps.proofs.ListFacts.{Each-from, Each-if, Among, Each-among}
+use Rattle.link_steps.proofs.ListFacts.{Each-from, Among, Each-among}
 use Rattle.link_steps.proofs.ServiceFacts.{first_in_line-fact}
 
 -- ---- clear ticks follow one another

@@ -1,21 +1,20 @@
 -- In every legal history each packet leaves the link within the bound of its level of its eligible tick, and later than
 -- that tick.
-use Rattle.std.proofs.Common.{◌≡◌, ℕ, ◌+◌, ◌<◌, ◌≤◌, true, List, [], ◌∷◌, length, reverse, ⊎_elim, arith}
+use Rattle.std.proofs.Common.{ℕ, ◌<◌, ◌≤◌, List, [], ◌∷◌, ⊎_elim, arith}
 use Rattle.std.proofs.lemmas.Bool.{cases_lt}
 use Rattle.net_units.specs.Steps.{bound_at}
-use Rattle.traffic_contract.specs.Keeping.{Keeps}
 use Rattle.traffic_contract.proofs.ContractFacts.{burst-least}
 use Rattle.traffic_contract.proofs.NewestFirst.{Decides-keeps_newest_first}
 use Rattle.link_steps.specs.declared.replies.Entry.{Entry}
 use Rattle.link_steps.specs.declared.shape.LinkShape.{LinkShape}
 use Rattle.link_steps.specs.BusyPeriod.{HasWork}
-use Rattle.link_steps.specs.HopGuarantee.{LeavesInTime, HasLeftInTime, IsGuaranteed, HopGuarantee, deadline_of}
+use Rattle.link_steps.specs.HopGuarantee.{LeavesInTime, HasLeftInTime, IsGuaranteed, HopGuarantee}
 use Rattle.link_steps.specs.Laws.{KeepsItsContract, RowsKeep}
 use Rattle.link_steps.specs.Legal.{IsLegal}
 use Rattle.link_steps.specs.Lists.{Each}
 use Rattle.link_steps.specs.Rows.{Row}
 use Rattle.link_steps.specs.Scan.{clock_of, scan_of, starts_of}
-use Rattle.link_steps.specs.Service.{Arrival, Start, leaves_at, starts_below}
+use Rattle.link_steps.specs.Service.{Arrival, Start, starts_below}
 use Rattle.link_steps.specs.Shape.{blocking_of}
 use Rattle.link_steps.proofs.AdmissionHolds.{held_rows-pass}
 use Rattle.link_steps.proofs.ChangeFacts.{Each-from_among}

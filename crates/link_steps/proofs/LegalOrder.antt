@@ -1,7 +1,7 @@
 -- After every entry of a legal history its rows, held or gone, are in order, its packets are ones that the link
 -- carries, and the hold of the rows that are gone has ended.
-use Rattle.std.proofs.Common.{◌≡◌, ℕ, zero, suc, ◌+◌, ◌<◌, ◌≤◌, Bool, true, false, not, ◌&&◌, ◌||◌, List, [], ◌∷◌, ◌++◌, length, map, get_or, max, Option, Some, None, inl, inr, ⊎_elim, refl, sym, ap, ◌∙◌, subst, arith}
-use Rattle.std.proofs.lemmas.Bool.{cases_lt, leb-true, le-leb, eqb-true, and_parts, and_from, or_cases, not-true, true≢false}
+use Rattle.std.proofs.Common.{◌≡◌, ℕ, suc, ◌+◌, ◌<◌, ◌≤◌, Bool, true, false, not, ◌&&◌, List, [], ◌∷◌, length, map, get_or, Option, Some, None, ⊎_elim, refl, sym, ap, ◌∙◌, arith}
+use Rattle.std.proofs.lemmas.Bool.{cases_lt, leb-true, le-leb, eqb-true, and_parts, or_cases}
 use Rattle.std.specs.Prelude.{filter, find, nat_eq, nat_le}
 use Rattle.net_units.proofs.BoundFacts.{bounds_parts}
 use Rattle.net_units.specs.Numbers.{level_number}
@@ -26,17 +26,16 @@ use Rattle.link_steps.specs.declared.replies.Reply.{Reply}
 use Rattle.link_steps.specs.declared.replies.Reply.TheVariants as Is
 use Rattle.link_steps.specs.declared.shape.LinkShape.{LinkShape}
 use Rattle.link_steps.specs.Hold.{hold_ended, expires, stays}
-use Rattle.link_steps.specs.Legal.{AskFits, PacketFits, ReserveFits, SubmitFits, IsLegal}
+use Rattle.link_steps.specs.Legal.{AskFits, PacketFits, IsLegal}
 use Rattle.link_steps.specs.Lists.{Each}
-use Rattle.link_steps.specs.Refusals.{too_wide, not_in_phase, first_hop, uncommitted, wrong_number, past_count, big}
-use Rattle.link_steps.specs.Regulator.{eligible_next}
-use Rattle.link_steps.specs.Replies.{reserve_reply, relax_reply, deny_reply, submit_reply, release_reply, count_at_release, cancelled_at_release, arrive_reply, submit_to, release_to, arrive_to, reply_at, reply_to}
+use Rattle.link_steps.specs.Refusals.{not_in_phase, first_hop, uncommitted, wrong_number, past_count, big}
+use Rattle.link_steps.specs.Replies.{reserve_reply, submit_reply, release_reply, count_at_release, cancelled_at_release, arrive_reply, submit_to, release_to, arrive_to, reply_at, reply_to}
 use Rattle.link_steps.specs.Reservation.{Reservation, is_phase, admitted, tentative}
 use Rattle.link_steps.specs.Rows.{Row, SourcePacket, row_terms, new_row, is_for, left_at}
-use Rattle.link_steps.specs.Scan.{Scan, clock_with, clock_of, is_row_of, is_row_at_hop, names_first_hop, relax_row, plan_row, close_row, arrived_row, arrived_packet, with_arrival, without_expired, with_sources, after_tick, after, scan_of}
+use Rattle.link_steps.specs.Scan.{Scan, clock_with, clock_of, is_row_of, is_row_at_hop, names_first_hop, relax_row, plan_row, close_row, arrived_row, with_arrival, without_expired, with_sources, after_tick, after, scan_of}
 use Rattle.link_steps.specs.Service.{Arrival, here_at}
 use Rattle.link_steps.specs.Shape.{server_of}
-use Rattle.link_steps.specs.Sources.{SourceStep, Rests, Brings, Loses, source_step, step_of, packet_of, source_packets, taken_by}
+use Rattle.link_steps.specs.Sources.{source_step, step_of, packet_of, source_packets, taken_by}
 use Rattle.link_steps.specs.Buffer.{has_slot}
 use Rattle.link_steps.proofs.AdmissionHolds.{offer-best}
 use Rattle.link_steps.proofs.ChangeFacts.{Each-change_found, Each-passes}
@@ -197,9 +196,9 @@ order-tick shape t scan order =
       held = order-rows_after shape (here_at shape.rate scan.packets t) t (length scan.packets) (filter (stays shape.bounds t) scan.rows) held;
       gone = Each-if (IsInOrder shape t) (IsInOrder shape (suc t)) _ (order-later shape t) (Each-append (IsInOrder shape t) scan.gone _ order.gone ended);
       expired = Each-append (HasExpired shape (suc t)) scan.gone _
-      (Each-if (HasExpired shape t) (HasExpired shape (suc t)) scan.gone (λ row by. Each-if (λ e. e + last_bound shape.bounds < t) (λ e. e + last_bound shape.bounds < suc t) row.ticks (λ e before. omega arith) by) order.expired)
-      (Each-if (λ row. IsInOrder shape t row × (expires shape.bounds t row ≡ true)) (HasExpired shape (suc t)) _ (λ row both. expired-row shape t row both.0 both.1)
-      (Each-both (IsInOrder shape t) (λ row. expires shape.bounds t row ≡ true) _ ended (Each-passes (expires shape.bounds t) scan.rows)));
+          (Each-if (HasExpired shape t) (HasExpired shape (suc t)) scan.gone (λ row by. Each-if (λ e. e + last_bound shape.bounds < t) (λ e. e + last_bound shape.bounds < suc t) row.ticks (λ e before. omega arith) by) order.expired)
+          (Each-if (λ row. IsInOrder shape t row × (expires shape.bounds t row ≡ true)) (HasExpired shape (suc t)) _ (λ row both. expired-row shape t row both.0 both.1)
+          (Each-both (IsInOrder shape t) (λ row. expires shape.bounds t row ≡ true) _ ended (Each-passes (expires shape.bounds t) scan.rows)));
       carried = Each-append (IsCarried shape) scan.packets _ order.carried (carried-sources shape (here_at shape.rate scan.packets t) t (length scan.packets) (filter (stays shape.bounds t) scan.rows) held);
     }
 
@@ -217,8 +216,8 @@ order-arrival shape t packet scan (Some row) clock e is fits same order =
     let most = takes.fits in
     record {
       held = Each-change_found (IsInOrder shape t) (is_row_of packet.chan) (arrived_row t (suc (length scan.packets)) packet) scan.rows (λ r found r-order.
-      let taken = arrive-tells shape t scan.packets packet r clock e (same ∙ ap (arrive_to shape t scan.packets packet) (sym is ∙ found)) in
-      order-packet shape t t (suc (length scan.packets)) packet.due r taken.settled taken.counts r-order) order.held;
+          let taken = arrive-tells shape t scan.packets packet r clock e (same ∙ ap (arrive_to shape t scan.packets packet) (sym is ∙ found)) in
+          order-packet shape t t (suc (length scan.packets)) packet.due r taken.settled taken.counts r-order) order.held;
       gone = order.gone;
       expired = order.expired;
       carried = Each-append (IsCarried shape) scan.packets _ order.carried (record { size_least = fits.size_least; size_most = omega (arith, narrow, most); level_least = own.level_least; level_most = own.level_most }, tt);

@@ -1,28 +1,23 @@
 -- The rows of a legal history, held or gone, are in order: each has a contract that its eligible ticks keep, no larger
 -- packets than the link carries, and one of the link's levels. A row that isn't committed yet has no packets. One that
 -- is closing has taken no more than its count, and nothing is planned for it any more.
-use Rattle.std.proofs.Common.{◌≡◌, ℕ, zero, suc, ◌+◌, ◌-◌, ◌<◌, ◌≤◌, Bool, true, false, not, cond, ◌&&◌, List, [], ◌∷◌, ◌++◌, length, max, Option, Some, None, inl, inr, refl, sym, ap, ◌∙◌, subst, arith}
-use Rattle.std.proofs.lemmas.Bool.{cases_Bool, cases_lt, leb-true, ltb-true, lt-ltb, eqb-true, eq-eqb, and_parts, and_from, not-true, true≢false}
-use Rattle.std.specs.Prelude.{filter, find, map, nat_eq, nat_le, unwrap_or}
+use Rattle.std.proofs.Common.{◌≡◌, ℕ, zero, suc, ◌+◌, ◌-◌, ◌<◌, ◌≤◌, Bool, true, false, List, [], ◌∷◌, length, max, Option, Some, None, inl, inr, refl, sym, ap, ◌∙◌, subst, arith}
+use Rattle.std.proofs.lemmas.Bool.{cases_Bool, ltb-true, eqb-true, and_from}
+use Rattle.std.specs.Prelude.{find}
 use Rattle.net_units.specs.Numbers.{level_number}
-use Rattle.net_units.specs.declared.Kind.{Kind}
-use Rattle.net_units.specs.declared.numbers.ChanNo.{ChanNo}
 use Rattle.net_units.specs.declared.numbers.Level.{Level}
-use Rattle.net_units.specs.declared.numbers.LinkNo.{LinkNo}
-use Rattle.traffic_contract.specs.Contract.{Terms, IsContract, burst_of}
+use Rattle.traffic_contract.specs.Contract.{Terms, IsContract}
 use Rattle.traffic_contract.specs.Eligible.{eligible, newest}
 use Rattle.traffic_contract.specs.Keeping.{may_follow, keeps_newest_first}
 use Rattle.traffic_contract.proofs.EligibleFacts.{first_from-passes, may_follow-late}
-use Rattle.link_steps.specs.declared.replies.Phase.{Phase}
 use Rattle.link_steps.specs.declared.replies.Phase.TheVariants.{Tentative, Committed, Closing}
 use Rattle.link_steps.specs.declared.shape.LinkShape.{LinkShape}
 use Rattle.link_steps.specs.Lists.{Each}
 use Rattle.link_steps.specs.Regulator.{waits_until, eligible_next}
-use Rattle.link_steps.specs.Reservation.{Reservation, is_phase}
 use Rattle.link_steps.specs.Rows.{Row, SourcePacket, is_for, is_before, made_by, planned_from}
-use Rattle.link_steps.specs.Scan.{relax_row, plan_row, close_row, arrived_row}
+use Rattle.link_steps.specs.Scan.{relax_row, plan_row, close_row}
 use Rattle.link_steps.specs.Service.{Arrival}
-use Rattle.link_steps.specs.Sources.{SourceStep, Rests, Brings, Loses, with_packet, source_step, source_tick, step_of, row_after, rows_after, taken_by}
+use Rattle.link_steps.specs.Sources.{with_packet, source_step, step_of, row_after, rows_after, taken_by}
 use Rattle.link_steps.specs.Buffer.{has_slot}
 use Rattle.link_steps.proofs.ListFacts.{Each-append, Each-filter, Each-if, Each-find}
 use Rattle.link_steps.proofs.ChangeFacts.{Each-passes}
@@ -108,7 +103,7 @@ made-none t plan p made found =
 -- a row of which a packet is planned for t is committed, and the packet has a size
 pub source-settled : (shape : LinkShape) (t : ℕ) (row : Row) (p : SourcePacket) → find (is_for t) row.plan ≡ Some p → IsInOrder shape t row → (row.terms.phase ≡ Tentative → ⊥) × (row.terms.phase ≡ Closing → ⊥)
 source-settled shape t row p found order =
-    (λ tentative. none (ap (find (is_for t)) (order.fresh tentative).1 ∙ refl) , λ closes. made-none t row.plan p (order.cancelled closes) found) where
+    (λ tentative. none (ap (find (is_for t)) (order.fresh tentative).1 ∙ refl), λ closes. made-none t row.plan p (order.cancelled closes) found) where
       none : find (is_for t) row.plan ≡ None → ⊥
       none nothing = cc
 

@@ -1,15 +1,15 @@
 -- In a legal history the packets of the levels up to m that are eligible in a window as long as the bound of m leave
 -- room for the blocking. For the rows with such a packet stand together in one list that passes the admission test: a
 -- row expires only when its last packet has been eligible for as long as the largest bound.
-use Rattle.std.proofs.Common.{◌≡◌, ℕ, zero, suc, ◌+◌, ◌-◌, ◌*◌, ◌<◌, ◌≤◌, Bool, true, false, cond, ◌&&◌, List, [], ◌∷◌, ◌++◌, length, map, get_or, Option, Some, None, inl, inr, ⊎_elim, refl, sym, ap, ◌∙◌, subst, arith}
-use Rattle.std.proofs.lemmas.Bool.{cases_lt, le-leb, lt-leb, le-ltb, and_parts}
+use Rattle.std.proofs.Common.{◌≡◌, ℕ, zero, suc, ◌+◌, ◌-◌, ◌*◌, ◌<◌, ◌≤◌, Bool, true, false, cond, ◌&&◌, List, [], ◌∷◌, length, get_or, Option, Some, None, ⊎_elim, refl, arith}
+use Rattle.std.proofs.lemmas.Bool.{cases_lt, lt-leb, le-ltb, and_parts}
 use Rattle.std.specs.Prelude.{filter, find, nat_le, nat_lt}
 use Rattle.net_units.proofs.BoundFacts.{bounds_parts, above_low, bound_least}
 use Rattle.net_units.specs.Numbers.{level_number}
 use Rattle.net_units.specs.Quotient.{ceil_quotient}
 use Rattle.net_units.specs.Steps.{bound_at, are_bounds, rises_above, last_bound}
-use Rattle.traffic_contract.specs.Admission.{total, work_up_to, load, Passes}
-use Rattle.traffic_contract.specs.Window.{is_in_window as is_tick_in, count_in}
+use Rattle.traffic_contract.specs.Admission.{total, load}
+use Rattle.traffic_contract.specs.Window.{count_in}
 use Rattle.traffic_contract.proofs.AdmissionFacts.{total-append}
 use Rattle.link_steps.specs.declared.asks.Ask.{Ask}
 use Rattle.link_steps.specs.declared.asks.Ask.TheVariants.{Reserve, Relax, Deny, Submit, Release, Arrive, Tick}
@@ -18,24 +18,23 @@ use Rattle.link_steps.specs.declared.replies.Entry.{Entry}
 use Rattle.link_steps.specs.declared.replies.Reply.{Reply}
 use Rattle.link_steps.specs.declared.replies.Reply.TheVariants as Is
 use Rattle.link_steps.specs.declared.shape.LinkShape.{LinkShape}
-use Rattle.link_steps.specs.BusyPeriod.{is_in_window, window_work, HasWork, FitsWindow}
+use Rattle.link_steps.specs.BusyPeriod.{window_work, HasWork, FitsWindow}
 use Rattle.link_steps.specs.HopGuarantee.{AfterEach, HeldRowsPass}
 use Rattle.link_steps.specs.Hold.{stays}
 use Rattle.link_steps.specs.Legal.{IsLegal}
 use Rattle.link_steps.specs.Lists.{Each}
-use Rattle.link_steps.specs.Reservation.{admitted}
 use Rattle.link_steps.specs.Rows.{Row}
 use Rattle.link_steps.specs.Scan.{Scan, clock_with, clock_of, is_row_of, arrived_packet, with_arrival, without_expired, with_sources, after_tick, after, scan_of}
 use Rattle.link_steps.specs.Service.{Arrival, work_of, here_at}
-use Rattle.link_steps.specs.Shape.{server_of, blocking_of}
+use Rattle.link_steps.specs.Shape.{blocking_of}
 use Rattle.link_steps.specs.Sources.{source_packets}
 use Rattle.link_steps.proofs.AccountOfRows.{eligible-from, source_packets-from}
-use Rattle.link_steps.proofs.AdmissionHolds.{held_rows-pass, row_load, as_admitted, total-as_admitted}
-use Rattle.link_steps.proofs.LegalOrder.{IsCarried, HasExpired, ScanInOrder, legal-order}
+use Rattle.link_steps.proofs.AdmissionHolds.{held_rows-pass, row_load, total-as_admitted}
+use Rattle.link_steps.proofs.LegalOrder.{IsCarried, HasExpired, legal-order}
 use Rattle.link_steps.proofs.LegalRowFacts.{IsInOrder}
-use Rattle.link_steps.proofs.ListFacts.{Each-if, Each-both}
+use Rattle.link_steps.proofs.ListFacts.{Each-if}
 use Rattle.link_steps.proofs.ServiceFacts.{IsFrom}
-use Rattle.link_steps.proofs.WindowWork.{row_work, row_work-admitted, CountsWork, legal-work, ceil_quotient-mono, ceil_quotient-some}
+use Rattle.link_steps.proofs.WindowWork.{row_work, row_work-admitted, legal-work, ceil_quotient-mono, ceil_quotient-some}
 
 -- ---- each packet has work
 

@@ -1,11 +1,11 @@
 -- What the packets of a legal history bring into a window is at most what the eligible ticks of its rows, held or gone,
 -- bring: each of these ticks in the window is one packet of the row's level, no larger than the contract's largest.
-use Rattle.std.proofs.Common.{◌≡◌, ℕ, zero, suc, ◌+◌, ◌*◌, ◌/◌, ◌%◌, ◌-◌, ◌<◌, ◌≤◌, Bool, true, false, cond, ◌&&◌, List, [], ◌∷◌, ◌++◌, length, map, min, Option, Some, None, inl, inr, ⊎_elim, refl, sym, ap, ◌∙◌, subst, arith, length-append}
-use Rattle.std.proofs.lemmas.Bool.{cases_lt, le-leb, lt-leb, leb-true, and_parts}
+use Rattle.std.proofs.Common.{◌≡◌, ℕ, suc, ◌+◌, ◌*◌, ◌<◌, ◌≤◌, Bool, true, false, cond, ◌&&◌, List, [], ◌∷◌, ◌++◌, length, map, Option, Some, None, ⊎_elim, refl, ap, ◌∙◌, arith, length-append}
+use Rattle.std.proofs.lemmas.Bool.{cases_lt}
 use Rattle.std.proofs.lemmas.Grind.{div_ceil_times}
 use Rattle.std.proofs.lemmas.List.{reverse-append}
 use Rattle.std.proofs.lemmas.List.Elements.{filter-append}
-use Rattle.std.proofs.Math.Nat.{mul-le-mul_right, lt_of_mul-lt-mul_right}
+use Rattle.std.proofs.Math.Nat.{mul-le-mul_right}
 use Rattle.std.specs.Option.{option_map}
 use Rattle.std.specs.Prelude.{filter, find, reverse, nat_le}
 use Rattle.net_units.specs.Numbers.{level_number}
@@ -13,8 +13,7 @@ use Rattle.net_units.specs.Quotient.{ceil_quotient}
 use Rattle.net_units.specs.declared.numbers.ChanNo.{ChanNo}
 use Rattle.net_units.specs.declared.numbers.Level.{Level}
 use Rattle.traffic_contract.specs.Admission.{total, work_in, work_up_to}
-use Rattle.traffic_contract.specs.Contract.{Terms, IsContract, most_in}
-use Rattle.traffic_contract.specs.Keeping.{Keeps, keeps_newest_first}
+use Rattle.traffic_contract.specs.Contract.{most_in}
 use Rattle.traffic_contract.specs.Window.{is_in_window as is_tick_in, count_in}
 use Rattle.traffic_contract.proofs.AdmissionFacts.{total-append}
 use Rattle.traffic_contract.proofs.ContractFacts.{burst-least}
@@ -28,16 +27,16 @@ use Rattle.link_steps.specs.declared.replies.Phase.TheVariants.{Tentative}
 use Rattle.link_steps.specs.declared.replies.Reply.{Reply}
 use Rattle.link_steps.specs.declared.replies.Reply.TheVariants as Is
 use Rattle.link_steps.specs.declared.shape.LinkShape.{LinkShape}
-use Rattle.link_steps.specs.BusyPeriod.{is_in_window, window_work}
+use Rattle.link_steps.specs.BusyPeriod.{window_work}
 use Rattle.link_steps.specs.Buffer.{has_slot}
 use Rattle.link_steps.specs.Hold.{expires, stays}
 use Rattle.link_steps.specs.Legal.{IsLegal}
 use Rattle.link_steps.specs.Lists.{Each, change_first, without_first}
 use Rattle.link_steps.specs.Replies.{relax_reply, deny_reply, arrive_to, reply_at, reply_to}
-use Rattle.link_steps.specs.Reservation.{Reservation, is_of, is_phase, tentative, admitted}
+use Rattle.link_steps.specs.Reservation.{is_of, tentative, admitted}
 use Rattle.link_steps.specs.Rows.{Row, SourcePacket, row_terms, new_row, is_for}
 use Rattle.link_steps.specs.Scan.{Scan, clock_of, is_row_of, is_row_at_hop, names_first_hop, relax_row, plan_row, close_row, arrived_tick, arrived_row, arrived_packet, with_arrival, without_expired, with_sources, after_tick, after, scan_of}
-use Rattle.link_steps.specs.Service.{Arrival, work_of, here_at}
+use Rattle.link_steps.specs.Service.{Arrival, here_at}
 use Rattle.link_steps.specs.Sources.{arrival_at, with_packet, source_step, source_tick, step_of, packet_of, row_after, source_packets, rows_after, taken_by}
 use Rattle.link_steps.proofs.AdmissionHolds.{find-terms}
 use Rattle.link_steps.proofs.ChangeFacts.{total-change_first-more, total-change_first-ge, total-without_first-ge, total-filter-both}
