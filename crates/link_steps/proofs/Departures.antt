@@ -24,6 +24,7 @@ pub record ClearAfter (rate : ℕ) (packets : List Arrival) (m e w : ℕ) : Type
 clear-first : (rate : ℕ) (packets : List Arrival) (m : ℕ) → IsClear rate packets m 0
 clear-first rate packets m = Each-from (IsGone rate (starts_below rate packets 0) m 0) packets (λ p upto before. absurd (omega arith))
 
+-- from one clear tick to the next, in k steps at most, beyond e
 clear-from : (rate blocking : ℕ) (packets : List Arrival) (m w : ℕ) → Each (HasWork rate blocking) packets → ((u : ℕ) → FitsWindow rate blocking packets m u w) → (k u e : ℕ) → IsClear rate packets m u → u ≤ e → e < u + k → ClearAfter rate packets m e w
 clear-from rate blocking packets m w works fits zero u e clear upto near = absurd (omega arith)
 clear-from rate blocking packets m w works fits (suc k) u e clear upto near =
@@ -48,6 +49,7 @@ pub record DepartsWithin (rate : ℕ) (packets : List Arrival) (w : ℕ) (p : Ar
   pub within : tick ≤ p.eligible + w
   pub departed : has_departed rate (starts_below rate packets tick) tick p ≡ true
 
+-- the clear tick behind a packet's eligible tick is one by which it has departed
 pub departs-within : (rate blocking : ℕ) (packets : List Arrival) (w : ℕ) (p : Arrival) → Each (HasWork rate blocking) packets → ((u : ℕ) → FitsWindow rate blocking packets p.level u w) → Among p packets → DepartsWithin rate packets w p
 departs-within rate blocking packets w p works fits among =
     let next = clear-after rate blocking packets p.level w works fits p.eligible in
@@ -56,6 +58,7 @@ departs-within rate blocking packets w p works fits among =
 
 -- ---- what has departed stays so
 
+-- in the starts of k more ticks
 departed-more : (rate : ℕ) (packets : List Arrival) (c t k : ℕ) (p : Arrival) → has_departed rate (starts_below rate packets t) c p ≡ true → has_departed rate (starts_below rate packets (k + t)) c p ≡ true
 unfolding starts_below serve_tick
 departed-more rate packets c t zero p departed = (let e : zero + t ≡ t = omega arith in rw e departed)
@@ -65,6 +68,7 @@ departed-more rate packets c t (suc k) p departed =
     rw e (cond_both (is_busy rate (starts_below rate packets (k + t)) (k + t)) (starts_below rate packets (k + t)) (add_start (first_in_line (filter (is_waiting (starts_below rate packets (k + t)) (k + t)) packets)) (k + t) (starts_below rate packets (k + t))) (λ starts. has_departed rate starts c p ≡ true)
     (λ _. before) (λ _. add-departed rate c (first_in_line (filter (is_waiting (starts_below rate packets (k + t)) (k + t)) packets)) (k + t) (starts_below rate packets (k + t)) p before))
 
+-- by a tick that is no earlier
 departed-by : (rate c d : ℕ) (starts : List Start) (p : Arrival) → c ≤ d → has_departed rate starts c p ≡ true → has_departed rate starts d p ≡ true
 departed-by rate c d [] p later departed = departed
 departed-by rate c d (start ∷ earlier) p later departed =
@@ -87,14 +91,17 @@ departed-at rate packets c t d u p by later departed = at-sum (u - t) (omega ari
 abbrev IsOfOther : Start → Start → Type 0
 IsOfOther start other = nat_eq other.packet.place start.packet.place ≡ false
 
+-- no two starts are of one packet
 abbrev pub StartOnce : List Start → Type 0
 StartOnce [] = Unit {0}
 StartOnce (start ∷ earlier) = Each (IsOfOther start) earlier × StartOnce earlier
 
+-- no start is of a packet that hasn't started
 none-started : (starts : List Start) (p : Arrival) → has_started starts p ≡ false → Each (λ start. is_start_of p start ≡ false) starts
 none-started [] p fresh = tt
 none-started (start ∷ earlier) p fresh = (let both = or_parts (is_start_of p start) (has_started earlier p) fresh in (both.0, none-started earlier p both.1))
 
+-- and the other way round
 not-started : (starts : List Start) (p : Arrival) → Each (λ start. is_start_of p start ≡ false) starts → has_started starts p ≡ false
 not-started [] p none = refl
 not-started (start ∷ earlier) p none = rw (none.0, not-started earlier p none.1) refl
@@ -113,6 +120,7 @@ starts-kept P rate packets none more (suc t) =
       add-kept None starts fact before = before
       add-kept (Some p) starts fact before = fact p refl
 
+-- no packet starts twice
 pub starts-once : (rate : ℕ) (packets : List Arrival) (t : ℕ) → StartOnce (starts_below rate packets t)
 starts-once rate packets t =
     starts-kept StartOnce rate packets tt (λ starts u p once waits. (none-started starts p (waits-fresh starts u p waits), once)) t
@@ -121,6 +129,7 @@ starts-once rate packets t =
 abbrev pub IsEligibleStart : Start → Type 0
 IsEligibleStart start = start.packet.eligible ≤ start.tick
 
+-- no packet starts before it is eligible
 pub starts-eligible : (rate : ℕ) (packets : List Arrival) (t : ℕ) → Each IsEligibleStart (starts_below rate packets t)
 unfolding is_waiting
 starts-eligible rate packets t =

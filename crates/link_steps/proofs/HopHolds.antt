@@ -29,6 +29,7 @@ use Rattle.link_steps.proofs.WindowFits.{last-pass, packets-have_work, window-fi
 abbrev DepartsInTime : LinkShape → List Arrival → Arrival → Type 0
 DepartsInTime shape packets p = DepartsWithin shape.rate packets (bound_at shape.bounds p.level) p
 
+-- each packet of a legal history does
 packets-depart : (shape : LinkShape) (h : List Entry) → IsLegal shape h → Each (DepartsInTime shape (scan_of shape h).packets) (scan_of shape h).packets
 packets-depart shape h legal =
     Each-from_among (DepartsInTime shape (scan_of shape h).packets) (scan_of shape h).packets (λ p among.
@@ -82,9 +83,11 @@ hop-guarantee shape (e ∷ past) legal = (hop-guarantee shape past legal.0, guar
 
 -- ---- the eligible ticks of the rows
 
+-- a row in order has eligible ticks that keep its contract
 row-keeps : (shape : LinkShape) (clock : ℕ) (row : Row) → IsInOrder shape clock row → KeepsItsContract row
 row-keeps shape clock row order = (Decides-keeps_newest_first row.terms.contract row.ticks (burst-least row.terms.contract order.contract)).0 order.keeps
 
+-- the rows of a legal history keep their contracts
 pub rows-keep : (shape : LinkShape) (h : List Entry) → IsLegal shape h → RowsKeep shape h
 rows-keep shape h legal = (let order = legal-order shape h legal in record {
   held = Each-if (IsInOrder shape (clock_of h)) KeepsItsContract (scan_of shape h).rows (row-keeps shape (clock_of h)) order.held;

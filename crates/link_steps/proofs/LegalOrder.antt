@@ -55,6 +55,7 @@ pub record IsCarried (shape : LinkShape) (p : Arrival) : Type 0 where
 abbrev pub HasExpired : LinkShape → ℕ → Row → Type 0
 HasExpired shape clock row = Each (λ e. e + last_bound shape.bounds < clock) row.ticks
 
+-- the rows and packets of a scan are in order at this clock
 pub record ScanInOrder (shape : LinkShape) (clock : ℕ) (scan : Scan) : Type 0 where
   pub held : Each (IsInOrder shape clock) scan.rows
   pub gone : Each (IsInOrder shape clock) scan.gone
@@ -63,6 +64,7 @@ pub record ScanInOrder (shape : LinkShape) (clock : ℕ) (scan : Scan) : Type 0 
 
 -- ---- what the rules say
 
+-- what the test of two phases says
 pub phase-is : (a b : Phase) → is_phase a b ≡ true → a ≡ b
 phase-is Tentative Tentative same = refl
 phase-is Committed Committed same = refl
@@ -104,6 +106,7 @@ pub record TakesPacket (row : Row) (packet : Packet) : Type 0 where
   pub counts : row.terms.phase ≡ Closing → length row.ticks < row.terms.count
   pub fits : packet.size ≤ row.terms.contract.smax
 
+-- the rules of an arrive say so of the row found
 pub arrive-tells : (shape : LinkShape) (t : ℕ) (packets : List Arrival) (packet : Packet) (row : Row) (clock e : ℕ) → Is.Taken clock e ≡ arrive_to shape t packets packet (Some row) → TakesPacket row packet
 unfolding arrive_reply
 arrive-tells shape t packets packet row clock e same =
@@ -168,6 +171,7 @@ expired-row shape t row order ended =
 
 -- ---- packets
 
+-- the link carries the packet that a source brings
 carried-source : (shape : LinkShape) (t place : ℕ) (row : Row) (slot : Bool) (found : Option SourcePacket) → find (is_for t) row.plan ≡ found → IsInOrder shape t row → Each (IsCarried shape) (packet_of (source_step slot found) t place row)
 carried-source shape t place row slot None is order = tt
 carried-source shape t place row false (Some p) is order = tt
@@ -177,6 +181,7 @@ carried-source shape t place row true (Some p) is order =
     let most = size.size_most in
     (record { size_least = size.size_least; size_most = omega (arith, narrow, most); level_least = order.level_least; level_most = order.level_most }, tt)
 
+-- and those that all sources bring in a tick
 carried-sources : (shape : LinkShape) (here : List Arrival) (t taken : ℕ) (rows : List Row) → Each (IsInOrder shape t) rows → Each (IsCarried shape) (source_packets shape.bounds here t taken rows)
 unfolding source_packets step_of
 carried-sources shape here t taken [] each = tt
@@ -187,6 +192,7 @@ carried-sources shape here t taken (row ∷ rows) each =
 
 -- ---- one entry
 
+-- a tick: rows expire, and the sources of the others bring their packets
 order-tick : (shape : LinkShape) (t : ℕ) (scan : Scan) → ScanInOrder shape t scan → ScanInOrder shape (suc t) (after_tick shape t scan)
 unfolding after_tick with_sources without_expired
 order-tick shape t scan order =
@@ -206,6 +212,7 @@ order-tick shape t scan order =
 order-with : (shape : LinkShape) (t : ℕ) (scan : Scan) (rows : List Row) → Each (IsInOrder shape t) rows → ScanInOrder shape t scan → ScanInOrder shape t (record scan { rows = rows })
 order-with shape t scan rows held order = record { held = held; gone = order.gone; expired = order.expired; carried = order.carried }
 
+-- an arrive that is taken
 order-arrival : (shape : LinkShape) (t : ℕ) (packet : Packet) (scan : Scan) (found : Option Row) (clock e : ℕ) → find (is_row_of packet.chan) scan.rows ≡ found → PacketFits packet → Is.Taken clock e ≡ arrive_to shape t scan.packets packet found → ScanInOrder shape t scan → ScanInOrder shape t (with_arrival t packet scan found)
 unfolding with_arrival
 order-arrival shape t packet scan None clock e is fits same order = order
@@ -223,6 +230,7 @@ order-arrival shape t packet scan (Some row) clock e is fits same order =
       carried = Each-append (IsCarried shape) scan.packets _ order.carried (record { size_least = fits.size_least; size_most = omega (arith, narrow, most); level_least = own.level_least; level_most = own.level_most }, tt);
     }
 
+-- a new row
 order-reserved : (shape : LinkShape) (t : ℕ) (rows : List Row) (chan : ChanNo) (contract : Terms) (kind : Kind) (first : Bool) (next : Option LinkNo) (delay up_reach : ℕ) (level reach : Level) → IsContract contract → Is.Offer level reach ≡ reserve_reply shape (map row_terms rows) chan contract delay up_reach → IsInOrder shape t (new_row (tentative chan contract kind first next up_reach level reach))
 unfolding keeps_newest_first
 order-reserved shape t rows chan contract kind first next delay up_reach level reach is same =
@@ -239,6 +247,7 @@ order-reserved shape t rows chan contract kind first next delay up_reach level r
       cancelled = λ closes. tt;
     }
 
+-- each kind of entry keeps the order
 order-after : (shape : LinkShape) (t : ℕ) (scan : Scan) (ask : Ask) (reply : Reply) → AskFits shape ask → reply ≡ reply_at shape t scan ask → ScanInOrder shape t scan → ScanInOrder shape (clock_with ask t) (after shape t scan ask reply)
 unfolding after reply_at
 order-after shape t scan (Reserve chan contract kind delay up_reach first next) (Is.Offer level reach) fits same order =
@@ -259,6 +268,7 @@ order-after shape t scan (Arrive packet) (Is.Taken clock eligible) fits same ord
 order-after shape t scan Tick reply fits same order = order-tick shape t scan order
 order-after shape t scan _ _ fits same order = order
 
+-- and so does a legal history
 pub legal-order : (shape : LinkShape) (h : List Entry) → IsLegal shape h → ScanInOrder shape (clock_of h) (scan_of shape h)
 unfolding IsLegal scan_of clock_of reply_to
 legal-order shape [] legal = record { held = tt; gone = tt; expired = tt; carried = tt }

@@ -31,6 +31,7 @@ pub record SizeFits (most : ℕ) (p : SourcePacket) : Type 0 where
 abbrev pub IsMade : ℕ → SourcePacket → Type 0
 IsMade clock p = p.tick < clock
 
+-- a row at this clock is in order
 pub record IsInOrder (shape : LinkShape) (clock : ℕ) (row : Row) : Type 0 where
   pub contract : IsContract row.terms.contract
   pub narrow : row.terms.contract.smax ≤ shape.cap
@@ -70,6 +71,7 @@ order-packet shape clock t place due row settled counts order = record {
 
 -- ---- a tick later
 
+-- a row in order is so a tick later
 pub order-later : (shape : LinkShape) (t : ℕ) (row : Row) → IsInOrder shape t row → IsInOrder shape (suc t) row
 order-later shape t row order = record {
   contract = order.contract;
@@ -125,6 +127,7 @@ order-source shape t place row false (Some p) is order = (let later = order-late
   cancelled = later.cancelled;
 })
 
+-- the rows after the sources of a tick
 pub order-rows_after : (shape : LinkShape) (here : List Arrival) (t taken : ℕ) (rows : List Row) → Each (IsInOrder shape t) rows → Each (IsInOrder shape (suc t)) (rows_after shape.bounds here t taken rows)
 unfolding rows_after step_of
 order-rows_after shape here t taken [] each = tt
@@ -147,6 +150,7 @@ order-relaxed shape t up_bound level row most order = record {
   cancelled = λ closes. cc;
 }
 
+-- packets that are planned have the size of the submit
 planned-sizes : (most u gap size count : ℕ) → 1 ≤ size → size ≤ most → Each (SizeFits most) (planned_from u gap size count)
 unfolding planned_from
 planned-sizes most u gap size zero least fits = tt

@@ -38,6 +38,7 @@ use Rattle.link_steps.proofs.WindowWork.{row_work, row_work-admitted, legal-work
 
 -- ---- each packet has work
 
+-- a packet that the link carries has work
 work-carried : (shape : LinkShape) (p : Arrival) → IsCarried shape p → HasWork shape.rate (blocking_of shape) p
 work-carried shape p carried = record {
   least = ceil_quotient-some p.size shape.rate shape.rate_least carried.size_least;
@@ -50,6 +51,7 @@ packets-have_work shape h legal = Each-if (IsCarried shape) (HasWork shape.rate 
 
 -- ---- the last bound is the largest
 
+-- bounds that rise are in order
 bounds-order : (low : ℕ) (bs : List ℕ) (i j : ℕ) → rises_above low bs ≡ true → i ≤ j → j < length bs → get_or bs i 0 ≤ get_or bs j 0
 bounds-order low [] i j rise le inside = absurd (omega arith)
 bounds-order low (b ∷ bs) zero zero rise le inside = omega arith
@@ -60,16 +62,19 @@ bounds-order low (b ∷ bs) zero (suc j) rise le inside =
 bounds-order low (b ∷ bs) (suc i) (suc j) rise le inside =
     bounds-order b bs i j (and_parts (nat_lt low b) (rises_above b bs) rise).1 (omega arith) (omega arith)
 
+-- no bound is larger than the last
 pub bound-last : (bs : List ℕ) (m : ℕ) → are_bounds bs ≡ true → 1 ≤ m → m ≤ length bs → bound_at bs m ≤ last_bound bs
 bound-last bs m rise from upto = bounds-order 0 bs (m - 1) (length bs - 1) (bounds_parts bs rise).rising (omega arith) (omega arith)
 
 -- ---- rows that are gone bring nothing
 
+-- no tick before a window is in it
 count-early : (ticks : List ℕ) (u w : ℕ) → Each (λ e. e < u) ticks → count_in ticks u w ≡ 0
 unfolding count_in
 count-early [] u w early = refl
 count-early (e ∷ ticks) u w early = (let rest = count-early ticks u w early.1 in rw (lt-leb u e early.0) rest)
 
+-- rows that are gone bring nothing into a window that the clock hasn't passed
 gone-none : (shape : LinkShape) (clock m u w : ℕ) (rows : List Row) → clock ≤ u + last_bound shape.bounds → Each (HasExpired shape clock) rows → total (row_work shape.rate m u w) rows ≡ 0
 gone-none shape clock m u w [] near expired = refl
 gone-none shape clock m u w (row ∷ rows) near expired =
@@ -83,6 +88,7 @@ gone-none shape clock m u w (row ∷ rows) near expired =
 
 -- ---- the held rows bring no more than admission reckons
 
+-- the held rows bring no more than admission reckons for them
 held-most : (shape : LinkShape) (clock m u w : ℕ) (rows : List Row) → Each (IsInOrder shape clock) rows → total (row_work shape.rate m u w) rows ≤ total (row_load shape.rate m w) rows
 held-most shape clock m u w [] order = omega arith
 held-most shape clock m u w (row ∷ rows) order =
@@ -90,6 +96,7 @@ held-most shape clock m u w (row ∷ rows) order =
     let rest = held-most shape clock m u w rows order.1 in
     omega (arith, first, rest)
 
+-- what holds after each entry holds after the last
 pub last-pass : (shape : LinkShape) (h : List Entry) → AfterEach (HeldRowsPass shape) h → HeldRowsPass shape h
 last-pass shape [] each = each
 last-pass shape (e ∷ past) each = each.1
@@ -100,6 +107,7 @@ last-pass shape (e ∷ past) each = each.1
 abbrev LeavesRoom : LinkShape → ℕ → ℕ → List Arrival → Type 0
 LeavesRoom shape m u packets = blocking_of shape + total (window_work shape.rate m u (bound_at shape.bounds m)) packets ≤ bound_at shape.bounds m
 
+-- a window that the clock hasn't passed: all rows that bring something into it are held, and pass
 room-now : (shape : LinkShape) (h : List Entry) (m u : ℕ) → IsLegal shape h → 1 ≤ m → m ≤ length shape.bounds → clock_of h ≤ u + bound_at shape.bounds m → LeavesRoom shape m u (scan_of shape h).packets
 unfolding load
 room-now shape h m u legal from upto near =
@@ -120,6 +128,7 @@ window-past rate m u w p past = rw (le-ltb p.eligible (u + w) past) (none (nat_l
   none true false work = refl
   none false b work = refl
 
+-- nor do packets that are all eligible behind it
 windows-past : (rate m u w t : ℕ) (packets : List Arrival) → u + w ≤ t → Each (IsFrom t) packets → total (window_work rate m u w) packets ≡ 0
 windows-past rate m u w t [] past later = refl
 windows-past rate m u w t (p ∷ packets) past later =
@@ -127,6 +136,7 @@ windows-past rate m u w t (p ∷ packets) past later =
     let rest = windows-past rate m u w t packets past later.1 in
     omega (arith, first, rest)
 
+-- a packet that arrives behind the window brings nothing into it
 same-arrival : (rate m u w t : ℕ) (packet : Packet) (scan : Scan) (found : Option Row) → u + w ≤ t → total (window_work rate m u w) (with_arrival t packet scan found).packets ≡ total (window_work rate m u w) scan.packets
 unfolding with_arrival
 same-arrival rate m u w t packet scan None past = refl
@@ -150,10 +160,12 @@ same-after shape m u w t scan Tick reply past =
     omega (arith, more, none)
 same-after shape m u w t scan _ _ past = refl
 
+-- an entry makes a tick at most
 clock-most : (ask : Ask) (t : ℕ) → clock_with ask t ≤ suc t
 clock-most Tick t = omega arith
 clock-most _ t = omega arith
 
+-- a window that the clock has passed has the work that it had before
 legal-room : (shape : LinkShape) (h : List Entry) (m u : ℕ) → IsLegal shape h → 1 ≤ m → m ≤ length shape.bounds → LeavesRoom shape m u (scan_of shape h).packets
 unfolding IsLegal scan_of clock_of
 legal-room shape [] m u legal from upto = room-now shape [] m u legal from upto (omega arith)

@@ -47,6 +47,7 @@ use Rattle.link_steps.proofs.RefusalFacts.{kept-rule, unless-none}
 
 -- ---- larger packets take longer
 
+-- of two packets the larger takes no fewer ticks
 pub ceil_quotient-mono : (a b rate : ℕ) → 1 ≤ rate → a ≤ b → ceil_quotient a rate ≤ ceil_quotient b rate
 ceil_quotient-mono a b rate some le =
     let first = div_ceil_times a rate some in
@@ -58,6 +59,7 @@ ceil_quotient-mono a b rate some le =
     (λ (upto : ceil_quotient a rate ≤ ceil_quotient b rate). upto)
     (cases_lt (ceil_quotient b rate) (ceil_quotient a rate))
 
+-- a packet of a unit or more takes a tick or more
 pub ceil_quotient-some : (a rate : ℕ) → 1 ≤ rate → 1 ≤ a → 1 ≤ ceil_quotient a rate
 ceil_quotient-some a rate some least =
     let times = div_ceil_times a rate some in
@@ -96,6 +98,7 @@ row_work-packet shape m u w place number size t e place' row fits =
 
 -- ---- the sources of a tick
 
+-- what a source brings is no more than its row's new tick
 work-source : (shape : LinkShape) (m u w t place : ℕ) (row : Row) (slot : Bool) (found : Option SourcePacket) → find (is_for t) row.plan ≡ found → IsInOrder shape t row → row_work shape.rate m u w row + total (window_work shape.rate m u w) (packet_of (source_step slot found) t place row) ≤ row_work shape.rate m u w (row_after (source_step slot found) t place row)
 work-source shape m u w t place row slot None is order = omega arith
 work-source shape m u w t place row false (Some p) is order = omega arith
@@ -104,6 +107,7 @@ work-source shape m u w t place row true (Some p) is order =
     let h = row_work-packet shape m u w place (suc (length row.ticks)) p.size t (source_tick row t) place row size.size_most in
     omega (arith, h)
 
+-- and so for all sources of a tick
 work-sources : (shape : LinkShape) (m u w : ℕ) (here : List Arrival) (t taken : ℕ) (rows : List Row) → Each (IsInOrder shape t) rows → total (row_work shape.rate m u w) rows + total (window_work shape.rate m u w) (source_packets shape.bounds here t taken rows) ≤ total (row_work shape.rate m u w) (rows_after shape.bounds here t taken rows)
 unfolding source_packets rows_after step_of
 work-sources shape m u w here t taken [] each = omega arith
@@ -119,6 +123,7 @@ work-sources shape m u w here t taken (row ∷ rows) each =
 pub record CountsWork (shape : LinkShape) (m u w : ℕ) (scan : Scan) : Type 0 where
   pub most : total (window_work shape.rate m u w) scan.packets ≤ total (row_work shape.rate m u w) scan.rows + total (row_work shape.rate m u w) scan.gone
 
+-- a tick, in which expired rows go on to count among those gone
 work-tick : (shape : LinkShape) (m u w t : ℕ) (scan : Scan) → ScanInOrder shape t scan → CountsWork shape m u w scan → CountsWork shape m u w (after_tick shape t scan)
 unfolding after_tick with_sources without_expired
 work-tick shape m u w t scan order counts =
@@ -134,6 +139,7 @@ work-tick shape m u w t scan order counts =
 work-with : (shape : LinkShape) (m u w : ℕ) (scan : Scan) (rows : List Row) → total (row_work shape.rate m u w) scan.rows ≤ total (row_work shape.rate m u w) rows → CountsWork shape m u w scan → CountsWork shape m u w (record scan { rows = rows })
 work-with shape m u w scan rows more counts = (let before = counts.most in record { most = omega (arith, more, before) })
 
+-- an arrive that is taken
 work-arrival : (shape : LinkShape) (m u w t : ℕ) (packet : Packet) (scan : Scan) (found : Option Row) (clock e : ℕ) → find (is_row_of packet.chan) scan.rows ≡ found → Is.Taken clock e ≡ arrive_to shape t scan.packets packet found → CountsWork shape m u w scan → CountsWork shape m u w (with_arrival t packet scan found)
 unfolding with_arrival
 work-arrival shape m u w t packet scan None clock e is same counts = counts
@@ -153,12 +159,14 @@ relax-tells t up_bound level row clock same =
     let phase = kept-rule _ _ (Is.Relaxed clock) tt same in
     phase-is row.terms.phase Tentative (unless-none _ _ phase.0)
 
+-- a deny finds a tentative row too
 deny-tells : (row : Row) → Is.Denied ≡ deny_reply (Some row.terms) → row.terms.phase ≡ Tentative
 unfolding deny_reply
 deny-tells row same =
     let phase = kept-rule _ _ Is.Denied tt same in
     phase-is row.terms.phase Tentative (unless-none _ _ phase.0)
 
+-- a relax changes the level of a row that has no ticks, and so takes nothing away
 work-relaxed : (shape : LinkShape) (m u w t up_bound clock : ℕ) (level : Level) (chan : ChanNo) (rows : List Row) → Is.Relaxed clock ≡ relax_reply t level up_bound (find (is_of chan) (map row_terms rows)) → Each (IsInOrder shape t) rows → total (row_work shape.rate m u w) rows ≤ total (row_work shape.rate m u w) (change_first (is_row_of chan) (relax_row level up_bound) rows)
 work-relaxed shape m u w t up_bound clock level chan rows same order =
     total-change_first-ge (row_work shape.rate m u w) (is_row_of chan) (relax_row level up_bound) rows (λ row found.
@@ -167,6 +175,7 @@ work-relaxed shape m u w t up_bound clock level chan rows same order =
     let none = row_work-none shape.rate m u w row (own.fresh tentative).0 in
     omega (arith, none))
 
+-- a deny takes out a row that has no ticks
 work-denied : (shape : LinkShape) (m u w t : ℕ) (chan : ChanNo) (rows : List Row) → Is.Denied ≡ deny_reply (find (is_of chan) (map row_terms rows)) → Each (IsInOrder shape t) rows → total (row_work shape.rate m u w) rows ≤ total (row_work shape.rate m u w) (without_first (is_row_of chan) rows)
 work-denied shape m u w t chan rows same order =
     total-without_first-ge (row_work shape.rate m u w) (is_row_of chan) rows (λ row found.
@@ -174,6 +183,7 @@ work-denied shape m u w t chan rows same order =
     let own = Each-find (IsInOrder shape t) (is_row_of chan) rows row order found in
     row_work-none shape.rate m u w row (own.fresh tentative).0)
 
+-- each kind of entry
 work-after : (shape : LinkShape) (m u w t : ℕ) (scan : Scan) (ask : Ask) (reply : Reply) → reply ≡ reply_at shape t scan ask → ScanInOrder shape t scan → CountsWork shape m u w scan → CountsWork shape m u w (after shape t scan ask reply)
 unfolding after reply_at
 work-after shape m u w t scan (Reserve chan contract kind delay up_reach first next) (Is.Offer level reach) same order counts =
