@@ -38,17 +38,17 @@ use Rattle.link_steps.proofs.ListFacts.{find-map, map-change_first-same, total-c
 use Rattle.link_steps.proofs.RefusalFacts.{kept-rule, no_level-some, unfit-least}
 
 -- what a row adds to the load of the levels up to m in a window of w ticks
-abbrev row_load : ℕ → ℕ → ℕ → Row → ℕ
+abbrev pub row_load : ℕ → ℕ → ℕ → Row → ℕ
 row_load rate m w row = work_up_to rate m w (admitted row.terms)
 
 -- the rows as the admission test sees them
-abbrev as_admitted : List Row → List Admitted
+abbrev pub as_admitted : List Row → List Admitted
 as_admitted rows = map admitted (map row_terms rows)
 
 abbrev Pass : LinkShape → List Row → Type 0
 Pass shape rows = Passes (server_of shape) (as_admitted rows)
 
-total-as_admitted : (rate m w : ℕ) (rows : List Row) → total (work_up_to rate m w) (as_admitted rows) ≡ total (row_load rate m w) rows
+pub total-as_admitted : (rate m w : ℕ) (rows : List Row) → total (work_up_to rate m w) (as_admitted rows) ≡ total (row_load rate m w) rows
 total-as_admitted rate m w rows =
     total-map (work_up_to rate m w) admitted (map row_terms rows) ∙ total-map (λ terms. work_up_to rate m w (admitted terms)) row_terms rows
 
@@ -95,7 +95,7 @@ offer-level : (level other reach far : Level) → Is.Offer level reach ≡ Is.Of
 offer-level level other reach far same = cc
 
 -- an offer is the best level of its contract
-offer-best : (shape : LinkShape) (held : List Reservation) (chan : ChanNo) (contract : Terms) (delay up_reach : ℕ) (best : Option ℕ) (level reach : Level) → Is.Offer level reach ≡ reserve_reply_at shape held chan contract delay up_reach best → (m : ℕ) × (best ≡ Some m) × (level ≡ level_of m)
+pub offer-best : (shape : LinkShape) (held : List Reservation) (chan : ChanNo) (contract : Terms) (delay up_reach : ℕ) (best : Option ℕ) (level reach : Level) → Is.Offer level reach ≡ reserve_reply_at shape held chan contract delay up_reach best → (m : ℕ) × (best ≡ Some m) × (level ≡ level_of m)
 offer-best shape held chan contract delay up_reach best level reach same =
     let wide = kept-rule _ _ (Is.Offer level reach) tt same in
     let new = kept-rule _ _ (Is.Offer level reach) tt wide.1 in
@@ -126,7 +126,7 @@ relax-level t up_bound level terms clock same =
     let fits = kept-rule _ _ (Is.Relaxed clock) tt phase.1 in
     unfit-least terms level up_bound fits.0
 
-find-terms : (chan : ChanNo) (rows : List Row) → find (is_of chan) (map row_terms rows) ≡ option_map row_terms (find (is_row_of chan) rows)
+pub find-terms : (chan : ChanNo) (rows : List Row) → find (is_of chan) (map row_terms rows) ≡ option_map row_terms (find (is_row_of chan) rows)
 find-terms chan rows = find-map row_terms (is_row_of chan) (is_of chan) (λ row. refl) rows
 
 Pass-relaxed : (shape : LinkShape) (t : ℕ) (rows : List Row) (chan : ChanNo) (level : Level) (up_bound clock : ℕ) → Is.Relaxed clock ≡ relax_reply t level up_bound (find (is_of chan) (map row_terms rows)) → Pass shape rows → Pass shape (change_first (is_row_of chan) (relax_row level up_bound) rows)

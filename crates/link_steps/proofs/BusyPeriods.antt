@@ -12,7 +12,7 @@ use Rattle.link_steps.proofs.ServiceFacts.{HasLeft, HasBegun, left-idle, starts-
 -- ---- started and departed
 
 -- what has departed has started
-departed-has-started : (rate t : ℕ) (starts : List Start) (p : Arrival) → has_departed rate starts t p ≡ true → has_started starts p ≡ true
+pub departed-has-started : (rate t : ℕ) (starts : List Start) (p : Arrival) → has_departed rate starts t p ≡ true → has_started starts p ≡ true
 departed-has-started rate t [] p departed = departed
 departed-has-started rate t (start ∷ earlier) p departed =
     ⊎_elim (λ (now : is_departure_by rate t p start ≡ true). or_left (is_start_of p start) (has_started earlier p) (and_parts _ _ now).0)
@@ -32,7 +32,7 @@ add-started : (best : Option Arrival) (t : ℕ) (starts : List Start) (p : Arriv
 add-started None t starts p started = started
 add-started (Some q) t starts p started = or_right (is_start_of p (record { packet = q; tick = t })) (has_started starts p) started
 
-add-departed : (rate u : ℕ) (best : Option Arrival) (t : ℕ) (starts : List Start) (p : Arrival) → has_departed rate starts u p ≡ true → has_departed rate (add_start best t starts) u p ≡ true
+pub add-departed : (rate u : ℕ) (best : Option Arrival) (t : ℕ) (starts : List Start) (p : Arrival) → has_departed rate starts u p ≡ true → has_departed rate (add_start best t starts) u p ≡ true
 add-departed rate u None t starts p departed = departed
 add-departed rate u (Some q) t starts p departed = or_right (is_departure_by rate u p (record { packet = q; tick = t })) (has_departed rate starts u p) departed
 
@@ -211,7 +211,7 @@ works-busy rate m t0 w t packets busy on =
     }
 
 -- a packet that waits hasn't started
-waits-fresh : (starts : List Start) (t : ℕ) (p : Arrival) → is_waiting starts t p ≡ true → has_started starts p ≡ false
+pub waits-fresh : (starts : List Start) (t : ℕ) (p : Arrival) → is_waiting starts t p ≡ true → has_started starts p ≡ false
 unfolding is_waiting
 waits-fresh starts t p waits = not-true _ (and_parts _ _ waits).1
 

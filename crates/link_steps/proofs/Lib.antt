@@ -15,3 +15,10 @@ pub mod LegalRows
 pub mod BusyPeriods
 pub mod RuleFacts
 pub mod LegalChannels
+pub mod ChangeFacts
+pub mod LegalRowFacts
+pub mod LegalOrder
+pub mod WindowWork
+pub mod WindowFits
+pub mod HopHolds
+pub mod Departures

@@ -1,5 +1,5 @@
 //! Laws of a link's rules, each as the contract of a function that does nothing.
-ghost use Rattle.link_steps.specs.Laws.{HeldRowsAlwaysPass, BusyPeriodEnds, AccountGivesReply, AccountGoesOn, LegalHasContracts};
+ghost use Rattle.link_steps.specs.Laws.{HeldRowsAlwaysPass, BusyPeriodEnds, AccountGivesReply, AccountGoesOn, LegalHasContracts, EveryRowKeepsItsContract, EveryPacketHasWork, EveryWindowFits, EveryPacketLeavesInTime};
 
 /// In every legal history of every link the held rows pass the admission test after every entry.
 pub fn held_rows_pass()
@@ -27,4 +27,31 @@ pub fn account_goes_on()
 /// The rows of every legal history have contracts.
 pub fn legal_rows_have_contracts()
     ensures { LegalHasContracts }
+{}
+
+/// In every legal history the eligible ticks of each row, held or gone, keep its contract, whatever its source does.
+pub fn every_row_keeps_its_contract()
+    ensures { EveryRowKeepsItsContract }
+{}
+
+/// Each packet of a legal history occupies the link for at least one tick, and at most the link's blocking: the ticks
+/// of its largest packet.
+pub fn every_packet_has_work()
+    ensures { EveryPacketHasWork }
+{}
+
+/// In every legal history the packets of the levels up to m that are eligible in any window as long as the bound of
+/// level m fit the window together with the blocking. Channels that have been released or are gone count too: the hold
+/// keeps them in the admission test while a packet of theirs can be in such a window.
+pub fn every_window_fits()
+    ensures { EveryWindowFits }
+{}
+
+/// Every legal history of every link has the hop guarantee. After each of its entries the held rows pass the admission
+/// test; each packet that has departed did so later than its eligible tick, and at most the bound of its level later;
+/// and each packet whose eligible tick and bound the clock has reached has departed. No premise is made on what
+/// arrives, nor on when channels come and go. (Static-priority service of regulated packets: Zhang & Ferrari 1993; the
+/// hold of released channels is ours.)
+pub fn every_packet_leaves_in_time()
+    ensures { EveryPacketLeavesInTime }
 {}
