@@ -1,0 +1,5 @@
+pub mod PlaceFacts
+pub mod SumsFacts
+pub mod LevelFacts
+pub mod AnswerFacts
+pub mod StepFacts
