@@ -10,3 +10,6 @@ mod link_state;
 mod rows;
 
 pub use link_state::LinkState;
+
+#[cfg(test)]
+mod tests;
