@@ -1,5 +1,5 @@
 -- A name is text: each of its bytes is below 128.
-use Rattle.std.proofs.Common.{◌≡◌, ℕ, zero, suc, ◌<◌, Bool, true, false, ◌&&◌, ◌||◌, not, List, [], ◌∷◌, length, get_or, eqb, leb, inl, inr, arith}
+use Rattle.std.proofs.Common.{◌≡◌, ℕ, zero, suc, ◌<◌, true, ◌&&◌, ◌||◌, not, List, [], ◌∷◌, length, eqb, leb, inl, inr, arith}
 use Rattle.std.specs.Str.{IsAscii, IsUtf8}
 use Rattle.std.specs.List.{list_all}
 use Rattle.std.proofs.lemmas.Bool.{and_parts, or_cases, leb-true, eqb-true}
@@ -10,22 +10,22 @@ use Rattle.net_units.specs.Limits.{most_name}
 letter_small : (b : ℕ) → is_letter b ≡ true → b < 128
 letter_small b h =
     elim (or_cases (leb 65 b && leb b 90) (leb 97 b && leb b 122) h) [
-      inl upper ↦ omega (arith, leb-true b 90 (and_parts (leb 65 b) (leb b 90) upper).1)
-    | inr lower ↦ omega (arith, leb-true b 122 (and_parts (leb 97 b) (leb b 122) lower).1)
+      | inl upper ↦ omega (arith, leb-true b 90 (and_parts (leb 65 b) (leb b 90) upper).1)
+      | inr lower ↦ omega (arith, leb-true b 122 (and_parts (leb 97 b) (leb b 122) lower).1)
     ]
 
 plain_small : (b : ℕ) → (is_letter b || is_digit b) ≡ true → b < 128
 plain_small b h =
     elim (or_cases (is_letter b) (is_digit b) h) [
-      inl letter ↦ letter_small b letter
-    | inr digit ↦ omega (arith, leb-true b 57 (and_parts (leb 48 b) (leb b 57) digit).1)
+      | inl letter ↦ letter_small b letter
+      | inr digit ↦ omega (arith, leb-true b 57 (and_parts (leb 48 b) (leb b 57) digit).1)
     ]
 
 name_byte_small : (b : ℕ) → is_name_byte b ≡ true → b < 128
 name_byte_small b h =
     elim (or_cases (is_letter b || is_digit b) (eqb b 95) h) [
-      inl plain ↦ plain_small b plain
-    | inr line ↦ omega (arith, eqb-true b 95 line)
+      | inl plain ↦ plain_small b plain
+      | inr line ↦ omega (arith, eqb-true b 95 line)
     ]
 
 rest_small : (bs : List ℕ) → list_all is_name_byte bs ≡ true → IsAscii bs

@@ -10,9 +10,9 @@ ghost use Rattle.net_units.specs.Padded.{padded};
 ghost use Rattle.net_units.specs.Text.{is_name_byte, begins_as_name, is_kept_word, is_name};
 
 use crate::limits::MOST_NAME;
-use std::{fmt, str};
 use std::hash::{Hash, Hasher};
 use std::marker::Model;
+use std::{fmt, str};
 
 /// A name of 1 to 16 bytes: a letter, then letters, digits and `_`, and neither `contract` nor `plane`.
 ///

@@ -56,3 +56,6 @@ fn unread_words(error: &io::Error) -> Status {
         Status::Words
     }
 }
+
+#[cfg(test)]
+mod tests;

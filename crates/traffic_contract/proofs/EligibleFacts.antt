@@ -2,11 +2,12 @@
 -- no more than a burst of the newest ticks.
 use Rattle.std.proofs.Common.{◌≡◌, ℕ, zero, suc, ◌+◌, ◌-◌, ◌≤◌, ⊎_elim, Bool, true, false, cond, List, [], ◌∷◌, get_or, take, drop, Decides, max, refl, sym, ap, ◌∙◌, subst, arith}
 use Rattle.std.proofs.lemmas.Bool.{leb-true, cases_eq, cases_Bool, true≢false, and_parts, and_from}
-use Rattle.std.proofs.lemmas.List.{get_or-drop, drop-take}
+use Rattle.std.proofs.lemmas.List.{get_or-drop, drop-take, reverse-reverse}
 use Rattle.std.specs.Prelude.{reverse}
 use Rattle.traffic_contract.specs.Contract.{Terms, IsContract, burst_of}
 use Rattle.traffic_contract.specs.Keeping.{Keeps, starts_before, may_follow, keeps_newest_first}
 use Rattle.traffic_contract.specs.Eligible.{IsEligible, first_from, newest, eligible}
+use Rattle.traffic_contract.proofs.ContractFacts.{burst-least}
 use Rattle.traffic_contract.proofs.NewestFirst.{starts_before-tells, Decides-may_follow, Decides-keeps_newest_first}
 
 -- the search never answers a tick below the one that it begins at
@@ -114,3 +115,14 @@ eligible-take c past low some =
     let e : burst_of c ≡ suc (burst_of c - 1) = omega arith in
     let n : newest (take (burst_of c) past) ≡ newest past = subst (λ k. newest (take k past) ≡ newest past) (sym e) (newest-take (burst_of c - 1) past) in
     rw n (first_from-same (may_follow c (take (burst_of c) past)) (may_follow c past) low (newest past + c.interval - low) (λ t. may_follow-take c past t some))
+
+-- the same of ticks in order of time
+pub eligible-exists : (c : Terms) (past : List ℕ) (low : ℕ) → IsContract c → Keeps c past → IsEligible c past low (eligible c (reverse past) low)
+eligible-exists c past low valid kept =
+    let again = reverse-reverse past in
+    subst (λ ticks. IsEligible c ticks low (eligible c (reverse past) low)) again
+    (eligible-is c (reverse past) low valid (burst-least c valid) (subst (Keeps c) (sym again) kept))
+
+-- two eligible ticks of one packet are the same
+pub eligible-unique : (c : Terms) (past : List ℕ) (low e f : ℕ) → IsEligible c past low e → IsEligible c past low f → e ≡ f
+eligible-unique c past low e f first second = omega (arith, first.least f second.reached second.holds, second.least e first.reached first.holds)

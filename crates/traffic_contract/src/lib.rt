@@ -6,5 +6,6 @@
 #![tactic(auto)]
 
 pub mod contract;
+pub mod laws;
 
 pub use contract::{BadContract, Contract, ContractField};
