@@ -7,29 +7,29 @@ use Rattle.traffic_contract.proofs.AdmissionFacts.{total-push}
 use Rattle.link_steps.specs.Buffer.{kept_units}
 use Rattle.link_steps.specs.Reservation.{Reservation}
 use Rattle.link_server.specs.declared.held_row.HeldRow.{HeldRow}
-use Rattle.link_server.specs.Rows.{terms_in, row_in, IsAbsent, IsPlaceOf}
+use Rattle.link_server.specs.Rows.{terms_in, row_in, left_in, is_row_of, is_first_row_of, HasNone, IsPlace, IsAbsent, IsPlaceOf}
 use Rattle.link_server.specs.State.{account}
 use Rattle.link_server.specs.Wants.{ask_for}
 use Rattle.link_server.specs.declared.held_row.Wanted.{Wanted}
-use Rattle.link_server.proofs.PlaceFacts.{terms-found, terms-absent, kept-without, kept-changed}
+use Rattle.link_server.proofs.PlaceFacts.{terms-found, terms-absent, kept-found, kept-absent, kept-without, kept-changed}
 use Rattle.std.specs.List.{remove}
 use Rattle.net_units.specs.declared.numbers.ChanNo.{ChanNo}
 use Rattle.net_units.specs.declared.numbers.Level.{Level}
 use Rattle.net_units.specs.Steps.{last_bound}
 use Rattle.traffic_contract.specs.Admission.{best_level, refused_sum}
 use Rattle.traffic_contract.specs.Contract.{Terms}
-use Rattle.link_steps.specs.declared.asks.Ask.TheVariants.{Relax, Deny}
-use Rattle.link_steps.specs.declared.replies.Phase.TheVariants.{Tentative}
+use Rattle.link_steps.specs.declared.asks.Ask.TheVariants.{Relax, Deny, Submit}
+use Rattle.link_steps.specs.declared.replies.Phase.TheVariants.{Tentative, Committed}
 use Rattle.link_steps.specs.declared.replies.Refusal.{Refusal}
 use Rattle.link_steps.specs.declared.replies.Refusal.TheVariants.{NoSuch, TooWide, Twice, NoLevel, NoBuffer}
-use Rattle.link_steps.specs.declared.replies.Reply.TheVariants.{Offer, Relaxed, Denied, Refused}
+use Rattle.link_steps.specs.declared.replies.Reply.TheVariants.{Offer, Relaxed, Denied, Planned, Refused}
 use Rattle.link_steps.specs.declared.shape.LinkShape.{LinkShape}
 use Rattle.link_steps.specs.Buffer.{need_of, free_units}
-use Rattle.link_steps.specs.Kept.{Kept, kept_reply, kept_after, with_kept_rows, new_kept, kept_relaxed}
+use Rattle.link_steps.specs.Kept.{Kept, kept_reply, kept_after, with_kept_rows, new_kept, kept_relaxed, kept_planned, kept_submit, is_kept_of, is_kept_at_hop}
 use Rattle.link_steps.specs.Levels.{level_of}
-use Rattle.link_steps.specs.Refusals.{not_in_phase, unfit}
-use Rattle.link_steps.specs.Replies.{reserve_reply, relax_reply, deny_reply, reach_of}
-use Rattle.link_steps.specs.Reservation.{tentative, committed, admitted, is_of}
+use Rattle.link_steps.specs.Refusals.{not_in_phase, unfit, busy, too_big}
+use Rattle.link_steps.specs.Replies.{reserve_reply, relax_reply, deny_reply, submit_reply, reach_of}
+use Rattle.link_steps.specs.Reservation.{tentative, admitted, is_of}
 use Rattle.link_steps.specs.Shape.{server_of}
 
 -- one row more keeps its units
@@ -86,10 +86,10 @@ unfolding kept_after
 relax-same shape k chan level up_bound refusal = refl
 
 -- a relax commits the row
-pub relax-kept : (shape : LinkShape) (t : ℕ) (chan : ChanNo) (level : Level) (up_bound clock : ℕ) (rows : List HeldRow) (i : ℕ) (new d : HeldRow) → IsPlaceOf chan rows i → terms_in new ≡ committed level up_bound (terms_in (get_or rows i d)) → account t (set rows i new) ≡ kept_after shape (account t rows) (Relax chan level up_bound) (Relaxed clock)
+pub relax-kept : (shape : LinkShape) (t : ℕ) (chan : ChanNo) (level : Level) (up_bound clock : ℕ) (rows : List HeldRow) (i : ℕ) (new d : HeldRow) → IsPlaceOf chan rows i → row_in new ≡ kept_relaxed level up_bound (row_in (get_or rows i d)) → account t (set rows i new) ≡ kept_after shape (account t rows) (Relax chan level up_bound) (Relaxed clock)
 unfolding kept_after
 relax-kept shape t chan level up_bound clock rows i new d place same =
-    ap (with_kept_rows (account t rows)) (kept-changed chan (kept_relaxed level up_bound) rows i new d place (ap new_kept same))
+    ap (with_kept_rows (account t rows)) (kept-changed (is_row_of chan) (is_kept_of chan) (kept_relaxed level up_bound) (λ row. refl) rows i new d place same)
 
 -- ---- a reserve, over the reservations that are held
 
@@ -119,7 +119,44 @@ unfolding kept_after
 reserve-same shape k wanted refusal = refl
 
 -- and an offer holds a row more
-pub reserve-kept : (shape : LinkShape) (t : ℕ) (wanted : Wanted) (level reach : Level) (rows : List HeldRow) (new : HeldRow) → terms_in new ≡ tentative wanted.chan wanted.contract wanted.kind wanted.first wanted.next wanted.up_reach level reach → account t (rows ++ new ∷ []) ≡ kept_after shape (account t rows) (ask_for wanted) (Offer level reach)
+pub reserve-kept : (shape : LinkShape) (t : ℕ) (wanted : Wanted) (level reach : Level) (rows : List HeldRow) (new : HeldRow) → row_in new ≡ new_kept (tentative wanted.chan wanted.contract wanted.kind wanted.first wanted.next wanted.up_reach level reach) → account t (rows ++ new ∷ []) ≡ kept_after shape (account t rows) (ask_for wanted) (Offer level reach)
 unfolding kept_after
 reserve-kept shape t wanted level reach rows new same =
-    ap (with_kept_rows (account t rows)) (map_push row_in rows new ∙ ap (λ k. map row_in rows ++ k ∷ []) (ap new_kept same))
+    ap (with_kept_rows (account t rows)) (map_push row_in rows new ∙ ap (λ k. map row_in rows ++ k ∷ []) same)
+
+-- ---- a submit
+
+pub submit-absent : (shape : LinkShape) (t : ℕ) (chan : ChanNo) (count gap size : ℕ) (rows : List HeldRow) → HasNone (is_first_row_of chan) rows → Refused NoSuch ≡ kept_reply shape (account t rows) (Submit chan count gap size)
+unfolding kept_reply
+submit-absent shape t chan count gap size rows absent = rw (kept-absent (is_first_row_of chan) (is_kept_at_hop chan true) (λ row. refl) rows absent) refl
+
+-- the reply is that of the row at the place
+submit-found : (shape : LinkShape) (t : ℕ) (chan : ChanNo) (count gap size : ℕ) (rows : List HeldRow) (i : ℕ) (d : HeldRow) → IsPlace (is_first_row_of chan) rows i → kept_reply shape (account t rows) (Submit chan count gap size) ≡ submit_reply t size (terms_in (get_or rows i d)) (length (left_in (get_or rows i d).planned))
+unfolding kept_reply
+submit-found shape t chan count gap size rows i d place = ap (kept_submit t size) (kept-found (is_first_row_of chan) (is_kept_at_hop chan true) (λ row. refl) rows i d place)
+
+pub submit-phase : (shape : LinkShape) (t : ℕ) (chan : ChanNo) (count gap size : ℕ) (rows : List HeldRow) (i : ℕ) (d : HeldRow) (refusal : Refusal) → IsPlace (is_first_row_of chan) rows i → Some refusal ≡ not_in_phase Committed (terms_in (get_or rows i d)) → Refused refusal ≡ kept_reply shape (account t rows) (Submit chan count gap size)
+unfolding submit_reply
+submit-phase shape t chan count gap size rows i d refusal place phase = rw (submit-found shape t chan count gap size rows i d place, sym phase) refl
+
+pub submit-busy : (shape : LinkShape) (t : ℕ) (chan : ChanNo) (count gap size : ℕ) (rows : List HeldRow) (i : ℕ) (d : HeldRow) (refusal : Refusal) → IsPlace (is_first_row_of chan) rows i → None ≡ not_in_phase Committed (terms_in (get_or rows i d)) → Some refusal ≡ busy (length (left_in (get_or rows i d).planned)) → Refused refusal ≡ kept_reply shape (account t rows) (Submit chan count gap size)
+unfolding submit_reply
+submit-busy shape t chan count gap size rows i d refusal place phase left = rw (submit-found shape t chan count gap size rows i d place, sym phase, sym left) refl
+
+pub submit-big : (shape : LinkShape) (t : ℕ) (chan : ChanNo) (count gap size : ℕ) (rows : List HeldRow) (i : ℕ) (d : HeldRow) (refusal : Refusal) → IsPlace (is_first_row_of chan) rows i → None ≡ not_in_phase Committed (terms_in (get_or rows i d)) → None ≡ busy (length (left_in (get_or rows i d).planned)) → Some refusal ≡ too_big (terms_in (get_or rows i d)) size → Refused refusal ≡ kept_reply shape (account t rows) (Submit chan count gap size)
+unfolding submit_reply
+submit-big shape t chan count gap size rows i d refusal place phase left large = rw (submit-found shape t chan count gap size rows i d place, sym phase, sym left, sym large) refl
+
+pub submit-planned : (shape : LinkShape) (t : ℕ) (chan : ChanNo) (count gap size : ℕ) (rows : List HeldRow) (i : ℕ) (d : HeldRow) → IsPlace (is_first_row_of chan) rows i → None ≡ not_in_phase Committed (terms_in (get_or rows i d)) → None ≡ busy (length (left_in (get_or rows i d).planned)) → None ≡ too_big (terms_in (get_or rows i d)) size → Planned t ≡ kept_reply shape (account t rows) (Submit chan count gap size)
+unfolding submit_reply
+submit-planned shape t chan count gap size rows i d place phase left large = rw (submit-found shape t chan count gap size rows i d place, sym phase, sym left, sym large) refl
+
+pub submit-same : (shape : LinkShape) (k : Kept) (chan : ChanNo) (count gap size : ℕ) (refusal : Refusal) → k ≡ kept_after shape k (Submit chan count gap size) (Refused refusal)
+unfolding kept_after
+submit-same shape k chan count gap size refusal = refl
+
+-- a submit plans the row's packets
+pub submit-kept : (shape : LinkShape) (t : ℕ) (chan : ChanNo) (count gap size clock : ℕ) (rows : List HeldRow) (i : ℕ) (new d : HeldRow) → IsPlace (is_first_row_of chan) rows i → row_in new ≡ kept_planned t count gap size (row_in (get_or rows i d)) → account t (set rows i new) ≡ kept_after shape (account t rows) (Submit chan count gap size) (Planned clock)
+unfolding kept_after
+submit-kept shape t chan count gap size clock rows i new d place same =
+    ap (with_kept_rows (account t rows)) (kept-changed (is_first_row_of chan) (is_kept_at_hop chan true) (kept_planned t count gap size) (λ row. refl) rows i new d place same)

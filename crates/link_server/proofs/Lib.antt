@@ -3,3 +3,4 @@ pub mod SumsFacts
 pub mod LevelFacts
 pub mod AnswerFacts
 pub mod StepFacts
+pub mod PlanFacts

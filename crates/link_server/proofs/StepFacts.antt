@@ -5,7 +5,8 @@ use Rattle.link_steps.specs.declared.asks.Ask.{Ask}
 use Rattle.link_steps.specs.declared.replies.Entry.{Entry}
 use Rattle.link_steps.specs.declared.replies.Reply.{Reply}
 use Rattle.link_steps.specs.declared.shape.LinkShape.{LinkShape}
-use Rattle.link_steps.specs.Kept.{HasContract, StandsFor, Kept, kept_reply, kept_after}
+use Rattle.link_steps.specs.Kept.{HasContract, StandsFor, Kept, kept_at, kept_reply, kept_after}
+use Rattle.link_steps.specs.Scan.{clock_of}
 use Rattle.link_steps.specs.Lists.{Each}
 use Rattle.link_steps.specs.Replies.{reply_to}
 use Rattle.link_steps.proofs.Account.{stands-reply, stands-entry}
@@ -41,3 +42,8 @@ pub reserve-instead : {E : Type 0} (shape : LinkShape) (k : Kept) (ask asked : A
 reserve-instead shape k ask asked (Ok reply) each is offer = tt
 reserve-instead shape k ask asked (Err e) each is offer =
     λ h stands. subst IsOffer (ap (kept_reply shape k) (sym is) ∙ stands-reply shape k h ask each stands) offer
+
+-- the clock is that of each history that the link stands for
+pub stands-clock : (shape : LinkShape) (k : Kept) (h : List Entry) → StandsFor shape k h → k.clock ≡ clock_of h
+unfolding kept_at
+stands-clock shape k h stands = ap (λ kept. kept.clock) stands

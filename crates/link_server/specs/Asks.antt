@@ -1,4 +1,4 @@
--- Of the asks of a link those of a setup are answered so far: reserve, relax and deny.
+-- Of the asks of a link those of a setup are answered so far, reserve, relax and deny, and submit.
 use Rattle.link_steps.specs.declared.asks.Ask.{Ask}
 use Rattle.link_steps.specs.declared.asks.Ask.TheVariants.{Reserve, Relax, Deny, Submit, Release, Arrive, Tick}
 use Rattle.link_steps.specs.declared.replies.Reply.{Reply}
@@ -9,7 +9,7 @@ abbrev pub IsBuilt : Ask → Type 0
 IsBuilt (Reserve chan contract kind delay up_reach first next) = Unit {0}
 IsBuilt (Relax chan level up_bound) = Unit {0}
 IsBuilt (Deny chan) = Unit {0}
-IsBuilt (Submit chan count gap size) = ⊥
+IsBuilt (Submit chan count gap size) = Unit {0}
 IsBuilt (Release chan upstream) = ⊥
 IsBuilt (Arrive packet) = ⊥
 IsBuilt Tick = ⊥

@@ -1,5 +1,5 @@
--- What a link's state keeps is the account of its history: its clock, and its rows. It has taken no packet, since the
--- asks that bring one aren't answered yet.
+-- What a link's state keeps is the account of its history: its clock, and its rows. It has taken no packet, since a
+-- tick and an arrive, which bring one, aren't answered yet.
 use Rattle.std.specs.Prelude.{ℕ, List, [], None, map}
 use Rattle.link_steps.specs.declared.replies.Entry.{Entry}
 use Rattle.link_steps.specs.Kept.{Kept, StandsFor}

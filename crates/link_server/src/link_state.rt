@@ -7,8 +7,8 @@ ghost use Rattle.link_steps.specs.Legal.{AskFits, ReserveFits, RelaxFits};
 ghost use Rattle.link_steps.specs.Shape.{server_of};
 ghost use Rattle.link_server.specs.Rows.{summed, IsAbsent, AreWithin};
 
-use crate::held_row::{HeldRow, Offered, Wanted};
-use crate::rows::{free_units, need_of, place_of, reach_of};
+use crate::held_row::{HeldRow, Offered, Planned, Wanted};
+use crate::rows::{first_place_of, free_units, need_of, place_of, reach_of};
 use link_steps::{Ask, LinkShape, Refusal, Reply};
 use net_units::{ChanNo, Level, OutOfMemory};
 use rcsp_admission::LevelSums;
@@ -17,6 +17,7 @@ use std::alloc::Global;
 /// A link: its shape, its clock, and the reservations that it holds.
 #[derive(Drop)]
 pub struct LinkState {
+    alloc: Global,
     shape: LinkShape,
     clock: u64,
     // In the order of their reserves.
@@ -29,7 +30,7 @@ pub struct LinkState {
 }
 
 impl LinkState {
-    ghost use Rattle.link_steps.specs.declared.asks.Ask.TheVariants.{Relax as AskRelax, Deny as AskDeny};
+    ghost use Rattle.link_steps.specs.declared.asks.Ask.TheVariants.{Relax as AskRelax, Deny as AskDeny, Submit as AskSubmit};
     ghost use Rattle.link_steps.specs.declared.replies.Entry.{Entry};
     ghost use Rattle.link_steps.specs.declared.replies.Reply.TheVariants.{Offer};
     ghost use Rattle.link_steps.specs.Kept.{kept_reply, kept_after};
@@ -47,6 +48,7 @@ impl LinkState {
     {
         let blocking = shape.blocking();
         Ok(LinkState {
+            alloc,
             sums: LevelSums::new(alloc, shape.bounds, shape.rate, blocking),
             shape,
             clock: 0,
@@ -109,8 +111,13 @@ impl LinkState {
                 up_bound,
             } => Ok(self.relax(*chan, *level, *up_bound)),
             Ask::Deny { chan } => Ok(self.deny(*chan)),
-            Ask::Submit { .. } | Ask::Release { .. } | Ask::Arrive { .. } | Ask::Tick =>
-                unreachable!(),
+            Ask::Submit {
+                chan,
+                count,
+                gap,
+                size,
+            } => Ok(self.submit(*chan, *count, *gap, *size)),
+            Ask::Release { .. } | Ask::Arrive { .. } | Ask::Tick => unreachable!(),
         }
     }
 
@@ -186,9 +193,10 @@ impl LinkState {
         ensures kept { OnOk result (kept_in self.new ≡ kept_after self.old.shape (kept_in self.old) (ask_for wanted.now) (Offer offer.now.level offer.now.reach)) }
         ensures memory { OnErr result (kept_in self.new ≡ kept_in self.old) }
     {
+        let row = HeldRow::new(self.alloc, wanted, offer)?;
         self.rows.reserve(1)?;
         self.sums.reserve(1)?;
-        self.rows.push_reserved(HeldRow::new(wanted, offer));
+        self.rows.push_reserved(row);
         self.sums
             .add(wanted.chan.get(), wanted.contract, offer.level);
         Ok(())
@@ -214,6 +222,34 @@ impl LinkState {
         self.sums.move_to(chan.get(), level);
         self.rows[place].commit(level, up_bound);
         Reply::Relaxed { clock: self.clock }
+    }
+
+    // Plans source packets at the first hop, the first at the clock.
+    fn submit(&mut self, chan: ChanNo, count: u64, gap: u64, size: u32) -> Reply
+        ensures shape { self.new.shape ≡ self.old.shape }
+        ensures clock { self.new.clock ≡ self.old.clock }
+        ensures reply { result ≡ kept_reply self.old.shape (kept_in self.old) (AskSubmit chan count gap size) }
+        ensures kept { kept_in self.new ≡ kept_after self.old.shape (kept_in self.old) (AskSubmit chan count gap size) result }
+    {
+        let Some(place) = first_place_of(&self.rows, chan) else {
+            return Reply::Refused(Refusal::NoSuch);
+        };
+        if let Some(refusal) = self.rows[place].not_committed() {
+            return Reply::Refused(refusal);
+        }
+        if let Some(refusal) = self.rows[place].busy() {
+            return Reply::Refused(refusal);
+        }
+        if let Some(refusal) = self.rows[place].too_big(size) {
+            return Reply::Refused(refusal);
+        }
+        self.rows[place].plan(Planned {
+            tick: self.clock,
+            gap,
+            size,
+            count,
+        });
+        Reply::Planned { clock: self.clock }
     }
 
     // Gives a tentative reservation back.

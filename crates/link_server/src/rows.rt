@@ -4,7 +4,7 @@ ghost use Rattle.std.specs.List.{All};
 ghost use Rattle.net_units.specs.Numbers.{level_number};
 ghost use Rattle.link_steps.specs.Buffer.{free_units, need_of};
 ghost use Rattle.link_steps.specs.Replies.{reach_of};
-ghost use Rattle.link_server.specs.Rows.{terms_in, IsAbsent, IsPlaceOf, AreWithin};
+ghost use Rattle.link_server.specs.Rows.{terms_in, is_first_row_of, HasNone, IsPlace, IsAbsent, IsPlaceOf, AreWithin};
 
 use crate::held_row::{HeldRow, units_for};
 use link_steps::LinkShape;
@@ -18,6 +18,19 @@ pub(crate) fn place_of(rows: &[HeldRow], chan: ChanNo) -> Option<usize>
 {
     for (place, row) in rows.iter().enumerate() {
         if row.chan.get() == chan.get() {
+            return Some(place);
+        }
+    }
+    None
+}
+
+// The place of the channel's row at its first hop.
+pub(crate) fn first_place_of(rows: &[HeldRow], chan: ChanNo) -> Option<usize>
+    ensures none { IfNone result (HasNone (is_first_row_of chan) rows.now) }
+    ensures some { IfSome result (IsPlace (is_first_row_of chan) rows.now) }
+{
+    for (place, row) in rows.iter().enumerate() {
+        if row.is_first_of(chan) {
             return Some(place);
         }
     }

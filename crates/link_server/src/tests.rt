@@ -1,5 +1,6 @@
 //! Worked setups at one link, asked through `step`.
 ghost use Rattle.std.specs.Prelude.{◌≡◌, ◌^◌, ◌<◌, ◌≤◌, ◌∷◌, [], IfOk, length};
+ghost use Rattle.link_steps.specs.Legal.{SubmitFits};
 
 use super::LinkState;
 use link_steps::{Ask, LinkShape, Phase, Refusal, Reply};
@@ -66,6 +67,22 @@ fn deny(link: &mut LinkState, chan: u32) -> Result<Reply, Fail>
     Ok(reply)
 }
 
+fn submit(link: &mut LinkState, chan: u32, count: u64, gap: u64, size: u32) -> Result<Reply, Fail>
+    requires early { link.old.clock < 2 ^ 61 }
+    requires fits { SubmitFits count gap size }
+    ensures clock { link.new.clock ≡ link.old.clock }
+    ensures shape { link.new.shape ≡ link.old.shape }
+{
+    let chan = ChanNo::new(chan).ok_or("channel")?;
+    let reply = link.step(&Ask::Submit {
+        chan,
+        count,
+        gap,
+        size,
+    })?;
+    Ok(reply)
+}
+
 fn offer(level: u8, reach: u8) -> Result<Reply, Fail> {
     let level = Level::new(level).ok_or("level")?;
     let reach = Level::new(reach).ok_or("reach")?;
@@ -105,7 +122,38 @@ fn a_reservation_is_offered_relaxed_and_no_longer_denied(rt: HostRuntime) -> Res
         })
     );
     assert_eq!(rt; deny(&mut link, 9)?, Reply::Refused(Refusal::NoSuch));
+    assert_eq!(rt;
+        submit(&mut link, 1, 3, 10, 2)?,
+        Reply::Planned { clock: 0 }
+    );
+    assert_eq!(rt;
+        submit(&mut link, 1, 3, 10, 2)?,
+        Reply::Refused(Refusal::Busy { left: 3 })
+    );
     assert_eq!(rt; link.clock(), 0);
+    Ok(())
+}
+
+#[test]
+fn packets_are_planned_for_a_committed_first_hop(rt: HostRuntime) -> Result<(), Fail> {
+    let mut link = open(rt.alloc(), 100)?;
+    let voice = voice()?;
+    assert_eq!(rt;
+        submit(&mut link, 1, 1, 1, 2)?,
+        Reply::Refused(Refusal::NoSuch)
+    );
+    assert_eq!(rt; reserve(&mut link, 1, &voice, 12)?, offer(1, 1)?);
+    assert_eq!(rt;
+        submit(&mut link, 1, 1, 1, 2)?,
+        Reply::Refused(Refusal::NotInPhase {
+            phase: Phase::Tentative
+        })
+    );
+    assert_eq!(rt; relax(&mut link, 1, 1)?, Reply::Relaxed { clock: 0 });
+    assert_eq!(rt;
+        submit(&mut link, 1, 1, 1, 3)?,
+        Reply::Refused(Refusal::TooBig { size: 3, smax: 2 })
+    );
     Ok(())
 }
 

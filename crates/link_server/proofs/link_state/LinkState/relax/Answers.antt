@@ -1,22 +1,17 @@
 -- The row of the channel is found, judged by its phase and its offer, and committed, and the sums move it.
-use Rattle.std.proofs.Common.{◌≡◌, ℕ, ◌<◌, List, length, map, get_or, sym, ap, ◌∙◌, subst}
-use Rattle.std.proofs.lemmas.List.{get_or_default}
+use Rattle.std.proofs.Common.{map, get_or, sym, ap, ◌∙◌, subst}
 use Rattle.std.proofs.lemmas.List.Elements.{All-set}
 use Rattle.net_units.specs.Numbers.{level_number}
 use Rattle.rcsp_admission.specs.Sums.{HoldsUpTo, moved, IsDistinct}
 use Rattle.link_steps.specs.declared.replies.Phase.TheVariants.{Tentative}
 use Rattle.link_steps.specs.Refusals.{not_in_phase, unfit}
-use Rattle.link_steps.specs.Reservation.{committed}
+use Rattle.link_steps.specs.Kept.{kept_relaxed}
 use Rattle.link_steps.proofs.RefusalFacts.{unfit-least}
-use Rattle.link_server.specs.declared.held_row.HeldRow.{HeldRow}
-use Rattle.link_server.specs.Rows.{terms_in, summed, IsAbsent, IsPlaceOf, IsWithin}
+use Rattle.link_server.specs.Rows.{terms_in, row_in, summed, IsAbsent, IsPlaceOf, IsWithin}
+use Rattle.link_server.proofs.PlaceFacts.{at-place}
 use Rattle.link_server.proofs.SumsFacts.{place-holds-upto, summed-moved, summed-committed, within-committed}
 use Rattle.link_server.proofs.AnswerFacts.{relax-absent, relax-phase, relax-unfit, relax-relaxed, relax-same, relax-kept}
 use Rattle.link_server.proofs.link_state.LinkState.relax.Goals as goal
-
--- what was read at the place is the row there, whatever stands for a row past the end
-at-place : (rows : List HeldRow) (i : ℕ) (row d : HeldRow) → row ≡ get_or rows i row → i < length rows → row ≡ get_or rows i d
-at-place rows i row d same inside = same ∙ get_or_default rows i row d inside
 
 pub returns-in_default-clause-reply : goal.returns-in_default-clause-reply
 returns-in_default-clause-reply c =
@@ -57,7 +52,7 @@ pub invariant_of-self-clause-same_rows : goal.invariant_of-self-clause-same_rows
 invariant_of-self-clause-same_rows c =
     let place = subst (λ rows. IsPlaceOf c.args.chan rows c.in-Some.place) c.deref.ensures.value c.in-Some.ensures.some in
     let distinct = subst IsDistinct c.args.self.now.same_rows c.args.self.now.admitted.distinct in
-    let same = c.commit.ensures ∙ ap (λ row. committed c.args.level c.args.up_bound (terms_in row)) c.index_mut.ensures.value in
+    let same = c.commit.ensures ∙ ap (λ row. kept_relaxed c.args.level c.args.up_bound (row_in row)) c.index_mut.ensures.value in
     c.move_to.ensures.rows
     ∙ ap (λ rows. moved rows c.get.result (level_number c.args.level)) c.args.self.now.same_rows
     ∙ ap (λ key. moved (map summed c.args.self.now.rows.items) key (level_number c.args.level)) c.get.ensures.value
@@ -67,7 +62,7 @@ invariant_of-self-clause-same_rows c =
 pub invariant_of-self-clause-within : goal.invariant_of-self-clause-within
 invariant_of-self-clause-within c =
     let place = subst (λ rows. IsPlaceOf c.args.chan rows c.in-Some.place) c.deref.ensures.value c.in-Some.ensures.some in
-    let same = c.commit.ensures ∙ ap (λ row. committed c.args.level c.args.up_bound (terms_in row)) c.index_mut.ensures.value in
+    let same = c.commit.ensures ∙ ap (λ row. kept_relaxed c.args.level c.args.up_bound (row_in row)) c.index_mut.ensures.value in
     All-set (IsWithin _) c.args.self.now.rows.items c.in-Some.place c.commit.new.self
     (within-committed _ c.commit.new.self (get_or c.args.self.now.rows.items c.in-Some.place c.index_mut.result.now) c.args.level c.args.up_bound same c.requires.fits.level_most (c.args.self.now.within c.in-Some.place c.index_mut.result.now place.inside))
     c.args.self.now.within
@@ -83,4 +78,4 @@ pub returns-clause-kept : goal.returns-clause-kept
 returns-clause-kept c =
     relax-kept c.args.self.now.shape c.args.self.now.clock c.args.chan c.args.level c.args.up_bound c.args.self.now.clock c.args.self.now.rows.items c.in-Some.place c.commit.new.self c.index_mut.result.now
     (subst (λ rows. IsPlaceOf c.args.chan rows c.in-Some.place) c.deref.ensures.value c.in-Some.ensures.some)
-    (c.commit.ensures ∙ ap (λ row. committed c.args.level c.args.up_bound (terms_in row)) c.index_mut.ensures.value)
+    (c.commit.ensures ∙ ap (λ row. kept_relaxed c.args.level c.args.up_bound (row_in row)) c.index_mut.ensures.value)

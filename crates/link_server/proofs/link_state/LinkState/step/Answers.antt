@@ -33,3 +33,12 @@ pub returns-in-Deny-clause-entered : goal.returns-in-Deny-clause-entered
 returns-in-Deny-clause-entered c =
     step-entered c.args.self.now.shape c.deny.new.self.shape (kept_in c.args.self.now) (kept_in c.deny.new.self) c.args.ask.now _ c.deny.result
     (rows-have c.args.self.now.rows.items) c.in-Deny.is c.deny.ensures.shape c.deny.ensures.kept
+
+pub returns-in-Submit-clause-legal : goal.returns-in-Submit-clause-legal
+returns-in-Submit-clause-legal c =
+    step-legal c.args.self.now.shape (kept_in c.args.self.now) c.args.ask.now _ c.submit.result (rows-have c.args.self.now.rows.items) c.in-Submit.is c.submit.ensures.reply
+
+pub returns-in-Submit-clause-entered : goal.returns-in-Submit-clause-entered
+returns-in-Submit-clause-entered c =
+    step-entered c.args.self.now.shape c.submit.new.self.shape (kept_in c.args.self.now) (kept_in c.submit.new.self) c.args.ask.now _ c.submit.result
+    (rows-have c.args.self.now.rows.items) c.in-Submit.is c.submit.ensures.shape c.submit.ensures.kept
