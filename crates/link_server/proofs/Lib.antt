@@ -1,0 +1,6 @@
+pub mod PlaceFacts
+pub mod SumsFacts
+pub mod LevelFacts
+pub mod AnswerFacts
+pub mod StepFacts
+pub mod PlanFacts

@@ -1,0 +1,49 @@
+-- What the account says of a step, every history that the link stands for says.
+use Rattle.std.proofs.Common.{◌≡◌, List, [], ◌∷◌, map, ◌∙◌, sym, ap, subst}
+use Rattle.std.specs.Prelude.{Result, Ok, Err, IfOk, OnErr}
+use Rattle.link_steps.specs.declared.asks.Ask.{Ask}
+use Rattle.link_steps.specs.declared.replies.Entry.{Entry}
+use Rattle.link_steps.specs.declared.replies.Reply.{Reply}
+use Rattle.link_steps.specs.declared.shape.LinkShape.{LinkShape}
+use Rattle.link_steps.specs.Kept.{HasContract, StandsFor, Kept, kept_at, kept_reply, kept_after}
+use Rattle.link_steps.specs.Scan.{clock_of}
+use Rattle.link_steps.specs.Lists.{Each}
+use Rattle.link_steps.specs.Replies.{reply_to}
+use Rattle.link_steps.proofs.Account.{stands-reply, stands-entry}
+use Rattle.link_server.specs.declared.held_row.HeldRow.{HeldRow}
+use Rattle.link_server.specs.Asks.{IsOffer}
+use Rattle.link_server.specs.Rows.{row_in}
+
+-- the rows have contracts
+pub rows-have : (rows : List HeldRow) → Each HasContract (map row_in rows)
+rows-have [] = tt
+rows-have (row ∷ rows) = (row.is_contract, rows-have rows)
+
+-- the reply of the account is the legal one
+pub step-legal : (shape : LinkShape) (k : Kept) (ask asked : Ask) (reply : Reply) → Each HasContract k.rows → ask ≡ asked → reply ≡ kept_reply shape k asked → (h : List Entry) → StandsFor shape k h → reply ≡ reply_to shape h ask
+step-legal shape k ask asked reply each is same h stands = same ∙ ap (kept_reply shape k) (sym is) ∙ stands-reply shape k h ask each stands
+
+-- and the next account stands for the history with the entry
+pub step-entered : (shape new : LinkShape) (k next : Kept) (ask asked : Ask) (reply : Reply) → Each HasContract k.rows → ask ≡ asked → new ≡ shape → next ≡ kept_after shape k asked reply → (h : List Entry) → StandsFor shape k h → StandsFor new next (record { ask = ask; reply = reply } ∷ h)
+step-entered shape new k next ask asked reply each is unchanged same h stands =
+    rw unchanged (same ∙ ap (λ a. kept_after shape k a reply) (sym is) ∙ stands-entry shape k h ask reply each stands)
+
+-- the same of a step that may want memory
+pub reserve-legal : {E : Type 0} (shape : LinkShape) (k : Kept) (ask asked : Ask) (r : Result Reply E) → Each HasContract k.rows → ask ≡ asked → IfOk r (λ reply. reply ≡ kept_reply shape k asked) → IfOk r (λ reply. (h : List Entry) → StandsFor shape k h → reply ≡ reply_to shape h ask)
+reserve-legal shape k ask asked (Ok reply) each is same = step-legal shape k ask asked reply each is same
+reserve-legal shape k ask asked (Err e) each is same = tt
+
+pub reserve-entered : {E : Type 0} (shape new : LinkShape) (k next : Kept) (ask asked : Ask) (r : Result Reply E) → Each HasContract k.rows → ask ≡ asked → new ≡ shape → IfOk r (λ reply. next ≡ kept_after shape k asked reply) → IfOk r (λ reply. (h : List Entry) → StandsFor shape k h → StandsFor new next (record { ask = ask; reply = reply } ∷ h))
+reserve-entered shape new k next ask asked (Ok reply) each is unchanged same = step-entered shape new k next ask asked reply each is unchanged same
+reserve-entered shape new k next ask asked (Err e) each is unchanged same = tt
+
+-- where memory is wanted the legal reply is an offer
+pub reserve-instead : {E : Type 0} (shape : LinkShape) (k : Kept) (ask asked : Ask) (r : Result Reply E) → Each HasContract k.rows → ask ≡ asked → OnErr r (IsOffer (kept_reply shape k asked)) → OnErr r ((h : List Entry) → StandsFor shape k h → IsOffer (reply_to shape h ask))
+reserve-instead shape k ask asked (Ok reply) each is offer = tt
+reserve-instead shape k ask asked (Err e) each is offer =
+    λ h stands. subst IsOffer (ap (kept_reply shape k) (sym is) ∙ stands-reply shape k h ask each stands) offer
+
+-- the clock is that of each history that the link stands for
+pub stands-clock : (shape : LinkShape) (k : Kept) (h : List Entry) → StandsFor shape k h → k.clock ≡ clock_of h
+unfolding kept_at
+stands-clock shape k h stands = ap (λ kept. kept.clock) stands

@@ -1,0 +1,17 @@
+-- No packets were left, so what is planned is all.
+use Rattle.std.proofs.Common.{List, ap}
+use Rattle.link_steps.specs.Kept.{KeptRow}
+use Rattle.link_steps.specs.Rows.{SourcePacket, planned_from}
+use Rattle.link_server.specs.declared.held_row.HeldRow.{HeldRow}
+use Rattle.link_server.specs.Rows.{row_in, left_in}
+use Rattle.link_server.proofs.PlanFacts.{behind-none}
+use Rattle.link_server.proofs.held_row.HeldRow.plan.Goals as goal
+
+-- the row with other packets planned
+abbrev with_left : HeldRow → List SourcePacket → KeptRow
+with_left row left = record (row_in row) { left = left }
+
+pub returns : goal.returns
+returns c =
+    ap (with_left c.args.self.now)
+    (behind-none (left_in c.args.self.now.planned) (planned_from c.args.planned.tick c.args.planned.gap c.args.planned.size c.args.planned.count) c.requires)

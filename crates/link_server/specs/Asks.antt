@@ -1,0 +1,36 @@
+-- Of the asks of a link those of a setup are answered so far, reserve, relax and deny, and submit.
+use Rattle.link_steps.specs.declared.asks.Ask.{Ask}
+use Rattle.link_steps.specs.declared.asks.Ask.TheVariants.{Reserve, Relax, Deny, Submit, Release, Arrive, Tick}
+use Rattle.link_steps.specs.declared.replies.Reply.{Reply}
+use Rattle.link_steps.specs.declared.replies.Reply.TheVariants as Is
+
+-- the ask is one of them
+abbrev pub IsBuilt : Ask → Type 0
+IsBuilt (Reserve chan contract kind delay up_reach first next) = Unit {0}
+IsBuilt (Relax chan level up_bound) = Unit {0}
+IsBuilt (Deny chan) = Unit {0}
+IsBuilt (Submit chan count gap size) = Unit {0}
+IsBuilt (Release chan upstream) = ⊥
+IsBuilt (Arrive packet) = ⊥
+IsBuilt Tick = ⊥
+
+-- the ask takes no memory: it is no reserve
+abbrev pub TakesNone : Ask → Type 0
+TakesNone (Reserve chan contract kind delay up_reach first next) = ⊥
+TakesNone (Relax chan level up_bound) = Unit {0}
+TakesNone (Deny chan) = Unit {0}
+TakesNone (Submit chan count gap size) = Unit {0}
+TakesNone (Release chan upstream) = Unit {0}
+TakesNone (Arrive packet) = Unit {0}
+TakesNone Tick = Unit {0}
+
+-- the reply is an offer
+abbrev pub IsOffer : Reply → Type 0
+IsOffer (Is.Offer level reach) = Unit {0}
+IsOffer (Is.Relaxed clock) = ⊥
+IsOffer Is.Denied = ⊥
+IsOffer (Is.Planned clock) = ⊥
+IsOffer (Is.Closing count cancelled) = ⊥
+IsOffer (Is.Taken clock eligible) = ⊥
+IsOffer (Is.Ticked clock lost sent) = ⊥
+IsOffer (Is.Refused refusal) = ⊥

@@ -1,0 +1,4 @@
+pub mod Rows
+pub mod Wants
+pub mod Asks
+pub mod State

@@ -1,0 +1,75 @@
+-- A link keeps a row for each reservation that is held, in the order of the reserves: the reservation, its regulator,
+-- and the source packets that are planned. A row is found by its channel, or by its channel at its first hop.
+-- To the admission sums it is known under the number of its channel, with its contract and its level. Its level and
+-- its reach are levels of the link.
+use Rattle.std.specs.Prelude.{◌≡◌, ℕ, ◌<◌, ◌≤◌, Bool, true, false, List, length, slice_index_or}
+use Rattle.std.specs.List.{All}
+use Rattle.net_units.specs.Numbers.{channel_number, level_number}
+use Rattle.net_units.specs.declared.numbers.ChanNo.{ChanNo}
+use Rattle.rcsp_admission.specs.Sums.{Held, held_at}
+use Rattle.link_steps.specs.Kept.{KeptRow}
+use Rattle.link_steps.specs.Reservation.{Reservation, is_of, is_at_hop}
+use Rattle.link_steps.specs.Rows.{SourcePacket, planned_from}
+use Rattle.link_server.specs.declared.held_row.HeldRow.{HeldRow}
+use Rattle.link_server.specs.declared.held_row.Planned.{Planned}
+
+-- the reservation of a row
+abbrev pub terms_in : HeldRow → Reservation
+terms_in row = record {
+  chan = row.chan;
+  contract = row.contract;
+  kind = row.kind;
+  first = row.first;
+  next = row.next;
+  phase = row.phase;
+  level = row.level;
+  reach = row.reach;
+  up_reach = row.up_reach;
+  up_bound = row.up_bound;
+  count = row.count;
+}
+
+-- the planned packets that are left
+abbrev pub left_in : Planned → List SourcePacket
+left_in planned = planned_from planned.tick planned.gap planned.size planned.count
+
+-- what the account of the link has of it: no packet was taken yet
+abbrev pub row_in : HeldRow → KeptRow
+row_in row = record { terms = terms_in row; lead = 0; taken = 0; recent = row.regulator.recent; left = left_in row.planned }
+
+-- whether it is this channel's; and whether it is so at its first hop
+abbrev pub is_row_of : ChanNo → HeldRow → Bool
+is_row_of chan row = is_of chan (terms_in row)
+
+abbrev pub is_first_row_of : ChanNo → HeldRow → Bool
+is_first_row_of chan row = is_at_hop chan true (terms_in row)
+
+-- the row as the admission sums have it
+abbrev pub summed : HeldRow → Held
+summed row = held_at (channel_number row.chan) row.contract (level_number row.level)
+
+-- no row passes the test
+abbrev pub HasNone : (HeldRow → Bool) → List HeldRow → Type 0
+HasNone test rows = All (λ row. test row ≡ false) rows
+
+-- the first row that passes it stands at place i
+pub record IsPlace (test : HeldRow → Bool) (rows : List HeldRow) (i : ℕ) : Type 0 where
+  pub inside : i < length rows
+  pub here : (d : HeldRow) → test (slice_index_or rows i d) ≡ true
+  pub before : (k : ℕ) (d : HeldRow) → k < i → test (slice_index_or rows k d) ≡ false
+
+-- no row is the channel's
+abbrev pub IsAbsent : ChanNo → List HeldRow → Type 0
+IsAbsent chan rows = HasNone (is_row_of chan) rows
+
+-- the channel's row stands at place i
+abbrev pub IsPlaceOf : ChanNo → List HeldRow → ℕ → Type 0
+IsPlaceOf chan rows i = IsPlace (is_row_of chan) rows i
+
+-- the level and the reach of a row are among so many levels
+pub record IsWithin (levels : ℕ) (row : HeldRow) : Type 0 where
+  pub level : level_number row.level ≤ levels
+  pub reach : level_number row.reach ≤ levels
+
+abbrev pub AreWithin : ℕ → List HeldRow → Type 0
+AreWithin levels rows = All (IsWithin levels) rows

@@ -1,0 +1,18 @@
+-- A reserve as the link reads it: what is wanted, and the offer or the refusal that it gets.
+use Rattle.std.specs.Prelude.{Result, Ok, Err}
+use Rattle.link_steps.specs.declared.asks.Ask.{Ask}
+use Rattle.link_steps.specs.declared.asks.Ask.TheVariants.{Reserve}
+use Rattle.link_steps.specs.declared.replies.Refusal.{Refusal}
+use Rattle.link_steps.specs.declared.replies.Reply.{Reply}
+use Rattle.link_steps.specs.declared.replies.Reply.TheVariants as Is
+use Rattle.link_server.specs.declared.held_row.Wanted.{Wanted}
+use Rattle.link_server.specs.declared.held_row.Offered.{Offered}
+
+-- the ask for what is wanted
+abbrev pub ask_for : Wanted → Ask
+ask_for wanted = Reserve wanted.chan wanted.contract wanted.kind wanted.delay wanted.up_reach wanted.first wanted.next
+
+-- the reply that makes an offer, or says a refusal
+abbrev pub reply_of : Result Offered Refusal → Reply
+reply_of (Ok offer) = Is.Offer offer.level offer.reach
+reply_of (Err refusal) = Is.Refused refusal

@@ -1,0 +1,226 @@
+//! A row of a link: a reservation that is held, its regulator, its planned packets, and the units that it keeps.
+ghost use Rattle.std.specs.Prelude.{◌≡◌, ◌^◌, ◌<◌, ◌≤◌, IfOk, length};
+ghost use Rattle.traffic_contract.specs.Contract.{IsContract};
+ghost use Rattle.link_steps.specs.Buffer.{units_for};
+ghost use Rattle.link_steps.specs.Refusals.{busy};
+
+use link_steps::{Phase, Refusal};
+use net_units::{Bounds, ChanNo, Kind, Level, LinkNo, OutOfMemory};
+use regulator_core::Regulator;
+use std::alloc::Global;
+use traffic_contract::Contract;
+
+// What a reserve asks for.
+#[derive(Clone, Copy)]
+pub(crate) struct Wanted {
+    pub(crate) chan: ChanNo,
+    pub(crate) contract: Contract,
+    pub(crate) kind: Kind,
+    pub(crate) delay: u64,
+    pub(crate) up_reach: u64,
+    pub(crate) first: bool,
+    pub(crate) next: Option<LinkNo>,
+}
+
+// What it is offered: the least level that admits the contract, and the largest to which it may be relaxed.
+#[derive(Clone, Copy)]
+pub(crate) struct Offered {
+    pub(crate) level: Level,
+    pub(crate) reach: Level,
+}
+
+// The source packets that are planned and left: the first at `tick`, and then one each `gap`.
+#[derive(Clone, Copy)]
+pub(crate) struct Planned {
+    pub(crate) tick: u64,
+    pub(crate) gap: u64,
+    pub(crate) size: u32,
+    pub(crate) count: u64,
+}
+
+// A reservation that is held.
+#[derive(Drop)]
+pub(crate) struct HeldRow {
+    pub(crate) chan: ChanNo,
+    pub(crate) contract: Contract,
+    pub(crate) kind: Kind,
+    pub(crate) first: bool,
+    pub(crate) next: Option<LinkNo>,
+    pub(crate) phase: Phase,
+    pub(crate) level: Level,
+    pub(crate) reach: Level,
+    pub(crate) up_reach: u64,
+    pub(crate) up_bound: u64,
+    pub(crate) count: u64,
+    pub(crate) regulator: Regulator,
+    pub(crate) planned: Planned,
+    ghost is_contract: { IsContract contract },
+    ghost reach_most: { up_reach ≤ 1048576 },
+    ghost bound_most: { up_bound ≤ 1048576 },
+    ghost regulates: { regulator.terms ≡ contract },
+    ghost controls: { regulator.kind ≡ kind },
+}
+
+impl HeldRow {
+    ghost use Rattle.link_steps.specs.Buffer.{stay_of, kept_units};
+    ghost use Rattle.link_steps.specs.declared.replies.Phase.TheVariants.{Tentative, Committed};
+    ghost use Rattle.link_steps.specs.Refusals.{not_in_phase, unfit, too_big};
+    ghost use Rattle.link_steps.specs.Kept.{new_kept, kept_relaxed, kept_planned};
+    ghost use Rattle.link_steps.specs.Reservation.{tentative};
+    ghost use Rattle.link_server.specs.Rows.{terms_in, left_in, row_in, is_first_row_of, IsWithin};
+
+    // A tentative reservation at the offered level. It takes all memory that it will ever need.
+    pub(crate) fn new(
+        alloc: Global,
+        wanted: &Wanted,
+        offer: &Offered,
+    ) -> Result<HeldRow, OutOfMemory>
+        requires contract { IsContract wanted.now.contract }
+        requires reach { wanted.now.up_reach ≤ 1048576 }
+        ensures { IfOk result (λ row. row_in row ≡ new_kept (tentative wanted.now.chan wanted.now.contract wanted.now.kind wanted.now.first wanted.now.next wanted.now.up_reach offer.now.level offer.now.reach)) }
+    {
+        let regulator = Regulator::new(alloc, wanted.contract, wanted.kind)?;
+        Ok(HeldRow {
+            chan: wanted.chan,
+            contract: wanted.contract,
+            kind: wanted.kind,
+            first: wanted.first,
+            next: wanted.next,
+            phase: Phase::Tentative,
+            level: offer.level,
+            reach: offer.reach,
+            up_reach: wanted.up_reach,
+            up_bound: 0,
+            count: 0,
+            regulator,
+            planned: Planned {
+                tick: 0,
+                gap: 1,
+                size: 1,
+                count: 0,
+            },
+        })
+    }
+
+    // Whether it is this channel's, at its first hop.
+    pub(crate) fn is_first_of(&self, chan: ChanNo) -> bool
+        ensures { result ≡ is_first_row_of chan self.now }
+    {
+        self.chan.get() == chan.get() && self.first
+    }
+
+    // The refusal of an ask that wants a tentative reservation.
+    pub(crate) fn not_tentative(&self) -> Option<Refusal>
+        ensures { result ≡ not_in_phase Tentative (terms_in self.now) }
+    {
+        match self.phase {
+            Phase::Tentative => None,
+            Phase::Committed | Phase::Closing => Some(Refusal::NotInPhase { phase: self.phase }),
+        }
+    }
+
+    // The refusal of a relax to a level that isn't from the offer to the reach, or of a bound before that is over
+    // the reach before.
+    pub(crate) fn unfit(&self, level: Level, up_bound: u64) -> Option<Refusal>
+        ensures { result ≡ unfit (terms_in self.now) level up_bound }
+    {
+        let from_offer = self.level.get() <= level.get();
+        let to_reach = level.get() <= self.reach.get();
+        if from_offer && to_reach && up_bound <= self.up_reach {
+            return None;
+        }
+        Some(Refusal::Unfit {
+            offer: self.level,
+            reach: self.reach,
+            up_reach: self.up_reach,
+        })
+    }
+
+    // Commits it at a level, with the bound allotted at the hop before.
+    pub(crate) fn commit(&mut self, level: Level, up_bound: u64)
+        requires { up_bound ≤ 1048576 }
+        ensures { row_in self.new ≡ kept_relaxed level up_bound (row_in self.old) }
+    {
+        self.phase = Phase::Committed;
+        self.level = level;
+        self.up_bound = up_bound;
+    }
+
+    // The refusal of an ask that wants a committed reservation.
+    pub(crate) fn not_committed(&self) -> Option<Refusal>
+        ensures { result ≡ not_in_phase Committed (terms_in self.now) }
+    {
+        match self.phase {
+            Phase::Committed => None,
+            Phase::Tentative | Phase::Closing => Some(Refusal::NotInPhase { phase: self.phase }),
+        }
+    }
+
+    // The refusal of a submit where planned packets are left.
+    pub(crate) fn busy(&self) -> Option<Refusal>
+        ensures { result ≡ busy (length (left_in self.now.planned)) }
+    {
+        busy_with(self.planned.count)
+    }
+
+    // The refusal of a submit of packets that are larger than the contract allows.
+    pub(crate) fn too_big(&self, size: u32) -> Option<Refusal>
+        ensures { result ≡ too_big (terms_in self.now) size }
+    {
+        let smax = self.contract.smax();
+        if size <= smax {
+            return None;
+        }
+        Some(Refusal::TooBig {
+            size: u64::from(size),
+            smax: u64::from(smax),
+        })
+    }
+
+    // Plans packets where none are left.
+    pub(crate) fn plan(&mut self, planned: Planned)
+        requires { length (left_in self.old.planned) ≡ 0 }
+        ensures { row_in self.new ≡ kept_planned planned.tick planned.count planned.gap planned.size (row_in self.old) }
+    {
+        self.planned = planned;
+    }
+
+    // The units that it keeps.
+    pub(crate) fn units(&self, bounds: &Bounds) -> u64
+        requires { IsWithin (length bounds.now) self.now }
+        ensures { result ≡ kept_units bounds.now (terms_in self.now) }
+    {
+        units_for(&self.contract, self.stay(bounds))
+    }
+
+    // The longest time in ticks that a packet of the channel is at the hop before and at this link together.
+    fn stay(&self, bounds: &Bounds) -> u64
+        requires { IsWithin (length bounds.now) self.now }
+        ensures value { result ≡ stay_of bounds.now (terms_in self.now) }
+        ensures small { result ≤ 2097152 }
+    {
+        match self.phase {
+            Phase::Tentative => self.up_reach + u64::from(bounds.at(self.reach)),
+            Phase::Committed | Phase::Closing => self.up_bound + u64::from(bounds.at(self.level)),
+        }
+    }
+}
+
+// The units of the slots for a window of so many ticks.
+pub(crate) fn units_for(contract: &Contract, window: u64) -> u64
+    requires { window ≤ 2097152 }
+    ensures value { result ≡ units_for contract.now window }
+    ensures small { result < 2 ^ 40 }
+{
+    contract.bound(window) * u64::from(contract.smax())
+}
+
+// The refusal where so many planned packets are left.
+fn busy_with(left: u64) -> Option<Refusal>
+    ensures { result ≡ busy left }
+{
+    if left == 0 {
+        return None;
+    }
+    Some(Refusal::Busy { left })
+}

@@ -1,0 +1,15 @@
+//! One link of a network of real-time channels, as a state that is asked one step at a time.
+//!
+//! A link is a rate-controlled static-priority server (Zhang & Ferrari 1993). Its state keeps what the rules of
+//! `link_steps` need of its history, and answers each ask by them. Time counts in ticks, sizes and buffer in units.
+//! A reserve alone takes memory.
+#![tactic(auto)]
+
+mod held_row;
+mod link_state;
+mod rows;
+
+pub use link_state::LinkState;
+
+#[cfg(test)]
+mod tests;

@@ -1,0 +1,71 @@
+//! The rows of a link together: where a channel's stands, and what buffer they leave free.
+ghost use Rattle.std.specs.Prelude.{◌≡◌, ◌≤◌, ◌^◌, ◌<◌, false, IfNone, IfSome, length, map};
+ghost use Rattle.std.specs.List.{All};
+ghost use Rattle.net_units.specs.Numbers.{level_number};
+ghost use Rattle.link_steps.specs.Buffer.{free_units, need_of};
+ghost use Rattle.link_steps.specs.Replies.{reach_of};
+ghost use Rattle.link_server.specs.Rows.{terms_in, is_first_row_of, HasNone, IsPlace, IsAbsent, IsPlaceOf, AreWithin};
+
+use crate::held_row::{HeldRow, units_for};
+use link_steps::LinkShape;
+use net_units::{Bounds, ChanNo, Level};
+use traffic_contract::Contract;
+
+// The place of the channel's row.
+pub(crate) fn place_of(rows: &[HeldRow], chan: ChanNo) -> Option<usize>
+    ensures none { IfNone result (IsAbsent chan rows.now) }
+    ensures some { IfSome result (IsPlaceOf chan rows.now) }
+{
+    for (place, row) in rows.iter().enumerate() {
+        if row.chan.get() == chan.get() {
+            return Some(place);
+        }
+    }
+    None
+}
+
+// The place of the channel's row at its first hop.
+pub(crate) fn first_place_of(rows: &[HeldRow], chan: ChanNo) -> Option<usize>
+    ensures none { IfNone result (HasNone (is_first_row_of chan) rows.now) }
+    ensures some { IfSome result (IsPlace (is_first_row_of chan) rows.now) }
+{
+    for (place, row) in rows.iter().enumerate() {
+        if row.is_first_of(chan) {
+            return Some(place);
+        }
+    }
+    None
+}
+
+// The units that the rows don't keep.
+pub(crate) fn free_units(shape: &LinkShape, rows: &[HeldRow]) -> u64
+    requires { AreWithin (length shape.now.bounds) rows.now }
+    ensures { result ≡ free_units shape.now (map terms_in rows.now) }
+{
+    let mut free = u64::from(shape.buffer);
+    for row in rows {
+        free = free.saturating_sub(row.units(&shape.bounds));
+    }
+    free
+}
+
+// The units that a new reservation would keep.
+pub(crate) fn need_of(bounds: &Bounds, contract: &Contract, up_reach: u64, reach: Level) -> u64
+    requires before { up_reach ≤ 1048576 }
+    requires within { level_number reach ≤ length bounds.now }
+    ensures { result ≡ need_of bounds.now contract.now up_reach (level_number reach) }
+{
+    units_for(contract, up_reach + u64::from(bounds.at(reach)))
+}
+
+// The reach for an offered level: the largest level whose bound is within the end-to-end bound or the offer's.
+pub(crate) fn reach_of(bounds: &Bounds, delay: u64, offer: Level) -> Level
+    requires { level_number offer ≤ length bounds.now }
+    ensures value { level_number result ≡ reach_of bounds.now delay (level_number offer) }
+    ensures within { level_number result ≤ length bounds.now }
+{
+    // `len` tells that the bounds rise, so that the first is within the offer's.
+    let _levels = bounds.len();
+    let most = delay.max(u64::from(bounds.at(offer)));
+    bounds.within(most).unwrap()
+}
