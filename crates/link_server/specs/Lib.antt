@@ -1,4 +1,5 @@
 pub mod Rows
 pub mod Wants
+pub mod Packets
 pub mod Asks
 pub mod State

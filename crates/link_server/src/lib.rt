@@ -7,6 +7,7 @@
 
 mod held_row;
 mod link_state;
+mod packets;
 mod rows;
 
 pub use link_state::LinkState;

@@ -1,0 +1,34 @@
+-- The packets at a link as its account has them: how many it has taken, those that are here in the order of their
+-- arrival, and the one that occupies it.
+use Rattle.std.specs.Prelude.{Option, Some, None, List, map}
+use Rattle.net_units.specs.Numbers.{level_number}
+use Rattle.link_steps.specs.Service.{Arrival, Start}
+use Rattle.link_server.specs.declared.packets.HeldPacket.{HeldPacket}
+use Rattle.link_server.specs.declared.packets.Running.{Running}
+use Rattle.link_server.specs.declared.packets.Packets.{Packets}
+
+-- a packet
+abbrev pub arrival_in : HeldPacket → Arrival
+arrival_in packet = record {
+  place = packet.place;
+  lead = packet.lead;
+  chan = packet.chan;
+  number = packet.number;
+  size = packet.size;
+  at = packet.at;
+  eligible = packet.eligible;
+  level = level_number packet.level;
+  next = packet.next;
+}
+
+-- the start of the one that occupies the link
+abbrev pub start_in : Running → Start
+start_in running = record { packet = arrival_in running.packet; tick = running.tick }
+
+abbrev pub on_in : Option Running → Option Start
+on_in None = None
+on_in (Some running) = Some (start_in running)
+
+-- those that are here
+abbrev pub here_in : List HeldPacket → List Arrival
+here_in packets = map arrival_in packets
