@@ -33,9 +33,9 @@ terms_in row = record {
 abbrev pub left_in : Planned → List SourcePacket
 left_in planned = planned_from planned.tick planned.gap planned.size planned.count
 
--- what the account of the link has of it: no packet was taken yet
+-- what the account of the link has of it
 abbrev pub row_in : HeldRow → KeptRow
-row_in row = record { terms = terms_in row; lead = 0; taken = 0; recent = row.regulator.recent; left = left_in row.planned }
+row_in row = record { terms = terms_in row; lead = row.lead; taken = row.taken; recent = row.regulator.recent; left = left_in row.planned }
 
 -- whether it is this channel's; and whether it is so at its first hop
 abbrev pub is_row_of : ChanNo → HeldRow → Bool

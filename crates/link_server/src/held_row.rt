@@ -52,6 +52,9 @@ pub(crate) struct HeldRow {
     pub(crate) up_reach: u64,
     pub(crate) up_bound: u64,
     pub(crate) count: u64,
+    // The arrival number of its first packet, or 0 before it, and how many it has taken.
+    pub(crate) lead: u64,
+    pub(crate) taken: u64,
     pub(crate) regulator: Regulator,
     pub(crate) planned: Planned,
     ghost is_contract: { IsContract contract },
@@ -92,6 +95,8 @@ impl HeldRow {
             up_reach: wanted.up_reach,
             up_bound: 0,
             count: 0,
+            lead: 0,
+            taken: 0,
             regulator,
             planned: Planned {
                 tick: 0,
