@@ -4,3 +4,6 @@ pub mod LevelFacts
 pub mod AnswerFacts
 pub mod StepFacts
 pub mod PlanFacts
+pub mod TakeFacts
+pub mod SourceFacts
+pub mod SourceRows

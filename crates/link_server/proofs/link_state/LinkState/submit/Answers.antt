@@ -5,7 +5,8 @@ use Rattle.std.proofs.lemmas.List.Elements.{All-set}
 use Rattle.link_steps.specs.declared.replies.Phase.TheVariants.{Committed}
 use Rattle.link_steps.specs.Kept.{kept_planned}
 use Rattle.link_steps.specs.Refusals.{not_in_phase, busy, too_big}
-use Rattle.link_server.specs.Rows.{terms_in, row_in, left_in, is_first_row_of, summed, HasNone, IsPlace, IsWithin}
+use Rattle.link_server.specs.Planned.{left_in}
+use Rattle.link_server.specs.Rows.{terms_in, row_in, is_first_row_of, summed, HasNone, IsPlace, IsWithin}
 use Rattle.link_server.proofs.AnswerFacts.{submit-absent, submit-phase, submit-busy, submit-big, submit-planned, submit-same, submit-kept}
 use Rattle.link_server.proofs.PlaceFacts.{at-place}
 use Rattle.link_server.proofs.SumsFacts.{summed-planned, within-planned}
