@@ -4,3 +4,4 @@ pub mod LevelFacts
 pub mod AnswerFacts
 pub mod StepFacts
 pub mod PlanFacts
+pub mod LineFacts

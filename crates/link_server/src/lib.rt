@@ -6,6 +6,7 @@
 #![tactic(auto)]
 
 mod held_row;
+mod in_line;
 mod link_state;
 mod packets;
 mod rows;
