@@ -1,7 +1,7 @@
 -- The count is of the packets that pass the test of the lead.
-use Rattle.std.proofs.Common.{◌≡◌, ◌∙◌, rules, tests}
+use Rattle.std.proofs.Common.{◌∙◌, rules, tests}
 use Rattle.std.proofs.lemmas.Iterator.{YieldsList-from_slice}
-use Rattle.std.proofs.lemmas.Iterator.Consumers.{YieldsList-at, YieldsList-from_filter, count_from_yields_List}
+use Rattle.std.proofs.lemmas.Iterator.Consumers.{YieldsList-from_filter, count_from_yields_List}
 use Rattle.link_steps.specs.Buffer.{has_lead}
 use Rattle.link_server.specs.Packets.{arrival_in}
 use Rattle.link_server.proofs.LineFacts.{held-passing}
