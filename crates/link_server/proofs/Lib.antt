@@ -5,3 +5,4 @@ pub mod AnswerFacts
 pub mod StepFacts
 pub mod PlanFacts
 pub mod LineFacts
+pub mod ServingFacts

@@ -1,6 +1,7 @@
 //! Which of the packets at a link are whose, and which of them is served first.
 ghost use Rattle.std.specs.Prelude.{◌≡◌, filter};
 ghost use Rattle.std.specs.Option.{option_map};
+ghost use Rattle.std.specs.Vec.{vec_capacity};
 ghost use Rattle.link_steps.specs.Buffer.{held_packets};
 ghost use Rattle.link_steps.specs.Kept.{is_eligible_by, is_other};
 ghost use Rattle.link_steps.specs.Service.{goes_before, sooner, first_in_line};
@@ -54,7 +55,8 @@ fn goes_before(packet: &HeldPacket, other: &HeldPacket) -> bool
 
 // Takes the packet that has been on the link out of those here.
 pub(crate) fn take_out(packets: &mut Vec<HeldPacket>, running: &Running)
-    ensures { here_in packets.new.items ≡ filter (is_other (start_in running.now)) (here_in packets.old.items) }
+    ensures others { here_in packets.new.items ≡ filter (is_other (start_in running.now)) (here_in packets.old.items) }
+    ensures capacity { vec_capacity packets.new ≡ vec_capacity packets.old }
 {
     packets.retain(|packet| packet.place != running.packet.place);
 }
