@@ -7,3 +7,5 @@ pub mod PlanFacts
 pub mod TakeFacts
 pub mod SourceFacts
 pub mod SourceRows
+pub mod LineFacts
+pub mod ServingFacts
