@@ -3,3 +3,4 @@ pub mod Wants
 pub mod Packets
 pub mod Asks
 pub mod State
+pub mod Sound
