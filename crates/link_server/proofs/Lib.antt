@@ -4,3 +4,6 @@ pub mod LevelFacts
 pub mod AnswerFacts
 pub mod StepFacts
 pub mod PlanFacts
+pub mod SlotFacts
+pub mod SoundRows
+pub mod SoundSetup
