@@ -1,14 +1,13 @@
 -- Rows of a sound account: leads that are apart, planned packets that lie ahead, and what keeps a row sound.
-use Rattle.std.proofs.Common.{◌≡◌, ℕ, zero, suc, ◌+◌, ◌*◌, ◌^◌, ◌<◌, ◌≤◌, Bool, true, false, cond, List, [], ◌∷◌, ◌++◌, length, ⊎_elim, refl, sym, ap, ◌∙◌, subst, arith}
+use Rattle.std.proofs.Common.{◌≡◌, ℕ, zero, suc, ◌+◌, ◌<◌, ◌≤◌, Bool, List, [], ◌∷◌, ◌++◌, ⊎_elim, refl, sym, subst, arith}
 use Rattle.std.proofs.lemmas.Bool.{cases_eq, cond_both, leb-true, eq-eqb, ne_eqb}
-use Rattle.std.specs.Prelude.{filter, find}
+use Rattle.std.specs.Prelude.{filter}
 use Rattle.link_steps.specs.Kept.{KeptRow}
 use Rattle.link_steps.specs.Lists.{change_first, without_first, Each}
 use Rattle.link_steps.specs.Rows.{SourcePacket, planned_from, is_from, left_at}
 use Rattle.link_steps.specs.Sources.{lead_with}
-use Rattle.link_steps.proofs.ChangeFacts.{Each-change_found}
 use Rattle.link_steps.proofs.ListFacts.{Each-append, Each-filter, Each-if, Each-change_first, Each-without_first}
-use Rattle.link_server.specs.Sound.{HasSize, AreAhead, IsApartFrom, AreApart}
+use Rattle.link_server.specs.Sound.{AreAhead, IsApartFrom, AreApart}
 
 -- ---- leads
 
