@@ -6,4 +6,5 @@ pub mod StepFacts
 pub mod PlanFacts
 pub mod SlotFacts
 pub mod SoundRows
+pub mod SoundPackets
 pub mod SoundSetup
