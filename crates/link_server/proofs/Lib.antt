@@ -8,3 +8,4 @@ pub mod SlotFacts
 pub mod SoundRows
 pub mod SoundPackets
 pub mod SoundSetup
+pub mod SoundTaking
