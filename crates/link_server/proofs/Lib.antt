@@ -9,3 +9,4 @@ pub mod SoundRows
 pub mod SoundPackets
 pub mod SoundSetup
 pub mod SoundTaking
+pub mod SoundSources

@@ -7,7 +7,7 @@ use Rattle.link_steps.specs.Lists.{change_first, without_first, Each}
 use Rattle.link_steps.specs.Rows.{SourcePacket, planned_from, is_from, left_at}
 use Rattle.link_steps.specs.Sources.{lead_with}
 use Rattle.link_steps.proofs.ListFacts.{Each-append, Each-filter, Each-if, Each-change_first, Each-without_first}
-use Rattle.link_server.specs.Sound.{AreAhead, IsApartFrom, AreApart}
+use Rattle.link_server.specs.Sound.{HasSize, AreAhead, IsApartFrom, AreApart}
 
 -- ---- leads
 
@@ -50,7 +50,7 @@ pub lead_with-later : (lead place : ℕ) → 1 ≤ lead → lead_with lead place
 lead_with-later lead place some = rw (ne_eqb lead 0 (λ same. absurd (omega (arith, same)))) refl
 
 -- one above all leads is another than each of them
-apart-lead_with : (place lead : ℕ) (rows : List KeptRow) → Each (λ row. row.lead < place) rows → Each (IsApartFrom lead) rows → Each (IsApartFrom (lead_with lead place)) rows
+pub apart-lead_with : (place lead : ℕ) (rows : List KeptRow) → Each (λ row. row.lead < place) rows → Each (IsApartFrom lead) rows → Each (IsApartFrom (lead_with lead place)) rows
 apart-lead_with place lead rows low apart =
     ⊎_elim
     (λ (none : lead ≡ 0).
@@ -108,3 +108,8 @@ unfolding planned_from
 planned-ahead t u gap size zero from apart least most = tt
 planned-ahead t u gap size (suc count) from apart least most =
     (from, record { least = least; most = most }, planned-ahead (suc u) (u + gap) gap size count (omega arith) apart least most)
+
+-- each planned packet has a size
+pub ahead-sizes : (t : ℕ) (plan : List SourcePacket) → AreAhead t plan → Each HasSize plan
+ahead-sizes t [] ahead = tt
+ahead-sizes t (p ∷ plan) ahead = (ahead.1, ahead-sizes (suc p.tick) plan ahead.2)
