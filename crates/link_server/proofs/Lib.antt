@@ -10,3 +10,4 @@ pub mod SoundPackets
 pub mod SoundSetup
 pub mod SoundTaking
 pub mod SoundSources
+pub mod SoundService

@@ -64,7 +64,7 @@ is_at place p = nat_eq p.place place
 pub record IsRunning (rate clock : ℕ) (here : List Arrival) (start : Start) : Type 0 where
   pub is_here : find (is_at start.packet.place) here ≡ Some start.packet
   pub eligible : start.packet.eligible ≤ start.tick
-  pub begun : start.tick < clock
+  pub begun : start.tick ≤ clock
   pub leaves_later : clock < leaves_at rate start
 
 -- ---- rows
