@@ -11,3 +11,4 @@ pub mod SoundSetup
 pub mod SoundTaking
 pub mod SoundSources
 pub mod SoundService
+pub mod SoundTick

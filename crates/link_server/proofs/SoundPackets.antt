@@ -1,15 +1,15 @@
 -- Lists of packets of a sound account: arrival numbers that rise, and how many packets of a row are among them.
-use Rattle.std.proofs.Common.{◌≡◌, ℕ, zero, suc, ◌+◌, ◌<◌, ◌≤◌, Bool, true, false, cond, List, [], ◌∷◌, ◌++◌, length, ⊎_elim, refl, sym, ap, ◌∙◌, arith, length-append}
+use Rattle.std.proofs.Common.{◌≡◌, ℕ, suc, ◌<◌, ◌≤◌, Bool, true, false, List, [], ◌∷◌, ◌++◌, length, ⊎_elim, ap, ◌∙◌, arith, length-append}
 use Rattle.std.proofs.lemmas.Bool.{cases_eq, cond_both, eq-eqb, ne_eqb, lt-ltb, and_from, and_left}
 use Rattle.std.proofs.lemmas.List.Elements.{filter-append}
-use Rattle.std.specs.Prelude.{filter, nat_eq, nat_lt}
+use Rattle.std.specs.Prelude.{filter, nat_lt}
 use Rattle.link_steps.specs.Buffer.{has_lead, held_packets}
 use Rattle.link_steps.specs.Lists.{Each}
 use Rattle.link_steps.specs.Service.{Arrival}
 use Rattle.link_steps.specs.Sources.{lead_with}
 use Rattle.link_steps.proofs.ListFacts.{Each-if, filter-none}
 use Rattle.link_server.specs.Sound.{AreNumbered, IsSoundPacket, is_late, late_packets}
-use Rattle.link_server.proofs.SoundRows.{lead_with-first, lead_with-later}
+use Rattle.link_server.proofs.SoundRows.{lead_with-later}
 
 -- ---- arrival numbers
 

@@ -1,7 +1,7 @@
 -- In a tick rows expire, and the sources of the others bring their packets: the account stays sound, and has room.
-use Rattle.std.proofs.Common.{◌≡◌, ℕ, zero, suc, ◌+◌, ◌^◌, ◌<◌, ◌≤◌, Bool, true, false, List, [], ◌∷◌, ◌++◌, length, Option, Some, None, ⊎_elim, refl, sym, ap, ◌∙◌, subst, arith, append_assoc, length-append}
+use Rattle.std.proofs.Common.{◌≡◌, ℕ, suc, ◌+◌, ◌^◌, ◌<◌, ◌≤◌, Bool, true, false, List, [], ◌∷◌, ◌++◌, length, Option, Some, None, ⊎_elim, refl, sym, subst, arith, append_assoc, length-append}
 use Rattle.std.proofs.lemmas.Bool.{cases_eq, ltb-true}
-use Rattle.std.specs.Prelude.{filter, find}
+use Rattle.std.specs.Prelude.{find}
 use Rattle.traffic_contract.proofs.AdmissionFacts.{total-filter-le}
 use Rattle.traffic_contract.specs.Admission.{total}
 use Rattle.link_steps.specs.declared.shape.LinkShape.{LinkShape}
@@ -12,7 +12,7 @@ use Rattle.link_steps.specs.Rows.{SourcePacket, is_for}
 use Rattle.link_steps.specs.Service.{Arrival}
 use Rattle.link_steps.specs.Sources.{SourceStep, Rests, Brings, Loses, lead_with, source_step, taken_by}
 use Rattle.link_steps.proofs.ListFacts.{Each-append, Each-filter, Each-find, Each-if}
-use Rattle.link_server.specs.Sound.{places_of, places, AreNumbered, HasSize, AreAhead, IsApartFrom, AreApart, IsSoundPacket, IsSoundRow, IsRunning, IsSound, with_brought}
+use Rattle.link_server.specs.Sound.{places_of, places, AreNumbered, HasSize, AreAhead, IsApartFrom, AreApart, IsSoundPacket, IsSoundRow, IsSound, with_brought}
 use Rattle.link_server.proofs.SoundPackets.{HasLead, packets-lead, numbered-append, held-more, held-taken, late-taken}
 use Rattle.link_server.proofs.SoundRows.{AreApart-filter, apart-lead_with, lead_with-first, lead_with-later, ahead-earlier, ahead-sizes, left-ahead}
 use Rattle.link_server.proofs.SoundTaking.{lead_with-most, taken-sound, more-sound, packets-more, packet-sound, places-taken, running-more}

@@ -1,10 +1,9 @@
 -- A sound account stays sound when a row takes a packet; and so through an arrive.
-use Rattle.std.proofs.Common.{◌≡◌, ℕ, zero, suc, ◌+◌, ◌-◌, ◌*◌, ◌^◌, ◌<◌, ◌≤◌, Bool, true, false, cond, List, [], ◌∷◌, ◌++◌, length, take, max, Option, Some, None, inl, inr, ⊎_elim, refl, sym, ap, ◌∙◌, subst, arith}
+use Rattle.std.proofs.Common.{◌≡◌, ℕ, zero, suc, ◌+◌, ◌-◌, ◌*◌, ◌^◌, ◌<◌, ◌≤◌, Bool, true, false, List, [], ◌∷◌, ◌++◌, length, take, max, Option, Some, None, inl, inr, ⊎_elim, refl, sym, ◌∙◌, subst, arith}
 use Rattle.std.proofs.Math.Nat.{mul-le-mul_left}
 use Rattle.std.proofs.lemmas.Bool.{cases_Bool, cases_eq, cases_lt, cond_both, ltb-true}
 use Rattle.std.proofs.lemmas.List.{length_push}
 use Rattle.std.specs.Prelude.{find, nat_lt}
-use Rattle.net_units.specs.Numbers.{level_number}
 use Rattle.net_units.specs.declared.Kind.{Kind}
 use Rattle.net_units.specs.declared.Kind.TheVariants.{Rate, Jitter}
 use Rattle.traffic_contract.specs.Admission.{total}
@@ -28,8 +27,8 @@ use Rattle.link_steps.specs.Service.{Arrival, Start}
 use Rattle.link_steps.specs.Sources.{lead_with, arrival_at}
 use Rattle.link_steps.proofs.ListFacts.{Each-append, Each-find, Each-if, total-less}
 use Rattle.link_steps.proofs.RefusalFacts.{kept-rule, unless-none}
-use Rattle.link_server.specs.Sound.{free_slots, places_of, places, AreNumbered, IsSoundPacket, is_at, IsRunning, late_packets, IsSoundRow, IsSound}
-use Rattle.link_server.proofs.SoundPackets.{HasLead, packets-lead, numbered-append, held-more, late-more, held-taken, late-taken}
+use Rattle.link_server.specs.Sound.{places_of, places, IsSoundPacket, is_at, IsRunning, late_packets, IsSoundRow, IsSound}
+use Rattle.link_server.proofs.SoundPackets.{packets-lead, numbered-append, held-more, late-more, held-taken, late-taken}
 use Rattle.link_server.proofs.SoundRows.{AreApart-taken, lead_with-first, lead_with-later}
 
 -- ---- the eligible tick
