@@ -9,3 +9,11 @@ pub mod SourceFacts
 pub mod SourceRows
 pub mod LineFacts
 pub mod ServingFacts
+pub mod SlotFacts
+pub mod SoundRows
+pub mod SoundPackets
+pub mod SoundSetup
+pub mod SoundTaking
+pub mod SoundSources
+pub mod SoundService
+pub mod SoundTick

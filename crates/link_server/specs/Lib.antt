@@ -6,3 +6,4 @@ pub mod Packets
 pub mod Serving
 pub mod Asks
 pub mod State
+pub mod Sound

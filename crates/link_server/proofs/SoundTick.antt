@@ -1,0 +1,22 @@
+-- A tick keeps an account sound, and while it is made its numbers fit and its packets have room.
+use Rattle.std.proofs.Common.{ℕ, ◌+◌, ◌^◌, ◌<◌, length}
+use Rattle.link_steps.specs.declared.asks.Ask.TheVariants.{Tick}
+use Rattle.link_steps.specs.declared.replies.Reply.{Reply}
+use Rattle.link_steps.specs.declared.shape.LinkShape.{LinkShape}
+use Rattle.link_steps.specs.Kept.{Kept, brought, present, occupies, kept_after_tick, kept_after}
+use Rattle.link_server.specs.Sound.{IsSound, with_brought}
+use Rattle.link_server.proofs.SoundService.{served-running, service-sound}
+use Rattle.link_server.proofs.SoundSources.{brought-sound, brought-rows}
+
+-- ---- the tick
+
+pub tick-sound : (shape : LinkShape) (room : ℕ) (k : Kept) → k.clock < 2 ^ 61 → IsSound shape room k → IsSound shape room (kept_after_tick shape k)
+unfolding kept_after_tick with_brought
+tick-sound shape room k early sound =
+    let served = brought-sound shape room k early sound in
+    service-sound shape room (with_brought shape k) (occupies shape k) early served (brought-rows shape room k early sound)
+    (served-running shape (length shape.bounds) (k.taken + length (brought shape k)) k.clock (present shape k) k.on served.numbered served.packets served.running)
+
+pub sound-tick : (shape : LinkShape) (room : ℕ) (k : Kept) (reply : Reply) → k.clock < 2 ^ 61 → IsSound shape room k → IsSound shape room (kept_after shape k Tick reply)
+unfolding kept_after
+sound-tick shape room k reply early sound = tick-sound shape room k early sound
