@@ -12,3 +12,4 @@ pub mod SoundTaking
 pub mod SoundSources
 pub mod SoundService
 pub mod SoundTick
+pub mod SoundNumbers
