@@ -4,6 +4,11 @@ pub mod LevelFacts
 pub mod AnswerFacts
 pub mod StepFacts
 pub mod PlanFacts
+pub mod TakeFacts
+pub mod SourceFacts
+pub mod SourceRows
+pub mod LineFacts
+pub mod ServingFacts
 pub mod SlotFacts
 pub mod SoundRows
 pub mod SoundPackets

@@ -6,9 +6,12 @@
 #![tactic(auto)]
 
 mod held_row;
+mod in_line;
 mod link_state;
 mod packets;
+mod planned;
 mod rows;
+mod sources;
 
 pub use link_state::LinkState;
 

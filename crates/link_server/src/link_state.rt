@@ -7,7 +7,9 @@ ghost use Rattle.link_steps.specs.Legal.{AskFits, ReserveFits, RelaxFits};
 ghost use Rattle.link_steps.specs.Shape.{server_of};
 ghost use Rattle.link_server.specs.Rows.{summed, IsAbsent, AreWithin};
 
-use crate::held_row::{HeldRow, Offered, Planned, Wanted};
+use crate::held_row::{HeldRow, Offered, Wanted};
+use crate::packets::Packets;
+use crate::planned::Planned;
 use crate::rows::{first_place_of, free_units, need_of, place_of, reach_of};
 use link_steps::{Ask, LinkShape, Refusal, Reply};
 use net_units::{ChanNo, Level, OutOfMemory};
@@ -22,6 +24,7 @@ pub struct LinkState {
     clock: u64,
     // In the order of their reserves.
     rows: Vec<HeldRow>,
+    packets: Packets,
     sums: LevelSums,
     ghost admitted: { AreAdmitted sums },
     ghost same_server: { sums.server ≡ server_of shape },
@@ -53,6 +56,11 @@ impl LinkState {
             shape,
             clock: 0,
             rows: Vec::new(alloc),
+            packets: Packets {
+                taken: 0,
+                here: Vec::new(alloc),
+                on: None,
+            },
         })
     }
 

@@ -13,14 +13,14 @@ use Rattle.link_server.proofs.link_state.LinkState.deny.Goals as goal
 
 pub returns-in_default-clause-reply : goal.returns-in_default-clause-reply
 returns-in_default-clause-reply c =
-    deny-absent c.args.self.now.shape c.args.self.now.clock c.args.chan c.args.self.now.rows.items (subst (IsAbsent c.args.chan) c.deref.ensures.value c.in_default.ensures.none)
+    deny-absent c.args.self.now.shape c.args.self.now.clock c.args.self.now.packets c.args.chan c.args.self.now.rows.items (subst (IsAbsent c.args.chan) c.deref.ensures.value c.in_default.ensures.none)
 
 pub returns-in_default-clause-kept : goal.returns-in_default-clause-kept
 returns-in_default-clause-kept c = deny-same c.args.self.now.shape _ c.args.chan _
 
 pub returns-in-Some-not_tentative-clause-reply : goal.returns-in-Some-not_tentative-clause-reply
 returns-in-Some-not_tentative-clause-reply c =
-    deny-refused c.args.self.now.shape c.args.self.now.clock c.args.chan c.args.self.now.rows.items c.in-Some.place c.index.result.now _
+    deny-refused c.args.self.now.shape c.args.self.now.clock c.args.self.now.packets c.args.chan c.args.self.now.rows.items c.in-Some.place c.index.result.now _
     (subst (λ rows. IsPlaceOf c.args.chan rows c.in-Some.place) c.deref.ensures.value c.in-Some.ensures.some)
     (c.in-Some-not_tentative.ensures ∙ ap (λ row. not_in_phase Tentative (terms_in row)) c.index.ensures)
 
@@ -49,12 +49,12 @@ invariant_of-self-clause-within c =
 
 pub returns-clause-reply : goal.returns-clause-reply
 returns-clause-reply c =
-    deny-denied c.args.self.now.shape c.args.self.now.clock c.args.chan c.args.self.now.rows.items c.in-Some.place c.index.result.now
+    deny-denied c.args.self.now.shape c.args.self.now.clock c.args.self.now.packets c.args.chan c.args.self.now.rows.items c.in-Some.place c.index.result.now
     (subst (λ rows. IsPlaceOf c.args.chan rows c.in-Some.place) c.deref.ensures.value c.in-Some.ensures.some)
     (c.in_default-not_tentative.ensures ∙ ap (λ row. not_in_phase Tentative (terms_in row)) c.index.ensures)
 
 pub returns-clause-kept : goal.returns-clause-kept
 returns-clause-kept c =
-    ap (account c.args.self.now.clock) c.remove-2.ensures.items
-    ∙ deny-kept c.args.self.now.shape c.args.self.now.clock c.args.chan c.args.self.now.rows.items c.in-Some.place
+    ap (account c.args.self.now.clock c.args.self.now.packets) c.remove-2.ensures.items
+    ∙ deny-kept c.args.self.now.shape c.args.self.now.clock c.args.self.now.packets c.args.chan c.args.self.now.rows.items c.in-Some.place
     (subst (λ rows. IsPlaceOf c.args.chan rows c.in-Some.place) c.deref.ensures.value c.in-Some.ensures.some)

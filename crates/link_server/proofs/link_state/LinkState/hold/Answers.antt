@@ -15,5 +15,5 @@ add-requires-clause-new c = λ held.
 
 pub returns-clause-kept : goal.returns-clause-kept
 returns-clause-kept c =
-    ap (account c.args.self.now.clock) (c.push_reserved.ensures.items ∙ ap (λ rows. rows ++ c.in_ok-row.row ∷ []) c.reserve.ensures.items)
-    ∙ reserve-kept c.args.self.now.shape c.args.self.now.clock c.args.wanted.now c.args.offer.now.level c.args.offer.now.reach c.args.self.now.rows.items c.in_ok-row.row c.in_ok-row.ensures
+    ap (account c.args.self.now.clock c.args.self.now.packets) (c.push_reserved.ensures.items ∙ ap (λ rows. rows ++ c.in_ok-row.row ∷ []) c.reserve.ensures.items)
+    ∙ reserve-kept c.args.self.now.shape c.args.self.now.clock c.args.self.now.packets c.args.wanted.now c.args.offer.now.level c.args.offer.now.reach c.args.self.now.rows.items c.in_ok-row.row c.in_ok-row.ensures

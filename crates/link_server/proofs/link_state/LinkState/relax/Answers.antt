@@ -15,14 +15,14 @@ use Rattle.link_server.proofs.link_state.LinkState.relax.Goals as goal
 
 pub returns-in_default-clause-reply : goal.returns-in_default-clause-reply
 returns-in_default-clause-reply c =
-    relax-absent c.args.self.now.shape c.args.self.now.clock c.args.chan c.args.level c.args.up_bound c.args.self.now.rows.items (subst (IsAbsent c.args.chan) c.deref.ensures.value c.in_default.ensures.none)
+    relax-absent c.args.self.now.shape c.args.self.now.clock c.args.self.now.packets c.args.chan c.args.level c.args.up_bound c.args.self.now.rows.items (subst (IsAbsent c.args.chan) c.deref.ensures.value c.in_default.ensures.none)
 
 pub returns-in_default-clause-kept : goal.returns-in_default-clause-kept
 returns-in_default-clause-kept c = relax-same c.args.self.now.shape _ c.args.chan c.args.level c.args.up_bound _
 
 pub returns-in-Some-not_tentative-clause-reply : goal.returns-in-Some-not_tentative-clause-reply
 returns-in-Some-not_tentative-clause-reply c =
-    relax-phase c.args.self.now.shape c.args.self.now.clock c.args.chan c.args.level c.args.up_bound c.args.self.now.rows.items c.in-Some.place c.index.result.now _
+    relax-phase c.args.self.now.shape c.args.self.now.clock c.args.self.now.packets c.args.chan c.args.level c.args.up_bound c.args.self.now.rows.items c.in-Some.place c.index.result.now _
     (subst (λ rows. IsPlaceOf c.args.chan rows c.in-Some.place) c.deref.ensures.value c.in-Some.ensures.some)
     (c.in-Some-not_tentative.ensures ∙ ap (λ row. not_in_phase Tentative (terms_in row)) c.index.ensures)
 
@@ -31,7 +31,7 @@ returns-in-Some-not_tentative-clause-kept c = relax-same c.args.self.now.shape _
 
 pub returns-in-Some-unfit-clause-reply : goal.returns-in-Some-unfit-clause-reply
 returns-in-Some-unfit-clause-reply c =
-    relax-unfit c.args.self.now.shape c.args.self.now.clock c.args.chan c.args.level c.args.up_bound c.args.self.now.rows.items c.in-Some.place c.index.result.now _
+    relax-unfit c.args.self.now.shape c.args.self.now.clock c.args.self.now.packets c.args.chan c.args.level c.args.up_bound c.args.self.now.rows.items c.in-Some.place c.index.result.now _
     (subst (λ rows. IsPlaceOf c.args.chan rows c.in-Some.place) c.deref.ensures.value c.in-Some.ensures.some)
     (c.in_default-not_tentative.ensures ∙ ap (λ row. not_in_phase Tentative (terms_in row)) c.index.ensures)
     (c.in-Some-unfit.ensures ∙ ap (λ row. unfit (terms_in row) c.args.level c.args.up_bound) (at-place c.args.self.now.rows.items c.in-Some.place c.index-2.result.now c.index.result.now c.index-2.ensures ((subst (λ rows. IsPlaceOf c.args.chan rows c.in-Some.place) c.deref.ensures.value c.in-Some.ensures.some).inside)))
@@ -69,13 +69,13 @@ invariant_of-self-clause-within c =
 
 pub returns-clause-reply : goal.returns-clause-reply
 returns-clause-reply c =
-    relax-relaxed c.args.self.now.shape c.args.self.now.clock c.args.chan c.args.level c.args.up_bound c.args.self.now.rows.items c.in-Some.place c.index.result.now
+    relax-relaxed c.args.self.now.shape c.args.self.now.clock c.args.self.now.packets c.args.chan c.args.level c.args.up_bound c.args.self.now.rows.items c.in-Some.place c.index.result.now
     (subst (λ rows. IsPlaceOf c.args.chan rows c.in-Some.place) c.deref.ensures.value c.in-Some.ensures.some)
     (c.in_default-not_tentative.ensures ∙ ap (λ row. not_in_phase Tentative (terms_in row)) c.index.ensures)
     (c.in_default-unfit.ensures ∙ ap (λ row. unfit (terms_in row) c.args.level c.args.up_bound) (at-place c.args.self.now.rows.items c.in-Some.place c.index-2.result.now c.index.result.now c.index-2.ensures ((subst (λ rows. IsPlaceOf c.args.chan rows c.in-Some.place) c.deref.ensures.value c.in-Some.ensures.some).inside)))
 
 pub returns-clause-kept : goal.returns-clause-kept
 returns-clause-kept c =
-    relax-kept c.args.self.now.shape c.args.self.now.clock c.args.chan c.args.level c.args.up_bound c.args.self.now.clock c.args.self.now.rows.items c.in-Some.place c.commit.new.self c.index_mut.result.now
+    relax-kept c.args.self.now.shape c.args.self.now.clock c.args.self.now.packets c.args.chan c.args.level c.args.up_bound c.args.self.now.clock c.args.self.now.rows.items c.in-Some.place c.commit.new.self c.index_mut.result.now
     (subst (λ rows. IsPlaceOf c.args.chan rows c.in-Some.place) c.deref.ensures.value c.in-Some.ensures.some)
     (c.commit.ensures ∙ ap (λ row. kept_relaxed c.args.level c.args.up_bound (row_in row)) c.index_mut.ensures.value)

@@ -5,7 +5,8 @@ use Rattle.std.proofs.lemmas.List.Elements.{All-set}
 use Rattle.link_steps.specs.declared.replies.Phase.TheVariants.{Committed}
 use Rattle.link_steps.specs.Kept.{kept_planned}
 use Rattle.link_steps.specs.Refusals.{not_in_phase, busy, too_big}
-use Rattle.link_server.specs.Rows.{terms_in, row_in, left_in, is_first_row_of, summed, HasNone, IsPlace, IsWithin}
+use Rattle.link_server.specs.Planned.{left_in}
+use Rattle.link_server.specs.Rows.{terms_in, row_in, is_first_row_of, summed, HasNone, IsPlace, IsWithin}
 use Rattle.link_server.proofs.AnswerFacts.{submit-absent, submit-phase, submit-busy, submit-big, submit-planned, submit-same, submit-kept}
 use Rattle.link_server.proofs.PlaceFacts.{at-place}
 use Rattle.link_server.proofs.SumsFacts.{summed-planned, within-planned}
@@ -14,14 +15,14 @@ use Rattle.link_server.proofs.link_state.LinkState.submit.Goals as goal
 
 pub returns-in_default-clause-reply : goal.returns-in_default-clause-reply
 returns-in_default-clause-reply c =
-    submit-absent c.args.self.now.shape c.args.self.now.clock c.args.chan c.args.count c.args.gap c.args.size c.args.self.now.rows.items (subst (HasNone (is_first_row_of c.args.chan)) c.deref.ensures.value c.in_default.ensures.none)
+    submit-absent c.args.self.now.shape c.args.self.now.clock c.args.self.now.packets c.args.chan c.args.count c.args.gap c.args.size c.args.self.now.rows.items (subst (HasNone (is_first_row_of c.args.chan)) c.deref.ensures.value c.in_default.ensures.none)
 
 pub returns-in_default-clause-kept : goal.returns-in_default-clause-kept
 returns-in_default-clause-kept c = submit-same c.args.self.now.shape _ c.args.chan c.args.count c.args.gap c.args.size _
 
 pub returns-in-Some-not_committed-clause-reply : goal.returns-in-Some-not_committed-clause-reply
 returns-in-Some-not_committed-clause-reply c =
-    submit-phase c.args.self.now.shape c.args.self.now.clock c.args.chan c.args.count c.args.gap c.args.size c.args.self.now.rows.items c.in-Some.place c.index.result.now _
+    submit-phase c.args.self.now.shape c.args.self.now.clock c.args.self.now.packets c.args.chan c.args.count c.args.gap c.args.size c.args.self.now.rows.items c.in-Some.place c.index.result.now _
     (subst (λ rows. IsPlace (is_first_row_of c.args.chan) rows c.in-Some.place) c.deref.ensures.value c.in-Some.ensures.some)
     (c.in-Some-not_committed.ensures ∙ ap (λ row. not_in_phase Committed (terms_in row)) c.index.ensures)
 
@@ -30,7 +31,7 @@ returns-in-Some-not_committed-clause-kept c = submit-same c.args.self.now.shape 
 
 pub returns-in-Some-busy-clause-reply : goal.returns-in-Some-busy-clause-reply
 returns-in-Some-busy-clause-reply c =
-    submit-busy c.args.self.now.shape c.args.self.now.clock c.args.chan c.args.count c.args.gap c.args.size c.args.self.now.rows.items c.in-Some.place c.index.result.now _
+    submit-busy c.args.self.now.shape c.args.self.now.clock c.args.self.now.packets c.args.chan c.args.count c.args.gap c.args.size c.args.self.now.rows.items c.in-Some.place c.index.result.now _
     (subst (λ rows. IsPlace (is_first_row_of c.args.chan) rows c.in-Some.place) c.deref.ensures.value c.in-Some.ensures.some)
     (c.in_default-not_committed.ensures ∙ ap (λ row. not_in_phase Committed (terms_in row)) c.index.ensures)
     (c.in-Some-busy.ensures ∙ ap (λ row. busy (length (left_in row.planned))) (at-place c.args.self.now.rows.items c.in-Some.place c.index-2.result.now c.index.result.now c.index-2.ensures ((subst (λ rows. IsPlace (is_first_row_of c.args.chan) rows c.in-Some.place) c.deref.ensures.value c.in-Some.ensures.some).inside)))
@@ -40,7 +41,7 @@ returns-in-Some-busy-clause-kept c = submit-same c.args.self.now.shape _ c.args.
 
 pub returns-in-Some-too_big-clause-reply : goal.returns-in-Some-too_big-clause-reply
 returns-in-Some-too_big-clause-reply c =
-    submit-big c.args.self.now.shape c.args.self.now.clock c.args.chan c.args.count c.args.gap c.args.size c.args.self.now.rows.items c.in-Some.place c.index.result.now _
+    submit-big c.args.self.now.shape c.args.self.now.clock c.args.self.now.packets c.args.chan c.args.count c.args.gap c.args.size c.args.self.now.rows.items c.in-Some.place c.index.result.now _
     (subst (λ rows. IsPlace (is_first_row_of c.args.chan) rows c.in-Some.place) c.deref.ensures.value c.in-Some.ensures.some)
     (c.in_default-not_committed.ensures ∙ ap (λ row. not_in_phase Committed (terms_in row)) c.index.ensures)
     (c.in_default-busy.ensures ∙ ap (λ row. busy (length (left_in row.planned))) (at-place c.args.self.now.rows.items c.in-Some.place c.index-2.result.now c.index.result.now c.index-2.ensures ((subst (λ rows. IsPlace (is_first_row_of c.args.chan) rows c.in-Some.place) c.deref.ensures.value c.in-Some.ensures.some).inside)))
@@ -71,7 +72,7 @@ invariant_of-self-clause-within c =
 
 pub returns-clause-reply : goal.returns-clause-reply
 returns-clause-reply c =
-    submit-planned c.args.self.now.shape c.args.self.now.clock c.args.chan c.args.count c.args.gap c.args.size c.args.self.now.rows.items c.in-Some.place c.index.result.now
+    submit-planned c.args.self.now.shape c.args.self.now.clock c.args.self.now.packets c.args.chan c.args.count c.args.gap c.args.size c.args.self.now.rows.items c.in-Some.place c.index.result.now
     (subst (λ rows. IsPlace (is_first_row_of c.args.chan) rows c.in-Some.place) c.deref.ensures.value c.in-Some.ensures.some)
     (c.in_default-not_committed.ensures ∙ ap (λ row. not_in_phase Committed (terms_in row)) c.index.ensures)
     (c.in_default-busy.ensures ∙ ap (λ row. busy (length (left_in row.planned))) (at-place c.args.self.now.rows.items c.in-Some.place c.index-2.result.now c.index.result.now c.index-2.ensures ((subst (λ rows. IsPlace (is_first_row_of c.args.chan) rows c.in-Some.place) c.deref.ensures.value c.in-Some.ensures.some).inside)))
@@ -79,6 +80,6 @@ returns-clause-reply c =
 
 pub returns-clause-kept : goal.returns-clause-kept
 returns-clause-kept c =
-    submit-kept c.args.self.now.shape c.args.self.now.clock c.args.chan c.args.count c.args.gap c.args.size c.args.self.now.clock c.args.self.now.rows.items c.in-Some.place c.plan.new.self c.index_mut.result.now
+    submit-kept c.args.self.now.shape c.args.self.now.clock c.args.self.now.packets c.args.chan c.args.count c.args.gap c.args.size c.args.self.now.clock c.args.self.now.rows.items c.in-Some.place c.plan.new.self c.index_mut.result.now
     (subst (λ rows. IsPlace (is_first_row_of c.args.chan) rows c.in-Some.place) c.deref.ensures.value c.in-Some.ensures.some)
     (c.plan.ensures ∙ ap (λ row. kept_planned c.args.self.now.clock c.args.count c.args.gap c.args.size (row_in row)) c.index_mut.ensures.value)
