@@ -19,3 +19,4 @@ pub mod SoundTaking
 pub mod SoundSources
 pub mod SoundService
 pub mod SoundTick
+pub mod SoundNumbers

@@ -37,7 +37,7 @@ kept_step-is bounds here t u row ahead = by-found (has_slot bounds row.terms row
       (ltb-true (held_packets row.lead here) (slots_of bounds row.terms) free, size.least, size.most)
 
 -- the packet, if there is one, is counted
-packet-length : (step : SourceStep) (t place : ℕ) (row : KeptRow) → length (kept_packet step t place row) ≡ taken_by step
+pub packet-length : (step : SourceStep) (t place : ℕ) (row : KeptRow) → length (kept_packet step t place row) ≡ taken_by step
 packet-length (Brings size) t place row = refl
 packet-length Rests t place row = refl
 packet-length Loses t place row = refl
