@@ -5,5 +5,6 @@ pub mod Wants
 pub mod Packets
 pub mod Serving
 pub mod Asks
+pub mod Account
 pub mod State
 pub mod Sound

@@ -20,6 +20,7 @@ pub(crate) fn expire(rows: &mut Vec<HeldRow>, sums: &mut LevelSums, bounds: &Bou
     ensures admitted { AreAdmitted sums.new }
     ensures server { sums.new.server ≡ sums.old.server }
     ensures same { sums.new.rows ≡ map summed rows.new.items }
+    ensures ready { AreReady clock rows.new.items }
     ensures few { length rows.new.items ≤ length rows.old.items }
 {
     let mut place = 0;
