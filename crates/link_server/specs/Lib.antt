@@ -7,3 +7,4 @@ pub mod Serving
 pub mod Asks
 pub mod State
 pub mod Sound
+pub mod SoundProp
