@@ -8,3 +8,4 @@ pub mod Asks
 pub mod Account
 pub mod State
 pub mod Sound
+pub mod SoundProp
