@@ -6,6 +6,7 @@ pub mod StepFacts
 pub mod PlanFacts
 pub mod TakeFacts
 pub mod HoldFacts
+pub mod RoomFacts
 pub mod ExpiryFacts
 pub mod SourceFacts
 pub mod SourceRows

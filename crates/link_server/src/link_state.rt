@@ -235,7 +235,8 @@ impl LinkState {
         ensures sum_fits { OnOk result (1 ≤ self.new.sums.spare) }
         ensures packets_fit { OnOk result (most_places self.new.shape.bounds (here_in self.new.packets.here.items) (map row_in self.new.rows.items) + suc (slots_of self.new.shape.bounds (terms_in row.now)) ≤ self.new.room) }
     {
-        let places = places_of(&self.shape.bounds, &self.rows) + 1 + row.slots(&self.shape.bounds);
+        let bounds = self.shape.bounds;
+        let places = places_of(&bounds, &self.rows) + 1 + row.slots(&bounds);
         let room = self.packets.here.len() as u64 + places;
         if room > u64::from(u32::MAX) {
             return Err(OutOfMemory);
@@ -309,10 +310,11 @@ impl LinkState {
         ensures kept { kept_in self.new ≡ kept_after self.old.shape (kept_in self.old) AskTick result }
     {
         let clock = self.clock;
-        let bounds = self.shape.bounds;
+        let shape = self.shape;
+        let bounds = shape.bounds;
         expire(&mut self.rows, &mut self.sums, &bounds, clock);
         let full = take_source_packets(&mut self.rows, &mut self.packets, &bounds, clock);
-        let sent = self.packets.serve(&self.shape, clock);
+        let sent = self.packets.serve(&shape, clock);
         self.clock += 1;
         Reply::Ticked { clock, full, sent }
     }
