@@ -9,7 +9,7 @@ use Rattle.link_steps.specs.Reservation.{Reservation}
 use Rattle.link_server.specs.declared.held_row.HeldRow.{HeldRow}
 use Rattle.link_server.specs.Planned.{left_in}
 use Rattle.link_server.specs.Rows.{terms_in, row_in, is_row_of, is_first_row_of, HasNone, IsPlace, IsAbsent, IsPlaceOf}
-use Rattle.link_server.specs.State.{account}
+use Rattle.link_server.specs.Account.{account}
 use Rattle.link_server.specs.Wants.{ask_for}
 use Rattle.link_server.specs.declared.held_row.Wanted.{Wanted}
 use Rattle.link_server.specs.declared.packets.Packets.{Packets}

@@ -5,6 +5,8 @@ pub mod AnswerFacts
 pub mod StepFacts
 pub mod PlanFacts
 pub mod TakeFacts
+pub mod HoldFacts
+pub mod ExpiryFacts
 pub mod SourceFacts
 pub mod SourceRows
 pub mod LineFacts

@@ -5,6 +5,7 @@ pub mod Wants
 pub mod Packets
 pub mod Serving
 pub mod Asks
+pub mod Account
 pub mod State
 pub mod Sound
 pub mod SoundProp

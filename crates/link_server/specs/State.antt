@@ -1,17 +1,9 @@
--- What a link's state keeps is the account of its history: its clock, its rows, and the packets that it has taken,
--- that are here, and that occupy it.
-use Rattle.std.specs.Prelude.{ℕ, List, map}
+-- A link's state stands for a history when the account that it keeps is that of the history.
+use Rattle.std.specs.Prelude.{List}
 use Rattle.link_steps.specs.declared.replies.Entry.{Entry}
 use Rattle.link_steps.specs.Kept.{Kept, StandsFor}
-use Rattle.link_server.specs.declared.held_row.HeldRow.{HeldRow}
+use Rattle.link_server.specs.Account.{account}
 use Rattle.link_server.specs.declared.link_state.LinkState.{LinkState}
-use Rattle.link_server.specs.declared.packets.Packets.{Packets}
-use Rattle.link_server.specs.Packets.{here_in, on_in}
-use Rattle.link_server.specs.Rows.{row_in}
-
--- the account of a clock, packets and rows
-abbrev pub account : ℕ → Packets → List HeldRow → Kept
-account clock packets rows = record { clock = clock; taken = packets.taken; rows = map row_in rows; here = here_in packets.here.items; on = on_in packets.on }
 
 -- the account that it keeps
 abbrev pub kept_in : LinkState → Kept

@@ -1,6 +1,7 @@
 //! A row of a link: a reservation that is held, its regulator, its planned packets, and the units that it keeps.
 ghost use Rattle.std.specs.Prelude.{◌≡◌, ◌^◌, ◌<◌, ◌≤◌, suc, find, IfSome, IfOk, length};
 ghost use Rattle.traffic_contract.specs.Contract.{IsContract};
+ghost use Rattle.traffic_contract.specs.Eligible.{newest};
 ghost use Rattle.link_steps.specs.Buffer.{units_for};
 ghost use Rattle.link_steps.specs.Refusals.{busy};
 ghost use Rattle.link_steps.specs.Sources.{lead_with};
@@ -11,6 +12,7 @@ use crate::planned::Planned;
 use link_steps::{Phase, Refusal};
 use net_units::{Bounds, ChanNo, Kind, Level, LinkNo, OutOfMemory};
 use regulator_core::Regulator;
+use release_hold::Draining;
 use std::alloc::Global;
 use traffic_contract::Contract;
 
@@ -51,6 +53,8 @@ pub(crate) struct HeldRow {
     // The arrival number of its first packet, or 0 before it, and how many it has taken.
     pub(crate) lead: u64,
     pub(crate) taken: u64,
+    // The newest eligible tick, or 0 before the first.
+    pub(crate) last: u64,
     pub(crate) regulator: Regulator,
     pub(crate) planned: Planned,
     ghost is_contract: { IsContract contract },
@@ -58,6 +62,7 @@ pub(crate) struct HeldRow {
     ghost bound_most: { up_bound ≤ 1048576 },
     ghost regulates: { regulator.terms ≡ contract },
     ghost controls: { regulator.kind ≡ kind },
+    ghost newest: { last ≡ newest regulator.recent },
 }
 
 impl HeldRow {
@@ -65,10 +70,10 @@ impl HeldRow {
     ghost use Rattle.link_steps.specs.declared.replies.Phase.TheVariants.{Tentative, Committed};
     ghost use Rattle.link_steps.specs.Refusals.{not_in_phase, unfit, too_big};
     ghost use Rattle.link_steps.specs.Kept.{new_kept, kept_relaxed, kept_planned, past_tick, kept_tick, kept_with};
+    ghost use Rattle.link_steps.specs.Hold.{hold_ended};
     ghost use Rattle.link_steps.specs.Reservation.{tentative};
     ghost use Rattle.link_steps.specs.Rows.{is_for};
     ghost use Rattle.link_steps.specs.Sources.{arrival_at};
-    ghost use Rattle.traffic_contract.specs.Eligible.{newest};
     ghost use Rattle.link_server.specs.Packets.{arrival_in, here_in};
     ghost use Rattle.link_server.specs.Planned.{left_in, size_of, IsAhead};
     ghost use Rattle.link_server.specs.Rows.{terms_in, row_in, is_first_row_of, IsWithin};
@@ -98,6 +103,7 @@ impl HeldRow {
             count: 0,
             lead: 0,
             taken: 0,
+            last: 0,
             regulator,
             planned: Planned::NONE,
         })
@@ -224,6 +230,7 @@ impl HeldRow {
         ensures row { row_in self.new ≡ kept_with place (kept_tick (row_in self.old) clock) (row_in self.old) }
     {
         let eligible = self.regulator.admit(clock, 0);
+        self.last = eligible;
         self.taken += 1;
         self.lead = lead_with(self.lead, place);
         HeldPacket {
@@ -236,6 +243,24 @@ impl HeldRow {
             eligible,
             level: self.level,
             next: self.next,
+        }
+    }
+
+    // Whether its hold has ended by this tick.
+    pub(crate) fn has_ended(&self, bounds: &Bounds, clock: u64) -> bool
+        requires { self.now.last < 2 ^ 63 }
+        ensures { result ≡ hold_ended bounds.now (terms_in self.now) self.now.taken self.now.last clock }
+    {
+        match self.phase {
+            Phase::Tentative | Phase::Committed => false,
+            Phase::Closing => {
+                let draining = Draining {
+                    last: self.count,
+                    eligible: self.taken,
+                    last_tick: self.last,
+                };
+                draining.due(clock, u64::from(bounds.last()))
+            }
         }
     }
 

@@ -5,6 +5,7 @@
 //! A reserve alone takes memory.
 #![tactic(auto)]
 
+mod expiry;
 mod held_row;
 mod in_line;
 mod link_state;

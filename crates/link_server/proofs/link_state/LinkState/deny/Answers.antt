@@ -5,7 +5,7 @@ use Rattle.rcsp_admission.specs.Sums.{Holds, without, IsDistinct}
 use Rattle.link_steps.specs.declared.replies.Phase.TheVariants.{Tentative}
 use Rattle.link_steps.specs.Refusals.{not_in_phase}
 use Rattle.link_server.specs.Rows.{terms_in, summed, IsAbsent, IsPlaceOf, IsWithin}
-use Rattle.link_server.specs.State.{account}
+use Rattle.link_server.specs.Account.{account}
 use Rattle.link_server.proofs.PlaceFacts.{all-without}
 use Rattle.link_server.proofs.SumsFacts.{place-holds, summed-without}
 use Rattle.link_server.proofs.AnswerFacts.{deny-absent, deny-refused, deny-denied, deny-same, deny-kept}

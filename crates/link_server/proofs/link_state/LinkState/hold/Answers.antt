@@ -2,7 +2,7 @@
 use Rattle.std.proofs.Common.{[], ◌∷◌, ◌++◌, ap, ◌∙◌, subst}
 use Rattle.net_units.specs.Numbers.{channel_number}
 use Rattle.rcsp_admission.specs.Sums.{Holds}
-use Rattle.link_server.specs.State.{account}
+use Rattle.link_server.specs.Account.{account}
 use Rattle.link_server.proofs.SumsFacts.{absent-new}
 use Rattle.link_server.proofs.AnswerFacts.{reserve-kept}
 use Rattle.link_server.proofs.link_state.LinkState.hold.Goals as goal
