@@ -21,3 +21,4 @@ pub mod SoundSources
 pub mod SoundService
 pub mod SoundTick
 pub mod SoundNumbers
+pub mod SoundServes

@@ -14,7 +14,9 @@ use Rattle.link_steps.specs.Lists.{Each}
 use Rattle.link_steps.specs.Rows.{SourcePacket}
 use Rattle.link_steps.specs.Service.{Arrival}
 use Rattle.link_steps.specs.Sources.{SourceStep, Rests, Brings, Loses, taken_by, lost_by}
-use Rattle.link_steps.proofs.ListFacts.{Each-if}
+use Rattle.link_steps.proofs.ListFacts.{Each-filter, Each-if}
+use Rattle.link_server.specs.Planned.{IsFrom}
+use Rattle.link_server.specs.Sources.{IsReady}
 use Rattle.link_server.specs.Sound.{places_of, all_places_of, places, most_places, AreAhead, late_packets, IsSoundRow, IsSound}
 use Rattle.link_server.proofs.SoundPackets.{late-upto}
 use Rattle.link_server.proofs.SoundSources.{IsStep, AreSteps, packet-length, kept_steps-are, held-sound}
@@ -95,7 +97,7 @@ brought-small shape room k early few sound = omega (arith, sound.taken_most, bro
 -- ---- a row in a tick
 
 -- nothing is planned for an earlier tick
-pub ahead-from : (t u : ℕ) (plan : List SourcePacket) → t ≤ u → AreAhead u plan → Each (λ p. t ≤ p.tick) plan
+pub ahead-from : (t u : ℕ) (plan : List SourcePacket) → t ≤ u → AreAhead u plan → Each (IsFrom t) plan
 ahead-from t u [] from ahead = tt
 ahead-from t u (p ∷ plan) from ahead = (omega (arith, ahead.0), ahead-from t (suc p.tick) plan (omega (arith, ahead.0)) ahead.2)
 
@@ -105,23 +107,22 @@ newest-small levels clock taken here row few sound =
     let times = mul-le row.terms.contract.interval (late_packets row.lead (2 ^ 62) here) 16777216 (2 ^ 32) sound.contract.interval_most (omega (arith, late-upto row.lead (2 ^ 62) here)) in
     omega (arith, times, sound.paced (2 ^ 62) (omega arith))
 
--- what a row of a sound account has in a tick: plans from the clock on, a newest tick and a count below 2^63
-pub record HasSmallNumbers (clock : ℕ) (row : KeptRow) : Type 0 where
-  pub ahead : Each (λ p. clock ≤ p.tick) row.left
-  pub last : newest row.recent < 2 ^ 63
-  pub few : row.taken < 2 ^ 63
-
-pub rows-small : (shape : LinkShape) (room : ℕ) (k : Kept) → k.clock < 2 ^ 61 → room < 2 ^ 32 → IsSound shape room k → Each (HasSmallNumbers k.clock) k.rows
-rows-small shape room k early few sound =
+-- so each row of a sound account can make its step in the tick
+pub rows-ready : (shape : LinkShape) (room : ℕ) (k : Kept) → k.clock < 2 ^ 61 → room < 2 ^ 32 → IsSound shape room k → Each (IsReady k.clock) k.rows
+rows-ready shape room k early few sound =
     let here = rows-upto shape room k sound in
     let taken = taken-small shape room k early few sound in
-    Each-if (IsSoundRow (length shape.bounds) k.clock k.taken k.here) (HasSmallNumbers k.clock) k.rows
+    Each-if (IsSoundRow (length shape.bounds) k.clock k.taken k.here) (IsReady k.clock) k.rows
     (λ row each. record {
       ahead = ahead-from k.clock k.clock row.left (omega arith) each.ahead;
       last = newest-small (length shape.bounds) k.clock k.taken k.here row (omega (arith, here)) each;
       few = omega (arith, each.taken_most, taken);
     })
     sound.rows
+
+-- and so can those that stay held
+pub held-ready : (shape : LinkShape) (room : ℕ) (k : Kept) → k.clock < 2 ^ 61 → room < 2 ^ 32 → IsSound shape room k → Each (IsReady k.clock) (held_rows shape k)
+held-ready shape room k early few sound = Each-filter (IsReady k.clock) (kept_stays shape.bounds k.clock) k.rows (rows-ready shape room k early few sound)
 
 -- ---- a reserve
 

@@ -1,10 +1,10 @@
 -- An account is sound when its numbers keep their bounds and its packets have room, as in every state of a link. At most
 -- one packet leaves in a tick: so a link has taken at most as many packets as it has made ticks and has packets here.
--- The packets here stand in the order of their arrival numbers, and no two rows have the same lead. There is room for
--- the packets here, for one packet more in each slot that is free, and for one more a row. A row's newest eligible tick
--- is past tick 2^62 by at most an interval for each of its packets here that are eligible so late. What a row plans lies
--- ahead, in order of time. The packet that occupies the link is one of those here, was eligible when it started, and
--- hasn't left.
+-- The packets here stand in the order of their arrival numbers, and no two rows have the same first packet. There is
+-- room for the packets here, for one packet more in each slot that is free, and for one more a row. A row's newest
+-- eligible tick is past tick 2^62 by at most an interval for each of its packets here that are eligible so late. What a
+-- row plans lies ahead, in order of time. The packet that occupies the link is one of those here, was eligible when it
+-- started, and hasn't left.
 use Rattle.std.specs.Prelude.{◌≡◌, ℕ, suc, ◌+◌, ◌-◌, ◌*◌, ◌^◌, ◌<◌, ◌≤◌, Bool, nat_eq, nat_lt, ◌&&◌, Some, List, [], ◌∷◌, length, filter, find}
 use Rattle.std.specs.Option.{ForSome}
 use Rattle.net_units.specs.Numbers.{level_number}
@@ -91,7 +91,7 @@ AreAhead t (p ∷ ps) = (t ≤ p.tick) × HasSize p × AreAhead (suc p.tick) ps
 abbrev pub IsApartFrom : ℕ → KeptRow → Type 0
 IsApartFrom lead row = row.lead ≡ lead → lead ≡ 0
 
--- no two rows have the same lead, but for those that have taken no packet
+-- no two rows have the same lead, but for those that have taken no packet yet, whose lead is 0
 abbrev pub AreApart : List KeptRow → Type 0
 AreApart [] = Unit {0}
 AreApart (row ∷ rows) = Each (IsApartFrom row.lead) rows × AreApart rows
