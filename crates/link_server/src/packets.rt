@@ -159,3 +159,6 @@ impl Packets {
         Some(running.sent(shape))
     }
 }
+
+#[cfg(test)]
+mod tests;
