@@ -20,6 +20,7 @@ pub(crate) fn held(packets: &[HeldPacket], lead: u64) -> usize
 pub(crate) fn first_in_line(packets: &[HeldPacket], tick: u64) -> Option<HeldPacket>
     ensures { option_map arrival_in result ≡ first_in_line (filter (is_eligible_by tick) (here_in packets.now)) }
 {
+    // From the last to the first: each packet against the first in line of those behind it.
     let mut first = None;
     for packet in packets.iter().rev() {
         if packet.eligible <= tick {
