@@ -7,6 +7,7 @@ pub mod PlanFacts
 pub mod TakeFacts
 pub mod HoldFacts
 pub mod RoomFacts
+pub mod TickFacts
 pub mod HoldingFacts
 pub mod ExpiryFacts
 pub mod SourceFacts

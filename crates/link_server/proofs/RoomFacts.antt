@@ -1,11 +1,11 @@
 -- The places that rows may want for packets.
 use Rattle.std.proofs.Common.{◌≡◌, ℕ, suc, ◌+◌, ◌<◌, List, [], ◌∷◌, ◌++◌, length, map, get_or, take, refl, sym, ap, ◌∙◌, arith}
-use Rattle.std.specs.Prelude.{Option}
+use Rattle.std.specs.Prelude.{Option, None}
 use Rattle.std.proofs.lemmas.List.{map_push, take_more, length-map}
 use Rattle.traffic_contract.specs.Admission.{total}
 use Rattle.traffic_contract.proofs.AdmissionFacts.{total-push}
 use Rattle.link_steps.specs.Buffer.{slots_of}
-use Rattle.link_steps.specs.Kept.{Kept, KeptRow}
+use Rattle.link_steps.specs.Kept.{Kept, KeptRow, nothing_kept}
 use Rattle.link_steps.specs.Service.{Arrival, Start}
 use Rattle.link_server.specs.Account.{account}
 use Rattle.link_server.specs.Packets.{arrival_in, here_in, on_in}
@@ -39,3 +39,11 @@ pub most_places-are : (bounds : List ℕ) (items : List HeldPacket) (rows : List
 unfolding most_places
 most_places-are bounds items rows places same =
     ap (λ n. n + total (all_places_of bounds) (map row_in rows)) (length-map items arrival_in) ∙ ap (λ n. length items + n) (sym same)
+
+-- a link without rows and packets keeps nothing
+pub account-nothing : (packets : Packets) (rows : List HeldRow) → packets.taken ≡ 0 → packets.here.items ≡ [] → packets.on ≡ None → rows ≡ [] → account 0 packets rows ≡ nothing_kept
+account-nothing packets rows taken here on none =
+    ap (λ n. parts 0 n (map row_in rows) (here_in packets.here.items) (on_in packets.on)) taken
+    ∙ ap (λ all. parts 0 0 (map row_in all) (here_in packets.here.items) (on_in packets.on)) none
+    ∙ ap (λ all. parts 0 0 [] (here_in all) (on_in packets.on)) here
+    ∙ ap (λ o. parts 0 0 [] [] (on_in o)) on
