@@ -1,5 +1,5 @@
 -- Rows expire one after another: those before a place stay, and those from it on are still to be judged.
-use Rattle.std.proofs.Common.{◌≡◌, ℕ, zero, suc, ◌+◌, ◌<◌, ◌≤◌, ◌^◌, Bool, true, false, not, List, [], ◌∷◌, ◌++◌, length, map, get_or, take, drop, refl, sym, ap, ◌∙◌, subst, arith}
+use Rattle.std.proofs.Common.{◌≡◌, ℕ, zero, suc, ◌+◌, ◌<◌, ◌≤◌, Bool, true, false, not, List, [], ◌∷◌, ◌++◌, length, map, get_or, take, drop, refl, sym, ap, ◌∙◌, arith}
 use Rattle.std.proofs.lemmas.Bool.{eq-eqb, ne_eqb}
 use Rattle.std.proofs.lemmas.List.{drop_more, take_more, map_push, append_assoc, append-nil, length-map, get_or-map, drop_all, take_all}
 use Rattle.std.specs.List.{remove}
@@ -28,12 +28,13 @@ place-distinct (row ∷ rows) (suc i) d distinct inside =
       here = later.here;
       before = place-before row rows i (get_or rows i d) (other-channel row rows i d distinct (omega arith)) later;
     } where
-  -- no earlier row has the channel of a later one
-  other-channel : (row : HeldRow) (rows : List HeldRow) (i : ℕ) (d : HeldRow) → IsDistinct (map summed (row ∷ rows)) → i < length rows → channel_number row.chan ≡ channel_number (get_or rows i d).chan → ⊥
-  other-channel row rows i d distinct inside same = distinct.apart 0 (suc i) (summed row) (omega arith) (let long = length-map rows summed in omega (arith, long, inside)) (same ∙ sym (ap key_of (get_or-map summed rows i d (summed row) inside)))
-  place-before : (row : HeldRow) (rows : List HeldRow) (i : ℕ) (found : HeldRow) → (channel_number row.chan ≡ channel_number found.chan → ⊥) → IsPlaceOf found.chan rows i → (k : ℕ) (d : HeldRow) → k < suc i → is_row_of found.chan (get_or (row ∷ rows) k d) ≡ false
-  place-before row rows i found other later zero d below = ne_eqb (channel_number row.chan) (channel_number found.chan) other
-  place-before row rows i found other later (suc k) d below = later.before k d (omega arith)
+      -- no earlier row has the channel of a later one
+      other-channel : (row : HeldRow) (rows : List HeldRow) (i : ℕ) (d : HeldRow) → IsDistinct (map summed (row ∷ rows)) → i < length rows → channel_number row.chan ≡ channel_number (get_or rows i d).chan → ⊥
+      other-channel row rows i d distinct inside same = distinct.apart 0 (suc i) (summed row) (omega arith) (let long = length-map rows summed in omega (arith, long, inside)) (same ∙ sym (ap key_of (get_or-map summed rows i d (summed row) inside)))
+
+      place-before : (row : HeldRow) (rows : List HeldRow) (i : ℕ) (found : HeldRow) → (channel_number row.chan ≡ channel_number found.chan → ⊥) → IsPlaceOf found.chan rows i → (k : ℕ) (d : HeldRow) → k < suc i → is_row_of found.chan (get_or (row ∷ rows) k d) ≡ false
+      place-before row rows i found other later zero d below = ne_eqb (channel_number row.chan) (channel_number found.chan) other
+      place-before row rows i found other later (suc k) d below = later.before k d (omega arith)
 
 -- the row taken out at a place leaves the rows before it and those behind it
 take-remove : {X : Type 0} (xs : List X) (i : ℕ) → take i (remove xs i) ≡ take i xs

@@ -1,5 +1,5 @@
 -- When the hold of a row has ended, by its phase and its numbers.
-use Rattle.std.proofs.Common.{◌≡◌, ℕ, ◌+◌, ◌≤◌, Bool, true, false, ◌&&◌, ◌||◌, ◌⊎◌, inl, inr, List, refl, sym, ap, ◌∙◌, arith}
+use Rattle.std.proofs.Common.{◌≡◌, ℕ, ◌+◌, ◌≤◌, Bool, true, false, ◌&&◌, ◌||◌, ◌⊎◌, inl, inr, List, refl, sym, ap}
 use Rattle.std.proofs.lemmas.Bool.{le-leb, leb-true, eq-eqb, eqb-true, and_parts, or_cases, or_right}
 use Rattle.std.specs.Bool.{IsTrue}
 use Rattle.std.specs.Prelude.{◌↔◌, nat_eq, nat_le}
@@ -31,9 +31,9 @@ ended-up count taken last top t (inr all) = rw (eq-eqb taken count all.0, le-leb
 
 ended-down : (count taken last top t : ℕ) → (nat_eq count 0 || (nat_eq taken count && nat_le (last + top) t)) ≡ true → (count ≡ 0) ⊎ ((taken ≡ count) × (last + top ≤ t))
 ended-down count taken last top t ended = elim (or_cases (nat_eq count 0) (nat_eq taken count && nat_le (last + top) t) ended) [
-    inl none ↦ inl (eqb-true count 0 none)
-    | inr all ↦ inr (let parts = and_parts (nat_eq taken count) (nat_le (last + top) t) all in (eqb-true taken count parts.0, leb-true (last + top) t parts.1))
-  ]
+  | inl none ↦ inl (eqb-true count 0 none)
+  | inr all ↦ inr (let parts = and_parts (nat_eq taken count) (nat_le (last + top) t) all in (eqb-true taken count parts.0, leb-true (last + top) t parts.1))
+]
 
 -- of a closing row it has where no packet is left to wait for
 pub hold-closing : (bounds : List ℕ) (terms : Reservation) (taken last top t : ℕ) (ended : Bool) → terms.phase ≡ Closing → top ≡ last_bound bounds → (IsTrue ended ↔ ((terms.count ≡ 0) ⊎ ((taken ≡ terms.count) × (last + top ≤ t)))) → ended ≡ hold_ended bounds terms taken last t

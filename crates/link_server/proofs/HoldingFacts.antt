@@ -25,8 +25,8 @@ abbrev pub held_terms : Wanted → Level → Level → Reservation
 held_terms wanted level reach = tentative wanted.chan wanted.contract wanted.kind wanted.first wanted.next wanted.up_reach level reach
 
 most-held : (shape : LinkShape) (room : ℕ) (k : Kept) (wanted : Wanted) (level reach : Level) (row : HeldRow) → row_in row ≡ new_kept (held_terms wanted level reach)
-  → most_places shape.bounds k.here k.rows + suc (slots_of shape.bounds (terms_in row)) ≤ room
-  → most_places shape.bounds (kept_after shape k (ask_for wanted) (Offer level reach)).here (kept_after shape k (ask_for wanted) (Offer level reach)).rows ≤ room
+    → most_places shape.bounds k.here k.rows + suc (slots_of shape.bounds (terms_in row)) ≤ room
+    → most_places shape.bounds (kept_after shape k (ask_for wanted) (Offer level reach)).here (kept_after shape k (ask_for wanted) (Offer level reach)).rows ≤ room
 unfolding kept_after
 most-held shape room k wanted level reach row same enough =
     let push = most_places-push shape.bounds k.here k.rows (new_kept (held_terms wanted level reach)) in
@@ -34,16 +34,16 @@ most-held shape room k wanted level reach row same enough =
     omega (arith, push, slots, enough)
 
 pub sound-held : (shape : LinkShape) (room : ℕ) (k : Kept) (wanted : Wanted) (level reach : Level) (row : HeldRow) → ReserveFits wanted.contract wanted.up_reach wanted.first → IsSound shape room k
-  → Offer level reach ≡ kept_reply shape k (ask_for wanted) → row_in row ≡ new_kept (held_terms wanted level reach)
-  → most_places shape.bounds k.here k.rows + suc (slots_of shape.bounds (terms_in row)) ≤ room
-  → IsSound shape room (kept_after shape k (ask_for wanted) (Offer level reach))
+    → Offer level reach ≡ kept_reply shape k (ask_for wanted) → row_in row ≡ new_kept (held_terms wanted level reach)
+    → most_places shape.bounds k.here k.rows + suc (slots_of shape.bounds (terms_in row)) ≤ room
+    → IsSound shape room (kept_after shape k (ask_for wanted) (Offer level reach))
 sound-held shape room k wanted level reach row fits sound offered same enough =
     sound-reserve shape room room k wanted.chan wanted.contract wanted.kind wanted.delay wanted.up_reach wanted.first wanted.next (Offer level reach) fits sound offered (omega arith)
     (λ _. most-held shape room k wanted level reach row same enough)
 
 -- the sums hold it at its level
 pub summed-pushed : (rows : List HeldRow) (row : HeldRow) (wanted : Wanted) (level reach : Level) (key : ℕ) (sums : List Held) → row_in row ≡ new_kept (held_terms wanted level reach) → key ≡ channel_number wanted.chan → sums ≡ map summed rows
-  → sums ++ held_at key wanted.contract (level_number level) ∷ [] ≡ map summed (rows ++ row ∷ [])
+    → sums ++ held_at key wanted.contract (level_number level) ∷ [] ≡ map summed (rows ++ row ∷ [])
 summed-pushed rows row wanted level reach key sums same number held =
     ap (λ all. all ++ held_at key wanted.contract (level_number level) ∷ []) held
     ∙ ap (λ n. map summed rows ++ held_at n wanted.contract (level_number level) ∷ []) number

@@ -1,5 +1,5 @@
 -- The places that rows may want for packets.
-use Rattle.std.proofs.Common.{◌≡◌, ℕ, suc, ◌+◌, ◌<◌, List, [], ◌∷◌, ◌++◌, length, map, get_or, take, refl, sym, ap, ◌∙◌, arith}
+use Rattle.std.proofs.Common.{◌≡◌, ℕ, suc, ◌+◌, ◌<◌, List, [], length, map, get_or, take, sym, ap, ◌∙◌}
 use Rattle.std.specs.Prelude.{Option, None}
 use Rattle.std.proofs.lemmas.List.{map_push, take_more, length-map}
 use Rattle.traffic_contract.specs.Admission.{total}
@@ -17,7 +17,7 @@ use Rattle.link_server.specs.declared.packets.Packets.{Packets}
 
 -- one row more has its places
 pub places-more : (bounds : List ℕ) (rows : List HeldRow) (i : ℕ) (d : HeldRow) → i < length rows
-  → total (all_places_of bounds) (map row_in (take (i + 1) rows)) ≡ total (all_places_of bounds) (map row_in (take i rows)) + suc (slots_of bounds (terms_in (get_or rows i d)))
+    → total (all_places_of bounds) (map row_in (take (i + 1) rows)) ≡ total (all_places_of bounds) (map row_in (take i rows)) + suc (slots_of bounds (terms_in (get_or rows i d)))
 places-more bounds rows i d inside =
     ap (λ all. total (all_places_of bounds) (map row_in all)) (take_more rows i d inside)
     ∙ ap (total (all_places_of bounds)) (map_push row_in (take i rows) (get_or rows i d))

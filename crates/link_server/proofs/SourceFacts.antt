@@ -1,5 +1,5 @@
 -- A row's step in a tick, by the packet that is planned for it and by whether a slot is free.
-use Rattle.std.proofs.Common.{◌≡◌, ℕ, suc, ◌+◌, Bool, true, false, List, [], ◌∷◌, ◌++◌, Option, Some, None, length, take, refl, sym, ap, ◌∙◌, arith}
+use Rattle.std.proofs.Common.{◌≡◌, ℕ, suc, ◌+◌, Bool, true, false, List, [], ◌∷◌, ◌++◌, Option, Some, None, take, refl, sym, ap, ◌∙◌, arith}
 use Rattle.std.proofs.lemmas.Option.{none-some}
 use Rattle.std.proofs.lemmas.List.{take-map, map_push}
 use Rattle.std.specs.Prelude.{find, unwrap_or}
@@ -7,7 +7,7 @@ use Rattle.link_steps.specs.Buffer.{has_slot}
 use Rattle.link_steps.specs.Kept.{KeptRow, kept_step, kept_tick, kept_with, kept_packet, kept_after_step, past_tick}
 use Rattle.link_steps.specs.Rows.{SourcePacket, is_for}
 use Rattle.link_steps.specs.Service.{Arrival}
-use Rattle.link_steps.specs.Sources.{SourceStep, source_step, arrival_at}
+use Rattle.link_steps.specs.Sources.{source_step, arrival_at}
 use Rattle.link_steps.specs.Sources.SourceStep.{Rests, Brings, Loses}
 use Rattle.link_server.specs.Planned.{size_of}
 use Rattle.link_server.specs.Packets.{arrival_in, here_in}
@@ -45,7 +45,7 @@ step-brings bounds here t size row some free = ap (λ slot. source_step slot (fi
 
 -- the slots of a row whose packet for the tick is no longer left are those that it had
 pub slot-same : (bounds : List ℕ) (t before : ℕ) (shown items : List HeldPacket) (new old : HeldRow) → shown ≡ items → row_in new ≡ past_tick t (row_in old)
-  → has_slot bounds (terms_in new) new.lead (here_in (take before shown)) ≡ has_slot bounds (terms_in old) old.lead (take before (here_in items))
+    → has_slot bounds (terms_in new) new.lead (here_in (take before shown)) ≡ has_slot bounds (terms_in old) old.lead (take before (here_in items))
 slot-same bounds t before shown items new old all same =
     ap (λ row. has_slot bounds row.terms row.lead (here_in (take before shown))) same
     ∙ ap (λ packets. has_slot bounds (terms_in old) old.lead (here_in (take before packets))) all
@@ -53,8 +53,8 @@ slot-same bounds t before shown items new old all same =
 
 -- the packet that such a row takes, behind those here
 pub brought-here : (t size taken place : ℕ) (items new_items : List HeldPacket) (packet : HeldPacket) (new old : HeldRow) → place ≡ taken + 1 → new_items ≡ items ++ packet ∷ [] → row_in new ≡ past_tick t (row_in old)
-  → arrival_in packet ≡ arrival_at (terms_in new) new.lead place (suc new.taken) size t (kept_tick (row_in new) t)
-  → here_in new_items ≡ here_in items ++ kept_packet (Brings size) t (suc taken) (row_in old)
+    → arrival_in packet ≡ arrival_at (terms_in new) new.lead place (suc new.taken) size t (kept_tick (row_in new) t)
+    → here_in new_items ≡ here_in items ++ kept_packet (Brings size) t (suc taken) (row_in old)
 brought-here t size taken place items new_items packet new old number pushed same taking =
     let next : place ≡ suc taken = omega (arith, number) in
     ap here_in pushed
@@ -65,8 +65,8 @@ brought-here t size taken place items new_items packet new old number pushed sam
 
 -- and the row afterwards
 pub brought-row : (t size taken place : ℕ) (last new old : HeldRow) → place ≡ taken + 1 → row_in new ≡ past_tick t (row_in old)
-  → row_in last ≡ kept_with place (kept_tick (row_in new) t) (row_in new)
-  → row_in last ≡ kept_after_step (Brings size) t (suc taken) (row_in old)
+    → row_in last ≡ kept_with place (kept_tick (row_in new) t) (row_in new)
+    → row_in last ≡ kept_after_step (Brings size) t (suc taken) (row_in old)
 brought-row t size taken place last new old number same taking =
     let next : place ≡ suc taken = omega (arith, number) in
     taking

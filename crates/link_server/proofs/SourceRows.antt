@@ -5,7 +5,7 @@ use Rattle.std.specs.Prelude.{if◌then◌else◌}
 use Rattle.std.proofs.lemmas.List.{drop_more, drop-set-lt, take_more_set, map_push, append_assoc, length-append, append-nil, length-map, take-append-le, drop_all, take_all}
 use Rattle.net_units.specs.Numbers.{channel_number, level_number}
 use Rattle.rcsp_admission.specs.Sums.{held_at}
-use Rattle.link_steps.specs.Kept.{KeptRow, kept_step, kept_packet, kept_after_step, kept_packets, kept_rows_after, kept_lost}
+use Rattle.link_steps.specs.Kept.{KeptRow, kept_packet, kept_after_step, kept_packets, kept_rows_after, kept_lost}
 use Rattle.link_steps.specs.Lists.{Each}
 use Rattle.link_steps.specs.Service.{Arrival}
 use Rattle.link_steps.specs.Sources.{SourceStep, taken_by, lost_by}
@@ -60,7 +60,7 @@ behind-next old rows i behind = sym (drop-next old i) ∙ ap (drop 1) (sym behin
 
 -- the packets that they take are those of that one, and then those of the rows behind it
 brought-from : (bounds : List ℕ) (was : List Arrival) (t taken : ℕ) (old : List HeldRow) (i : ℕ) (rows : List HeldRow) (d : HeldRow) → drop i rows ≡ drop i old → i < length rows
-  → length (brought_by bounds was t taken (drop i old)) ≡ taken_by (step_in bounds was t (get_or rows i d)) + length (brought_by bounds was t (taken + taken_by (step_in bounds was t (get_or rows i d))) (drop (i + 1) old))
+    → length (brought_by bounds was t taken (drop i old)) ≡ taken_by (step_in bounds was t (get_or rows i d)) + length (brought_by bounds was t (taken + taken_by (step_in bounds was t (get_or rows i d))) (drop (i + 1) old))
 unfolding kept_packets
 brought-from bounds was t taken old i rows d behind inside =
     let step = step_in bounds was t (get_or rows i d) in
@@ -71,7 +71,7 @@ brought-from bounds was t taken old i rows d behind inside =
 
 -- so before its step there is room for its packet, where there is room for all
 pub packets-now : (bounds : List ℕ) (was : List Arrival) (t taken : ℕ) (old : List HeldRow) (i : ℕ) (rows : List HeldRow) (d : HeldRow) → drop i rows ≡ drop i old → i < length rows
-  → taken_by (step_in bounds was t (get_or rows i d)) ≤ length (brought_by bounds was t taken (drop i old))
+    → taken_by (step_in bounds was t (get_or rows i d)) ≤ length (brought_by bounds was t taken (drop i old))
 packets-now bounds was t taken old i rows d behind inside = let split = brought-from bounds was t taken old i rows d behind inside in omega (arith, split)
 
 -- and it is ready
@@ -87,13 +87,13 @@ ready-now t old i rows d behind ready inside =
 
 -- one row more has made its step
 pub one-stepped : (bounds : List ℕ) (was : List Arrival) (t before : ℕ) (old : List HeldRow) (i : ℕ) (rows : List HeldRow) (here : List Arrival) (taken lost : ℕ) (d new : HeldRow) (now : List Arrival) (taken' lost' : ℕ)
-  → HaveStepped bounds was t before old i rows here taken lost
-  → i < length rows
-  → row_in new ≡ kept_after_step (step_in bounds was t (get_or rows i d)) t (suc taken) (row_in (get_or rows i d))
-  → now ≡ here ++ kept_packet (step_in bounds was t (get_or rows i d)) t (suc taken) (row_in (get_or rows i d))
-  → taken' ≡ taken + taken_by (step_in bounds was t (get_or rows i d))
-  → lost' ≡ lost + lost_by (step_in bounds was t (get_or rows i d))
-  → HaveStepped bounds was t before old (i + 1) (set rows i new) now taken' lost'
+    → HaveStepped bounds was t before old i rows here taken lost
+    → i < length rows
+    → row_in new ≡ kept_after_step (step_in bounds was t (get_or rows i d)) t (suc taken) (row_in (get_or rows i d))
+    → now ≡ here ++ kept_packet (step_in bounds was t (get_or rows i d)) t (suc taken) (row_in (get_or rows i d))
+    → taken' ≡ taken + taken_by (step_in bounds was t (get_or rows i d))
+    → lost' ≡ lost + lost_by (step_in bounds was t (get_or rows i d))
+    → HaveStepped bounds was t before old (i + 1) (set rows i new) now taken' lost'
 unfolding kept_packets kept_rows_after kept_lost
 one-stepped bounds was t before old i rows here taken lost d new now taken' lost' so inside stepped brought more dropped =
     let row = get_or rows i d in
@@ -107,21 +107,21 @@ one-stepped bounds was t before old i rows here taken lost d new now taken' lost
     record {
       behind = drop-set-lt (i + 1) rows i new (omega arith) ∙ sym front;
       front =
-        ap (λ all. map row_in all ++ rows_by bounds was t taken' (drop (i + 1) old)) (take_more_set rows i new inside)
-        ∙ ap (λ all. all ++ rows_by bounds was t taken' (drop (i + 1) old)) (map_push row_in (take i rows) new)
-        ∙ append_assoc (map row_in (take i rows)) (row_in new ∷ []) (rows_by bounds was t taken' (drop (i + 1) old))
-        ∙ ap (λ r. map row_in (take i rows) ++ (r ∷ rows_by bounds was t taken' (drop (i + 1) old))) stepped
-        ∙ ap (λ n. map row_in (take i rows) ++ (kept_after_step step t (suc taken) (row_in row) ∷ rows_by bounds was t n (drop (i + 1) old))) more
-        ∙ ap (λ behind. map row_in (take i rows) ++ (kept_after_step step t (suc taken) (row_in row) ∷ rows_by bounds was t (taken + taken_by step) behind)) front
-        ∙ ap (λ all. map row_in (take i rows) ++ rows_by bounds was t taken all) (sym rest)
-        ∙ so.front;
+          ap (λ all. map row_in all ++ rows_by bounds was t taken' (drop (i + 1) old)) (take_more_set rows i new inside)
+          ∙ ap (λ all. all ++ rows_by bounds was t taken' (drop (i + 1) old)) (map_push row_in (take i rows) new)
+          ∙ append_assoc (map row_in (take i rows)) (row_in new ∷ []) (rows_by bounds was t taken' (drop (i + 1) old))
+          ∙ ap (λ r. map row_in (take i rows) ++ (r ∷ rows_by bounds was t taken' (drop (i + 1) old))) stepped
+          ∙ ap (λ n. map row_in (take i rows) ++ (kept_after_step step t (suc taken) (row_in row) ∷ rows_by bounds was t n (drop (i + 1) old))) more
+          ∙ ap (λ behind. map row_in (take i rows) ++ (kept_after_step step t (suc taken) (row_in row) ∷ rows_by bounds was t (taken + taken_by step) behind)) front
+          ∙ ap (λ all. map row_in (take i rows) ++ rows_by bounds was t taken all) (sym rest)
+          ∙ so.front;
       here =
-        ap (λ all. all ++ brought_by bounds was t taken' (drop (i + 1) old)) brought
-        ∙ append_assoc here (kept_packet step t (suc taken) (row_in row)) (brought_by bounds was t taken' (drop (i + 1) old))
-        ∙ ap (λ n. here ++ (kept_packet step t (suc taken) (row_in row) ++ brought_by bounds was t n (drop (i + 1) old))) more
-        ∙ ap (λ behind. here ++ (kept_packet step t (suc taken) (row_in row) ++ brought_by bounds was t (taken + taken_by step) behind)) front
-        ∙ ap (λ all. here ++ brought_by bounds was t taken all) (sym rest)
-        ∙ so.here;
+          ap (λ all. all ++ brought_by bounds was t taken' (drop (i + 1) old)) brought
+          ∙ append_assoc here (kept_packet step t (suc taken) (row_in row)) (brought_by bounds was t taken' (drop (i + 1) old))
+          ∙ ap (λ n. here ++ (kept_packet step t (suc taken) (row_in row) ++ brought_by bounds was t n (drop (i + 1) old))) more
+          ∙ ap (λ behind. here ++ (kept_packet step t (suc taken) (row_in row) ++ brought_by bounds was t (taken + taken_by step) behind)) front
+          ∙ ap (λ all. here ++ brought_by bounds was t taken all) (sym rest)
+          ∙ so.here;
       taken = let all = so.taken in omega (arith, all, packets, same, more);
       lost = let all = so.lost in omega (arith, all, losses, dropped);
       few = let few = so.few in let one = lost-few step in omega (arith, few, one, dropped);
@@ -135,24 +135,24 @@ pub record StandsStepped (bounds : List ℕ) (was : List Arrival) (t before : �
   pub lost : dropped ≡ lost_by_rows bounds was t old
 
 pub all-stepped : (bounds : List ℕ) (was : List Arrival) (t before : ℕ) (old : List HeldRow) (i : ℕ) (rows : List HeldRow) (here : List Arrival) (taken lost : ℕ)
-  → HaveStepped bounds was t before old i rows here taken lost → length old ≤ i → length rows ≤ i → StandsStepped bounds was t before old rows here taken lost
+    → HaveStepped bounds was t before old i rows here taken lost → length old ≤ i → length rows ≤ i → StandsStepped bounds was t before old rows here taken lost
 unfolding kept_packets kept_rows_after kept_lost
 all-stepped bounds was t before old i rows here taken lost so past end =
     let none : drop i old ≡ [] = drop_all i old past in
     let full : take i rows ≡ rows = take_all i rows end in
     record {
       all =
-        sym (append-nil (map row_in rows)) ∙ ap (λ all. map row_in all ++ []) (sym full)
-        ∙ ap (λ behind. map row_in (take i rows) ++ rows_by bounds was t taken behind) (sym none) ∙ so.front;
+          sym (append-nil (map row_in rows)) ∙ ap (λ all. map row_in all ++ []) (sym full)
+          ∙ ap (λ behind. map row_in (take i rows) ++ rows_by bounds was t taken behind) (sym none) ∙ so.front;
       here = sym (append-nil here) ∙ ap (λ behind. here ++ brought_by bounds was t taken behind) (sym none) ∙ so.here;
       taken =
-        let nothing : length (brought_by bounds was t taken (drop i old)) ≡ 0 = ap (λ behind. length (brought_by bounds was t taken behind)) none in
-        let all = so.taken in
-        omega (arith, nothing, all);
+          let nothing : length (brought_by bounds was t taken (drop i old)) ≡ 0 = ap (λ behind. length (brought_by bounds was t taken behind)) none in
+          let all = so.taken in
+          omega (arith, nothing, all);
       lost =
-        let nothing : lost_by_rows bounds was t (drop i old) ≡ 0 = ap (lost_by_rows bounds was t) none in
-        let all = so.lost in
-        omega (arith, nothing, all);
+          let nothing : lost_by_rows bounds was t (drop i old) ≡ 0 = ap (lost_by_rows bounds was t) none in
+          let all = so.lost in
+          omega (arith, nothing, all);
     }
 
 -- a packet that is lost is counted

@@ -35,7 +35,15 @@ tick-answered regulator terms t e same kind value =
 -- the packet with that tick and the row's lead is the one that the account takes
 abbrev packet-of : Reservation → ℕ → ℕ → ℕ → ℕ → ℕ → ℕ → Arrival
 packet-of terms lead place number size t e = record {
-  place = place; lead = lead; chan = terms.chan; number = number; size = size; at = t; eligible = e; level = level_number terms.level; next = terms.next;
+  place = place;
+  lead = lead;
+  chan = terms.chan;
+  number = number;
+  size = size;
+  at = t;
+  eligible = e;
+  level = level_number terms.level;
+  next = terms.next;
 }
 
 pub packet-taken : (terms : Reservation) (lead new_lead place taken size t e answered : ℕ) → new_lead ≡ lead_with lead place → answered ≡ e → packet-of terms new_lead place (taken + 1) size t answered ≡ arrival_at terms lead place (suc taken) size t e
@@ -48,7 +56,7 @@ abbrev row-of : Reservation → ℕ → ℕ → List ℕ → List SourcePacket �
 row-of terms lead taken recent left = record { terms = terms; lead = lead; taken = taken; recent = recent; left = left }
 
 pub row-taken : (terms : Reservation) (lead new_lead place taken : ℕ) (left : List SourcePacket) (old new : Kept) (e answered : ℕ) → new_lead ≡ lead_with lead place → old.terms ≡ terms.contract → new ≡ regulator_with old answered → answered ≡ e
-  → row-of terms new_lead (taken + 1) new.recent left ≡ kept_with place e (record { terms = terms; lead = lead; taken = taken; recent = old.recent; left = left })
+    → row-of terms new_lead (taken + 1) new.recent left ≡ kept_with place e (record { terms = terms; lead = lead; taken = taken; recent = old.recent; left = left })
 row-taken terms lead new_lead place taken left old new e answered same contract kept tick =
     let recent : new.recent ≡ take (burst_of terms.contract) (e ∷ old.recent) =
     ap (λ k. k.recent) kept ∙ ap (λ c. take (burst_of c) (answered ∷ old.recent)) contract ∙ ap (λ n. take (burst_of terms.contract) (n ∷ old.recent)) tick in

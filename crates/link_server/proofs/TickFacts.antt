@@ -1,5 +1,5 @@
 -- What the parts of a tick make of a link, one after another, is what the account says of the tick.
-use Rattle.std.proofs.Common.{◌≡◌, ℕ, suc, ◌+◌, ◌≤◌, List, [], ◌++◌, length, map, take, drop, refl, sym, ap, ◌∙◌, arith}
+use Rattle.std.proofs.Common.{◌≡◌, ℕ, suc, ◌+◌, List, ◌++◌, length, map, take, drop, ap, ◌∙◌, arith}
 use Rattle.std.specs.Prelude.{Option}
 use Rattle.std.proofs.lemmas.List.{append-nil, drop_all, take_all}
 use Rattle.link_steps.specs.declared.asks.Ask.TheVariants.{Tick}
@@ -37,8 +37,8 @@ occupies-is shape k mid here on = ap (λ all. served k.clock all (on_in mid.on))
 
 -- the reply
 pub tick-replied : (shape : LinkShape) (k : Kept) (rows : List HeldRow) (mid : Packets) (full : ℕ) (sent : Option Sent) → map row_in rows ≡ held_rows shape k → full ≡ lost_by_rows shape.bounds k.here k.clock rows
-  → served k.clock (here_in mid.here.items) (on_in mid.on) ≡ occupies shape k → sent ≡ departs shape k.clock (served k.clock (here_in mid.here.items) (on_in mid.on))
-  → Ticked k.clock full sent ≡ kept_reply shape k Tick
+    → served k.clock (here_in mid.here.items) (on_in mid.on) ≡ occupies shape k → sent ≡ departs shape k.clock (served k.clock (here_in mid.here.items) (on_in mid.on))
+    → Ticked k.clock full sent ≡ kept_reply shape k Tick
 unfolding kept_reply kept_tick_reply
 tick-replied shape k rows mid full sent stay lost occupant left =
     ap (λ n. Ticked k.clock n sent) (lost ∙ ap (kept_lost shape.bounds k.here k.clock) stay)
@@ -50,14 +50,14 @@ parts clock taken rows here on = record { clock = clock; taken = taken; rows = r
 
 -- the account after it
 pub tick-kept : (shape : LinkShape) (k : Kept) (rows last : List HeldRow) (mid new : Packets) (clock : ℕ) (reply : Reply)
-  → clock ≡ k.clock + 1
-  → map row_in rows ≡ held_rows shape k → map row_in last ≡ rows_by shape.bounds k.here k.clock k.taken rows
-  → here_in mid.here.items ≡ present shape k → mid.taken ≡ k.taken + length (brought_by shape.bounds k.here k.clock k.taken rows)
-  → served k.clock (here_in mid.here.items) (on_in mid.on) ≡ occupies shape k
-  → new.taken ≡ mid.taken
-  → here_in new.here.items ≡ still_here shape.rate k.clock (served k.clock (here_in mid.here.items) (on_in mid.on)) (here_in mid.here.items)
-  → on_in new.on ≡ still_on shape.rate k.clock (served k.clock (here_in mid.here.items) (on_in mid.on))
-  → account clock new last ≡ kept_after shape k Tick reply
+    → clock ≡ k.clock + 1
+    → map row_in rows ≡ held_rows shape k → map row_in last ≡ rows_by shape.bounds k.here k.clock k.taken rows
+    → here_in mid.here.items ≡ present shape k → mid.taken ≡ k.taken + length (brought_by shape.bounds k.here k.clock k.taken rows)
+    → served k.clock (here_in mid.here.items) (on_in mid.on) ≡ occupies shape k
+    → new.taken ≡ mid.taken
+    → here_in new.here.items ≡ still_here shape.rate k.clock (served k.clock (here_in mid.here.items) (on_in mid.on)) (here_in mid.here.items)
+    → on_in new.on ≡ still_on shape.rate k.clock (served k.clock (here_in mid.here.items) (on_in mid.on))
+    → account clock new last ≡ kept_after shape k Tick reply
 unfolding kept_after kept_after_tick
 tick-kept shape k rows last mid new clock reply next stay stepped here taken occupant kept_taken left on =
     let one : clock ≡ suc k.clock = omega (arith, next) in

@@ -35,7 +35,6 @@ pub(crate) struct Offered {
     pub(crate) reach: Level,
 }
 
-
 // A reservation that is held.
 #[derive(Drop)]
 pub(crate) struct HeldRow {

@@ -42,18 +42,18 @@ loop-place-preserved-then-has_ended c =
     record {
       place = omega (arith, fewer, len, inside);
       stay =
-        ap (staying c.args.bounds.now c.args.clock c.loop-place.place) c.remove-then-has_ended.ensures.items
-        ∙ staying-without c.args.bounds.now c.args.clock c.loop-place.place c.loop-place.rows.items c.index.result.now inside stays
-        ∙ c.loop-place.invariant.stay;
+          ap (staying c.args.bounds.now c.args.clock c.loop-place.place) c.remove-then-has_ended.ensures.items
+          ∙ staying-without c.args.bounds.now c.args.clock c.loop-place.place c.loop-place.rows.items c.index.result.now inside stays
+          ∙ c.loop-place.invariant.stay;
       ready = rw c.remove-then-has_ended.ensures.items (each-without (IsReady c.args.clock) c.loop-place.rows.items c.loop-place.place c.loop-place.invariant.ready);
       within = rw c.remove-then-has_ended.ensures.items (all-without (IsWithin _) c.loop-place.rows.items c.loop-place.place c.loop-place.invariant.within);
       admitted = c.remove.ensures.admitted;
       server = c.remove.ensures.server ∙ c.loop-place.invariant.server;
       same =
-        c.remove.ensures.rows
-        ∙ ap (λ rows. without rows c.get.result) c.loop-place.invariant.same
-        ∙ ap (λ key. without (map summed c.loop-place.rows.items) key) (c.get.ensures.value ∙ ap (λ row. channel_number row.chan) c.index-then-has_ended.ensures)
-        ∙ summed-without (get_or c.loop-place.rows.items c.loop-place.place c.index-then-has_ended.result.now).chan c.loop-place.rows.items c.loop-place.place distinct place
-        ∙ ap (map summed) (sym c.remove-then-has_ended.ensures.items);
+          c.remove.ensures.rows
+          ∙ ap (λ rows. without rows c.get.result) c.loop-place.invariant.same
+          ∙ ap (λ key. without (map summed c.loop-place.rows.items) key) (c.get.ensures.value ∙ ap (λ row. channel_number row.chan) c.index-then-has_ended.ensures)
+          ∙ summed-without (get_or c.loop-place.rows.items c.loop-place.place c.index-then-has_ended.result.now).chan c.loop-place.rows.items c.loop-place.place distinct place
+          ∙ ap (map summed) (sym c.remove-then-has_ended.ensures.items);
       few = let few = c.loop-place.invariant.few in omega (arith, fewer, len, few);
     }

@@ -1,5 +1,5 @@
 -- Each row adds its places.
-use Rattle.std.proofs.Common.{◌≡◌, ◌+◌, map, ap, ◌∙◌, arith}
+use Rattle.std.proofs.Common.{map, ap, ◌∙◌, arith}
 use Rattle.std.proofs.lemmas.List.{take_all}
 use Rattle.traffic_contract.specs.Admission.{total}
 use Rattle.link_steps.specs.Buffer.{slots_of}

@@ -1,6 +1,6 @@
 -- The row's step is found from its plan and its slots; what each step makes of the row and the packets is then said by
 -- the account.
-use Rattle.std.proofs.Common.{◌≡◌, ◌+◌, take, true, false, refl, sym, ap, ◌∙◌, arith}
+use Rattle.std.proofs.Common.{◌≡◌, ◌+◌, take, true, refl, sym, ap, ◌∙◌, arith}
 use Rattle.std.proofs.lemmas.List.{append-nil}
 use Rattle.link_steps.specs.Sources.{lost_by, taken_by}
 use Rattle.link_steps.specs.Sources.SourceStep.{Rests, Brings, Loses}

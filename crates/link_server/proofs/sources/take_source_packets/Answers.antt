@@ -1,5 +1,5 @@
 -- Each row's step adds to what the rows before it have done.
-use Rattle.std.proofs.Common.{◌≡◌, ◌+◌, ◌++◌, ◌<◌, suc, length, map, get_or, take, drop, refl, sym, ap, ◌∙◌, subst, arith}
+use Rattle.std.proofs.Common.{◌≡◌, ◌+◌, ◌++◌, ◌<◌, suc, length, get_or, take, drop, refl, ap, ◌∙◌, subst, arith}
 use Rattle.std.proofs.Math.Seq.{map-set_same}
 use Rattle.std.specs.Prelude.{if◌then◌else◌}
 use Rattle.std.proofs.lemmas.List.{length-map, length-append, take_all}
@@ -39,7 +39,7 @@ take_source_packet-requires-clause-before c = c.loop-row.invariant.before
 pub take_source_packet-requires-clause-room : goal.take_source_packet-requires-clause-room
 take_source_packet-requires-clause-room c =
     let step : taken_by (step_in c.args.bounds.now (take c.len-before.result (here_in c.loop-row.packets.here.items)) c.args.clock (get_or c.loop-row.rows c.loop-row.row-index c.row-item.result))
-      ≡ taken_by (step_in c.args.bounds.now (here_in c.args.packets.now.here.items) c.args.clock (get_or c.loop-row.rows c.loop-row.row-index c.row-item.result)) =
+    ≡ taken_by (step_in c.args.bounds.now (here_in c.args.packets.now.here.items) c.args.clock (get_or c.loop-row.rows c.loop-row.row-index c.row-item.result)) =
     ap (λ here. taken_by (step_in c.args.bounds.now here c.args.clock (get_or c.loop-row.rows c.loop-row.row-index c.row-item.result))) c.loop-row.invariant.front in
     let fits = packets-now c.args.bounds.now (here_in c.args.packets.now.here.items) c.args.clock c.loop-row.packets.taken c.args.rows.now c.loop-row.row-index c.loop-row.rows c.row-item.result c.loop-row.invariant.stepped.behind (omega (arith, c.loop-row-test.true, c.loop-row.auto.rows)) in
     let all = ap length c.loop-row.invariant.stepped.here in
@@ -52,7 +52,7 @@ take_source_packet-requires-clause-room c =
 pub take_source_packet-requires-clause-numbers : goal.take_source_packet-requires-clause-numbers
 take_source_packet-requires-clause-numbers c =
     let step : taken_by (step_in c.args.bounds.now (take c.len-before.result (here_in c.loop-row.packets.here.items)) c.args.clock (get_or c.loop-row.rows c.loop-row.row-index c.row-item.result))
-      ≡ taken_by (step_in c.args.bounds.now (here_in c.args.packets.now.here.items) c.args.clock (get_or c.loop-row.rows c.loop-row.row-index c.row-item.result)) =
+    ≡ taken_by (step_in c.args.bounds.now (here_in c.args.packets.now.here.items) c.args.clock (get_or c.loop-row.rows c.loop-row.row-index c.row-item.result)) =
     ap (λ here. taken_by (step_in c.args.bounds.now here c.args.clock (get_or c.loop-row.rows c.loop-row.row-index c.row-item.result))) c.loop-row.invariant.front in
     let fits = packets-now c.args.bounds.now (here_in c.args.packets.now.here.items) c.args.clock c.loop-row.packets.taken c.args.rows.now c.loop-row.row-index c.loop-row.rows c.row-item.result c.loop-row.invariant.stepped.behind (omega (arith, c.loop-row-test.true, c.loop-row.auto.rows)) in
     let all = c.loop-row.invariant.stepped.taken in
@@ -77,26 +77,26 @@ loop-row-preserved c =
     subst (λ h. c.take_source_packet.new.packets.taken ≡ c.loop-row.packets.taken + taken_by (step_in c.args.bounds.now h c.args.clock row)) front c.take_source_packet.ensures.taken in
     let counted = subst (λ h. (if c.take_source_packet.result then 1 else 0) ≡ lost_by (step_in c.args.bounds.now h c.args.clock row)) front c.take_source_packet.ensures.lost in
     let lost : c.if-take_source_packet.lost ≡ c.loop-row.lost + lost_by (step_in c.args.bounds.now was c.args.clock row) = elim c.if-take_source_packet.branch [
-      then-take_source_packet w ↦ lost-more c.take_source_packet.result c.loop-row.lost _ _ counted w.if-take_source_packet.true w.lost-is
+      | then-take_source_packet w ↦ lost-more c.take_source_packet.result c.loop-row.lost _ _ counted w.if-take_source_packet.true w.lost-is
       | else-take_source_packet w ↦ lost-same c.take_source_packet.result c.loop-row.lost _ _ counted w.if-take_source_packet.false w.lost-is
     ] in
     record {
       stepped =
-        one-stepped c.args.bounds.now was c.args.clock c.args.packets.now.taken c.args.rows.now c.loop-row.row-index c.loop-row.rows (here_in c.loop-row.packets.here.items) c.loop-row.packets.taken c.loop-row.lost
-        c.row-item.result c.take_source_packet.new.row (here_in c.take_source_packet.new.packets.here.items) c.take_source_packet.new.packets.taken c.if-take_source_packet.lost
-        c.loop-row.invariant.stepped here stepped brought taken lost;
+          one-stepped c.args.bounds.now was c.args.clock c.args.packets.now.taken c.args.rows.now c.loop-row.row-index c.loop-row.rows (here_in c.loop-row.packets.here.items) c.loop-row.packets.taken c.loop-row.lost
+          c.row-item.result c.take_source_packet.new.row (here_in c.take_source_packet.new.packets.here.items) c.take_source_packet.new.packets.taken c.if-take_source_packet.lost
+          c.loop-row.invariant.stepped here stepped brought taken lost;
       before = front-within c.len-before.result c.loop-row.packets.here.items c.take_source_packet.new.packets.here.items _ c.loop-row.invariant.before brought;
       front = front-same c.len-before.result c.loop-row.packets.here.items c.take_source_packet.new.packets.here.items _ c.loop-row.invariant.before brought ∙ front;
       on = c.take_source_packet.ensures.on ∙ c.loop-row.invariant.on;
       capacity = c.take_source_packet.ensures.capacity ∙ c.loop-row.invariant.capacity;
       summed =
-        map-set_same summed c.loop-row.rows c.loop-row.row-index c.take_source_packet.new.row c.row-item.result
-        (summed-stepped (step_in c.args.bounds.now was c.args.clock row) c.args.clock (suc c.loop-row.packets.taken) c.take_source_packet.new.row row stepped)
-        ∙ c.loop-row.invariant.summed;
+          map-set_same summed c.loop-row.rows c.loop-row.row-index c.take_source_packet.new.row c.row-item.result
+          (summed-stepped (step_in c.args.bounds.now was c.args.clock row) c.args.clock (suc c.loop-row.packets.taken) c.take_source_packet.new.row row stepped)
+          ∙ c.loop-row.invariant.summed;
       levels =
-        All-set (IsWithin _) c.loop-row.rows c.loop-row.row-index c.take_source_packet.new.row
-        (within-stepped (step_in c.args.bounds.now was c.args.clock row) _ c.args.clock (suc c.loop-row.packets.taken) c.take_source_packet.new.row row stepped (c.loop-row.invariant.levels c.loop-row.row-index c.row-item.result here))
-        c.loop-row.invariant.levels;
+          All-set (IsWithin _) c.loop-row.rows c.loop-row.row-index c.take_source_packet.new.row
+          (within-stepped (step_in c.args.bounds.now was c.args.clock row) _ c.args.clock (suc c.loop-row.packets.taken) c.take_source_packet.new.row row stepped (c.loop-row.invariant.levels c.loop-row.row-index c.row-item.result here))
+          c.loop-row.invariant.levels;
     }
 
 -- the loop has gone through all rows

@@ -42,17 +42,17 @@ invariant_of-self c =
     let place = subst (λ rows. IsPlaceOf c.args.chan rows c.in-Some.place) c.deref.ensures.value c.in-Some.ensures.some in
     let distinct = subst IsDistinct c.args.self.now.same_rows c.args.self.now.admitted.distinct in
     let kept =
-      ap (account c.args.self.now.clock c.args.self.now.packets) c.remove-2.ensures.items
-      ∙ deny-kept c.args.self.now.shape c.args.self.now.clock c.args.self.now.packets c.args.chan c.args.self.now.rows.items c.in-Some.place place in
+    ap (account c.args.self.now.clock c.args.self.now.packets) c.remove-2.ensures.items
+    ∙ deny-kept c.args.self.now.shape c.args.self.now.clock c.args.self.now.packets c.args.chan c.args.self.now.rows.items c.in-Some.place place in
     record {
       admitted = c.remove.ensures.admitted;
       same_server = c.remove.ensures.server ∙ c.args.self.now.same_server;
       same_rows =
-        c.remove.ensures.rows
-        ∙ ap (λ rows. without rows c.get.result) c.args.self.now.same_rows
-        ∙ ap (λ key. without (map summed c.args.self.now.rows.items) key) c.get.ensures.value
-        ∙ summed-without c.args.chan c.args.self.now.rows.items c.in-Some.place distinct place
-        ∙ ap (map summed) (sym c.remove-2.ensures.items);
+          c.remove.ensures.rows
+          ∙ ap (λ rows. without rows c.get.result) c.args.self.now.same_rows
+          ∙ ap (λ key. without (map summed c.args.self.now.rows.items) key) c.get.ensures.value
+          ∙ summed-without c.args.chan c.args.self.now.rows.items c.in-Some.place distinct place
+          ∙ ap (map summed) (sym c.remove-2.ensures.items);
       within = rw c.remove-2.ensures.items (all-without (IsWithin _) c.args.self.now.rows.items c.in-Some.place c.args.self.now.within);
       sound = subst (IsSound c.args.self.now.shape c.args.self.now.room) (sym kept) (sound-deny c.args.self.now.shape c.args.self.now.room (kept_in c.args.self.now) c.args.chan Denied c.args.self.now.sound);
       roomy = c.args.self.now.roomy;

@@ -50,9 +50,9 @@ invariant_of-self c =
       admitted = c.add.ensures.admitted;
       same_server = c.add.ensures.server ∙ c.make_room.new.self.same_server;
       same_rows =
-        c.add.ensures.rows
-        ∙ summed-pushed c.make_room.new.self.rows.items c.in_ok-row.row c.args.wanted.now c.args.offer.now.level c.args.offer.now.reach c.get.result c.make_room.new.self.sums.rows c.in_ok-row.ensures c.get.ensures.value c.make_room.new.self.same_rows
-        ∙ ap (map summed) (sym c.push_reserved.ensures.items);
+          c.add.ensures.rows
+          ∙ summed-pushed c.make_room.new.self.rows.items c.in_ok-row.row c.args.wanted.now c.args.offer.now.level c.args.offer.now.reach c.get.result c.make_room.new.self.sums.rows c.in_ok-row.ensures c.get.ensures.value c.make_room.new.self.same_rows
+          ∙ ap (map summed) (sym c.push_reserved.ensures.items);
       within = subst (AreWithin _) (sym c.push_reserved.ensures.items) (within-pushed _ c.make_room.new.self.rows.items c.in_ok-row.row c.make_room.new.self.within (within-reserved _ c.in_ok-row.row (held_terms c.args.wanted.now c.args.offer.now.level c.args.offer.now.reach) c.in_ok-row.ensures levels reach));
       sound = subst (IsSound c.make_room.new.self.shape c.make_room.new.self.room) after held;
       roomy = c.make_room.new.self.roomy;

@@ -1,11 +1,9 @@
 -- The memory that is taken changes nothing that the link keeps.
-use Rattle.std.proofs.Common.{◌≡◌, ◌+◌, map, length, suc, sym, ap, ◌∙◌, subst, arith}
+use Rattle.std.proofs.Common.{◌≡◌, map, length, sym, ap, ◌∙◌, subst, arith}
 use Rattle.std.proofs.lemmas.List.{length-map}
 use Rattle.traffic_contract.specs.Admission.{total}
-use Rattle.link_steps.specs.Buffer.{slots_of}
-use Rattle.link_server.specs.Packets.{arrival_in, here_in}
-use Rattle.link_server.specs.Rows.{terms_in, row_in, summed, AreWithin}
-use Rattle.link_server.specs.Sound.{all_places_of, most_places, IsSound}
+use Rattle.link_server.specs.Rows.{row_in, summed, AreWithin}
+use Rattle.link_server.specs.Sound.{all_places_of, IsSound}
 use Rattle.link_server.specs.State.{kept_in}
 use Rattle.link_server.proofs.RoomFacts.{account-same, most_places-are}
 use Rattle.link_server.proofs.SoundNumbers.{rows-upto}

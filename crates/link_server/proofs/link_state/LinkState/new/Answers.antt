@@ -1,12 +1,7 @@
 -- Nothing is kept of no history.
-use Rattle.std.proofs.Common.{◌≡◌, ap, map, ◌∙◌, sym, subst, [], List, None}
-use Rattle.link_steps.specs.Kept.{Kept, nothing_kept}
-use Rattle.link_steps.specs.Service.{Arrival, Start}
+use Rattle.std.proofs.Common.{◌∙◌, sym, subst}
 use Rattle.link_steps.proofs.Account.{nothing-stands}
-use Rattle.link_server.specs.Account.{account}
 use Rattle.link_server.specs.Sound.{IsSound}
-use Rattle.link_server.specs.declared.held_row.HeldRow.{HeldRow}
-use Rattle.link_server.specs.declared.packets.Packets.{Packets}
 use Rattle.link_server.proofs.RoomFacts.{account-nothing}
 use Rattle.link_server.proofs.SoundSetup.{nothing-sound}
 use Rattle.link_server.proofs.link_state.LinkState.new.Goals as goal

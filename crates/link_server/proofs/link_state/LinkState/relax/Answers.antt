@@ -58,27 +58,27 @@ invariant_of-self c =
     let distinct = subst IsDistinct c.args.self.now.same_rows c.args.self.now.admitted.distinct in
     let same = c.commit.ensures ∙ ap (λ row. kept_relaxed c.args.level c.args.up_bound (row_in row)) c.index_mut.ensures.value in
     let reply =
-      relax-relaxed c.args.self.now.shape c.args.self.now.clock c.args.self.now.packets c.args.chan c.args.level c.args.up_bound c.args.self.now.rows.items c.in-Some.place c.index.result.now
-      (subst (λ rows. IsPlaceOf c.args.chan rows c.in-Some.place) c.deref.ensures.value c.in-Some.ensures.some)
-      (c.in_default-not_tentative.ensures ∙ ap (λ row. not_in_phase Tentative (terms_in row)) c.index.ensures)
-      (c.in_default-unfit.ensures ∙ ap (λ row. unfit (terms_in row) c.args.level c.args.up_bound) (at-place c.args.self.now.rows.items c.in-Some.place c.index-2.result.now c.index.result.now c.index-2.ensures ((subst (λ rows. IsPlaceOf c.args.chan rows c.in-Some.place) c.deref.ensures.value c.in-Some.ensures.some).inside))) in
+    relax-relaxed c.args.self.now.shape c.args.self.now.clock c.args.self.now.packets c.args.chan c.args.level c.args.up_bound c.args.self.now.rows.items c.in-Some.place c.index.result.now
+    (subst (λ rows. IsPlaceOf c.args.chan rows c.in-Some.place) c.deref.ensures.value c.in-Some.ensures.some)
+    (c.in_default-not_tentative.ensures ∙ ap (λ row. not_in_phase Tentative (terms_in row)) c.index.ensures)
+    (c.in_default-unfit.ensures ∙ ap (λ row. unfit (terms_in row) c.args.level c.args.up_bound) (at-place c.args.self.now.rows.items c.in-Some.place c.index-2.result.now c.index.result.now c.index-2.ensures ((subst (λ rows. IsPlaceOf c.args.chan rows c.in-Some.place) c.deref.ensures.value c.in-Some.ensures.some).inside))) in
     let kept =
-      relax-kept c.args.self.now.shape c.args.self.now.clock c.args.self.now.packets c.args.chan c.args.level c.args.up_bound c.args.self.now.clock c.args.self.now.rows.items c.in-Some.place c.commit.new.self c.index_mut.result.now
-      (subst (λ rows. IsPlaceOf c.args.chan rows c.in-Some.place) c.deref.ensures.value c.in-Some.ensures.some)
-      (c.commit.ensures ∙ ap (λ row. kept_relaxed c.args.level c.args.up_bound (row_in row)) c.index_mut.ensures.value) in
+    relax-kept c.args.self.now.shape c.args.self.now.clock c.args.self.now.packets c.args.chan c.args.level c.args.up_bound c.args.self.now.clock c.args.self.now.rows.items c.in-Some.place c.commit.new.self c.index_mut.result.now
+    (subst (λ rows. IsPlaceOf c.args.chan rows c.in-Some.place) c.deref.ensures.value c.in-Some.ensures.some)
+    (c.commit.ensures ∙ ap (λ row. kept_relaxed c.args.level c.args.up_bound (row_in row)) c.index_mut.ensures.value) in
     record {
       admitted = c.move_to.ensures.admitted;
       same_server = c.move_to.ensures.server ∙ c.args.self.now.same_server;
       same_rows =
-        c.move_to.ensures.rows
-        ∙ ap (λ rows. moved rows c.get.result (level_number c.args.level)) c.args.self.now.same_rows
-        ∙ ap (λ key. moved (map summed c.args.self.now.rows.items) key (level_number c.args.level)) c.get.ensures.value
-        ∙ summed-moved c.args.chan (level_number c.args.level) c.args.self.now.rows.items c.in-Some.place c.commit.new.self c.index_mut.result.now distinct place
-        (summed-committed c.commit.new.self (get_or c.args.self.now.rows.items c.in-Some.place c.index_mut.result.now) c.args.level c.args.up_bound same);
+          c.move_to.ensures.rows
+          ∙ ap (λ rows. moved rows c.get.result (level_number c.args.level)) c.args.self.now.same_rows
+          ∙ ap (λ key. moved (map summed c.args.self.now.rows.items) key (level_number c.args.level)) c.get.ensures.value
+          ∙ summed-moved c.args.chan (level_number c.args.level) c.args.self.now.rows.items c.in-Some.place c.commit.new.self c.index_mut.result.now distinct place
+          (summed-committed c.commit.new.self (get_or c.args.self.now.rows.items c.in-Some.place c.index_mut.result.now) c.args.level c.args.up_bound same);
       within =
-        All-set (IsWithin _) c.args.self.now.rows.items c.in-Some.place c.commit.new.self
-        (within-committed _ c.commit.new.self (get_or c.args.self.now.rows.items c.in-Some.place c.index_mut.result.now) c.args.level c.args.up_bound same c.requires.fits.level_most (c.args.self.now.within c.in-Some.place c.index_mut.result.now place.inside))
-        c.args.self.now.within;
+          All-set (IsWithin _) c.args.self.now.rows.items c.in-Some.place c.commit.new.self
+          (within-committed _ c.commit.new.self (get_or c.args.self.now.rows.items c.in-Some.place c.index_mut.result.now) c.args.level c.args.up_bound same c.requires.fits.level_most (c.args.self.now.within c.in-Some.place c.index_mut.result.now place.inside))
+          c.args.self.now.within;
       sound = subst (IsSound c.args.self.now.shape c.args.self.now.room) (sym kept) (sound-relax c.args.self.now.shape c.args.self.now.room (kept_in c.args.self.now) c.args.chan c.args.level c.args.up_bound (Relaxed c.args.self.now.clock) c.requires.fits c.args.self.now.sound reply);
       roomy = c.args.self.now.roomy;
       room_most = c.args.self.now.room_most;

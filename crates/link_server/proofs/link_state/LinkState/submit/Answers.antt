@@ -64,26 +64,26 @@ invariant_of-self c =
     let place = subst (λ rows. IsPlace (is_first_row_of c.args.chan) rows c.in-Some.place) c.deref.ensures.value c.in-Some.ensures.some in
     let same = c.plan.ensures ∙ ap (λ row. kept_planned c.args.self.now.clock c.args.count c.args.gap c.args.size (row_in row)) c.index_mut.ensures.value in
     let reply =
-      submit-planned c.args.self.now.shape c.args.self.now.clock c.args.self.now.packets c.args.chan c.args.count c.args.gap c.args.size c.args.self.now.rows.items c.in-Some.place c.index.result.now
-      (subst (λ rows. IsPlace (is_first_row_of c.args.chan) rows c.in-Some.place) c.deref.ensures.value c.in-Some.ensures.some)
-      (c.in_default-not_committed.ensures ∙ ap (λ row. not_in_phase Committed (terms_in row)) c.index.ensures)
-      (c.in_default-busy.ensures ∙ ap (λ row. busy (length (left_in row.planned))) (at-place c.args.self.now.rows.items c.in-Some.place c.index-2.result.now c.index.result.now c.index-2.ensures ((subst (λ rows. IsPlace (is_first_row_of c.args.chan) rows c.in-Some.place) c.deref.ensures.value c.in-Some.ensures.some).inside)))
-      (c.in_default-too_big.ensures ∙ ap (λ row. too_big (terms_in row) c.args.size) (at-place c.args.self.now.rows.items c.in-Some.place c.index-3.result.now c.index.result.now c.index-3.ensures ((subst (λ rows. IsPlace (is_first_row_of c.args.chan) rows c.in-Some.place) c.deref.ensures.value c.in-Some.ensures.some).inside))) in
+    submit-planned c.args.self.now.shape c.args.self.now.clock c.args.self.now.packets c.args.chan c.args.count c.args.gap c.args.size c.args.self.now.rows.items c.in-Some.place c.index.result.now
+    (subst (λ rows. IsPlace (is_first_row_of c.args.chan) rows c.in-Some.place) c.deref.ensures.value c.in-Some.ensures.some)
+    (c.in_default-not_committed.ensures ∙ ap (λ row. not_in_phase Committed (terms_in row)) c.index.ensures)
+    (c.in_default-busy.ensures ∙ ap (λ row. busy (length (left_in row.planned))) (at-place c.args.self.now.rows.items c.in-Some.place c.index-2.result.now c.index.result.now c.index-2.ensures ((subst (λ rows. IsPlace (is_first_row_of c.args.chan) rows c.in-Some.place) c.deref.ensures.value c.in-Some.ensures.some).inside)))
+    (c.in_default-too_big.ensures ∙ ap (λ row. too_big (terms_in row) c.args.size) (at-place c.args.self.now.rows.items c.in-Some.place c.index-3.result.now c.index.result.now c.index-3.ensures ((subst (λ rows. IsPlace (is_first_row_of c.args.chan) rows c.in-Some.place) c.deref.ensures.value c.in-Some.ensures.some).inside))) in
     let kept =
-      submit-kept c.args.self.now.shape c.args.self.now.clock c.args.self.now.packets c.args.chan c.args.count c.args.gap c.args.size c.args.self.now.clock c.args.self.now.rows.items c.in-Some.place c.plan.new.self c.index_mut.result.now
-      (subst (λ rows. IsPlace (is_first_row_of c.args.chan) rows c.in-Some.place) c.deref.ensures.value c.in-Some.ensures.some)
-      (c.plan.ensures ∙ ap (λ row. kept_planned c.args.self.now.clock c.args.count c.args.gap c.args.size (row_in row)) c.index_mut.ensures.value) in
+    submit-kept c.args.self.now.shape c.args.self.now.clock c.args.self.now.packets c.args.chan c.args.count c.args.gap c.args.size c.args.self.now.clock c.args.self.now.rows.items c.in-Some.place c.plan.new.self c.index_mut.result.now
+    (subst (λ rows. IsPlace (is_first_row_of c.args.chan) rows c.in-Some.place) c.deref.ensures.value c.in-Some.ensures.some)
+    (c.plan.ensures ∙ ap (λ row. kept_planned c.args.self.now.clock c.args.count c.args.gap c.args.size (row_in row)) c.index_mut.ensures.value) in
     record {
       admitted = c.args.self.now.admitted;
       same_server = c.args.self.now.same_server;
       same_rows =
-        c.args.self.now.same_rows
-        ∙ sym (map-set_same summed c.args.self.now.rows.items c.in-Some.place c.plan.new.self c.index_mut.result.now
-        (summed-planned c.plan.new.self (get_or c.args.self.now.rows.items c.in-Some.place c.index_mut.result.now) c.args.self.now.clock c.args.count c.args.gap c.args.size same));
+          c.args.self.now.same_rows
+          ∙ sym (map-set_same summed c.args.self.now.rows.items c.in-Some.place c.plan.new.self c.index_mut.result.now
+          (summed-planned c.plan.new.self (get_or c.args.self.now.rows.items c.in-Some.place c.index_mut.result.now) c.args.self.now.clock c.args.count c.args.gap c.args.size same));
       within =
-        All-set (IsWithin _) c.args.self.now.rows.items c.in-Some.place c.plan.new.self
-        (within-planned _ c.plan.new.self (get_or c.args.self.now.rows.items c.in-Some.place c.index_mut.result.now) c.args.self.now.clock c.args.count c.args.gap c.args.size same (c.args.self.now.within c.in-Some.place c.index_mut.result.now place.inside))
-        c.args.self.now.within;
+          All-set (IsWithin _) c.args.self.now.rows.items c.in-Some.place c.plan.new.self
+          (within-planned _ c.plan.new.self (get_or c.args.self.now.rows.items c.in-Some.place c.index_mut.result.now) c.args.self.now.clock c.args.count c.args.gap c.args.size same (c.args.self.now.within c.in-Some.place c.index_mut.result.now place.inside))
+          c.args.self.now.within;
       sound = subst (IsSound c.args.self.now.shape c.args.self.now.room) (sym kept) (sound-submit c.args.self.now.shape c.args.self.now.room (kept_in c.args.self.now) c.args.chan c.args.count c.args.gap c.args.size (Planned c.args.self.now.clock) c.requires.fits c.args.self.now.sound reply);
       roomy = c.args.self.now.roomy;
       room_most = c.args.self.now.room_most;

@@ -1,16 +1,14 @@
 -- The parts of the tick find what a sound account leaves to count on, and together make what the account says.
-use Rattle.std.proofs.Common.{◌≡◌, ◌+◌, ◌++◌, ◌≤◌, suc, length, map, take, drop, sym, ap, ◌∙◌, subst, refl, arith}
-use Rattle.std.specs.Vec.{vec_len}
+use Rattle.std.proofs.Common.{◌≡◌, ◌+◌, ◌++◌, length, map, take, drop, sym, ap, ◌∙◌, subst, refl, arith}
 use Rattle.std.proofs.lemmas.List.{length-map}
 use Rattle.link_steps.specs.declared.replies.Reply.TheVariants.{Ticked}
 use Rattle.link_steps.specs.declared.asks.Ask.TheVariants.{Tick}
-use Rattle.link_steps.specs.Kept.{held_rows, brought, present, occupies, served, kept_after}
+use Rattle.link_steps.specs.Kept.{held_rows, present, occupies, served, kept_after}
 use Rattle.link_server.specs.Account.{account}
 use Rattle.link_server.specs.Packets.{arrival_in, here_in, on_in}
 use Rattle.link_server.specs.Rows.{row_in, summed, AreWithin}
 use Rattle.link_server.specs.Serving.{CanServe}
 use Rattle.link_server.specs.Sound.{IsSound}
-use Rattle.link_server.specs.Sources.{brought_by}
 use Rattle.link_server.specs.State.{kept_in}
 use Rattle.link_server.proofs.SoundNumbers.{rows-ready, rows-upto, brought-room, brought-small}
 use Rattle.link_server.proofs.SoundServes.{brought-serves}
