@@ -5,7 +5,7 @@ ghost use Rattle.net_units.specs.Numbers.{level_number};
 ghost use Rattle.traffic_contract.specs.Admission.{Passes, with_row};
 ghost use Rattle.rcsp_admission.specs.Sums.{AreAdmitted, rows_of};
 ghost use Rattle.link_steps.specs.Buffer.{slots_of};
-ghost use Rattle.link_steps.specs.Legal.{AskFits, ReserveFits, RelaxFits, SubmitFits};
+ghost use Rattle.link_steps.specs.Legal.{AskFits, ReserveFits, RelaxFits, SubmitFits, PacketFits};
 ghost use Rattle.link_steps.specs.Shape.{server_of};
 ghost use Rattle.link_server.specs.Account.{account};
 ghost use Rattle.link_server.specs.Packets.{here_in};
@@ -17,9 +17,9 @@ use crate::expiry::expire;
 use crate::held_row::{HeldRow, Offered, Wanted};
 use crate::packets::Packets;
 use crate::planned::Planned;
-use crate::rows::{first_place_of, free_units, need_of, place_of, places_of, reach_of};
+use crate::rows::{free_units, need_of, place_at_hop, place_of, places_of, reach_of};
 use crate::sources::take_source_packets;
-use link_steps::{Ask, LinkShape, Refusal, Reply};
+use link_steps::{Ask, LinkShape, Packet, Refusal, Reply, Why};
 use net_units::{ChanNo, Level, OutOfMemory};
 use rcsp_admission::LevelSums;
 use std::alloc::Global;
@@ -46,13 +46,13 @@ pub struct LinkState {
 }
 
 impl LinkState {
-    ghost use Rattle.link_steps.specs.declared.asks.Ask.TheVariants.{Relax as AskRelax, Deny as AskDeny, Submit as AskSubmit, Tick as AskTick};
+    ghost use Rattle.link_steps.specs.declared.asks.Ask.TheVariants.{Relax as AskRelax, Deny as AskDeny, Submit as AskSubmit, Release as AskRelease, Arrive as AskArrive, Tick as AskTick};
     ghost use Rattle.link_steps.specs.declared.replies.Entry.{Entry};
     ghost use Rattle.link_steps.specs.declared.replies.Reply.TheVariants.{Offer};
     ghost use Rattle.link_steps.specs.Kept.{kept_reply, kept_after};
     ghost use Rattle.link_steps.specs.Replies.{reply_to};
     ghost use Rattle.link_steps.specs.Scan.{clock_with};
-    ghost use Rattle.link_server.specs.Asks.{IsBuilt, TakesNone, IsOffer};
+    ghost use Rattle.link_server.specs.Asks.{TakesNone, IsOffer};
     ghost use Rattle.link_server.specs.Wants.{ask_for, reply_of};
     ghost use Rattle.link_server.specs.State.{kept_in, Stands};
 
@@ -93,7 +93,6 @@ impl LinkState {
     pub fn step(&mut self, ask: &Ask) -> Result<Reply, OutOfMemory>
         requires fits { AskFits self.old.shape ask.now }
         requires early { self.old.clock < 2 ^ 61 }
-        requires built { IsBuilt ask.now }
         ensures shape { self.new.shape ≡ self.old.shape }
         ensures legal { IfOk result (λ reply. (h : List Entry) → Stands self.old h → reply ≡ reply_to self.old.shape h ask.now) }
         ensures entered { IfOk result (λ reply. (h : List Entry) → Stands self.old h → Stands self.new (record { ask = ask.now; reply = reply } ∷ h)) }
@@ -135,8 +134,9 @@ impl LinkState {
                 gap,
                 size,
             } => Ok(self.submit(*chan, *count, *gap, *size)),
+            Ask::Release { chan, upstream } => Ok(self.release(*chan, *upstream)),
+            Ask::Arrive { packet } => Ok(self.arrive(packet)),
             Ask::Tick => Ok(self.tick()),
-            Ask::Release { .. } | Ask::Arrive { .. } => unreachable!(),
         }
     }
 
@@ -279,7 +279,7 @@ impl LinkState {
         ensures reply { result ≡ kept_reply self.old.shape (kept_in self.old) (AskSubmit chan count gap size) }
         ensures kept { kept_in self.new ≡ kept_after self.old.shape (kept_in self.old) (AskSubmit chan count gap size) result }
     {
-        let Some(place) = first_place_of(&self.rows, chan) else {
+        let Some(place) = place_at_hop(&self.rows, chan, true) else {
             return Reply::Refused(Refusal::NoSuch);
         };
         if let Some(refusal) = self.rows[place].not_committed() {
@@ -298,6 +298,54 @@ impl LinkState {
             count,
         });
         Reply::Planned { clock: self.clock }
+    }
+
+    // Closes a committed reservation: the one at its first hop where no count is told, or else one at a later hop.
+    fn release(&mut self, chan: ChanNo, upstream: Option<u64>) -> Reply
+        ensures shape { self.new.shape ≡ self.old.shape }
+        ensures clock { self.new.clock ≡ self.old.clock }
+        ensures reply { result ≡ kept_reply self.old.shape (kept_in self.old) (AskRelease chan upstream) }
+        ensures kept { kept_in self.new ≡ kept_after self.old.shape (kept_in self.old) (AskRelease chan upstream) result }
+    {
+        let Some(place) = place_at_hop(&self.rows, chan, upstream.is_none()) else {
+            return Reply::Refused(Refusal::NoSuch);
+        };
+        if let Some(refusal) = self.rows[place].not_committed() {
+            return Reply::Refused(refusal);
+        }
+        let count = self.rows[place].count_at_release(upstream);
+        let cancelled = self.rows[place].cancelled_at_release(upstream);
+        self.rows[place].close(count);
+        Reply::Closing { count, cancelled }
+    }
+
+    // Takes a packet from the link before.
+    fn arrive(&mut self, packet: &Packet) -> Reply
+        requires fits { PacketFits packet.now }
+        requires early { self.old.clock < 2 ^ 61 }
+        ensures shape { self.new.shape ≡ self.old.shape }
+        ensures clock { self.new.clock ≡ self.old.clock }
+        ensures reply { result ≡ kept_reply self.old.shape (kept_in self.old) (AskArrive packet.now) }
+        ensures kept { kept_in self.new ≡ kept_after self.old.shape (kept_in self.old) (AskArrive packet.now) result }
+    {
+        let Some(place) = place_of(&self.rows, packet.chan) else {
+            return Reply::Refused(Refusal::Stray { why: Why::NoRow });
+        };
+        if let Some(refusal) = self.rows[place].stray(packet) {
+            return Reply::Refused(refusal);
+        }
+        let bounds = self.shape.bounds;
+        if let Some(refusal) = self.rows[place].full(&bounds, &self.packets.here) {
+            return Reply::Refused(refusal);
+        }
+        let clock = self.clock;
+        let number = self.packets.taken + 1;
+        let taken = self.rows[place].take(packet.size, packet.due, number, clock);
+        self.packets.push(taken);
+        Reply::Taken {
+            clock,
+            eligible: taken.eligible,
+        }
     }
 
     // Makes a tick: rows whose hold has ended expire, the source packets that are planned for it arrive, and the link
