@@ -3,6 +3,7 @@ pub mod SumsFacts
 pub mod LevelFacts
 pub mod AnswerFacts
 pub mod CloseFacts
+pub mod ArriveFacts
 pub mod StepFacts
 pub mod PlanFacts
 pub mod TakeFacts

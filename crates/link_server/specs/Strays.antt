@@ -12,6 +12,11 @@ first_rule [] = None
 first_rule (None ∷ rules) = first_rule rules
 first_rule (Some refusal ∷ rules) = Some refusal
 
--- the refusal of a packet that has no place at a reservation that has taken so many
+-- the rules on a packet, at a reservation that has taken so many
+abbrev pub stray_rules : Packet → Reservation → ℕ → List Rule
+stray_rules packet terms taken =
+    first_hop terms ∷ uncommitted terms ∷ wrong_number packet.number (suc taken) ∷ past_count terms taken ∷ big terms packet.size ∷ []
+
+-- the refusal of a packet that has no place there
 abbrev pub stray : Packet → Reservation → ℕ → Rule
-stray packet terms taken = first_rule (first_hop terms ∷ uncommitted terms ∷ wrong_number packet.number (suc taken) ∷ past_count terms taken ∷ big terms packet.size ∷ [])
+stray packet terms taken = first_rule (stray_rules packet terms taken)
