@@ -61,7 +61,7 @@ abbrev taken-reply : ℕ → Packet → HeldRow → Reply
 taken-reply t packet row = Taken t (eligible_next (terms_in row) (row_in row).recent t packet.due)
 
 arrive-found : (shape : LinkShape) (t : ℕ) (packets : Packets) (packet : Packet) (rows : List HeldRow) (i : ℕ) (d : HeldRow) → IsPlaceOf packet.chan rows i
-  → kept_reply shape (account t packets rows) (Arrive packet) ≡ first_refusal (stray_rules packet (terms_in (get_or rows i d)) (get_or rows i d).taken ++ slots-rule shape packets.here.items (get_or rows i d) ∷ []) (taken-reply t packet (get_or rows i d))
+    → kept_reply shape (account t packets rows) (Arrive packet) ≡ first_refusal (stray_rules packet (terms_in (get_or rows i d)) (get_or rows i d).taken ++ slots-rule shape packets.here.items (get_or rows i d) ∷ []) (taken-reply t packet (get_or rows i d))
 unfolding kept_reply arrive_reply
 arrive-found shape t packets packet rows i d place = ap (kept_arrive shape t (here_in packets.here.items) packet) (kept-found (is_row_of packet.chan) (is_kept_of packet.chan) (λ row. refl) rows i d place)
 
@@ -69,23 +69,23 @@ pub arrive-stray : (shape : LinkShape) (t : ℕ) (packets : Packets) (packet : P
 arrive-stray shape t packets packet rows i d refusal place first = rule-applies (stray_rules packet (terms_in (get_or rows i d)) (get_or rows i d).taken) (slots-rule shape packets.here.items (get_or rows i d) ∷ []) (taken-reply t packet (get_or rows i d)) refusal first ∙ sym (arrive-found shape t packets packet rows i d place)
 
 pub arrive-full : (shape : LinkShape) (t : ℕ) (packets : Packets) (packet : Packet) (rows : List HeldRow) (i : ℕ) (d : HeldRow) (refusal : Refusal) → IsPlaceOf packet.chan rows i → None ≡ stray packet (terms_in (get_or rows i d)) (get_or rows i d).taken
-  → Some refusal ≡ slots-rule shape packets.here.items (get_or rows i d) → Refused refusal ≡ kept_reply shape (account t packets rows) (Arrive packet)
+    → Some refusal ≡ slots-rule shape packets.here.items (get_or rows i d) → Refused refusal ≡ kept_reply shape (account t packets rows) (Arrive packet)
 arrive-full shape t packets packet rows i d refusal place none holds =
     rule-applies (slots-rule shape packets.here.items (get_or rows i d) ∷ []) [] (taken-reply t packet (get_or rows i d)) refusal (one-rule (slots-rule shape packets.here.items (get_or rows i d)) refusal holds)
     ∙ rules-kept (stray_rules packet (terms_in (get_or rows i d)) (get_or rows i d).taken) (slots-rule shape packets.here.items (get_or rows i d) ∷ []) (taken-reply t packet (get_or rows i d)) none ∙ sym (arrive-found shape t packets packet rows i d place) where
-  one-rule : (rule : Rule) (refusal : Refusal) → Some refusal ≡ rule → Some refusal ≡ first_rule (rule ∷ [])
-  one-rule None refusal same = same
-  one-rule (Some other) refusal same = same
+      one-rule : (rule : Rule) (refusal : Refusal) → Some refusal ≡ rule → Some refusal ≡ first_rule (rule ∷ [])
+      one-rule None refusal same = same
+      one-rule (Some other) refusal same = same
 
 pub arrive-taken : (shape : LinkShape) (t : ℕ) (packets : Packets) (packet : Packet) (rows : List HeldRow) (i : ℕ) (d : HeldRow) (e : ℕ) → IsPlaceOf packet.chan rows i → None ≡ stray packet (terms_in (get_or rows i d)) (get_or rows i d).taken
-  → None ≡ slots-rule shape packets.here.items (get_or rows i d) → e ≡ eligible_next (terms_in (get_or rows i d)) (row_in (get_or rows i d)).recent t packet.due → Taken t e ≡ kept_reply shape (account t packets rows) (Arrive packet)
+    → None ≡ slots-rule shape packets.here.items (get_or rows i d) → e ≡ eligible_next (terms_in (get_or rows i d)) (row_in (get_or rows i d)).recent t packet.due → Taken t e ≡ kept_reply shape (account t packets rows) (Arrive packet)
 arrive-taken shape t packets packet rows i d e place none free tick =
     ap (Taken t) tick
     ∙ rule-none (slots-rule shape packets.here.items (get_or rows i d)) (taken-reply t packet (get_or rows i d)) free
     ∙ rules-kept (stray_rules packet (terms_in (get_or rows i d)) (get_or rows i d).taken) (slots-rule shape packets.here.items (get_or rows i d) ∷ []) (taken-reply t packet (get_or rows i d)) none ∙ sym (arrive-found shape t packets packet rows i d place) where
-  rule-none : (rule : Rule) (reply : Reply) → None ≡ rule → reply ≡ first_refusal (rule ∷ []) reply
-  rule-none None reply none = refl
-  rule-none (Some other) reply none = cc
+      rule-none : (rule : Rule) (reply : Reply) → None ≡ rule → reply ≡ first_refusal (rule ∷ []) reply
+      rule-none None reply none = refl
+      rule-none (Some other) reply none = cc
 
 -- a refusal changes nothing
 pub arrive-same : (shape : LinkShape) (k : Kept) (packet : Packet) (refusal : Refusal) → k ≡ kept_after shape k (Arrive packet) (Refused refusal)
@@ -112,11 +112,11 @@ same-parts : (t taken taken' : ℕ) (rows rows' : List KeptRow) (here here' : Li
 same-parts t taken taken' rows rows' here here' on on' a b c d = rw (a, b, c, d) refl
 
 pub arrive-kept : (shape : LinkShape) (t e : ℕ) (old new : Packets) (packet : Packet) (rows : List HeldRow) (i : ℕ) (d row : HeldRow) (taken : HeldPacket) → IsPlaceOf packet.chan rows i
-  → packet.number ≡ suc (get_or rows i d).taken
-  → row_in row ≡ kept_with (old.taken + 1) (eligible_next (terms_in (get_or rows i d)) (row_in (get_or rows i d)).recent t packet.due) (row_in (get_or rows i d))
-  → arrival_in taken ≡ arrival_at (terms_in (get_or rows i d)) (get_or rows i d).lead (old.taken + 1) (suc (get_or rows i d).taken) packet.size t (eligible_next (terms_in (get_or rows i d)) (row_in (get_or rows i d)).recent t packet.due)
-  → new.taken ≡ old.taken + 1 → new.here.items ≡ old.here.items ++ taken ∷ [] → new.on ≡ old.on
-  → account t new (set rows i row) ≡ kept_after shape (account t old rows) (Arrive packet) (Taken t e)
+    → packet.number ≡ suc (get_or rows i d).taken
+    → row_in row ≡ kept_with (old.taken + 1) (eligible_next (terms_in (get_or rows i d)) (row_in (get_or rows i d)).recent t packet.due) (row_in (get_or rows i d))
+    → arrival_in taken ≡ arrival_at (terms_in (get_or rows i d)) (get_or rows i d).lead (old.taken + 1) (suc (get_or rows i d).taken) packet.size t (eligible_next (terms_in (get_or rows i d)) (row_in (get_or rows i d)).recent t packet.due)
+    → new.taken ≡ old.taken + 1 → new.here.items ≡ old.here.items ++ taken ∷ [] → new.on ≡ old.on
+    → account t new (set rows i row) ≡ kept_after shape (account t old rows) (Arrive packet) (Taken t e)
 unfolding kept_after kept_with_arrival
 arrive-kept shape t e old new packet rows i d row taken place number same arrived count pushed on =
     let was = get_or rows i d in

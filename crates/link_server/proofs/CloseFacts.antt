@@ -1,5 +1,5 @@
 -- The answers to a release, case by case.
-use Rattle.std.proofs.Common.{◌≡◌, ℕ, ◌∷◌, [], Bool, true, false, not, List, Option, Some, None, length, map, get_or, set, refl, sym, ap, ◌∙◌, arith}
+use Rattle.std.proofs.Common.{◌≡◌, ℕ, Bool, true, false, not, List, Option, Some, None, length, get_or, set, refl, sym, ap, arith}
 use Rattle.std.specs.Prelude.{is_some}
 use Rattle.net_units.specs.Numbers.{channel_number, level_number}
 use Rattle.net_units.specs.declared.numbers.ChanNo.{ChanNo}
@@ -43,7 +43,7 @@ unfolding release_reply
 release-phase shape t packets chan upstream rows i d refusal place phase = rw (release-found shape t packets chan upstream rows i d place, sym phase) refl
 
 pub release-closes : (shape : LinkShape) (t : ℕ) (packets : Packets) (chan : ChanNo) (upstream : Option ℕ) (rows : List HeldRow) (i : ℕ) (d : HeldRow) (count cancelled : ℕ) → IsPlace (is_row_at_hop chan (names_first_hop upstream)) rows i → None ≡ not_in_phase Committed (terms_in (get_or rows i d))
-  → count ≡ count_at_release upstream (get_or rows i d).taken → cancelled ≡ cancelled_at_release upstream (length (left_in (get_or rows i d).planned)) → Closing count cancelled ≡ kept_reply shape (account t packets rows) (Release chan upstream)
+    → count ≡ count_at_release upstream (get_or rows i d).taken → cancelled ≡ cancelled_at_release upstream (length (left_in (get_or rows i d).planned)) → Closing count cancelled ≡ kept_reply shape (account t packets rows) (Release chan upstream)
 unfolding release_reply
 release-closes shape t packets chan upstream rows i d count cancelled place phase counted none = rw (release-found shape t packets chan upstream rows i d place, sym phase, counted, none) refl
 

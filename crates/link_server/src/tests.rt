@@ -3,7 +3,7 @@ ghost use Rattle.std.specs.Prelude.{◌≡◌, ◌^◌, ◌<◌, ◌≤◌, ◌�
 ghost use Rattle.link_steps.specs.Legal.{SubmitFits};
 
 use super::LinkState;
-use link_steps::{Ask, LinkShape, Phase, Refusal, Reply};
+use link_steps::{Ask, LinkShape, LinkStep, Phase, Refusal, Reply};
 use net_units::{Bounds, ChanNo, Kind, Level, LinkNo};
 use std::alloc::Global;
 use std::test::Fail;

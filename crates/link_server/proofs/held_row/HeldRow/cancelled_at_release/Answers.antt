@@ -1,7 +1,5 @@
 -- As many packets are left as are counted.
-use Rattle.std.proofs.Common.{sym, ap, ◌∙◌}
-use Rattle.link_steps.specs.Replies.{cancelled_at_release}
-use Rattle.link_server.specs.Planned.{left_in}
+use Rattle.std.proofs.Common.{sym}
 use Rattle.link_server.proofs.PlanFacts.{planned-length}
 use Rattle.link_server.proofs.held_row.HeldRow.cancelled_at_release.Goals as goal
 

@@ -1,5 +1,5 @@
 -- The row of the packet's channel is found, and judges it; the packet is then put behind those here.
-use Rattle.std.proofs.Common.{◌≡◌, ◌+◌, ◌<◌, ◌^◌, suc,  get_or, set, refl, sym, ap, ◌∙◌, subst, arith}
+use Rattle.std.proofs.Common.{◌≡◌, ◌+◌, ◌<◌, ◌^◌, suc, get_or, set, sym, ap, ◌∙◌, subst, arith}
 use Rattle.std.proofs.Math.Seq.{map-set_same}
 use Rattle.std.proofs.lemmas.List.Elements.{All-set}
 use Rattle.link_steps.specs.declared.asks.Ask.TheVariants.{Arrive}
@@ -11,7 +11,7 @@ use Rattle.link_steps.specs.Regulator.{eligible_next}
 use Rattle.link_steps.specs.Sources.{arrival_at}
 use Rattle.traffic_contract.specs.Eligible.{newest}
 use Rattle.link_server.specs.Account.{account}
-use Rattle.link_server.specs.Packets.{arrival_in, here_in}
+use Rattle.link_server.specs.Packets.{here_in}
 use Rattle.link_server.specs.Rows.{terms_in, row_in, summed, IsAbsent, IsPlaceOf, IsWithin}
 use Rattle.link_server.specs.Sound.{IsSound}
 use Rattle.link_server.specs.Sources.{IsReady}
@@ -20,7 +20,7 @@ use Rattle.link_server.specs.Strays.{stray}
 use Rattle.link_server.proofs.ArriveFacts.{arrive-absent, arrive-stray, arrive-full, arrive-taken, arrive-same, arrive-kept, next-number, summed-arrived, within-arrived, slots-rule, arrive-room}
 use Rattle.link_server.proofs.ExpiryFacts.{each-at}
 use Rattle.link_server.proofs.PlaceFacts.{at-place}
-use Rattle.link_server.proofs.SoundNumbers.{rows-ready, rows-upto}
+use Rattle.link_server.proofs.SoundNumbers.{rows-ready}
 use Rattle.link_server.proofs.SoundTaking.{sound-arrive}
 use Rattle.link_server.proofs.link_state.LinkState.arrive.Goals as goal
 use Rattle.link_server.proofs.link_state.LinkState.arrive.Goals.{In-Some, After-take-taken, After-push}
@@ -100,7 +100,7 @@ push-requires-clause-room c =
 
 -- what is kept is the account's
 kept : (c : After-push) → IsPlaceOf c.args.packet.now.chan c.args.self.now.rows.items c.in-Some.place
-  → account c.args.self.now.clock c.push.new.self (set c.args.self.now.rows.items c.in-Some.place c.take-taken.new.self) ≡ kept_after c.args.self.now.shape (kept_in c.args.self.now) (Arrive c.args.packet.now) (Taken c.args.self.now.clock c.take-taken.result.eligible)
+    → account c.args.self.now.clock c.push.new.self (set c.args.self.now.rows.items c.in-Some.place c.take-taken.new.self) ≡ kept_after c.args.self.now.shape (kept_in c.args.self.now) (Arrive c.args.packet.now) (Taken c.args.self.now.clock c.take-taken.result.eligible)
 kept c place =
     let was = get_or c.args.self.now.rows.items c.in-Some.place c.index_mut.result.now in
     let none = c.in_default-stray.ensures ∙ ap (λ row. stray c.args.packet.now (terms_in row) row.taken) (at-place c.args.self.now.rows.items c.in-Some.place c.index.result.now c.index_mut.result.now c.index.ensures place.inside) in
@@ -120,13 +120,13 @@ invariant_of-self-2 c =
       admitted = c.args.self.now.admitted;
       same_server = c.args.self.now.same_server;
       same_rows =
-        c.args.self.now.same_rows
-        ∙ sym (map-set_same summed c.args.self.now.rows.items c.in-Some.place c.take-taken.new.self c.index_mut.result.now
-        (summed-arrived c.take-taken.new.self (get_or c.args.self.now.rows.items c.in-Some.place c.index_mut.result.now) _ _ same));
+          c.args.self.now.same_rows
+          ∙ sym (map-set_same summed c.args.self.now.rows.items c.in-Some.place c.take-taken.new.self c.index_mut.result.now
+          (summed-arrived c.take-taken.new.self (get_or c.args.self.now.rows.items c.in-Some.place c.index_mut.result.now) _ _ same));
       within =
-        All-set (IsWithin _) c.args.self.now.rows.items c.in-Some.place c.take-taken.new.self
-        (within-arrived _ c.take-taken.new.self (get_or c.args.self.now.rows.items c.in-Some.place c.index_mut.result.now) _ _ same (c.args.self.now.within c.in-Some.place c.index_mut.result.now place.inside))
-        c.args.self.now.within;
+          All-set (IsWithin _) c.args.self.now.rows.items c.in-Some.place c.take-taken.new.self
+          (within-arrived _ c.take-taken.new.self (get_or c.args.self.now.rows.items c.in-Some.place c.index_mut.result.now) _ _ same (c.args.self.now.within c.in-Some.place c.index_mut.result.now place.inside))
+          c.args.self.now.within;
       sound = subst (IsSound c.args.self.now.shape c.args.self.now.room) (sym (kept (goal.at.invariant_of-self-2 c).After-push place)) after;
       roomy = omega (arith, roomy, c.push.ensures.capacity);
       room_most = c.args.self.now.room_most;

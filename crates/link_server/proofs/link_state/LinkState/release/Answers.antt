@@ -69,13 +69,13 @@ invariant_of-self c =
       admitted = c.args.self.now.admitted;
       same_server = c.args.self.now.same_server;
       same_rows =
-        c.args.self.now.same_rows
-        ∙ sym (map-set_same summed c.args.self.now.rows.items c.in-Some.place c.close.new.self c.index_mut.result.now
-        (summed-closed c.close.new.self (get_or c.args.self.now.rows.items c.in-Some.place c.index_mut.result.now) c.count_at_release-count.result same));
+          c.args.self.now.same_rows
+          ∙ sym (map-set_same summed c.args.self.now.rows.items c.in-Some.place c.close.new.self c.index_mut.result.now
+          (summed-closed c.close.new.self (get_or c.args.self.now.rows.items c.in-Some.place c.index_mut.result.now) c.count_at_release-count.result same));
       within =
-        All-set (IsWithin _) c.args.self.now.rows.items c.in-Some.place c.close.new.self
-        (within-closed _ c.close.new.self (get_or c.args.self.now.rows.items c.in-Some.place c.index_mut.result.now) c.count_at_release-count.result same (c.args.self.now.within c.in-Some.place c.index_mut.result.now place.inside))
-        c.args.self.now.within;
+          All-set (IsWithin _) c.args.self.now.rows.items c.in-Some.place c.close.new.self
+          (within-closed _ c.close.new.self (get_or c.args.self.now.rows.items c.in-Some.place c.index_mut.result.now) c.count_at_release-count.result same (c.args.self.now.within c.in-Some.place c.index_mut.result.now place.inside))
+          c.args.self.now.within;
       sound = subst (IsSound c.args.self.now.shape c.args.self.now.room) (sym (kept close place)) (sound-release c.args.self.now.shape c.args.self.now.room (kept_in c.args.self.now) c.args.chan c.args.upstream (Closing c.count_at_release-count.result c.cancelled_at_release-cancelled.result) c.args.self.now.sound (replied close place));
       roomy = c.args.self.now.roomy;
       room_most = c.args.self.now.room_most;

@@ -1,5 +1,5 @@
 -- The row of the channel at its first hop is found, judged by its phase, its plan and its contract, and planned for.
-use Rattle.std.proofs.Common.{length, get_or, sym, ap, ◌∙◌, subst}
+use Rattle.std.proofs.Common.{length, true, get_or, sym, ap, ◌∙◌, subst}
 use Rattle.std.proofs.Math.Seq.{map-set_same}
 use Rattle.std.proofs.lemmas.List.Elements.{All-set}
 use Rattle.link_steps.specs.declared.replies.Phase.TheVariants.{Committed}
