@@ -7,7 +7,7 @@ use Rattle.net_units.specs.Quotient.{ceil_quotient}
 use Rattle.net_units.specs.Steps.{are_bounds, bound_at}
 use Rattle.net_units.specs.Text.{is_name}
 use Rattle.traffic_contract.specs.Contract.{IsContract}
-use Rattle.tenet_app.specs.Forms.{is_among}
+use Rattle.tenet_app.specs.Forms.{is_among, place_of}
 use Rattle.tenet_app.specs.declared.scenario.plan.Link.{Link}
 use Rattle.tenet_app.specs.declared.scenario.plan.Request.{Request}
 use Rattle.tenet_app.specs.declared.scenario.plan.Send.{Send}
@@ -70,6 +70,23 @@ opened_before before opened (operation.Send send ∷ script) = opened_before bef
 abbrev pub first_own : List Operation → ℕ
 first_own script = opened_before 0 0 script
 
+abbrev pub names_of : List Request → List (List ℕ)
+names_of requests = map (λ request. request.name) requests
+
+-- the names of the requests that the last caller has opened
+abbrev pub own_names : List Operation → List (List ℕ)
+own_names script = drop (first_own script) (names_of (requests_in script))
+
+-- the place, among all requests, of the request of this name that the last caller has opened
+abbrev pub own_place : List Operation → List ℕ → ℕ
+own_place script name = first_own script + place_of (own_names script) name
+
+-- within the limits, there is room for an operation behind a script
+abbrev pub HasRoom : List Operation → Operation → Type 0
+HasRoom script (operation.Caller name) = Unit {0}
+HasRoom script (operation.Open request) = length (requests_in script) < 1024
+HasRoom script (operation.Send send) = load_in script + send.count ≤ 262144
+
 -- ---- the same of what was read
 
 abbrev pub link_names : Said → List (List ℕ)
@@ -81,15 +98,8 @@ callers_of said = callers_in said.script
 abbrev pub requests_of : Said → List Request
 requests_of said = requests_in said.script
 
-abbrev pub names_of : List Request → List (List ℕ)
-names_of requests = map (λ request. request.name) requests
-
 abbrev pub request_names : Said → List (List ℕ)
 request_names said = names_of (requests_of said)
-
--- the names of the requests that the last caller has opened
-abbrev pub own_names : Said → List (List ℕ)
-own_names said = drop (first_own said.script) (request_names said)
 
 -- the rounds of ticks beside the callers, and those after them
 abbrev pub rounds_of : Said → ℕ
@@ -101,9 +111,8 @@ tail_of said = unwrap_or said.tail 0
 -- within the limits, there is room for what a line says
 abbrev pub MayAdd : Said → Item → Type 0
 MayAdd said (item.Link link) = length said.links < 32
-MayAdd said (item.Script (operation.Send send)) = load_in said.script + send.count ≤ 262144
+MayAdd said (item.Script operation) = HasRoom said.script operation
 MayAdd said (item.Rounds count) = count ≤ 524288
-MayAdd said (item.Tail count) = count ≤ 524288
 MayAdd said other = Unit {0}
 
 -- the last line of a plan was read
