@@ -129,7 +129,9 @@ impl Script {
     pub fn has_caller(&self, name: &[u8]) -> bool
         ensures { result ≡ is_among (callers_in self.now) name.now }
     {
-        self.callers().iter().any(|caller| caller.as_bytes() == name)
+        self.callers()
+            .iter()
+            .any(|caller| caller.as_bytes() == name)
     }
 
     /// Whether a request of any caller has this name.
