@@ -12,7 +12,7 @@ use Rattle.byte_ends.specs.Writing.{WritesFront}
 use Rattle.traffic_contract.specs.Admission.{Passes}
 use Rattle.tenet_app.specs.Fields.{ended_line}
 use Rattle.tenet_app.specs.PlanText.{plan_text}
-use Rattle.tenet_app.specs.Plans.{Said, IsPlan}
+use Rattle.tenet_app.specs.Plans.{Said, requests_of, IsPlan}
 use Rattle.tenet_app.specs.Reading.{Reading, IsRead, IsBad, IsOver, reading, LetsPass}
 use Rattle.tenet_app.specs.Establishment.{Settlement, settlements, server_over, held_after_steps}
 use Rattle.tenet_app.specs.Report.{report_of}
@@ -38,7 +38,7 @@ report_over (link ∷ links) requests = report_of link.name requests (map (λ (s
 
 -- the report of a plan
 abbrev pub plan_report : Said → List ℕ
-plan_report said = report_over said.links said.requests
+plan_report said = report_over said.links (requests_of said)
 
 -- the line that tells which line is refused; until the whole language is built, by one word for every cause
 abbrev pub refusal_line : ℕ → List ℕ
@@ -63,7 +63,7 @@ pub record PlaysDone (before after : Ends) : Type 0 where
   pub text : IfSome before.left (λ bytes. bytes ≡ plan_text plan.link said)
   pub ended : IsAtEnd after.left
   pub written : Appends before.written after.written (plan_report said)
-  pub passes : AllByRecursion (Passes (server_over plan.link)) (held_after_steps plan.link said.requests)
+  pub passes : AllByRecursion (Passes (server_over plan.link)) (held_after_steps plan.link (requests_of said))
 
 -- the line is refused, and one line that tells it was written
 pub record PlaysRefused (line : ℕ) (told : Cause) (before after : Ends) : Type 0 where

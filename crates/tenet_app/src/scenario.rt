@@ -9,4 +9,6 @@ mod link_line;
 mod open_line;
 pub mod plan;
 pub mod reader;
+pub mod script;
+mod send_line;
 pub mod values;
