@@ -18,7 +18,5 @@ pub mod Worked
 pub mod DistinctFacts
 pub mod ContractFacts
 pub mod ReadFacts
-pub mod EstablishmentFacts
 pub mod LinkFacts
-pub mod StepsPass
 pub mod PlayFacts
