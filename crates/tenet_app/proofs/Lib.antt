@@ -19,4 +19,6 @@ pub mod DistinctFacts
 pub mod ContractFacts
 pub mod ReadFacts
 pub mod LinkFacts
+pub mod TallyFacts
+pub mod PlayerFacts
 pub mod PlayFacts

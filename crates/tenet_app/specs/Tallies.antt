@@ -1,13 +1,17 @@
 -- What a player keeps of a run: its link, which stands for the history so far, the number of steps, what the link line
 -- of the report tells, and a tally for each channel, of its sends and of its delays. What a submit plans is kept as a
 -- batch, from which the ticks of its packets follow.
-use Rattle.std.specs.Prelude.{◌≡◌, ℕ, zero, suc, ◌+◌, ◌*◌, ◌<◌, ◌≤◌, Bool, nat_eq, nat_lt, if◌then◌else◌, Some, List, [], ◌∷◌, ◌++◌, length, map, filter}
+use Rattle.std.specs.Prelude.{◌≡◌, ℕ, zero, suc, ◌+◌, ◌-◌, ◌*◌, ◌^◌, ◌<◌, ◌≤◌, Bool, nat_eq, nat_lt, if◌then◌else◌, Option, Some, None, List, [], ◌∷◌, ◌++◌, length, map, filter}
+use Rattle.net_units.specs.Numbers.{channel_number}
 use Rattle.link_server.specs.State.{Stands}
 use Rattle.link_steps.specs.Legal.{SubmitFits}
 use Rattle.link_steps.specs.Rows.{tick_of}
 use Rattle.link_steps.specs.declared.asks.Ask.{Ask}
 use Rattle.link_steps.specs.declared.asks.Ask.TheVariants.{Submit}
 use Rattle.link_steps.specs.declared.replies.Entry.{Entry}
+use Rattle.link_steps.specs.declared.replies.Reply.{Reply}
+use Rattle.link_steps.specs.declared.replies.Reply.TheVariants.{Ticked, Refused}
+use Rattle.link_steps.specs.declared.replies.Sent.{Sent}
 use Rattle.tenet_app.specs.Channels.{planned_in, refused_in, delays_in, least_of, least_with, worst_of, worst_with, departures_in, dropped_in}
 use Rattle.tenet_app.specs.Establishment.{verdict_of}
 use Rattle.tenet_app.specs.Run.{Run}
@@ -31,10 +35,13 @@ tally_of number h = record {
   worst = worst_of (delays_in number h);
 }
 
--- the tallies of so many channels, from this number on
-abbrev pub tallies_of : ℕ → ℕ → List Entry → List Tally
-tallies_of number zero h = []
-tallies_of number (suc count) h = tally_of number h ∷ tallies_of (suc number) count h
+-- those of so many channels, from this number on
+unfoldable pub each_from : {X : Type 0} → (ℕ → X) → ℕ → ℕ → List X
+each_from f number zero = []
+each_from f number (suc count) = f number ∷ each_from f (suc number) count
+
+abbrev pub tallies_of : ℕ → List Entry → List Tally
+tallies_of count h = each_from (λ number. tally_of number h) 0 count
 
 -- a tally with one more packet delivered
 abbrev pub with_delay : ℕ → Tally → Tally
@@ -47,6 +54,28 @@ with_delay delay tally = record tally {
 -- a tally with one more send refused
 abbrev pub with_refusal : Tally → Tally
 with_refusal tally = record tally { refused = tally.refused + 1 }
+
+-- the one at a place changed
+abbrev pub change_at : {X : Type 0} → ℕ → (X → X) → List X → List X
+change_at place change [] = []
+change_at zero change (x ∷ xs) = change x ∷ xs
+change_at (suc place) change (x ∷ xs) = x ∷ change_at place change xs
+
+-- the tallies behind a packet that has left
+abbrev pub with_packet : Option Sent → List Tally → List Tally
+with_packet None tallies = tallies
+with_packet (Some packet) tallies = change_at (channel_number packet.packet.chan) (with_delay (packet.arrives - packet.at)) tallies
+
+-- the tallies behind one more step
+abbrev pub counted : Ask → Reply → List Tally → List Tally
+counted ask (Ticked clock full packet) tallies = with_packet packet tallies
+counted (Submit chan count gap size) (Refused refusal) tallies = change_at (channel_number chan) with_refusal tallies
+counted ask _ tallies = tallies
+
+-- none of their counts is near the end of a number
+abbrev pub AreFew : List Tally → Type 0
+AreFew [] = Unit {0}
+AreFew (tally ∷ tallies) = (tally.refused < 2 ^ 63) × (tally.delivered < 2 ^ 63) × AreFew tallies
 
 -- ---- planned packets
 
@@ -94,7 +123,7 @@ pub record Tells (h : List Entry) (tallies : Tallies) : Type 0 where
   pub sent : tallies.sent ≡ departures_in h
   pub dropped : tallies.dropped ≡ dropped_in h
   pub few_dropped : tallies.dropped ≤ 4294967296 * tallies.steps
-  pub channels : tallies.channels.items ≡ tallies_of 0 (length tallies.channels.items) h
+  pub channels : tallies.channels.items ≡ tallies_of (length tallies.channels.items) h
   pub planned : (number : ℕ) → ticks_in number tallies.batches.items ≡ map tick_of (planned_in number h)
 
 -- the player stands behind this history

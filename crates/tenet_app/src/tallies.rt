@@ -1,10 +1,10 @@
 //! What a run tells of its link and its channels.
-ghost use Rattle.std.specs.Prelude.{◌≡◌, ℕ, ◌+◌, ◌^◌, ◌<◌, ◌≤◌, [], ◌∷◌, ◌++◌, List, filter, length, IfOk, OnOk};
-ghost use Rattle.link_steps.specs.declared.asks.Ask.{Ask as LinkAsk};
+ghost use Rattle.std.specs.Prelude.{◌≡◌, ℕ, ◌+◌, ◌^◌, ◌<◌, ◌≤◌, [], ◌∷◌, ◌++◌, List, filter, map, length, IfOk, OnOk};
+ghost use Rattle.net_units.specs.Numbers.{channel_number};
+ghost use Rattle.link_steps.specs.Rows.{tick_of};
 ghost use Rattle.link_steps.specs.declared.replies.Entry.{Entry};
-ghost use Rattle.link_steps.specs.declared.replies.Reply.TheVariants.{Ticked, Refused, Planned};
-ghost use Rattle.tenet_app.specs.Channels.{delay_of, refused_by, departures_by, offered_in};
-ghost use Rattle.tenet_app.specs.Tallies.{Tells, HasGap, is_made, made_in, ticks_from};
+ghost use Rattle.tenet_app.specs.Channels.{planned_by, sent_by, departures_by, dropped_by};
+ghost use Rattle.tenet_app.specs.Tallies.{Tells, HasGap, AreFew, change_at, with_refusal, with_packet, counted, is_made, made_in, ticks_from, ticks_in};
 
 use crate::batch::Batch;
 use crate::tally::Tally;
@@ -48,20 +48,14 @@ impl Tallies {
         requires few { self.old.steps < 2 ^ 31 }
         requires gap { HasGap ask.now }
         ensures tells { OnOk result ((h : List Entry) → Tells h self.old → Tells (record { ask = ask.now; reply = reply.now } ∷ h) self.new) }
-        ensures channels { length self.new.channels.items ≡ length self.old.channels.items }
+        ensures steps { OnOk result (self.new.steps ≡ self.old.steps + 1) }
+        ensures channels { OnOk result (length self.new.channels.items ≡ length self.old.channels.items) }
     {
+        plan(&mut self.batches, ask, reply)?;
+        count(&mut self.channels, ask, reply);
         self.steps += 1;
-        match reply {
-            Reply::Ticked { full, sent, .. } => {
-                self.dropped += u64::from(*full);
-                if let Some(sent) = sent {
-                    self.deliver(sent);
-                }
-            }
-            Reply::Planned { clock } => self.plan(ask, *clock)?,
-            Reply::Refused(_) => self.refuse(ask),
-            _ => {}
-        }
+        self.sent += departures(reply);
+        self.dropped += dropped(reply);
         Ok(())
     }
 
@@ -78,38 +72,87 @@ impl Tallies {
         }
         Ok(ticks)
     }
+}
 
-    // Adds a packet that has left.
-    fn deliver(&mut self, packet: &Sent) {
-        self.sent += 1;
-        if let Some(tally) = self.channels.get_mut(packet.packet.chan.get() as usize) {
-            tally.deliver(packet.arrives.saturating_sub(packet.at));
-        }
-    }
-
-    // Adds what a submit plans, the first packet at this tick.
-    fn plan(&mut self, ask: &Ask, tick: u64) -> Result<(), OutOfMemory> {
-        if let Ask::Submit {
-            chan, count, gap, ..
-        } = ask
-        {
-            self.batches.push(Batch {
+// Adds what a step plans.
+fn plan(batches: &mut Vec<Batch>, ask: &Ask, reply: &Reply) -> Result<(), OutOfMemory>
+    requires { HasGap ask.now }
+    ensures { OnOk result ((number : ℕ) → ticks_in number batches.new.items ≡ ticks_in number batches.old.items ++ map tick_of (planned_by number ask.now reply.now)) }
+{
+    match (ask, reply) {
+        (
+            Ask::Submit {
+                chan, count, gap, ..
+            },
+            Reply::Planned { clock },
+        ) => {
+            batches.push(Batch {
                 channel: chan.get(),
-                tick,
+                tick: *clock,
                 gap: *gap,
                 count: *count,
             })?;
+            Ok(())
         }
-        Ok(())
+        _ => Ok(()),
     }
+}
 
-    // Adds a submit that was refused.
-    fn refuse(&mut self, ask: &Ask) {
-        if let Ask::Submit { chan, .. } = ask {
-            if let Some(tally) = self.channels.get_mut(chan.get() as usize) {
-                tally.refuse();
-            }
+// Counts a step in the tally of its channel.
+fn count(channels: &mut [Tally], ask: &Ask, reply: &Reply)
+    requires { AreFew channels.old }
+    ensures { channels.new ≡ counted ask.now reply.now channels.old }
+{
+    match (ask, reply) {
+        (_, Reply::Ticked { sent, .. }) => deliver(channels, sent),
+        (Ask::Submit { chan, .. }, Reply::Refused(_)) => refuse(channels, *chan),
+        _ => {}
+    }
+}
+
+// Counts a packet that has left.
+fn deliver(channels: &mut [Tally], packet: &Option<Sent>)
+    requires { AreFew channels.old }
+    ensures { channels.new ≡ with_packet packet.now channels.old }
+{
+    if let Some(packet) = packet {
+        let place = packet.packet.chan.get() as usize;
+        if place < channels.len() {
+            channels[place].deliver(packet.arrives.saturating_sub(packet.at));
         }
+    }
+}
+
+// Counts a send that was refused.
+fn refuse(channels: &mut [Tally], chan: ChanNo)
+    requires { AreFew channels.old }
+    ensures { channels.new ≡ change_at (channel_number chan) with_refusal channels.old }
+{
+    let place = chan.get() as usize;
+    if place < channels.len() {
+        channels[place].refuse();
+    }
+}
+
+// How many packets leave the link in a step.
+fn departures(reply: &Reply) -> u64
+    ensures value { result ≡ departures_by (sent_by reply.now) }
+    ensures most { result ≤ 1 }
+{
+    match reply {
+        Reply::Ticked { sent: Some(_), .. } => 1,
+        _ => 0,
+    }
+}
+
+// How many source packets are dropped in a step.
+fn dropped(reply: &Reply) -> u64
+    ensures value { result ≡ dropped_by reply.now }
+    ensures few { result < 2 ^ 32 }
+{
+    match reply {
+        Reply::Ticked { full, .. } => u64::from(*full),
+        _ => 0,
     }
 }
 
