@@ -21,4 +21,5 @@ pub mod ReadFacts
 pub mod LinkFacts
 pub mod TallyFacts
 pub mod PlayerFacts
+pub mod EstablishmentFacts
 pub mod PlayFacts

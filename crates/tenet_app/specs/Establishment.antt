@@ -17,6 +17,7 @@ use Rattle.net_units.specs.declared.numbers.Level.{Level}
 use Rattle.link_steps.specs.Levels.{level_of}
 use Rattle.link_steps.specs.declared.asks.Ask.{Ask}
 use Rattle.link_steps.specs.declared.asks.Ask.TheVariants.{Reserve, Relax, Deny}
+use Rattle.link_steps.specs.declared.replies.Refusal.{Refusal}
 use Rattle.link_steps.specs.declared.replies.Refusal.TheVariants.{NoLevel, NoBuffer, TooWide}
 use Rattle.link_steps.specs.declared.replies.Reply.{Reply}
 use Rattle.link_steps.specs.declared.replies.Reply.TheVariants.{Offer, Refused}
@@ -85,10 +86,15 @@ at_destination shape request offered =
     if is_late shape request offered then IsTooLate (delay_at shape (level_number offered)) request.delay
     else IsAccepted (relaxed_to shape request offered) (delay_at shape (relaxed_to shape request offered))
 
+-- what a request comes to whose reserve is refused
+abbrev pub refused_as : Refusal → Settled
+refused_as (NoLevel sum bound) = HasNoLevel sum bound
+refused_as (NoBuffer need free) = HasNoBuffer need free
+refused_as (TooWide smax cap) = IsTooWide smax cap
+refused_as _ = IsPending
+
 -- what a request comes to whose reserve has this reply
 abbrev pub settled : LinkShape → Request → Reply → Settled
 settled shape request (Offer level reach) = at_destination shape request level
-settled shape request (Refused (NoLevel sum bound)) = HasNoLevel sum bound
-settled shape request (Refused (NoBuffer need free)) = HasNoBuffer need free
-settled shape request (Refused (TooWide smax cap)) = IsTooWide smax cap
+settled shape request (Refused refusal) = refused_as refusal
 settled shape request _ = IsPending

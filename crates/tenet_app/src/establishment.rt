@@ -4,7 +4,7 @@ ghost use Rattle.net_units.specs.Numbers.{level_number};
 ghost use Rattle.link_steps.specs.Replies.{reply_to};
 ghost use Rattle.link_steps.specs.declared.replies.Entry.{Entry};
 ghost use Rattle.link_steps.specs.declared.shape.LinkShape.{LinkShape as Shape};
-ghost use Rattle.tenet_app.specs.Establishment.{reserve_for, way_back, delay_at, allotted, at_destination, settled, verdict_of};
+ghost use Rattle.tenet_app.specs.Establishment.{reserve_for, way_back, delay_at, allotted, at_destination, refused_as, settled, verdict_of};
 ghost use Rattle.tenet_app.specs.Run.{asked, after_open};
 ghost use Rattle.tenet_app.specs.Tallies.{IsAt, SameLink};
 
@@ -92,10 +92,29 @@ pub fn establish(
     })?;
     match reply {
         Reply::Offer { level, .. } => settle(player, chan, request, level),
-        Reply::Refused(Refusal::NoLevel { sum, bound }) => Ok(Verdict::NoLevel { sum, bound }),
-        Reply::Refused(Refusal::NoBuffer { need, free }) => Ok(Verdict::NoBuffer { need, free }),
-        Reply::Refused(Refusal::TooWide { smax, cap }) => Ok(Verdict::TooWide { smax, cap }),
+        Reply::Refused(refusal) => Ok(denied(&refusal)),
         _ => Ok(Verdict::Pending),
+    }
+}
+
+// The verdict of a request whose reserve is refused.
+fn denied(refusal: &Refusal) -> Verdict
+    ensures { verdict_of result ≡ refused_as refusal.now }
+{
+    match refusal {
+        Refusal::NoLevel { sum, bound } => Verdict::NoLevel {
+            sum: *sum,
+            bound: *bound,
+        },
+        Refusal::NoBuffer { need, free } => Verdict::NoBuffer {
+            need: *need,
+            free: *free,
+        },
+        Refusal::TooWide { smax, cap } => Verdict::TooWide {
+            smax: *smax,
+            cap: *cap,
+        },
+        _ => Verdict::Pending,
     }
 }
 
