@@ -2,6 +2,7 @@ pub mod FieldFacts
 pub mod FormFacts
 pub mod DecimalFacts
 pub mod NameFacts
+pub mod ScriptFacts
 pub mod RuleFacts
 pub mod PassFacts
 pub mod SayFacts
@@ -16,6 +17,7 @@ pub mod TextRead
 pub mod ReadBack
 pub mod Worked
 pub mod DistinctFacts
+pub mod PlaceFacts
 pub mod ContractFacts
 pub mod ReadFacts
 pub mod EstablishmentFacts
