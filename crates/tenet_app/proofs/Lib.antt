@@ -6,9 +6,11 @@ pub mod ScriptFacts
 pub mod RuleFacts
 pub mod PassFacts
 pub mod SayFacts
+pub mod LinePasses
 pub mod DraftFacts
 pub mod FormText
 pub mod NumberText
+pub mod ScriptText
 pub mod TextFacts
 pub mod FieldText
 pub mod PassBack

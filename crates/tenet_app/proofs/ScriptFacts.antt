@@ -1,7 +1,7 @@
--- The parts of a script behind which operations come, and what is kept of it.
-use Rattle.std.proofs.Common.{◌≡◌, ℕ, zero, suc, ◌+◌, ◌<◌, ◌≤◌, List, [], ◌∷◌, ◌++◌, length, refl, sym, ◌∙◌, ap, arith, append-nil, append_assoc, length-append}
+-- The parts of a script behind which operations come, what is kept of it, and how much it has.
+use Rattle.std.proofs.Common.{◌≡◌, ℕ, zero, suc, ◌+◌, ◌<◌, ◌≤◌, List, [], ◌∷◌, ◌++◌, length, refl, sym, ◌∙◌, ap, subst, arith, append-nil, append_assoc, length-append}
 use Rattle.tenet_app.specs.Drafts.{IsKeptOf}
-use Rattle.tenet_app.specs.Plans.{callers_in, requests_in, load_in, opened_before, first_own}
+use Rattle.tenet_app.specs.Plans.{callers_in, requests_in, load_in, opened_before, first_own, MayFollow, GoOn, IsScript}
 use Rattle.tenet_app.specs.declared.scenario.plan.Request.{Request}
 use Rattle.tenet_app.specs.declared.scenario.plan.Send.{Send}
 use Rattle.tenet_app.specs.declared.scenario.plan.Operation.{Operation}
@@ -89,3 +89,77 @@ kept_send script callers requests first load send k room = record {
   few_requests = k.few_requests;
   load_within = omega (arith, k.same_load, room);
 }
+
+-- ---- scripts
+
+-- a script with one operation more that may follow
+pub GoOn-push : (done script : List Operation) (next : Operation) → GoOn done script → MayFollow (done ++ script) next → GoOn done (script ++ next ∷ [])
+GoOn-push done [] next g may = (subst (λ front. MayFollow front next) (append-nil done) may, tt)
+GoOn-push done (first ∷ script) next g may = (
+  g.0,
+  GoOn-push (done ++ first ∷ []) script next g.1 (subst (λ front. MayFollow front next) (sym (append_assoc done (first ∷ []) script)) may),
+)
+
+-- without a caller nothing is said
+pub no_script : (script : List Operation) → IsScript script → callers_in script ≡ [] → script ≡ []
+no_script [] is none = refl
+no_script (operation.Caller name ∷ script) is none = cc
+no_script (operation.Open request ∷ script) is none = absurd (omega (arith, is.0.caller))
+no_script (operation.Send send ∷ script) is none = absurd (omega (arith, is.0.caller))
+
+requests_go_on : (script done : List Operation) → GoOn done script → length (requests_in done) ≤ 1024 → length (requests_in done) + length (requests_in script) ≤ 1024
+requests_go_on [] done g few = omega arith
+requests_go_on (operation.Caller name ∷ script) done g few =
+    let same = ap length (requests_in-append done (operation.Caller name ∷ []) ∙ append-nil (requests_in done)) in
+    let rest = requests_go_on script (done ++ operation.Caller name ∷ []) g.1 (omega arith) in
+    omega arith
+requests_go_on (operation.Open request ∷ script) done g few =
+    let more = ap length (requests_in-append done (operation.Open request ∷ [])) ∙ length-append (requests_in done) (request ∷ []) in
+    let rest = requests_go_on script (done ++ operation.Open request ∷ []) g.1 (omega (arith, g.0.few)) in
+    omega arith
+requests_go_on (operation.Send send ∷ script) done g few =
+    let same = ap length (requests_in-append done (operation.Send send ∷ []) ∙ append-nil (requests_in done)) in
+    let rest = requests_go_on script (done ++ operation.Send send ∷ []) g.1 (omega arith) in
+    omega arith
+
+-- a script has at most 1,024 requests
+pub script_requests : (script : List Operation) → IsScript script → length (requests_in script) ≤ 1024
+script_requests script is = let all = requests_go_on script [] is (omega arith) in omega arith
+
+callers_go_on : (script done : List Operation) → GoOn done script → length (callers_in done) ≤ 64 → length (callers_in done) + length (callers_in script) ≤ 64
+callers_go_on [] done g few = omega arith
+callers_go_on (operation.Caller name ∷ script) done g few =
+    let more = ap length (callers_in-append done (operation.Caller name ∷ [])) ∙ length-append (callers_in done) (name ∷ []) in
+    let rest = callers_go_on script (done ++ operation.Caller name ∷ []) g.1 (omega (arith, g.0.few)) in
+    omega arith
+callers_go_on (operation.Open request ∷ script) done g few =
+    let same = ap length (callers_in-append done (operation.Open request ∷ []) ∙ append-nil (callers_in done)) in
+    let rest = callers_go_on script (done ++ operation.Open request ∷ []) g.1 (omega arith) in
+    omega arith
+callers_go_on (operation.Send send ∷ script) done g few =
+    let same = ap length (callers_in-append done (operation.Send send ∷ []) ∙ append-nil (callers_in done)) in
+    let rest = callers_go_on script (done ++ operation.Send send ∷ []) g.1 (omega arith) in
+    omega arith
+
+-- and at most 64 callers
+pub script_callers : (script : List Operation) → IsScript script → length (callers_in script) ≤ 64
+script_callers script is = let all = callers_go_on script [] is (omega arith) in omega arith
+
+load_goes_on : (script done : List Operation) → GoOn done script → load_in done ≤ 262144 → load_in done + load_in script ≤ 262144
+load_goes_on [] done g few = omega arith
+load_goes_on (operation.Caller name ∷ script) done g few =
+    let same = load_in-append done (operation.Caller name ∷ []) in
+    let rest = load_goes_on script (done ++ operation.Caller name ∷ []) g.1 (omega arith) in
+    omega arith
+load_goes_on (operation.Open request ∷ script) done g few =
+    let same = load_in-append done (operation.Open request ∷ []) in
+    let rest = load_goes_on script (done ++ operation.Open request ∷ []) g.1 (omega arith) in
+    omega arith
+load_goes_on (operation.Send send ∷ script) done g few =
+    let more = load_in-append done (operation.Send send ∷ []) in
+    let rest = load_goes_on script (done ++ operation.Send send ∷ []) g.1 (omega (arith, g.0.load)) in
+    omega arith
+
+-- and its sends plan at most 262,144 packets
+pub script_load : (script : List Operation) → IsScript script → load_in script ≤ 262144
+script_load script is = let all = load_goes_on script [] is (omega arith) in omega arith
