@@ -1,23 +1,20 @@
 -- A draft stays one with each line that is let pass, and is a plan once it is complete.
-use Rattle.std.proofs.Common.{◌≡◌, ℕ, ◌+◌, ◌<◌, ◌≤◌, Bool, true, false, not, nat_eq, List, [], ◌∷◌, ◌++◌, length, Option, Some, None, IfSome, Ok, is_some, is_none, refl, sym, ◌∙◌, ap, subst, arith}
+use Rattle.std.proofs.Common.{◌≡◌, ℕ, ◌≤◌, Bool, true, false, not, nat_eq, List, [], ◌∷◌, ◌++◌, length, Option, Some, None, IfSome, Ok, is_some, is_none, refl, sym, ◌∙◌, ap, subst, arith}
 use Rattle.std.proofs.lemmas.Bool.{and_parts, true≢false}
 use Rattle.std.specs.Prelude.{unwrap_or}
-use Rattle.net_units.specs.Text.{is_name}
 use Rattle.tenet_app.specs.Drafts.{AreLinks, IsDraft}
 use Rattle.tenet_app.specs.Fields.{fields_of, field_at}
-use Rattle.tenet_app.specs.Forms.{is_among}
 use Rattle.tenet_app.specs.Grammar.{judge, send_of}
-use Rattle.tenet_app.specs.Plans.{Said, nothing_said, with_item, is_complete, callers_in, callers_of, request_names, rounds_of, IsLink, IsRequest, IsCallerAfter, IsOpenAfter, IsSendAfter, MayFollow, IsScript, AreRounds, IsPlan}
+use Rattle.tenet_app.specs.Plans.{Said, nothing_said, with_item, is_complete, callers_in, callers_of, rounds_of, IsLink, IsCallerAfter, IsOpenAfter, IsSendAfter, MayFollow, AreRounds, IsPlan}
 use Rattle.tenet_app.specs.declared.scenario.plan.Item.{Item}
 use Rattle.tenet_app.specs.declared.scenario.plan.Item.TheVariants as item
 use Rattle.tenet_app.specs.declared.scenario.plan.Link.{Link}
 use Rattle.tenet_app.specs.declared.scenario.plan.Operation.{Operation}
 use Rattle.tenet_app.specs.declared.scenario.plan.Operation.TheVariants as operation
-use Rattle.tenet_app.specs.declared.scenario.plan.Request.{Request}
-use Rattle.tenet_app.proofs.LinePasses.{LinkPasses, link_passes, caller_passes, open_passes, SendPasses, send_passes, own_within, rounds_passes, TailPasses, tail_passes}
+use Rattle.tenet_app.proofs.LinePasses.{link_passes, caller_passes, open_passes, SendPasses, send_passes, own_within, rounds_passes, tail_passes}
 use Rattle.tenet_app.proofs.PassFacts.{some_count, not_said}
 use Rattle.tenet_app.proofs.SayFacts.{Says, says}
-use Rattle.tenet_app.proofs.ScriptFacts.{GoOn-push, no_script}
+use Rattle.tenet_app.proofs.ScriptFacts.{GoOn-push}
 
 -- before the first line
 pub draft_begins : IsDraft nothing_said

@@ -1,5 +1,5 @@
 -- What a line of each kind holds that its rule lets pass.
-use Rattle.std.proofs.Common.{◌≡◌, ℕ, ◌+◌, ◌*◌, ◌-◌, ◌<◌, ◌≤◌, true, false, ◌||◌, nat_eq, nat_lt, nat_le, List, [], ◌∷◌, length, map, drop, None, is_some, ◌∙◌, arith, length-drop}
+use Rattle.std.proofs.Common.{◌≡◌, ℕ, ◌+◌, ◌*◌, ◌<◌, ◌≤◌, true, false, ◌||◌, nat_eq, nat_lt, nat_le, List, [], ◌∷◌, length, map, None, is_some, arith, length-drop}
 use Rattle.std.proofs.lemmas.Bool.{leb-true, ltb-true, and_parts}
 use Rattle.std.proofs.lemmas.List.{length-map}
 use Rattle.net_units.specs.Quotient.{ceil_quotient}
@@ -8,8 +8,8 @@ use Rattle.net_units.specs.Text.{is_name}
 use Rattle.tenet_app.specs.Causes.{unless}
 use Rattle.tenet_app.specs.Decimal.{value_of}
 use Rattle.tenet_app.specs.Fields.{field_at}
-use Rattle.tenet_app.specs.Forms.{is_among, place_of, has_form, name_rule, new_name_rule, used_name_rule, number_rule}
-use Rattle.tenet_app.specs.Grammar.{link_form, bound_fields, link_of, levels_rule, link_numbers_rule, bound_numbers_rule, link_fields_rule, link_rule, caller_form, caller_rule, rate_form, jitter_form, route_fields, behind_route, terms_in, contract_of, request_of, route_names_rule, terms_rule, jitter_rule, are_distinct, open_fields_rule, open_limits_rule, open_rule, send_form, send_of, send_fields_rule, send_rule, rounds_form, rounds_rule, is_within_load, tail_form, tail_rule}
+use Rattle.tenet_app.specs.Forms.{is_among, has_form, name_rule, new_name_rule, used_name_rule, number_rule}
+use Rattle.tenet_app.specs.Grammar.{link_form, bound_fields, link_of, levels_rule, link_numbers_rule, bound_numbers_rule, link_fields_rule, link_rule, caller_form, caller_rule, rate_form, jitter_form, route_fields, behind_route, terms_in, contract_of, request_of, route_names_rule, terms_rule, jitter_rule, are_distinct, open_fields_rule, open_limits_rule, open_rule, send_form, send_fields_rule, send_rule, rounds_form, rounds_rule, is_within_load, tail_form, tail_rule}
 use Rattle.tenet_app.specs.Plans.{Said, requests_in, load_in, first_own, names_of, own_names, own_place, link_names, callers_of, requests_of, request_names, rounds_of, IsLink, IsRequest}
 use Rattle.tenet_app.specs.declared.scenario.cause.Cause.TheVariants as cause
 use Rattle.tenet_app.specs.declared.scenario.plan.Request.{Request}

@@ -1,5 +1,5 @@
 -- What is written for a plan, and what the status then says.
-use Rattle.std.proofs.Common.{◌≡◌, ◌⊎◌, inl, inr, refl, ℕ, ◌≤◌, List, [], ◌∷◌, Option, Some, None, length, subst, sym, ◌∙◌, ap, arith}
+use Rattle.std.proofs.Common.{◌≡◌, ◌⊎◌, inl, inr, refl, ℕ, ◌≤◌, List, [], ◌∷◌, Option, Some, None, length, subst, sym, ◌∙◌, ap}
 use Rattle.std.specs.Prelude.{Ok, IfSome}
 use Rattle.std.specs.Io.KnownBytes.{Appends, IsAtEnd}
 use Rattle.byte_ends.specs.Writing.{WritesFront}

@@ -1,5 +1,5 @@
 -- A plan's text is read as that plan.
-use Rattle.std.proofs.Common.{◌≡◌, ℕ, suc, ◌+◌, ◌^◌, ◌<◌, ◌≤◌, Bool, true, false, not, nat_eq, List, [], ◌∷◌, ◌++◌, length, map, All, Option, Some, None, Ok, is_some, decimal, get_or, refl, sym, ◌∙◌, ap, subst, arith, append_assoc, append-nil, le_of_eq}
+use Rattle.std.proofs.Common.{◌≡◌, ℕ, suc, ◌^◌, ◌<◌, ◌≤◌, Bool, true, not, nat_eq, List, [], ◌∷◌, ◌++◌, length, map, Option, Some, None, Ok, is_some, decimal, get_or, refl, sym, ◌∙◌, ap, subst, arith, append_assoc, append-nil, le_of_eq}
 use Rattle.std.proofs.lemmas.Bool.{cond-false, ne_eqb, not_from_false, and_from}
 use Rattle.std.proofs.lemmas.List.{length-map}
 use Rattle.std.proofs.lemmas.List.Elements.{All-get_or}
@@ -219,7 +219,7 @@ read_script (next ∷ script) done count link rounds tail l named g few =
     ap (λ fields. reading_of count (line_of fields ∷ behind) all_given (front link done)) line
     ∙ read_one count (line_of (operation_fields link.name (names_of (requests_in done)) next)) behind (front link done) (item.Script next) (operation_judged link done next l named g.0)
     ∙ subst (λ whole_script. reading_of (suc count) (map line_of (script_lines link.name (names_of (requests_in whole_script)) script rounds tail)) all_given (front link (done ++ next ∷ []))
-        ≡ IsRead (whole link whole_script rounds tail)) same rest
+    ≡ IsRead (whole link whole_script rounds tail)) same rest
 
 -- what was said is what was said
 said_again : (o : Option ℕ) → is_some o ≡ true → Some (unwrap_or o 0) ≡ o

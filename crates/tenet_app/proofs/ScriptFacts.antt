@@ -1,5 +1,5 @@
 -- The parts of a script behind which operations come, what is kept of it, and how much it has.
-use Rattle.std.proofs.Common.{◌≡◌, ℕ, zero, suc, ◌+◌, ◌<◌, ◌≤◌, List, [], ◌∷◌, ◌++◌, length, refl, sym, ◌∙◌, ap, subst, arith, append-nil, append_assoc, length-append}
+use Rattle.std.proofs.Common.{◌≡◌, ℕ, suc, ◌+◌, ◌<◌, ◌≤◌, List, [], ◌∷◌, ◌++◌, length, refl, sym, ◌∙◌, ap, subst, arith, append-nil, append_assoc, length-append}
 use Rattle.tenet_app.specs.Drafts.{IsKeptOf}
 use Rattle.tenet_app.specs.Plans.{callers_in, requests_in, load_in, opened_before, first_own, MayFollow, GoOn, IsScript}
 use Rattle.tenet_app.specs.declared.scenario.plan.Request.{Request}

@@ -1,6 +1,6 @@
 -- The text of what was read so far: the line of each part in its order. Each line that is let pass is the line of
 -- what it says, and comes behind them.
-use Rattle.std.proofs.Common.{◌≡◌, ℕ, ◌+◌, ◌≤◌, Bool, true, false, not, nat_eq, List, [], ◌∷◌, ◌++◌, length, map, get_or, take, drop, Option, Some, None, Ok, decimal, codes, is_some, is_none, refl, sym, ◌∙◌, ap, arith, inl, inr, append-nil, append_assoc, get_or-drop}
+use Rattle.std.proofs.Common.{◌≡◌, ℕ, ◌+◌, ◌≤◌, Bool, true, false, not, nat_eq, List, [], ◌∷◌, ◌++◌, length, map, take, drop, Option, Some, None, Ok, decimal, codes, is_some, is_none, refl, sym, ◌∙◌, ap, arith, inl, inr, append-nil, append_assoc, get_or-drop}
 use Rattle.std.proofs.lemmas.Bool.{and_parts, or_cases, or_left, both_ways, not-true, true≢false}
 use Rattle.std.proofs.lemmas.List.Splits.{join_with_byte-slice_split}
 use Rattle.std.proofs.lemmas.Slice.Eq.{bytes_eq-Decides}

@@ -5,7 +5,6 @@ use Rattle.tenet_app.specs.Plans.{Said}
 use Rattle.tenet_app.specs.Reading.{IsRead, IsBad, IsOver, reading}
 use Rattle.tenet_app.specs.declared.scenario.cause.Cause.TheVariants as cause
 use Rattle.tenet_app.specs.declared.scenario.plan.Link.{Link}
-use Rattle.tenet_app.specs.declared.scenario.plan.Operation.{Operation}
 use Rattle.tenet_app.specs.declared.scenario.plan.Operation.TheVariants as operation
 use Rattle.tenet_app.specs.declared.scenario.plan.Request.{Request}
 use Rattle.tenet_app.specs.declared.scenario.reader.TheConstants.{MOST_BYTES}

@@ -1,8 +1,7 @@
-use Rattle.std.proofs.Common.{◌∙◌, nat_eq, ap, rules, tests}
+use Rattle.std.proofs.Common.{◌∙◌, nat_eq, rules, tests}
 use Rattle.std.specs.Cmp.Lexicographic.{pointwise}
 use Rattle.std.proofs.lemmas.Iterator.{YieldsList-from_slice}
 use Rattle.std.proofs.lemmas.Iterator.Search.{any_from_yields_List}
-use Rattle.tenet_app.specs.Forms.{is_among}
 use Rattle.tenet_app.specs.Plans.{requests_in}
 use Rattle.tenet_app.specs.declared.scenario.plan.Request.{Request}
 use Rattle.tenet_app.proofs.NameFacts.{any_by_name}

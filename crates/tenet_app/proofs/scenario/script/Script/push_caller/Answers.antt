@@ -1,5 +1,3 @@
-use Rattle.std.proofs.Common.{◌∙◌, ap, sym, subst}
-use Rattle.tenet_app.specs.Drafts.{IsKeptOf}
 use Rattle.tenet_app.proofs.ScriptFacts.{kept_caller}
 use Rattle.tenet_app.proofs.scenario.script.Script.push_caller.Goals as goal
 

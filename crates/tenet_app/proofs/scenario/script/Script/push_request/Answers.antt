@@ -1,4 +1,4 @@
-use Rattle.std.proofs.Common.{length, ◌<◌, arith}
+use Rattle.std.proofs.Common.{length, ◌<◌}
 use Rattle.tenet_app.specs.Plans.{requests_in}
 use Rattle.tenet_app.proofs.ScriptFacts.{kept_open}
 use Rattle.tenet_app.proofs.scenario.script.Script.push_request.Goals as goal
