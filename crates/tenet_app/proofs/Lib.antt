@@ -2,12 +2,15 @@ pub mod FieldFacts
 pub mod FormFacts
 pub mod DecimalFacts
 pub mod NameFacts
+pub mod ScriptFacts
 pub mod RuleFacts
 pub mod PassFacts
 pub mod SayFacts
+pub mod LinePasses
 pub mod DraftFacts
 pub mod FormText
 pub mod NumberText
+pub mod ScriptText
 pub mod TextFacts
 pub mod FieldText
 pub mod PassBack
@@ -16,6 +19,7 @@ pub mod TextRead
 pub mod ReadBack
 pub mod Worked
 pub mod DistinctFacts
+pub mod PlaceFacts
 pub mod ContractFacts
 pub mod ReadFacts
 pub mod LinkFacts

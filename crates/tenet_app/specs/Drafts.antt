@@ -1,6 +1,6 @@
 -- What was read of a scenario so far, where no line was refused. Its parts come in order: the header; a link; the
 -- script; `rounds`; and `tail`. Behind a part that wasn't read nothing was read, but that a scenario needs no script.
-use Rattle.std.specs.Prelude.{◌≡◌, ℕ, ◌<◌, ◌≤◌, false, None, IfSome, List, [], ◌∷◌, length}
+use Rattle.std.specs.Prelude.{◌≡◌, ℕ, ◌≤◌, false, None, IfSome, List, [], ◌∷◌, length}
 use Rattle.tenet_app.specs.Plans.{Said, callers_in, requests_in, load_in, first_own, rounds_of, IsLink, IsScript, AreRounds}
 use Rattle.tenet_app.specs.declared.scenario.plan.Link.{Link}
 use Rattle.tenet_app.specs.declared.scenario.plan.Request.{Request}

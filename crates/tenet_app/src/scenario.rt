@@ -11,4 +11,6 @@ pub mod plan;
 pub mod reader;
 pub mod script;
 mod send_line;
+#[cfg(test)]
+mod tests;
 pub mod values;
