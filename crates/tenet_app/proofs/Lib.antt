@@ -25,5 +25,6 @@ pub mod ReadFacts
 pub mod LinkFacts
 pub mod TallyFacts
 pub mod PlayerFacts
+pub mod RunFacts
 pub mod EstablishmentFacts
 pub mod PlayFacts

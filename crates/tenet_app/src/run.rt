@@ -1,5 +1,5 @@
 //! The run of a script over one link, and then its ticks.
-ghost use Rattle.std.specs.Prelude.{◌≡◌, ℕ, ◌+◌, ◌*◌, ◌<◌, ◌≤◌, ◌^◌, [], IfOk, OnOk, length};
+ghost use Rattle.std.specs.Prelude.{◌≡◌, ℕ, ◌+◌, ◌*◌, ◌<◌, ◌≤◌, ◌^◌, [], List, IfOk, OnOk, map, length};
 ghost use Rattle.net_units.specs.Numbers.{channel_number};
 ghost use Rattle.tenet_app.specs.Establishment.{channel_at, is_accepted, verdict_of};
 ghost use Rattle.tenet_app.specs.Plans.{IsScript, requests_in};
@@ -82,7 +82,7 @@ fn operate(
     match operation {
         Operation::Caller(_) => Ok(()),
         Operation::Open(request) => {
-            let chan = channel_at(verdicts.len() as u32);
+            let chan = channel_at(verdicts.as_slice().len() as u32);
             let verdict = establish(player, chan, request)?;
             verdicts.push(verdict)?;
             Ok(())
