@@ -25,6 +25,7 @@ pub mod ReadFacts
 pub mod LinkFacts
 pub mod TallyFacts
 pub mod PlayerFacts
+pub mod ReportFacts
 pub mod RunFacts
 pub mod EstablishmentFacts
 pub mod PlayFacts

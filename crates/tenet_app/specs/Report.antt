@@ -9,7 +9,7 @@ use Rattle.link_steps.specs.Scan.{clock_of}
 use Rattle.link_steps.specs.declared.replies.Entry.{Entry}
 use Rattle.tenet_app.specs.Channels.{offered_in, delays_in, least_of, worst_of, refused_in, departures_in, dropped_in}
 use Rattle.tenet_app.specs.Establishment.{Settled, IsAccepted, HasNoLevel, HasNoBuffer, IsTooWide, IsTooLate, IsPending, is_accepted}
-use Rattle.tenet_app.specs.Fields.{ended_line}
+use Rattle.tenet_app.specs.Fields.{line_of, ended_line}
 use Rattle.tenet_app.specs.Run.{Run}
 use Rattle.tenet_app.specs.declared.scenario.plan.Request.{Request}
 
@@ -46,6 +46,18 @@ told_line name offered keeps delivered least worst refused = ended_line (
     ∷ codes "offered" ∷ decimal offered
     ∷ keeping keeps
     ∷ codes "delivered" ∷ decimal delivered
+    ∷ codes "least" ∷ number_or_dash least
+    ∷ codes "worst" ∷ number_or_dash worst
+    ∷ codes "refused" ∷ decimal refused
+    ∷ [])
+
+-- its front, up to the space before `delivered`, and what comes behind
+abbrev pub source_words : List ℕ → ℕ → Bool → List ℕ
+source_words name offered keeps = line_of (codes "channel" ∷ name ∷ codes "offered" ∷ decimal offered ∷ keeping keeps ∷ [] ∷ [])
+
+abbrev pub tally_words : ℕ → Option ℕ → Option ℕ → ℕ → List ℕ
+tally_words delivered least worst refused = ended_line (
+    codes "delivered" ∷ decimal delivered
     ∷ codes "least" ∷ number_or_dash least
     ∷ codes "worst" ∷ number_or_dash worst
     ∷ codes "refused" ∷ decimal refused

@@ -1,8 +1,9 @@
 //! The report of a run.
 ghost use Rattle.std.specs.Prelude.{◌≡◌, ◌++◌, ◌<◌, ◌^◌, [], ℕ, List, IfOk, OnOk, Some, map, length, string_bytes};
+ghost use Rattle.traffic_contract.specs.Keeping.{keeps};
 ghost use Rattle.link_steps.specs.declared.replies.Entry.{Entry};
 ghost use Rattle.tenet_app.specs.Establishment.{verdict_of};
-ghost use Rattle.tenet_app.specs.Report.{number_or_dash, keeping, told_line, verdict_line, verdict_lines, channel_line, channel_lines, link_line, end_line, report_of};
+ghost use Rattle.tenet_app.specs.Report.{number_or_dash, keeping, source_words, tally_words, verdict_line, verdict_lines, channel_line, channel_lines, link_line, end_line, report_of};
 ghost use Rattle.tenet_app.specs.Run.{Run};
 ghost use Rattle.tenet_app.specs.Tallies.{IsAt, IsAfter};
 
@@ -81,38 +82,6 @@ impl fmt::Display for Keeping {
         } else {
             write!(f, "breaks")
         }
-    }
-}
-
-/// The line of a channel that was established.
-#[derive(Clone, Copy)]
-struct ChannelLine {
-    name: Name,
-    // How many packets its source has offered, and whether their ticks keep its contract.
-    offered: usize,
-    keeps: bool,
-    tally: Tally,
-}
-
-impl fmt::Display for ChannelLine {
-    ghost output = { λ line. Some (told_line line.name line.offered line.keeps line.tally.delivered line.tally.least line.tally.worst line.tally.refused) };
-
-    fn fmt<W: fmt::Write>(&self, f: &mut fmt::Formatter<W>) -> fmt::Result {
-        let name = self.name;
-        let offered = self.offered;
-        let keeping = Keeping { keeps: self.keeps };
-        let delivered = self.tally.delivered;
-        let least = NumberOrDash {
-            number: self.tally.least,
-        };
-        let worst = NumberOrDash {
-            number: self.tally.worst,
-        };
-        let refused = self.tally.refused;
-        writeln!(
-            f,
-            "channel {name} offered {offered} {keeping} delivered {delivered} least {least} worst {worst} refused {refused}"
-        )
     }
 }
 
@@ -199,13 +168,38 @@ fn push_channel(
     requires early { player.now.tallies.steps < 2 ^ 61 }
     ensures { OnOk result ((h : List Entry) → IsAt h player.now → string_bytes text.new ≡ string_bytes text.old ++ channel_line h number request.now) }
 {
-    let ticks = player.offered(alloc, number)?;
-    let line = ChannelLine {
-        name: request.name,
-        offered: ticks.len(),
-        keeps: request.contract.keeps(&ticks),
-        tally: player.tallies.channels[number as usize],
-    };
-    write!(text, "{line}")?;
+    let offered = player.offered(alloc, number)?;
+    push_source(text, request, offered.as_slice())?;
+    push_tally(text, &player.tallies.channels[number as usize])?;
     Ok(())
+}
+
+// The front of that line: what the source has offered, by its ticks.
+fn push_source(text: &mut String, request: &Request, ticks: &[u64]) -> Result<(), AllocError>
+    ensures { OnOk result (string_bytes text.new ≡ string_bytes text.old ++ source_words request.now.name (length ticks.now) (keeps request.now.contract ticks.now)) }
+{
+    let name = request.name;
+    let offered = ticks.len();
+    let keeping = Keeping {
+        keeps: request.contract.keeps(ticks),
+    };
+    write!(text, "channel {name} offered {offered} {keeping} ")
+}
+
+// The rest of it.
+fn push_tally(text: &mut String, tally: &Tally) -> Result<(), AllocError>
+    ensures { OnOk result (string_bytes text.new ≡ string_bytes text.old ++ tally_words tally.now.delivered tally.now.least tally.now.worst tally.now.refused) }
+{
+    let delivered = tally.delivered;
+    let least = NumberOrDash {
+        number: tally.least,
+    };
+    let worst = NumberOrDash {
+        number: tally.worst,
+    };
+    let refused = tally.refused;
+    writeln!(
+        text,
+        "delivered {delivered} least {least} worst {worst} refused {refused}"
+    )
 }
