@@ -25,6 +25,8 @@ pub mod ReadFacts
 pub mod LinkFacts
 pub mod TallyFacts
 pub mod PlayerFacts
+pub mod ShapeFacts
+pub mod RunLegal
 pub mod ReportFacts
 pub mod RunFacts
 pub mod EstablishmentFacts

@@ -15,7 +15,8 @@ use Rattle.tenet_app.specs.declared.status.Status.{Status}
 use Rattle.tenet_app.specs.declared.status.Status.TheVariants as status
 use Rattle.tenet_app.proofs.ScriptFacts.{script_requests}
 use Rattle.tenet_app.proofs.TextRead.{read_text}
-use Rattle.tenet_app.proofs.StepsPass.{every_step_passes}
+use Rattle.tenet_app.proofs.RunLegal.{run-passes, run-guaranteed}
+use Rattle.tenet_app.proofs.ShapeFacts.{shape-some}
 
 -- a plan has at most 1,024 requests
 pub plan_few : (said : Said) → IsPlan said → length (requests_of said) ≤ 1024
@@ -62,7 +63,10 @@ plays_plan before after answer said text plan told ended e (AllWritten a w) =
       text = text_as before.left said plan told;
       ended = ended;
       written = (let P : List ℕ → Type 0 = λ due. Appends before.written after.written due in subst P e w);
-      passes = every_step_passes plan.link (requests_of said) plan.plan.sound;
+      shape = (shape-some plan.link plan.plan.sound).0;
+      of_link = (shape-some plan.link plan.plan.sound).1;
+      passes = run-passes (shape-some plan.link plan.plan.sound).0 said plan.plan.script;
+      in_time = run-guaranteed (shape-some plan.link plan.plan.sound).0 said plan.plan.script;
     })
 plays_plan before after answer said text plan told ended e (FrontWritten a r w) =
     rw a (record { rises = r; written = front_due before.left said text before.written after.written told e w })

@@ -106,11 +106,11 @@ script-verdicts shape run (operation ∷ script) =
     let more = ap length (requests_in-append (operation ∷ []) script) ∙ length-append (requests_in (operation ∷ [])) (requests_in script) in
     omega (arith, script-verdicts shape (after_operation shape run operation) script, opened-verdicts shape run operation, more)
 
--- the verdicts of a player behind a script are as many as its requests
-pub after-count : (shape : LinkShape) (script : List Operation) (player : Player) (verdicts : List Verdict) → IsAfter (after_script shape no_steps script) player verdicts
+-- the verdicts behind a script are as many as its requests
+pub verdicts-count : (shape : LinkShape) (script : List Operation) (verdicts : List Verdict) → map verdict_of verdicts ≡ (after_script shape no_steps script).verdicts
     → length verdicts ≡ length (requests_in script)
-after-count shape script player verdicts after =
-    omega (arith, length-map verdicts verdict_of, ap length after.said, script-verdicts shape no_steps script)
+verdicts-count shape script verdicts said =
+    omega (arith, length-map verdicts verdict_of, ap length said, script-verdicts shape no_steps script)
 
 -- each operation may follow those before it
 pub may-follow : (done script : List Operation) (i : ℕ) (d : Operation) → GoOn done script → i < length script → MayFollow (done ++ take i script) (get_or script i d)
@@ -151,3 +151,15 @@ script-length done (operation.Send send ∷ script) goes = omega (arith, script-
 
 pub script-few : (script : List Operation) → IsScript script → length script ≤ 263232
 script-few script is = omega (arith, script-length [] script is, script_callers script is, script_requests script is, script_load script is)
+
+-- ---- the run of a plan
+
+-- the player behind a plan's script and its ticks stands behind the plan's run
+pub after-run : (shape : LinkShape) (said : Said) (script : List Operation) (ticks : ℕ) (player : Player) (verdicts : List Verdict) → script ≡ said.script → ticks ≡ rounds_of said + tail_of said
+    → IsAfter (record { history = after_ticks shape (after_script shape no_steps script).history ticks; verdicts = (after_script shape no_steps script).verdicts }) player verdicts
+    → IsAfter (run_of shape said) player verdicts
+unfolding run_of
+after-run shape said script ticks player verdicts same count after =
+    let P : List Operation → Type 0 = λ s. IsAfter (record { history = after_ticks shape (after_script shape no_steps s).history (rounds_of said + tail_of said); verdicts = (after_script shape no_steps s).verdicts }) player verdicts in
+    let Q : ℕ → Type 0 = λ n. IsAfter (record { history = after_ticks shape (after_script shape no_steps script).history n; verdicts = (after_script shape no_steps script).verdicts }) player verdicts in
+    subst P same (subst Q count after)

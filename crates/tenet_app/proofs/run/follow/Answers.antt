@@ -1,7 +1,7 @@
 use Rattle.std.proofs.Common.{[], refl, sym, arith, ap, take}
 use Rattle.tenet_app.specs.Run.{after_script}
 use Rattle.tenet_app.proofs.PlayerFacts.{same-both}
-use Rattle.tenet_app.proofs.RunFacts.{after-next, after-count, may-follow, may-operate, script-few}
+use Rattle.tenet_app.proofs.RunFacts.{after-next, verdicts-count, may-follow, may-operate, script-few}
 use Rattle.tenet_app.proofs.run.follow.Goals as goal
 
 pub loop-operation-init : goal.loop-operation-init
@@ -19,7 +19,7 @@ pub operate-requires-clause-fits : goal.operate-requires-clause-fits
 operate-requires-clause-fits c =
     may-operate c.args.script.now c.loop-operation.operation-index _ c.operation-item.result c.requires.script
     (rw (← c.operation-item.is) at (may-follow [] c.args.script.now c.loop-operation.operation-index c.operation-item.result c.requires.script c.loop-operation-test.true))
-    (after-count c.args.player.now.link.shape (take c.loop-operation.operation-index c.args.script.now) c.loop-operation.player c.loop-operation.verdicts.items c.loop-operation.invariant.after)
+    (verdicts-count c.args.player.now.link.shape (take c.loop-operation.operation-index c.args.script.now) c.loop-operation.verdicts.items c.loop-operation.invariant.after.said)
 
 pub loop-operation-preserved : goal.loop-operation-preserved
 loop-operation-preserved c =
