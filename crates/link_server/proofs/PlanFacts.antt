@@ -1,11 +1,13 @@
--- Planned packets are as many as their count.
-use Rattle.std.proofs.Common.{◌≡◌, ℕ, zero, suc, ◌+◌, ◌++◌, List, [], ◌∷◌, length, None, refl, sym, ap, arith}
-use Rattle.std.proofs.lemmas.Bool.{eqb-true}
-use Rattle.std.specs.Prelude.{nat_eq}
+-- Planned packets are as many as their count, and fall one each gap.
+use Rattle.std.proofs.Common.{◌≡◌, ℕ, zero, suc, ◌+◌, ◌-◌, ◌<◌, ◌≤◌, ◌++◌, List, [], ◌∷◌, length, Some, None, refl, sym, ap, arith}
+use Rattle.std.proofs.lemmas.Bool.{eqb-true, eq-eqb, ne_eqb, le-leb, lt-leb}
+use Rattle.std.specs.Prelude.{nat_eq, find}
+use Rattle.link_steps.specs.Lists.{Each}
 use Rattle.link_steps.specs.declared.replies.Refusal.TheVariants.{Busy}
 use Rattle.link_steps.specs.Refusals.{busy}
 use Rattle.link_steps.proofs.RefusalFacts.{unless-none}
-use Rattle.link_steps.specs.Rows.{SourcePacket, planned_from}
+use Rattle.link_steps.specs.Rows.{SourcePacket, planned_from, is_for, left_at}
+use Rattle.link_server.specs.Planned.{IsFrom, size_of}
 
 pub planned-length : (u gap size count : ℕ) → length (planned_from u gap size count) ≡ count
 unfolding planned_from
@@ -20,3 +22,56 @@ behind-none (p ∷ left) more none = absurd (omega arith)
 -- where the rule on a plan that is left is kept, none is left
 pub none-left : (left : ℕ) → None ≡ busy left → left ≡ 0
 none-left left none = eqb-true left 0 (unless-none (nat_eq left 0) (Busy left) (sym none))
+
+-- packets from a tick u on are all left at each clock up to u
+pub left-all : (t u gap size count : ℕ) → t ≤ u → left_at t (planned_from u gap size count) ≡ planned_from u gap size count
+unfolding planned_from
+left-all t u gap size zero up = refl
+left-all t u gap size (suc count) up = rw (le-leb t u up) (ap (λ rest. record { tick = u; size = size } ∷ rest) (left-all t (u + gap) gap size count (omega (arith, up))))
+
+-- and none of them is for an earlier tick
+for-none : (t u gap size count : ℕ) → t < u → find (is_for t) (planned_from u gap size count) ≡ None
+unfolding planned_from
+for-none t u gap size zero later = refl
+for-none t u gap size (suc count) later = rw (ne_eqb u t (λ same. omega (arith, later, same))) (for-none t (u + gap) gap size count (omega (arith, later)))
+
+-- packets ahead of the clock, of which the first isn't for its tick, have none for it, and all are left behind it
+none-due : (t u gap size count : ℕ) → Each (IsFrom t) (planned_from u gap size count) → (u ≡ t → ⊥) → find (is_for t) (planned_from u gap size count) ≡ None
+unfolding planned_from
+none-due t u gap size zero ahead other = refl
+none-due t u gap size (suc count) ahead other = for-none t u gap size (suc count) (omega (arith, ahead.0, other))
+
+all-behind : (t u gap size count : ℕ) → Each (IsFrom t) (planned_from u gap size count) → (u ≡ t → ⊥) → left_at (t + 1) (planned_from u gap size count) ≡ planned_from u gap size count
+unfolding planned_from
+all-behind t u gap size zero ahead other = refl
+all-behind t u gap size (suc count) ahead other = left-all (t + 1) u gap size (suc count) (omega (arith, ahead.0, other))
+
+pub none-due-size : (t u gap size count : ℕ) → Each (IsFrom t) (planned_from u gap size count) → (u ≡ t → ⊥) → None ≡ size_of (find (is_for t) (planned_from u gap size count))
+none-due-size t u gap size count ahead other = sym (ap size_of (none-due t u gap size count ahead other))
+
+pub none-due-left : (t u gap size count : ℕ) → Each (IsFrom t) (planned_from u gap size count) → (u ≡ t → ⊥) → planned_from u gap size count ≡ left_at (t + 1) (planned_from u gap size count)
+none-due-left t u gap size count ahead other = sym (all-behind t u gap size count ahead other)
+
+-- no packets have none for a tick
+pub empty-due-size : (t u gap size count : ℕ) → count ≡ 0 → None ≡ size_of (find (is_for t) (planned_from u gap size count))
+unfolding planned_from
+empty-due-size t u gap size zero none = refl
+empty-due-size t u gap size (suc count) none = absurd (omega (arith, none))
+
+pub empty-due-left : (t u gap size count : ℕ) → count ≡ 0 → planned_from u gap size count ≡ left_at (t + 1) (planned_from u gap size count)
+unfolding planned_from
+empty-due-left t u gap size zero none = refl
+empty-due-left t u gap size (suc count) none = absurd (omega (arith, none))
+
+-- the first is for the tick of the clock, and those behind it are left
+pub due-size : (t u gap size count : ℕ) → (count ≡ 0 → ⊥) → u ≡ t → Some size ≡ size_of (find (is_for t) (planned_from u gap size count))
+unfolding planned_from
+due-size t u gap size zero some now = absurd (some refl)
+due-size t u gap size (suc count) some now = rw (eq-eqb u t now) refl
+
+pub due-left : (t u gap size count : ℕ) → 1 ≤ gap → (count ≡ 0 → ⊥) → u ≡ t → planned_from (u + gap) gap size (count - 1) ≡ left_at (t + 1) (planned_from u gap size count)
+unfolding planned_from
+due-left t u gap size zero apart some now = absurd (some refl)
+due-left t u gap size (suc count) apart some now =
+    let e : suc count - 1 ≡ count = omega arith in
+    rw (now, e, lt-leb (t + 1) t (omega arith)) (sym (left-all (t + 1) (t + gap) gap size count (omega (arith, apart))))

@@ -22,7 +22,7 @@ summed-rows [] = refl
 summed-rows (row ∷ rows) = ap (λ all. admitted (terms_in row) ∷ all) (summed-rows rows)
 
 -- keys of the rows behind one
-distinct-later : (held : Held) (rows : List Held) → IsDistinct (held ∷ rows) → IsDistinct rows
+pub distinct-later : (held : Held) (rows : List Held) → IsDistinct (held ∷ rows) → IsDistinct rows
 distinct-later held rows distinct = record { apart = λ i j d before within. distinct.apart (suc i) (suc j) d (omega arith) (omega arith) }
 
 others-apart : (key : ℕ) (rows : List Held) → ((k : ℕ) (d : Held) → k < length rows → (get_or rows k d).key ≡ key → ⊥) → Each (λ held. has_key key held ≡ false) rows

@@ -1,4 +1,4 @@
--- Of the asks of a link those of a setup are answered so far, reserve, relax and deny, and submit.
+-- Of the asks of a link all but a release and an arrive are answered so far.
 use Rattle.link_steps.specs.declared.asks.Ask.{Ask}
 use Rattle.link_steps.specs.declared.asks.Ask.TheVariants.{Reserve, Relax, Deny, Submit, Release, Arrive, Tick}
 use Rattle.link_steps.specs.declared.replies.Reply.{Reply}
@@ -12,7 +12,7 @@ IsBuilt (Deny chan) = Unit {0}
 IsBuilt (Submit chan count gap size) = Unit {0}
 IsBuilt (Release chan upstream) = ⊥
 IsBuilt (Arrive packet) = ⊥
-IsBuilt Tick = ⊥
+IsBuilt Tick = Unit {0}
 
 -- the ask takes no memory: it is no reserve
 abbrev pub TakesNone : Ask → Type 0

@@ -1,5 +1,11 @@
+pub mod Planned
 pub mod Rows
+pub mod Sources
 pub mod Wants
 pub mod Packets
+pub mod Serving
 pub mod Asks
+pub mod Account
 pub mod State
+pub mod Sound
+pub mod SoundProp

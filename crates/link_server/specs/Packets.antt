@@ -5,7 +5,6 @@ use Rattle.net_units.specs.Numbers.{level_number}
 use Rattle.link_steps.specs.Service.{Arrival, Start}
 use Rattle.link_server.specs.declared.packets.HeldPacket.{HeldPacket}
 use Rattle.link_server.specs.declared.packets.Running.{Running}
-use Rattle.link_server.specs.declared.packets.Packets.{Packets}
 
 -- a packet
 abbrev pub arrival_in : HeldPacket → Arrival

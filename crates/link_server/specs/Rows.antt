@@ -9,9 +9,8 @@ use Rattle.net_units.specs.declared.numbers.ChanNo.{ChanNo}
 use Rattle.rcsp_admission.specs.Sums.{Held, held_at}
 use Rattle.link_steps.specs.Kept.{KeptRow}
 use Rattle.link_steps.specs.Reservation.{Reservation, is_of, is_at_hop}
-use Rattle.link_steps.specs.Rows.{SourcePacket, planned_from}
 use Rattle.link_server.specs.declared.held_row.HeldRow.{HeldRow}
-use Rattle.link_server.specs.declared.held_row.Planned.{Planned}
+use Rattle.link_server.specs.Planned.{left_in}
 
 -- the reservation of a row
 abbrev pub terms_in : HeldRow → Reservation
@@ -29,13 +28,9 @@ terms_in row = record {
   count = row.count;
 }
 
--- the planned packets that are left
-abbrev pub left_in : Planned → List SourcePacket
-left_in planned = planned_from planned.tick planned.gap planned.size planned.count
-
--- what the account of the link has of it: no packet was taken yet
+-- what the account of the link has of it
 abbrev pub row_in : HeldRow → KeptRow
-row_in row = record { terms = terms_in row; lead = 0; taken = 0; recent = row.regulator.recent; left = left_in row.planned }
+row_in row = record { terms = terms_in row; lead = row.lead; taken = row.taken; recent = row.regulator.recent; left = left_in row.planned }
 
 -- whether it is this channel's; and whether it is so at its first hop
 abbrev pub is_row_of : ChanNo → HeldRow → Bool

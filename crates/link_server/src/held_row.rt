@@ -1,12 +1,18 @@
 //! A row of a link: a reservation that is held, its regulator, its planned packets, and the units that it keeps.
-ghost use Rattle.std.specs.Prelude.{◌≡◌, ◌^◌, ◌<◌, ◌≤◌, IfOk, length};
+ghost use Rattle.std.specs.Prelude.{◌≡◌, ◌^◌, ◌<◌, ◌≤◌, suc, find, IfSome, IfOk, length};
 ghost use Rattle.traffic_contract.specs.Contract.{IsContract};
+ghost use Rattle.traffic_contract.specs.Eligible.{newest};
 ghost use Rattle.link_steps.specs.Buffer.{units_for};
 ghost use Rattle.link_steps.specs.Refusals.{busy};
+ghost use Rattle.link_steps.specs.Sources.{lead_with};
 
+use crate::in_line::held;
+use crate::packets::HeldPacket;
+use crate::planned::Planned;
 use link_steps::{Phase, Refusal};
 use net_units::{Bounds, ChanNo, Kind, Level, LinkNo, OutOfMemory};
 use regulator_core::Regulator;
+use release_hold::Draining;
 use std::alloc::Global;
 use traffic_contract::Contract;
 
@@ -29,15 +35,6 @@ pub(crate) struct Offered {
     pub(crate) reach: Level,
 }
 
-// The source packets that are planned and left: the first at `tick`, and then one each `gap`.
-#[derive(Clone, Copy)]
-pub(crate) struct Planned {
-    pub(crate) tick: u64,
-    pub(crate) gap: u64,
-    pub(crate) size: u32,
-    pub(crate) count: u64,
-}
-
 // A reservation that is held.
 #[derive(Drop)]
 pub(crate) struct HeldRow {
@@ -52,6 +49,11 @@ pub(crate) struct HeldRow {
     pub(crate) up_reach: u64,
     pub(crate) up_bound: u64,
     pub(crate) count: u64,
+    // The arrival number of its first packet, or 0 before it, and how many it has taken.
+    pub(crate) lead: u64,
+    pub(crate) taken: u64,
+    // The newest eligible tick, or 0 before the first.
+    pub(crate) last: u64,
     pub(crate) regulator: Regulator,
     pub(crate) planned: Planned,
     ghost is_contract: { IsContract contract },
@@ -59,15 +61,21 @@ pub(crate) struct HeldRow {
     ghost bound_most: { up_bound ≤ 1048576 },
     ghost regulates: { regulator.terms ≡ contract },
     ghost controls: { regulator.kind ≡ kind },
+    ghost newest: { last ≡ newest regulator.recent },
 }
 
 impl HeldRow {
-    ghost use Rattle.link_steps.specs.Buffer.{stay_of, kept_units};
+    ghost use Rattle.link_steps.specs.Buffer.{stay_of, slots_of, kept_units, has_slot};
     ghost use Rattle.link_steps.specs.declared.replies.Phase.TheVariants.{Tentative, Committed};
     ghost use Rattle.link_steps.specs.Refusals.{not_in_phase, unfit, too_big};
-    ghost use Rattle.link_steps.specs.Kept.{new_kept, kept_relaxed, kept_planned};
+    ghost use Rattle.link_steps.specs.Kept.{new_kept, kept_relaxed, kept_planned, past_tick, kept_tick, kept_with};
+    ghost use Rattle.link_steps.specs.Hold.{hold_ended};
     ghost use Rattle.link_steps.specs.Reservation.{tentative};
-    ghost use Rattle.link_server.specs.Rows.{terms_in, left_in, row_in, is_first_row_of, IsWithin};
+    ghost use Rattle.link_steps.specs.Rows.{is_for};
+    ghost use Rattle.link_steps.specs.Sources.{arrival_at};
+    ghost use Rattle.link_server.specs.Packets.{arrival_in, here_in};
+    ghost use Rattle.link_server.specs.Planned.{left_in, size_of, IsAhead};
+    ghost use Rattle.link_server.specs.Rows.{terms_in, row_in, is_first_row_of, IsWithin};
 
     // A tentative reservation at the offered level. It takes all memory that it will ever need.
     pub(crate) fn new(
@@ -92,13 +100,11 @@ impl HeldRow {
             up_reach: wanted.up_reach,
             up_bound: 0,
             count: 0,
+            lead: 0,
+            taken: 0,
+            last: 0,
             regulator,
-            planned: Planned {
-                tick: 0,
-                gap: 1,
-                size: 1,
-                count: 0,
-            },
+            planned: Planned::NONE,
         })
     }
 
@@ -185,6 +191,78 @@ impl HeldRow {
         self.planned = planned;
     }
 
+    // The size of the packet that is planned for this tick, if there is one. Then it is no longer left.
+    pub(crate) fn next_planned(&mut self, clock: u64) -> Option<u32>
+        requires ahead { IsAhead clock self.old.planned }
+        ensures size { result ≡ size_of (find (is_for clock) (left_in self.old.planned)) }
+        ensures least { IfSome result (λ size. 1 ≤ size) }
+        ensures row { row_in self.new ≡ past_tick clock (row_in self.old) }
+        ensures regulator { self.new.regulator ≡ self.old.regulator }
+    {
+        self.planned.take_at(clock)
+    }
+
+    // Whether one of its slots is free, with these packets here.
+    pub(crate) fn has_slot(&self, bounds: &Bounds, here: &[HeldPacket]) -> bool
+        requires { IsWithin (length bounds.now) self.now }
+        ensures { result ≡ has_slot bounds.now (terms_in self.now) self.now.lead (here_in here.now) }
+    {
+        (held(here, self.lead) as u64) < self.slots(bounds)
+    }
+
+    // Its slots.
+    pub(crate) fn slots(&self, bounds: &Bounds) -> u64
+        requires { IsWithin (length bounds.now) self.now }
+        ensures value { result ≡ slots_of bounds.now (terms_in self.now) }
+        ensures small { result < 2 ^ 22 }
+    {
+        self.contract.bound(self.stay(bounds))
+    }
+
+    // Takes a packet from its source in this tick, with the next arrival number of the link. It takes no memory.
+    pub(crate) fn take(&mut self, size: u32, place: u64, clock: u64) -> HeldPacket
+        requires size { 1 ≤ size }
+        requires early { clock < 2 ^ 61 }
+        requires last { newest (row_in self.old).recent < 2 ^ 63 }
+        requires few { self.old.taken < 2 ^ 63 }
+        ensures packet { arrival_in result ≡ arrival_at (terms_in self.old) self.old.lead place (suc self.old.taken) size clock (kept_tick (row_in self.old) clock) }
+        ensures row { row_in self.new ≡ kept_with place (kept_tick (row_in self.old) clock) (row_in self.old) }
+    {
+        let eligible = self.regulator.admit(clock, 0);
+        self.last = eligible;
+        self.taken += 1;
+        self.lead = lead_with(self.lead, place);
+        HeldPacket {
+            place,
+            lead: self.lead,
+            chan: self.chan,
+            number: self.taken,
+            size,
+            at: clock,
+            eligible,
+            level: self.level,
+            next: self.next,
+        }
+    }
+
+    // Whether its hold has ended by this tick.
+    pub(crate) fn has_ended(&self, bounds: &Bounds, clock: u64) -> bool
+        requires { self.now.last < 2 ^ 63 }
+        ensures { result ≡ hold_ended bounds.now (terms_in self.now) self.now.taken self.now.last clock }
+    {
+        match self.phase {
+            Phase::Tentative | Phase::Committed => false,
+            Phase::Closing => {
+                let draining = Draining {
+                    last: self.count,
+                    eligible: self.taken,
+                    last_tick: self.last,
+                };
+                draining.due(clock, u64::from(bounds.last()))
+            }
+        }
+    }
+
     // The units that it keeps.
     pub(crate) fn units(&self, bounds: &Bounds) -> u64
         requires { IsWithin (length bounds.now) self.now }
@@ -213,6 +291,13 @@ pub(crate) fn units_for(contract: &Contract, window: u64) -> u64
     ensures small { result < 2 ^ 40 }
 {
     contract.bound(window) * u64::from(contract.smax())
+}
+
+// The lead of a row when it takes the packet of this arrival number.
+fn lead_with(lead: u64, place: u64) -> u64
+    ensures { result ≡ lead_with lead place }
+{
+    if lead == 0 { place } else { lead }
 }
 
 // The refusal where so many planned packets are left.

@@ -5,10 +5,14 @@
 //! A reserve alone takes memory.
 #![tactic(auto)]
 
+mod expiry;
 mod held_row;
+mod in_line;
 mod link_state;
 mod packets;
+mod planned;
 mod rows;
+mod sources;
 
 pub use link_state::LinkState;
 

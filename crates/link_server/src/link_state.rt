@@ -1,14 +1,24 @@
 //! The state of a link, and its answers.
-ghost use Rattle.std.specs.Prelude.{◌≡◌, ◌^◌, ◌<◌, ◌≤◌, ◌∷◌, [], List, map, length, IfOk, OnOk, OnErr, IsOk};
+ghost use Rattle.std.specs.Prelude.{◌≡◌, ◌+◌, ◌^◌, ◌<◌, ◌≤◌, ◌∷◌, [], suc, List, map, length, IfOk, OnOk, OnErr, IsOk};
+ghost use Rattle.std.specs.Vec.{vec_capacity};
 ghost use Rattle.net_units.specs.Numbers.{level_number};
 ghost use Rattle.traffic_contract.specs.Admission.{Passes, with_row};
 ghost use Rattle.rcsp_admission.specs.Sums.{AreAdmitted, rows_of};
-ghost use Rattle.link_steps.specs.Legal.{AskFits, ReserveFits, RelaxFits};
+ghost use Rattle.link_steps.specs.Buffer.{slots_of};
+ghost use Rattle.link_steps.specs.Legal.{AskFits, ReserveFits, RelaxFits, SubmitFits};
 ghost use Rattle.link_steps.specs.Shape.{server_of};
-ghost use Rattle.link_server.specs.Rows.{summed, IsAbsent, AreWithin};
+ghost use Rattle.link_server.specs.Account.{account};
+ghost use Rattle.link_server.specs.Packets.{here_in};
+ghost use Rattle.link_server.specs.Rows.{terms_in, row_in, summed, IsAbsent, IsWithin, AreWithin};
+ghost use Rattle.link_server.specs.Sound.{most_places, IsSound};
+ghost use Rattle.link_server.specs.SoundProp.{IsSound-prop};
 
-use crate::held_row::{HeldRow, Offered, Planned, Wanted};
-use crate::rows::{first_place_of, free_units, need_of, place_of, reach_of};
+use crate::expiry::expire;
+use crate::held_row::{HeldRow, Offered, Wanted};
+use crate::packets::Packets;
+use crate::planned::Planned;
+use crate::rows::{first_place_of, free_units, need_of, place_of, places_of, reach_of};
+use crate::sources::take_source_packets;
 use link_steps::{Ask, LinkShape, Refusal, Reply};
 use net_units::{ChanNo, Level, OutOfMemory};
 use rcsp_admission::LevelSums;
@@ -22,15 +32,21 @@ pub struct LinkState {
     clock: u64,
     // In the order of their reserves.
     rows: Vec<HeldRow>,
+    packets: Packets,
     sums: LevelSums,
+    // How many packets there is room for at least: those that are here, one in each free slot, and one more a row.
+    room: u64,
     ghost admitted: { AreAdmitted sums },
     ghost same_server: { sums.server ≡ server_of shape },
     ghost same_rows: { sums.rows ≡ map summed rows.items },
     ghost within: { AreWithin (length shape.bounds) rows.items },
+    ghost sound: { IsSound shape room (account clock packets rows.items) } by { IsSound-prop shape room (account clock packets rows.items) },
+    ghost roomy: { room ≤ vec_capacity packets.here },
+    ghost room_most: { room < 2 ^ 32 },
 }
 
 impl LinkState {
-    ghost use Rattle.link_steps.specs.declared.asks.Ask.TheVariants.{Relax as AskRelax, Deny as AskDeny, Submit as AskSubmit};
+    ghost use Rattle.link_steps.specs.declared.asks.Ask.TheVariants.{Relax as AskRelax, Deny as AskDeny, Submit as AskSubmit, Tick as AskTick};
     ghost use Rattle.link_steps.specs.declared.replies.Entry.{Entry};
     ghost use Rattle.link_steps.specs.declared.replies.Reply.TheVariants.{Offer};
     ghost use Rattle.link_steps.specs.Kept.{kept_reply, kept_after};
@@ -53,6 +69,8 @@ impl LinkState {
             shape,
             clock: 0,
             rows: Vec::new(alloc),
+            packets: Packets::new(alloc),
+            room: 0,
         })
     }
 
@@ -117,7 +135,8 @@ impl LinkState {
                 gap,
                 size,
             } => Ok(self.submit(*chan, *count, *gap, *size)),
-            Ask::Release { .. } | Ask::Arrive { .. } | Ask::Tick => unreachable!(),
+            Ask::Tick => Ok(self.tick()),
+            Ask::Release { .. } | Ask::Arrive { .. } => unreachable!(),
         }
     }
 
@@ -188,17 +207,44 @@ impl LinkState {
         requires level { level_number offer.now.level ≤ length self.old.shape.bounds }
         requires reach { level_number offer.now.reach ≤ length self.old.shape.bounds }
         requires passes { Passes self.old.sums.server (with_row (rows_of self.old.sums.rows) wanted.now.contract (level_number offer.now.level)) }
+        requires offered { Offer offer.now.level offer.now.reach ≡ kept_reply self.old.shape (kept_in self.old) (ask_for wanted.now) }
         ensures shape { self.new.shape ≡ self.old.shape }
         ensures clock { self.new.clock ≡ self.old.clock }
         ensures kept { OnOk result (kept_in self.new ≡ kept_after self.old.shape (kept_in self.old) (ask_for wanted.now) (Offer offer.now.level offer.now.reach)) }
         ensures memory { OnErr result (kept_in self.new ≡ kept_in self.old) }
     {
         let row = HeldRow::new(self.alloc, wanted, offer)?;
-        self.rows.reserve(1)?;
-        self.sums.reserve(1)?;
+        self.make_room(&row)?;
         self.rows.push_reserved(row);
         self.sums
             .add(wanted.chan.get(), wanted.contract, offer.level);
+        Ok(())
+    }
+
+    // Takes all memory that one row more can ever need. An `Err` leaves what is held.
+    fn make_room(&mut self, row: &HeldRow) -> Result<(), OutOfMemory>
+        requires within { IsWithin (length self.old.shape.bounds) row.now }
+        ensures shape { self.new.shape ≡ self.old.shape }
+        ensures clock { self.new.clock ≡ self.old.clock }
+        ensures rows { self.new.rows.items ≡ self.old.rows.items }
+        ensures sums { self.new.sums.rows ≡ self.old.sums.rows }
+        ensures taken { self.new.packets.taken ≡ self.old.packets.taken }
+        ensures here { self.new.packets.here.items ≡ self.old.packets.here.items }
+        ensures on { self.new.packets.on ≡ self.old.packets.on }
+        ensures row_fits { OnOk result (length self.new.rows.items < vec_capacity self.new.rows) }
+        ensures sum_fits { OnOk result (1 ≤ self.new.sums.spare) }
+        ensures packets_fit { OnOk result (most_places self.new.shape.bounds (here_in self.new.packets.here.items) (map row_in self.new.rows.items) + suc (slots_of self.new.shape.bounds (terms_in row.now)) ≤ self.new.room) }
+    {
+        let bounds = self.shape.bounds;
+        let places = places_of(&bounds, &self.rows) + 1 + row.slots(&bounds);
+        let room = self.packets.here.len() as u64 + places;
+        if room > u64::from(u32::MAX) {
+            return Err(OutOfMemory);
+        }
+        self.rows.reserve(1)?;
+        self.sums.reserve(1)?;
+        self.packets.reserve(places as usize)?;
+        self.room = self.room.max(room);
         Ok(())
     }
 
@@ -226,6 +272,8 @@ impl LinkState {
 
     // Plans source packets at the first hop, the first at the clock.
     fn submit(&mut self, chan: ChanNo, count: u64, gap: u64, size: u32) -> Reply
+        requires fits { SubmitFits count gap size }
+        requires early { self.old.clock < 2 ^ 61 }
         ensures shape { self.new.shape ≡ self.old.shape }
         ensures clock { self.new.clock ≡ self.old.clock }
         ensures reply { result ≡ kept_reply self.old.shape (kept_in self.old) (AskSubmit chan count gap size) }
@@ -250,6 +298,25 @@ impl LinkState {
             count,
         });
         Reply::Planned { clock: self.clock }
+    }
+
+    // Makes a tick: rows whose hold has ended expire, the source packets that are planned for it arrive, and the link
+    // serves the packets here.
+    fn tick(&mut self) -> Reply
+        requires early { self.old.clock < 2 ^ 61 }
+        ensures shape { self.new.shape ≡ self.old.shape }
+        ensures clock { self.new.clock ≡ suc self.old.clock }
+        ensures reply { result ≡ kept_reply self.old.shape (kept_in self.old) AskTick }
+        ensures kept { kept_in self.new ≡ kept_after self.old.shape (kept_in self.old) AskTick result }
+    {
+        let clock = self.clock;
+        let shape = self.shape;
+        let bounds = shape.bounds;
+        expire(&mut self.rows, &mut self.sums, &bounds, clock);
+        let full = take_source_packets(&mut self.rows, &mut self.packets, &bounds, clock);
+        let sent = self.packets.serve(&shape, clock);
+        self.clock += 1;
+        Reply::Ticked { clock, full, sent }
     }
 
     // Gives a tentative reservation back.

@@ -4,7 +4,9 @@ ghost use Rattle.std.specs.List.{All};
 ghost use Rattle.net_units.specs.Numbers.{level_number};
 ghost use Rattle.link_steps.specs.Buffer.{free_units, need_of};
 ghost use Rattle.link_steps.specs.Replies.{reach_of};
-ghost use Rattle.link_server.specs.Rows.{terms_in, is_first_row_of, HasNone, IsPlace, IsAbsent, IsPlaceOf, AreWithin};
+ghost use Rattle.traffic_contract.specs.Admission.{total};
+ghost use Rattle.link_server.specs.Sound.{all_places_of};
+ghost use Rattle.link_server.specs.Rows.{terms_in, row_in, is_first_row_of, HasNone, IsPlace, IsAbsent, IsPlaceOf, AreWithin};
 
 use crate::held_row::{HeldRow, units_for};
 use link_steps::LinkShape;
@@ -47,6 +49,20 @@ pub(crate) fn free_units(shape: &LinkShape, rows: &[HeldRow]) -> u64
         free = free.saturating_sub(row.units(&shape.bounds));
     }
     free
+}
+
+// The places that packets of the rows may want: one for each slot, and one more a row.
+pub(crate) fn places_of(bounds: &Bounds, rows: &[HeldRow]) -> u64
+    requires within { AreWithin (length bounds.now) rows.now }
+    requires few { length rows.now < 2 ^ 32 }
+    ensures value { result ≡ total (all_places_of bounds.now) (map row_in rows.now) }
+    ensures small { result < 2 ^ 55 }
+{
+    let mut places = 0;
+    for row in rows {
+        places += 1 + row.slots(bounds);
+    }
+    places
 }
 
 // The units that a new reservation would keep.

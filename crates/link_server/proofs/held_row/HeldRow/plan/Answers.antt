@@ -3,7 +3,8 @@ use Rattle.std.proofs.Common.{List, ap}
 use Rattle.link_steps.specs.Kept.{KeptRow}
 use Rattle.link_steps.specs.Rows.{SourcePacket, planned_from}
 use Rattle.link_server.specs.declared.held_row.HeldRow.{HeldRow}
-use Rattle.link_server.specs.Rows.{row_in, left_in}
+use Rattle.link_server.specs.Planned.{left_in}
+use Rattle.link_server.specs.Rows.{row_in}
 use Rattle.link_server.proofs.PlanFacts.{behind-none}
 use Rattle.link_server.proofs.held_row.HeldRow.plan.Goals as goal
 

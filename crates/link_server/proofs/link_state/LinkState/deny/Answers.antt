@@ -5,7 +5,11 @@ use Rattle.rcsp_admission.specs.Sums.{Holds, without, IsDistinct}
 use Rattle.link_steps.specs.declared.replies.Phase.TheVariants.{Tentative}
 use Rattle.link_steps.specs.Refusals.{not_in_phase}
 use Rattle.link_server.specs.Rows.{terms_in, summed, IsAbsent, IsPlaceOf, IsWithin}
-use Rattle.link_server.specs.State.{account}
+use Rattle.link_server.specs.Account.{account}
+use Rattle.link_server.specs.Sound.{IsSound}
+use Rattle.link_server.specs.State.{kept_in}
+use Rattle.link_steps.specs.declared.replies.Reply.TheVariants.{Denied}
+use Rattle.link_server.proofs.SoundSetup.{sound-deny}
 use Rattle.link_server.proofs.PlaceFacts.{all-without}
 use Rattle.link_server.proofs.SumsFacts.{place-holds, summed-without}
 use Rattle.link_server.proofs.AnswerFacts.{deny-absent, deny-refused, deny-denied, deny-same, deny-kept}
@@ -13,14 +17,14 @@ use Rattle.link_server.proofs.link_state.LinkState.deny.Goals as goal
 
 pub returns-in_default-clause-reply : goal.returns-in_default-clause-reply
 returns-in_default-clause-reply c =
-    deny-absent c.args.self.now.shape c.args.self.now.clock c.args.chan c.args.self.now.rows.items (subst (IsAbsent c.args.chan) c.deref.ensures.value c.in_default.ensures.none)
+    deny-absent c.args.self.now.shape c.args.self.now.clock c.args.self.now.packets c.args.chan c.args.self.now.rows.items (subst (IsAbsent c.args.chan) c.deref.ensures.value c.in_default.ensures.none)
 
 pub returns-in_default-clause-kept : goal.returns-in_default-clause-kept
 returns-in_default-clause-kept c = deny-same c.args.self.now.shape _ c.args.chan _
 
 pub returns-in-Some-not_tentative-clause-reply : goal.returns-in-Some-not_tentative-clause-reply
 returns-in-Some-not_tentative-clause-reply c =
-    deny-refused c.args.self.now.shape c.args.self.now.clock c.args.chan c.args.self.now.rows.items c.in-Some.place c.index.result.now _
+    deny-refused c.args.self.now.shape c.args.self.now.clock c.args.self.now.packets c.args.chan c.args.self.now.rows.items c.in-Some.place c.index.result.now _
     (subst (λ rows. IsPlaceOf c.args.chan rows c.in-Some.place) c.deref.ensures.value c.in-Some.ensures.some)
     (c.in-Some-not_tentative.ensures ∙ ap (λ row. not_in_phase Tentative (terms_in row)) c.index.ensures)
 
@@ -33,28 +37,36 @@ remove-requires c =
     let held = subst (λ rows. Holds rows (channel_number c.args.chan)) (sym c.args.self.now.same_rows) (place-holds c.args.chan c.args.self.now.rows.items c.in-Some.place place) in
     record { held = rw c.get.ensures.value held }
 
-pub invariant_of-self-clause-same_rows : goal.invariant_of-self-clause-same_rows
-invariant_of-self-clause-same_rows c =
+pub invariant_of-self : goal.invariant_of-self
+invariant_of-self c =
     let place = subst (λ rows. IsPlaceOf c.args.chan rows c.in-Some.place) c.deref.ensures.value c.in-Some.ensures.some in
     let distinct = subst IsDistinct c.args.self.now.same_rows c.args.self.now.admitted.distinct in
-    c.remove.ensures.rows
-    ∙ ap (λ rows. without rows c.get.result) c.args.self.now.same_rows
-    ∙ ap (λ key. without (map summed c.args.self.now.rows.items) key) c.get.ensures.value
-    ∙ summed-without c.args.chan c.args.self.now.rows.items c.in-Some.place distinct place
-    ∙ ap (map summed) (sym c.remove-2.ensures.items)
-
-pub invariant_of-self-clause-within : goal.invariant_of-self-clause-within
-invariant_of-self-clause-within c =
-    rw c.remove-2.ensures.items (all-without (IsWithin _) c.args.self.now.rows.items c.in-Some.place c.args.self.now.within)
+    let kept =
+    ap (account c.args.self.now.clock c.args.self.now.packets) c.remove-2.ensures.items
+    ∙ deny-kept c.args.self.now.shape c.args.self.now.clock c.args.self.now.packets c.args.chan c.args.self.now.rows.items c.in-Some.place place in
+    record {
+      admitted = c.remove.ensures.admitted;
+      same_server = c.remove.ensures.server ∙ c.args.self.now.same_server;
+      same_rows =
+          c.remove.ensures.rows
+          ∙ ap (λ rows. without rows c.get.result) c.args.self.now.same_rows
+          ∙ ap (λ key. without (map summed c.args.self.now.rows.items) key) c.get.ensures.value
+          ∙ summed-without c.args.chan c.args.self.now.rows.items c.in-Some.place distinct place
+          ∙ ap (map summed) (sym c.remove-2.ensures.items);
+      within = rw c.remove-2.ensures.items (all-without (IsWithin _) c.args.self.now.rows.items c.in-Some.place c.args.self.now.within);
+      sound = subst (IsSound c.args.self.now.shape c.args.self.now.room) (sym kept) (sound-deny c.args.self.now.shape c.args.self.now.room (kept_in c.args.self.now) c.args.chan Denied c.args.self.now.sound);
+      roomy = c.args.self.now.roomy;
+      room_most = c.args.self.now.room_most;
+    }
 
 pub returns-clause-reply : goal.returns-clause-reply
 returns-clause-reply c =
-    deny-denied c.args.self.now.shape c.args.self.now.clock c.args.chan c.args.self.now.rows.items c.in-Some.place c.index.result.now
+    deny-denied c.args.self.now.shape c.args.self.now.clock c.args.self.now.packets c.args.chan c.args.self.now.rows.items c.in-Some.place c.index.result.now
     (subst (λ rows. IsPlaceOf c.args.chan rows c.in-Some.place) c.deref.ensures.value c.in-Some.ensures.some)
     (c.in_default-not_tentative.ensures ∙ ap (λ row. not_in_phase Tentative (terms_in row)) c.index.ensures)
 
 pub returns-clause-kept : goal.returns-clause-kept
 returns-clause-kept c =
-    ap (account c.args.self.now.clock) c.remove-2.ensures.items
-    ∙ deny-kept c.args.self.now.shape c.args.self.now.clock c.args.chan c.args.self.now.rows.items c.in-Some.place
+    ap (account c.args.self.now.clock c.args.self.now.packets) c.remove-2.ensures.items
+    ∙ deny-kept c.args.self.now.shape c.args.self.now.clock c.args.self.now.packets c.args.chan c.args.self.now.rows.items c.in-Some.place
     (subst (λ rows. IsPlaceOf c.args.chan rows c.in-Some.place) c.deref.ensures.value c.in-Some.ensures.some)

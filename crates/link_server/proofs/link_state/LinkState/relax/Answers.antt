@@ -8,6 +8,10 @@ use Rattle.link_steps.specs.Refusals.{not_in_phase, unfit}
 use Rattle.link_steps.specs.Kept.{kept_relaxed}
 use Rattle.link_steps.proofs.RefusalFacts.{unfit-least}
 use Rattle.link_server.specs.Rows.{terms_in, row_in, summed, IsAbsent, IsPlaceOf, IsWithin}
+use Rattle.link_server.specs.Sound.{IsSound}
+use Rattle.link_server.specs.State.{kept_in}
+use Rattle.link_steps.specs.declared.replies.Reply.TheVariants.{Relaxed}
+use Rattle.link_server.proofs.SoundSetup.{sound-relax}
 use Rattle.link_server.proofs.PlaceFacts.{at-place}
 use Rattle.link_server.proofs.SumsFacts.{place-holds-upto, summed-moved, summed-committed, within-committed}
 use Rattle.link_server.proofs.AnswerFacts.{relax-absent, relax-phase, relax-unfit, relax-relaxed, relax-same, relax-kept}
@@ -15,14 +19,14 @@ use Rattle.link_server.proofs.link_state.LinkState.relax.Goals as goal
 
 pub returns-in_default-clause-reply : goal.returns-in_default-clause-reply
 returns-in_default-clause-reply c =
-    relax-absent c.args.self.now.shape c.args.self.now.clock c.args.chan c.args.level c.args.up_bound c.args.self.now.rows.items (subst (IsAbsent c.args.chan) c.deref.ensures.value c.in_default.ensures.none)
+    relax-absent c.args.self.now.shape c.args.self.now.clock c.args.self.now.packets c.args.chan c.args.level c.args.up_bound c.args.self.now.rows.items (subst (IsAbsent c.args.chan) c.deref.ensures.value c.in_default.ensures.none)
 
 pub returns-in_default-clause-kept : goal.returns-in_default-clause-kept
 returns-in_default-clause-kept c = relax-same c.args.self.now.shape _ c.args.chan c.args.level c.args.up_bound _
 
 pub returns-in-Some-not_tentative-clause-reply : goal.returns-in-Some-not_tentative-clause-reply
 returns-in-Some-not_tentative-clause-reply c =
-    relax-phase c.args.self.now.shape c.args.self.now.clock c.args.chan c.args.level c.args.up_bound c.args.self.now.rows.items c.in-Some.place c.index.result.now _
+    relax-phase c.args.self.now.shape c.args.self.now.clock c.args.self.now.packets c.args.chan c.args.level c.args.up_bound c.args.self.now.rows.items c.in-Some.place c.index.result.now _
     (subst (λ rows. IsPlaceOf c.args.chan rows c.in-Some.place) c.deref.ensures.value c.in-Some.ensures.some)
     (c.in-Some-not_tentative.ensures ∙ ap (λ row. not_in_phase Tentative (terms_in row)) c.index.ensures)
 
@@ -31,7 +35,7 @@ returns-in-Some-not_tentative-clause-kept c = relax-same c.args.self.now.shape _
 
 pub returns-in-Some-unfit-clause-reply : goal.returns-in-Some-unfit-clause-reply
 returns-in-Some-unfit-clause-reply c =
-    relax-unfit c.args.self.now.shape c.args.self.now.clock c.args.chan c.args.level c.args.up_bound c.args.self.now.rows.items c.in-Some.place c.index.result.now _
+    relax-unfit c.args.self.now.shape c.args.self.now.clock c.args.self.now.packets c.args.chan c.args.level c.args.up_bound c.args.self.now.rows.items c.in-Some.place c.index.result.now _
     (subst (λ rows. IsPlaceOf c.args.chan rows c.in-Some.place) c.deref.ensures.value c.in-Some.ensures.some)
     (c.in_default-not_tentative.ensures ∙ ap (λ row. not_in_phase Tentative (terms_in row)) c.index.ensures)
     (c.in-Some-unfit.ensures ∙ ap (λ row. unfit (terms_in row) c.args.level c.args.up_bound) (at-place c.args.self.now.rows.items c.in-Some.place c.index-2.result.now c.index.result.now c.index-2.ensures ((subst (λ rows. IsPlaceOf c.args.chan rows c.in-Some.place) c.deref.ensures.value c.in-Some.ensures.some).inside)))
@@ -48,34 +52,47 @@ move_to-requires-clause-held c =
     subst (λ rows. HoldsUpTo rows c.get.result (level_number c.args.level)) (sym c.args.self.now.same_rows)
     (subst (λ key. HoldsUpTo (map summed c.args.self.now.rows.items) key (level_number c.args.level)) (sym c.get.ensures.value) held)
 
-pub invariant_of-self-clause-same_rows : goal.invariant_of-self-clause-same_rows
-invariant_of-self-clause-same_rows c =
+pub invariant_of-self : goal.invariant_of-self
+invariant_of-self c =
     let place = subst (λ rows. IsPlaceOf c.args.chan rows c.in-Some.place) c.deref.ensures.value c.in-Some.ensures.some in
     let distinct = subst IsDistinct c.args.self.now.same_rows c.args.self.now.admitted.distinct in
     let same = c.commit.ensures ∙ ap (λ row. kept_relaxed c.args.level c.args.up_bound (row_in row)) c.index_mut.ensures.value in
-    c.move_to.ensures.rows
-    ∙ ap (λ rows. moved rows c.get.result (level_number c.args.level)) c.args.self.now.same_rows
-    ∙ ap (λ key. moved (map summed c.args.self.now.rows.items) key (level_number c.args.level)) c.get.ensures.value
-    ∙ summed-moved c.args.chan (level_number c.args.level) c.args.self.now.rows.items c.in-Some.place c.commit.new.self c.index_mut.result.now distinct place
-    (summed-committed c.commit.new.self (get_or c.args.self.now.rows.items c.in-Some.place c.index_mut.result.now) c.args.level c.args.up_bound same)
-
-pub invariant_of-self-clause-within : goal.invariant_of-self-clause-within
-invariant_of-self-clause-within c =
-    let place = subst (λ rows. IsPlaceOf c.args.chan rows c.in-Some.place) c.deref.ensures.value c.in-Some.ensures.some in
-    let same = c.commit.ensures ∙ ap (λ row. kept_relaxed c.args.level c.args.up_bound (row_in row)) c.index_mut.ensures.value in
-    All-set (IsWithin _) c.args.self.now.rows.items c.in-Some.place c.commit.new.self
-    (within-committed _ c.commit.new.self (get_or c.args.self.now.rows.items c.in-Some.place c.index_mut.result.now) c.args.level c.args.up_bound same c.requires.fits.level_most (c.args.self.now.within c.in-Some.place c.index_mut.result.now place.inside))
-    c.args.self.now.within
+    let reply =
+    relax-relaxed c.args.self.now.shape c.args.self.now.clock c.args.self.now.packets c.args.chan c.args.level c.args.up_bound c.args.self.now.rows.items c.in-Some.place c.index.result.now
+    (subst (λ rows. IsPlaceOf c.args.chan rows c.in-Some.place) c.deref.ensures.value c.in-Some.ensures.some)
+    (c.in_default-not_tentative.ensures ∙ ap (λ row. not_in_phase Tentative (terms_in row)) c.index.ensures)
+    (c.in_default-unfit.ensures ∙ ap (λ row. unfit (terms_in row) c.args.level c.args.up_bound) (at-place c.args.self.now.rows.items c.in-Some.place c.index-2.result.now c.index.result.now c.index-2.ensures ((subst (λ rows. IsPlaceOf c.args.chan rows c.in-Some.place) c.deref.ensures.value c.in-Some.ensures.some).inside))) in
+    let kept =
+    relax-kept c.args.self.now.shape c.args.self.now.clock c.args.self.now.packets c.args.chan c.args.level c.args.up_bound c.args.self.now.clock c.args.self.now.rows.items c.in-Some.place c.commit.new.self c.index_mut.result.now
+    (subst (λ rows. IsPlaceOf c.args.chan rows c.in-Some.place) c.deref.ensures.value c.in-Some.ensures.some)
+    (c.commit.ensures ∙ ap (λ row. kept_relaxed c.args.level c.args.up_bound (row_in row)) c.index_mut.ensures.value) in
+    record {
+      admitted = c.move_to.ensures.admitted;
+      same_server = c.move_to.ensures.server ∙ c.args.self.now.same_server;
+      same_rows =
+          c.move_to.ensures.rows
+          ∙ ap (λ rows. moved rows c.get.result (level_number c.args.level)) c.args.self.now.same_rows
+          ∙ ap (λ key. moved (map summed c.args.self.now.rows.items) key (level_number c.args.level)) c.get.ensures.value
+          ∙ summed-moved c.args.chan (level_number c.args.level) c.args.self.now.rows.items c.in-Some.place c.commit.new.self c.index_mut.result.now distinct place
+          (summed-committed c.commit.new.self (get_or c.args.self.now.rows.items c.in-Some.place c.index_mut.result.now) c.args.level c.args.up_bound same);
+      within =
+          All-set (IsWithin _) c.args.self.now.rows.items c.in-Some.place c.commit.new.self
+          (within-committed _ c.commit.new.self (get_or c.args.self.now.rows.items c.in-Some.place c.index_mut.result.now) c.args.level c.args.up_bound same c.requires.fits.level_most (c.args.self.now.within c.in-Some.place c.index_mut.result.now place.inside))
+          c.args.self.now.within;
+      sound = subst (IsSound c.args.self.now.shape c.args.self.now.room) (sym kept) (sound-relax c.args.self.now.shape c.args.self.now.room (kept_in c.args.self.now) c.args.chan c.args.level c.args.up_bound (Relaxed c.args.self.now.clock) c.requires.fits c.args.self.now.sound reply);
+      roomy = c.args.self.now.roomy;
+      room_most = c.args.self.now.room_most;
+    }
 
 pub returns-clause-reply : goal.returns-clause-reply
 returns-clause-reply c =
-    relax-relaxed c.args.self.now.shape c.args.self.now.clock c.args.chan c.args.level c.args.up_bound c.args.self.now.rows.items c.in-Some.place c.index.result.now
+    relax-relaxed c.args.self.now.shape c.args.self.now.clock c.args.self.now.packets c.args.chan c.args.level c.args.up_bound c.args.self.now.rows.items c.in-Some.place c.index.result.now
     (subst (λ rows. IsPlaceOf c.args.chan rows c.in-Some.place) c.deref.ensures.value c.in-Some.ensures.some)
     (c.in_default-not_tentative.ensures ∙ ap (λ row. not_in_phase Tentative (terms_in row)) c.index.ensures)
     (c.in_default-unfit.ensures ∙ ap (λ row. unfit (terms_in row) c.args.level c.args.up_bound) (at-place c.args.self.now.rows.items c.in-Some.place c.index-2.result.now c.index.result.now c.index-2.ensures ((subst (λ rows. IsPlaceOf c.args.chan rows c.in-Some.place) c.deref.ensures.value c.in-Some.ensures.some).inside)))
 
 pub returns-clause-kept : goal.returns-clause-kept
 returns-clause-kept c =
-    relax-kept c.args.self.now.shape c.args.self.now.clock c.args.chan c.args.level c.args.up_bound c.args.self.now.clock c.args.self.now.rows.items c.in-Some.place c.commit.new.self c.index_mut.result.now
+    relax-kept c.args.self.now.shape c.args.self.now.clock c.args.self.now.packets c.args.chan c.args.level c.args.up_bound c.args.self.now.clock c.args.self.now.rows.items c.in-Some.place c.commit.new.self c.index_mut.result.now
     (subst (λ rows. IsPlaceOf c.args.chan rows c.in-Some.place) c.deref.ensures.value c.in-Some.ensures.some)
     (c.commit.ensures ∙ ap (λ row. kept_relaxed c.args.level c.args.up_bound (row_in row)) c.index_mut.ensures.value)

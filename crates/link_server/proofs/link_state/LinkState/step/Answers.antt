@@ -42,3 +42,12 @@ pub returns-in-Submit-clause-entered : goal.returns-in-Submit-clause-entered
 returns-in-Submit-clause-entered c =
     step-entered c.args.self.now.shape c.submit.new.self.shape (kept_in c.args.self.now) (kept_in c.submit.new.self) c.args.ask.now _ c.submit.result
     (rows-have c.args.self.now.rows.items) c.in-Submit.is c.submit.ensures.shape c.submit.ensures.kept
+
+pub returns-in-Tick-clause-legal : goal.returns-in-Tick-clause-legal
+returns-in-Tick-clause-legal c =
+    step-legal c.args.self.now.shape (kept_in c.args.self.now) c.args.ask.now _ c.tick.result (rows-have c.args.self.now.rows.items) c.in-Tick.is c.tick.ensures.reply
+
+pub returns-in-Tick-clause-entered : goal.returns-in-Tick-clause-entered
+returns-in-Tick-clause-entered c =
+    step-entered c.args.self.now.shape c.tick.new.self.shape (kept_in c.args.self.now) (kept_in c.tick.new.self) c.args.ask.now _ c.tick.result
+    (rows-have c.args.self.now.rows.items) c.in-Tick.is c.tick.ensures.shape c.tick.ensures.kept

@@ -5,7 +5,12 @@ use Rattle.std.proofs.lemmas.List.Elements.{All-set}
 use Rattle.link_steps.specs.declared.replies.Phase.TheVariants.{Committed}
 use Rattle.link_steps.specs.Kept.{kept_planned}
 use Rattle.link_steps.specs.Refusals.{not_in_phase, busy, too_big}
-use Rattle.link_server.specs.Rows.{terms_in, row_in, left_in, is_first_row_of, summed, HasNone, IsPlace, IsWithin}
+use Rattle.link_server.specs.Planned.{left_in}
+use Rattle.link_server.specs.Rows.{terms_in, row_in, is_first_row_of, summed, HasNone, IsPlace, IsWithin}
+use Rattle.link_server.specs.Sound.{IsSound}
+use Rattle.link_server.specs.State.{kept_in}
+use Rattle.link_steps.specs.declared.replies.Reply.TheVariants.{Planned}
+use Rattle.link_server.proofs.SoundSetup.{sound-submit}
 use Rattle.link_server.proofs.AnswerFacts.{submit-absent, submit-phase, submit-busy, submit-big, submit-planned, submit-same, submit-kept}
 use Rattle.link_server.proofs.PlaceFacts.{at-place}
 use Rattle.link_server.proofs.SumsFacts.{summed-planned, within-planned}
@@ -14,14 +19,14 @@ use Rattle.link_server.proofs.link_state.LinkState.submit.Goals as goal
 
 pub returns-in_default-clause-reply : goal.returns-in_default-clause-reply
 returns-in_default-clause-reply c =
-    submit-absent c.args.self.now.shape c.args.self.now.clock c.args.chan c.args.count c.args.gap c.args.size c.args.self.now.rows.items (subst (HasNone (is_first_row_of c.args.chan)) c.deref.ensures.value c.in_default.ensures.none)
+    submit-absent c.args.self.now.shape c.args.self.now.clock c.args.self.now.packets c.args.chan c.args.count c.args.gap c.args.size c.args.self.now.rows.items (subst (HasNone (is_first_row_of c.args.chan)) c.deref.ensures.value c.in_default.ensures.none)
 
 pub returns-in_default-clause-kept : goal.returns-in_default-clause-kept
 returns-in_default-clause-kept c = submit-same c.args.self.now.shape _ c.args.chan c.args.count c.args.gap c.args.size _
 
 pub returns-in-Some-not_committed-clause-reply : goal.returns-in-Some-not_committed-clause-reply
 returns-in-Some-not_committed-clause-reply c =
-    submit-phase c.args.self.now.shape c.args.self.now.clock c.args.chan c.args.count c.args.gap c.args.size c.args.self.now.rows.items c.in-Some.place c.index.result.now _
+    submit-phase c.args.self.now.shape c.args.self.now.clock c.args.self.now.packets c.args.chan c.args.count c.args.gap c.args.size c.args.self.now.rows.items c.in-Some.place c.index.result.now _
     (subst (λ rows. IsPlace (is_first_row_of c.args.chan) rows c.in-Some.place) c.deref.ensures.value c.in-Some.ensures.some)
     (c.in-Some-not_committed.ensures ∙ ap (λ row. not_in_phase Committed (terms_in row)) c.index.ensures)
 
@@ -30,7 +35,7 @@ returns-in-Some-not_committed-clause-kept c = submit-same c.args.self.now.shape 
 
 pub returns-in-Some-busy-clause-reply : goal.returns-in-Some-busy-clause-reply
 returns-in-Some-busy-clause-reply c =
-    submit-busy c.args.self.now.shape c.args.self.now.clock c.args.chan c.args.count c.args.gap c.args.size c.args.self.now.rows.items c.in-Some.place c.index.result.now _
+    submit-busy c.args.self.now.shape c.args.self.now.clock c.args.self.now.packets c.args.chan c.args.count c.args.gap c.args.size c.args.self.now.rows.items c.in-Some.place c.index.result.now _
     (subst (λ rows. IsPlace (is_first_row_of c.args.chan) rows c.in-Some.place) c.deref.ensures.value c.in-Some.ensures.some)
     (c.in_default-not_committed.ensures ∙ ap (λ row. not_in_phase Committed (terms_in row)) c.index.ensures)
     (c.in-Some-busy.ensures ∙ ap (λ row. busy (length (left_in row.planned))) (at-place c.args.self.now.rows.items c.in-Some.place c.index-2.result.now c.index.result.now c.index-2.ensures ((subst (λ rows. IsPlace (is_first_row_of c.args.chan) rows c.in-Some.place) c.deref.ensures.value c.in-Some.ensures.some).inside)))
@@ -40,7 +45,7 @@ returns-in-Some-busy-clause-kept c = submit-same c.args.self.now.shape _ c.args.
 
 pub returns-in-Some-too_big-clause-reply : goal.returns-in-Some-too_big-clause-reply
 returns-in-Some-too_big-clause-reply c =
-    submit-big c.args.self.now.shape c.args.self.now.clock c.args.chan c.args.count c.args.gap c.args.size c.args.self.now.rows.items c.in-Some.place c.index.result.now _
+    submit-big c.args.self.now.shape c.args.self.now.clock c.args.self.now.packets c.args.chan c.args.count c.args.gap c.args.size c.args.self.now.rows.items c.in-Some.place c.index.result.now _
     (subst (λ rows. IsPlace (is_first_row_of c.args.chan) rows c.in-Some.place) c.deref.ensures.value c.in-Some.ensures.some)
     (c.in_default-not_committed.ensures ∙ ap (λ row. not_in_phase Committed (terms_in row)) c.index.ensures)
     (c.in_default-busy.ensures ∙ ap (λ row. busy (length (left_in row.planned))) (at-place c.args.self.now.rows.items c.in-Some.place c.index-2.result.now c.index.result.now c.index-2.ensures ((subst (λ rows. IsPlace (is_first_row_of c.args.chan) rows c.in-Some.place) c.deref.ensures.value c.in-Some.ensures.some).inside)))
@@ -54,24 +59,39 @@ plan-requires c =
     let left = c.in_default-busy.ensures ∙ ap (λ row. busy (length (left_in row.planned))) (at-place c.args.self.now.rows.items c.in-Some.place c.index-2.result.now c.index_mut.result.now c.index-2.ensures ((subst (λ rows. IsPlace (is_first_row_of c.args.chan) rows c.in-Some.place) c.deref.ensures.value c.in-Some.ensures.some).inside)) ∙ ap (λ row. busy (length (left_in row.planned))) (sym c.index_mut.ensures.value) in
     none-left (length (left_in c.index_mut.result.now.planned)) left
 
-pub invariant_of-self-clause-same_rows : goal.invariant_of-self-clause-same_rows
-invariant_of-self-clause-same_rows c =
-    let same = c.plan.ensures ∙ ap (λ row. kept_planned c.args.self.now.clock c.args.count c.args.gap c.args.size (row_in row)) c.index_mut.ensures.value in
-    c.args.self.now.same_rows
-    ∙ sym (map-set_same summed c.args.self.now.rows.items c.in-Some.place c.plan.new.self c.index_mut.result.now
-    (summed-planned c.plan.new.self (get_or c.args.self.now.rows.items c.in-Some.place c.index_mut.result.now) c.args.self.now.clock c.args.count c.args.gap c.args.size same))
-
-pub invariant_of-self-clause-within : goal.invariant_of-self-clause-within
-invariant_of-self-clause-within c =
+pub invariant_of-self : goal.invariant_of-self
+invariant_of-self c =
     let place = subst (λ rows. IsPlace (is_first_row_of c.args.chan) rows c.in-Some.place) c.deref.ensures.value c.in-Some.ensures.some in
     let same = c.plan.ensures ∙ ap (λ row. kept_planned c.args.self.now.clock c.args.count c.args.gap c.args.size (row_in row)) c.index_mut.ensures.value in
-    All-set (IsWithin _) c.args.self.now.rows.items c.in-Some.place c.plan.new.self
-    (within-planned _ c.plan.new.self (get_or c.args.self.now.rows.items c.in-Some.place c.index_mut.result.now) c.args.self.now.clock c.args.count c.args.gap c.args.size same (c.args.self.now.within c.in-Some.place c.index_mut.result.now place.inside))
-    c.args.self.now.within
+    let reply =
+    submit-planned c.args.self.now.shape c.args.self.now.clock c.args.self.now.packets c.args.chan c.args.count c.args.gap c.args.size c.args.self.now.rows.items c.in-Some.place c.index.result.now
+    (subst (λ rows. IsPlace (is_first_row_of c.args.chan) rows c.in-Some.place) c.deref.ensures.value c.in-Some.ensures.some)
+    (c.in_default-not_committed.ensures ∙ ap (λ row. not_in_phase Committed (terms_in row)) c.index.ensures)
+    (c.in_default-busy.ensures ∙ ap (λ row. busy (length (left_in row.planned))) (at-place c.args.self.now.rows.items c.in-Some.place c.index-2.result.now c.index.result.now c.index-2.ensures ((subst (λ rows. IsPlace (is_first_row_of c.args.chan) rows c.in-Some.place) c.deref.ensures.value c.in-Some.ensures.some).inside)))
+    (c.in_default-too_big.ensures ∙ ap (λ row. too_big (terms_in row) c.args.size) (at-place c.args.self.now.rows.items c.in-Some.place c.index-3.result.now c.index.result.now c.index-3.ensures ((subst (λ rows. IsPlace (is_first_row_of c.args.chan) rows c.in-Some.place) c.deref.ensures.value c.in-Some.ensures.some).inside))) in
+    let kept =
+    submit-kept c.args.self.now.shape c.args.self.now.clock c.args.self.now.packets c.args.chan c.args.count c.args.gap c.args.size c.args.self.now.clock c.args.self.now.rows.items c.in-Some.place c.plan.new.self c.index_mut.result.now
+    (subst (λ rows. IsPlace (is_first_row_of c.args.chan) rows c.in-Some.place) c.deref.ensures.value c.in-Some.ensures.some)
+    (c.plan.ensures ∙ ap (λ row. kept_planned c.args.self.now.clock c.args.count c.args.gap c.args.size (row_in row)) c.index_mut.ensures.value) in
+    record {
+      admitted = c.args.self.now.admitted;
+      same_server = c.args.self.now.same_server;
+      same_rows =
+          c.args.self.now.same_rows
+          ∙ sym (map-set_same summed c.args.self.now.rows.items c.in-Some.place c.plan.new.self c.index_mut.result.now
+          (summed-planned c.plan.new.self (get_or c.args.self.now.rows.items c.in-Some.place c.index_mut.result.now) c.args.self.now.clock c.args.count c.args.gap c.args.size same));
+      within =
+          All-set (IsWithin _) c.args.self.now.rows.items c.in-Some.place c.plan.new.self
+          (within-planned _ c.plan.new.self (get_or c.args.self.now.rows.items c.in-Some.place c.index_mut.result.now) c.args.self.now.clock c.args.count c.args.gap c.args.size same (c.args.self.now.within c.in-Some.place c.index_mut.result.now place.inside))
+          c.args.self.now.within;
+      sound = subst (IsSound c.args.self.now.shape c.args.self.now.room) (sym kept) (sound-submit c.args.self.now.shape c.args.self.now.room (kept_in c.args.self.now) c.args.chan c.args.count c.args.gap c.args.size (Planned c.args.self.now.clock) c.requires.fits c.args.self.now.sound reply);
+      roomy = c.args.self.now.roomy;
+      room_most = c.args.self.now.room_most;
+    }
 
 pub returns-clause-reply : goal.returns-clause-reply
 returns-clause-reply c =
-    submit-planned c.args.self.now.shape c.args.self.now.clock c.args.chan c.args.count c.args.gap c.args.size c.args.self.now.rows.items c.in-Some.place c.index.result.now
+    submit-planned c.args.self.now.shape c.args.self.now.clock c.args.self.now.packets c.args.chan c.args.count c.args.gap c.args.size c.args.self.now.rows.items c.in-Some.place c.index.result.now
     (subst (λ rows. IsPlace (is_first_row_of c.args.chan) rows c.in-Some.place) c.deref.ensures.value c.in-Some.ensures.some)
     (c.in_default-not_committed.ensures ∙ ap (λ row. not_in_phase Committed (terms_in row)) c.index.ensures)
     (c.in_default-busy.ensures ∙ ap (λ row. busy (length (left_in row.planned))) (at-place c.args.self.now.rows.items c.in-Some.place c.index-2.result.now c.index.result.now c.index-2.ensures ((subst (λ rows. IsPlace (is_first_row_of c.args.chan) rows c.in-Some.place) c.deref.ensures.value c.in-Some.ensures.some).inside)))
@@ -79,6 +99,6 @@ returns-clause-reply c =
 
 pub returns-clause-kept : goal.returns-clause-kept
 returns-clause-kept c =
-    submit-kept c.args.self.now.shape c.args.self.now.clock c.args.chan c.args.count c.args.gap c.args.size c.args.self.now.clock c.args.self.now.rows.items c.in-Some.place c.plan.new.self c.index_mut.result.now
+    submit-kept c.args.self.now.shape c.args.self.now.clock c.args.self.now.packets c.args.chan c.args.count c.args.gap c.args.size c.args.self.now.clock c.args.self.now.rows.items c.in-Some.place c.plan.new.self c.index_mut.result.now
     (subst (λ rows. IsPlace (is_first_row_of c.args.chan) rows c.in-Some.place) c.deref.ensures.value c.in-Some.ensures.some)
     (c.plan.ensures ∙ ap (λ row. kept_planned c.args.self.now.clock c.args.count c.args.gap c.args.size (row_in row)) c.index_mut.ensures.value)

@@ -1,0 +1,121 @@
+-- Lists of packets of a sound account: arrival numbers that rise, and how many packets of a row are among them.
+use Rattle.std.proofs.Common.{◌≡◌, ℕ, suc, ◌<◌, ◌≤◌, Bool, true, false, List, [], ◌∷◌, ◌++◌, length, ⊎_elim, ap, ◌∙◌, arith, length-append}
+use Rattle.std.proofs.lemmas.Bool.{cases_eq, cond_both, eq-eqb, ne_eqb, lt-ltb, and_from, and_left}
+use Rattle.std.proofs.lemmas.List.Elements.{filter-append}
+use Rattle.std.specs.Prelude.{filter, nat_lt}
+use Rattle.link_steps.specs.Buffer.{has_lead, held_packets}
+use Rattle.link_steps.specs.Lists.{Each}
+use Rattle.link_steps.specs.Service.{Arrival}
+use Rattle.link_steps.specs.Sources.{lead_with}
+use Rattle.link_steps.proofs.ListFacts.{Each-if, filter-none}
+use Rattle.link_server.specs.Sound.{AreNumbered, IsSoundPacket, is_late, late_packets}
+use Rattle.link_server.proofs.SoundRows.{lead_with-later}
+
+-- ---- arrival numbers
+
+pub numbered-le : (low : ℕ) (ps : List Arrival) (high : ℕ) → AreNumbered low ps high → low ≤ high
+numbered-le low [] high numbered = numbered
+numbered-le low (p ∷ ps) high numbered = (let rest = numbered-le p.place ps high numbered.1 in omega (arith, numbered.0, rest))
+
+pub numbered-lower : (low lower : ℕ) (ps : List Arrival) (high : ℕ) → lower ≤ low → AreNumbered low ps high → AreNumbered lower ps high
+numbered-lower low lower [] high less numbered = omega (arith, numbered)
+numbered-lower low lower (p ∷ ps) high less numbered = (omega (arith, numbered.0), numbered.1)
+
+-- packets behind others, with arrival numbers above theirs
+pub numbered-append : (low mid high : ℕ) (ps qs : List Arrival) → AreNumbered low ps mid → AreNumbered mid qs high → AreNumbered low (ps ++ qs) high
+numbered-append low mid high [] qs first second = numbered-lower mid low qs high first second
+numbered-append low mid high (p ∷ ps) qs first second = (first.0, numbered-append p.place mid high ps qs first.1 second)
+
+pub numbered-filter : (test : Arrival → Bool) (low : ℕ) (ps : List Arrival) (high : ℕ) → AreNumbered low ps high → AreNumbered low (filter test ps) high
+numbered-filter test low [] high numbered = numbered
+numbered-filter test low (p ∷ ps) high numbered =
+    let rest = numbered-filter test p.place ps high numbered.1 in
+    cond_both (test p) (p ∷ filter test ps) (filter test ps) (λ qs. AreNumbered low qs high)
+    (λ _. (numbered.0, rest))
+    (λ _. numbered-lower p.place low (filter test ps) high (omega (arith, numbered.0)) rest)
+
+-- each is above the least and at most the largest
+pub numbered-above : (low : ℕ) (ps : List Arrival) (high : ℕ) → AreNumbered low ps high → Each (λ p. low < p.place) ps
+numbered-above low [] high numbered = tt
+numbered-above low (p ∷ ps) high numbered =
+    (numbered.0, Each-if (λ q. p.place < q.place) (λ q. low < q.place) ps (λ q above. omega (arith, numbered.0, above)) (numbered-above p.place ps high numbered.1))
+
+pub numbered-upto : (low : ℕ) (ps : List Arrival) (high : ℕ) → AreNumbered low ps high → Each (λ p. p.place ≤ high) ps
+numbered-upto low [] high numbered = tt
+numbered-upto low (p ∷ ps) high numbered = (numbered-le p.place ps high numbered.1, numbered-upto p.place ps high numbered.1)
+
+-- ---- counts
+
+-- how many pass a test, of more packets
+count-more : (test : Arrival → Bool) (here more : List Arrival) → length (filter test here) ≤ length (filter test (here ++ more))
+count-more test here more = rw (filter-append test here more, length-append (filter test here) (filter test more)) (omega arith)
+
+-- one at least passes where one of those added does
+count-one : (test : Arrival → Bool) (here before : List Arrival) (p : Arrival) (behind : List Arrival) → test p ≡ true → suc (length (filter test here)) ≤ length (filter test (here ++ (before ++ p ∷ behind)))
+count-one test here before p behind passes =
+    rw (filter-append test here (before ++ p ∷ behind), filter-append test before (p ∷ behind), passes)
+    (rw (length-append (filter test here) (filter test before ++ p ∷ filter test behind), length-append (filter test before) (p ∷ filter test behind)) (omega arith))
+
+-- the packets of a row's lead, where the row takes one of those added
+count-taken : (test : ℕ → Arrival → Bool) (lead place : ℕ) (here before : List Arrival) (p : Arrival) (behind : List Arrival) → length (filter (test 0) here) ≡ 0 → test (lead_with lead place) p ≡ true → suc (length (filter (test lead) here)) ≤ length (filter (test (lead_with lead place)) (here ++ (before ++ p ∷ behind)))
+count-taken test lead place here before p behind none passes =
+    let one = count-one (test (lead_with lead place)) here before p behind passes in
+    ⊎_elim
+    (λ (first : lead ≡ 0). (let e : length (filter (test lead) here) ≡ 0 = ap (λ n. length (filter (test n) here)) first ∙ none in omega (arith, one, e)))
+    (λ (later : lead ≡ 0 → ⊥).
+    let e : length (filter (test (lead_with lead place)) here) ≡ length (filter (test lead) here) = ap (λ n. length (filter (test n) here)) (lead_with-later lead place (omega arith)) in
+    omega (arith, one, e))
+    (cases_eq lead 0)
+
+count-upto : (test : Arrival → Bool) (here : List Arrival) → length (filter test here) ≤ length here
+count-upto test [] = omega arith
+count-upto test (p ∷ here) =
+    let rest = count-upto test here in
+    cond_both (test p) (p ∷ filter test here) (filter test here) (λ ps. length ps ≤ suc (length here)) (λ _. omega arith) (λ _. omega arith)
+
+-- ---- the packets of a row
+
+-- each packet has a lead
+abbrev pub HasLead : Arrival → Type 0
+HasLead p = 1 ≤ p.lead
+
+pub packets-lead : (levels taken : ℕ) (here : List Arrival) → Each (IsSoundPacket levels taken) here → Each HasLead here
+packets-lead levels taken here each = Each-if (IsSoundPacket levels taken) HasLead here (λ p sound. sound.lead_least) each
+
+-- a row that has taken no packet has none here
+lead-other : (p : Arrival) → HasLead p → has_lead 0 p ≡ false
+lead-other p some = ne_eqb p.lead 0 (λ same. absurd (omega (arith, same, some)))
+
+pub held-none : (here : List Arrival) → Each HasLead here → held_packets 0 here ≡ 0
+unfolding held_packets
+held-none here each = ap length (filter-none (has_lead 0) here (Each-if HasLead (λ p. has_lead 0 p ≡ false) here lead-other each))
+
+late-none : (t : ℕ) (here : List Arrival) → Each HasLead here → late_packets 0 t here ≡ 0
+unfolding late_packets
+late-none t here each =
+    ap length (filter-none (is_late 0 t) here (Each-if HasLead (λ p. is_late 0 t p ≡ false) here (λ p some. and_left (has_lead 0 p) (nat_lt t p.eligible) (lead-other p some)) each))
+
+-- more packets here hold no fewer slots
+pub held-more : (lead : ℕ) (here more : List Arrival) → held_packets lead here ≤ held_packets lead (here ++ more)
+unfolding held_packets
+held-more lead here more = count-more (has_lead lead) here more
+
+pub late-more : (lead t : ℕ) (here more : List Arrival) → late_packets lead t here ≤ late_packets lead t (here ++ more)
+unfolding late_packets
+late-more lead t here more = count-more (is_late lead t) here more
+
+-- a row that takes a packet has one more here
+pub held-taken : (lead place : ℕ) (here before : List Arrival) (p : Arrival) (behind : List Arrival) → Each HasLead here → p.lead ≡ lead_with lead place → suc (held_packets lead here) ≤ held_packets (lead_with lead place) (here ++ (before ++ p ∷ behind))
+unfolding held_packets
+held-taken lead place here before p behind each is =
+    count-taken has_lead lead place here before p behind (unfold held_packets in held-none here each) (eq-eqb p.lead (lead_with lead place) is)
+
+pub late-taken : (lead place t : ℕ) (here before : List Arrival) (p : Arrival) (behind : List Arrival) → Each HasLead here → p.lead ≡ lead_with lead place → t < p.eligible → suc (late_packets lead t here) ≤ late_packets (lead_with lead place) t (here ++ (before ++ p ∷ behind))
+unfolding late_packets
+late-taken lead place t here before p behind each is later =
+    count-taken (λ n. is_late n t) lead place here before p behind (late-none t here each) (and_from (has_lead (lead_with lead place) p) (nat_lt t p.eligible) (eq-eqb p.lead (lead_with lead place) is) (lt-ltb t p.eligible later))
+
+-- no more are late than are here
+pub late-upto : (lead t : ℕ) (here : List Arrival) → late_packets lead t here ≤ length here
+unfolding late_packets
+late-upto lead t here = count-upto (is_late lead t) here

@@ -1,0 +1,257 @@
+-- The service of a tick keeps an account sound: at most one packet leaves, and it was eligible by then.
+use Rattle.std.proofs.Common.{◌≡◌, ℕ, suc, ◌+◌, ◌*◌, ◌^◌, ◌<◌, ◌≤◌, Bool, true, false, cond, not, List, [], ◌∷◌, length, Option, Some, None, inl, inr, refl, sym, ap, ◌∙◌, subst, arith}
+use Rattle.std.proofs.lemmas.Bool.{cases_Bool, eqb-true, eq-eqb, ne_eqb, leb-true, leb-false, le-ltb, and_right}
+use Rattle.std.specs.Prelude.{filter, find, nat_eq, nat_lt}
+use Rattle.std.specs.Option.{ForSome}
+use Rattle.traffic_contract.specs.Admission.{total}
+use Rattle.link_steps.specs.declared.shape.LinkShape.{LinkShape}
+use Rattle.link_steps.specs.Buffer.{has_lead, held_packets}
+use Rattle.link_steps.specs.Kept.{Kept, KeptRow, is_eligible_by, start_at, served, leaves_by, still_on, is_other, still_here}
+use Rattle.link_steps.specs.Lists.{Each}
+use Rattle.link_steps.specs.Service.{Arrival, Start, leaves_at, first_in_line}
+use Rattle.link_steps.proofs.ChangeFacts.{Each-passes}
+use Rattle.link_steps.proofs.ListFacts.{Each-both, Each-filter, Each-if, filter-all}
+use Rattle.link_steps.proofs.ServiceFacts.{first_in_line-fact}
+use Rattle.link_steps.proofs.WindowWork.{ceil_quotient-some}
+use Rattle.link_server.specs.Sound.{places_of, places, AreNumbered, IsApartFrom, AreApart, IsSoundPacket, is_at, IsRunning, is_late, late_packets, IsSoundRow, IsSound}
+use Rattle.link_server.proofs.SoundPackets.{HasLead, packets-lead, numbered-above, numbered-filter}
+
+some-same : {X : Type 0} (a b : X) → Some a ≡ Some b → a ≡ b
+some-same a b same = cc
+
+-- ---- the packet that occupies the link
+
+-- each packet here is the one of its arrival number
+abbrev IsFound : List Arrival → Arrival → Type 0
+IsFound here p = find (is_at p.place) here ≡ Some p
+
+numbered-found : (low : ℕ) (here : List Arrival) (high : ℕ) → AreNumbered low here high → Each (IsFound here) here
+numbered-found low [] high numbered = tt
+numbered-found low (p ∷ here) high numbered = (
+  rw (eq-eqb p.place p.place refl) refl,
+  Each-if (λ q. (p.place < q.place) × IsFound here q) (IsFound (p ∷ here)) here
+      (λ q both. rw (ne_eqb p.place q.place (λ same. absurd (omega (arith, same, both.0)))) both.1)
+      (Each-both (λ q. p.place < q.place) (IsFound here) here (numbered-above p.place here high numbered.1) (numbered-found p.place here high numbered.1)),
+)
+
+-- a packet that can start
+record CanStart (t : ℕ) (here : List Arrival) (p : Arrival) : Type 0 where
+  is_here : IsFound here p
+  eligible : p.eligible ≤ t
+  size : 1 ≤ p.size
+
+can-start : (levels taken t : ℕ) (here : List Arrival) → AreNumbered 0 here taken → Each (IsSoundPacket levels taken) here → Each (CanStart t here) (filter (is_eligible_by t) here)
+can-start levels taken t here numbered each =
+    let both = Each-both (IsFound here) (IsSoundPacket levels taken) here (numbered-found 0 here taken numbered) each in
+    let facts : Each (λ p. IsFound here p × IsSoundPacket levels taken p) (filter (is_eligible_by t) here) = Each-filter (λ p. IsFound here p × IsSoundPacket levels taken p) (is_eligible_by t) here both in
+    Each-if (λ p. (IsFound here p × IsSoundPacket levels taken p) × (is_eligible_by t p ≡ true)) (CanStart t here) (filter (is_eligible_by t) here)
+    (λ p all. record { is_here = all.0.0; eligible = leb-true p.eligible t all.1; size = all.0.1.size_least })
+    (Each-both (λ p. IsFound here p × IsSoundPacket levels taken p) (λ p. is_eligible_by t p ≡ true) (filter (is_eligible_by t) here) facts (Each-passes (is_eligible_by t) here))
+
+-- one that starts occupies the link
+starts-running : (shape : LinkShape) (t : ℕ) (here : List Arrival) (best : Option Arrival) → ((p : Arrival) → best ≡ Some p → CanStart t here p) → ForSome (start_at t best) (IsRunning shape.rate t here)
+starts-running shape t here None can = λ start some. cc
+starts-running shape t here (Some p) can = λ start some.
+    let first : record { packet = p; tick = t } ≡ start = some-same _ start some in
+    let starts = can p refl in
+    let work = ceil_quotient-some p.size shape.rate shape.rate_least starts.size in
+    subst (IsRunning shape.rate t here) first (record { is_here = starts.is_here; eligible = starts.eligible; begun = omega arith; leaves_later = omega (arith, work) })
+
+-- the one that occupies the link in the tick
+pub served-running : (shape : LinkShape) (levels taken t : ℕ) (here : List Arrival) (on : Option Start) → AreNumbered 0 here taken → Each (IsSoundPacket levels taken) here → ForSome on (IsRunning shape.rate t here) → ForSome (served t here on) (IsRunning shape.rate t here)
+served-running shape levels taken t here (Some start) numbered each running = running
+served-running shape levels taken t here None numbered each running =
+    starts-running shape t here (first_in_line (filter (is_eligible_by t) here))
+    (λ p first. first_in_line-fact (CanStart t here) (filter (is_eligible_by t) here) p (can-start levels taken t here numbered each) first)
+
+-- ---- the packet that leaves
+
+-- of these packets the others are left when at most one leaves, which has this lead
+record LeavesOne (here others : List Arrival) : Type 0 where
+  lead : ℕ
+  count : ℕ
+  most : count ≤ 1
+  has_lead : count ≤ lead
+  fewer : length others + count ≡ length here
+  held : (l : ℕ) → held_packets l here ≤ held_packets l others + cond (nat_eq lead l) count 0
+
+-- packets of larger arrival numbers are others
+above-others : (start : Start) (p : Arrival) (here : List Arrival) → start.packet.place ≡ p.place → Each (λ q. p.place < q.place) here → filter (is_other start) here ≡ here
+above-others start p here same above =
+    filter-all (is_other start) here (Each-if (λ q. p.place < q.place) (λ q. is_other start q ≡ true) here (λ q later. ap not (ne_eqb start.packet.place q.place (λ e. absurd (omega (arith, same, later, e))))) above)
+
+one-leaves : (start : Start) (low : ℕ) (here : List Arrival) (high : ℕ) → AreNumbered low here high → Each HasLead here → LeavesOne here (filter (is_other start) here)
+unfolding held_packets
+one-leaves start low [] high numbered leads = record {
+  lead = 0;
+  count = 0;
+  most = omega arith;
+  has_lead = omega arith;
+  fewer = omega arith;
+  held = λ l. omega arith;
+}
+one-leaves start low (p ∷ here) high numbered leads =
+    elim (cases_Bool (nat_eq start.packet.place p.place)) [
+      | inl this ↦ (
+          let same = above-others start p here (eqb-true start.packet.place p.place this) (numbered-above p.place here high numbered.1) in
+          rw (this, same) (record {
+            lead = p.lead;
+            count = 1;
+            most = omega arith;
+            has_lead = leads.0;
+            fewer = omega arith;
+            held = λ l. elim (nat_eq p.lead l) as (λ b. length (cond b (p ∷ filter (has_lead l) here) (filter (has_lead l) here)) ≤ length (filter (has_lead l) here) + cond b 1 0) [ true ↦ omega arith | false ↦ omega arith ];
+          }))
+      | inr other ↦ (
+          let rest = one-leaves start p.place here high numbered.1 leads.1 in
+          rw other (record {
+            lead = rest.lead;
+            count = rest.count;
+            most = rest.most;
+            has_lead = rest.has_lead;
+            fewer = omega (arith, rest.fewer);
+            held = λ l.
+                let less = rest.held l in
+                elim (nat_eq p.lead l) as (λ b. length (cond b (p ∷ filter (has_lead l) here) (filter (has_lead l) here)) ≤ length (cond b (p ∷ filter (has_lead l) (filter (is_other start) here)) (filter (has_lead l) (filter (is_other start) here))) + cond (nat_eq rest.lead l) rest.count 0) [ true ↦ omega (arith, less) | false ↦ omega (arith, less) ];
+          }))
+    ]
+
+-- ---- the rows' places
+
+-- what the slots of a row gain by it
+abbrev gain : ℕ → ℕ → KeptRow → ℕ
+gain lead count row = cond (nat_eq lead row.lead) count 0
+
+-- a row of another lead gains nothing
+gain-none : (lead count : ℕ) (rows : List KeptRow) → count ≤ lead → Each (IsApartFrom lead) rows → total (gain lead count) rows ≡ 0
+gain-none lead count [] some apart = refl
+gain-none lead count (row ∷ rows) some apart =
+    let rest = gain-none lead count rows some apart.1 in
+    elim (cases_Bool (nat_eq lead row.lead)) [
+      | inl same ↦ (let e = apart.0 (sym (eqb-true lead row.lead same)) in rw same (omega (arith, e, some, rest)))
+      | inr other ↦ rw other (omega (arith, rest))
+    ]
+
+-- of rows whose leads are apart one gains at most
+gain-one : (lead count : ℕ) (rows : List KeptRow) → count ≤ lead → AreApart rows → total (gain lead count) rows ≤ count
+gain-one lead count [] some apart = omega arith
+gain-one lead count (row ∷ rows) some apart =
+    elim (cases_Bool (nat_eq lead row.lead)) [
+      | inl same ↦ (
+          let rest = gain-none lead count rows some (subst (λ l. Each (IsApartFrom l) rows) (sym (eqb-true lead row.lead same)) apart.0) in
+          rw same (omega (arith, rest)))
+      | inr other ↦ (let rest = gain-one lead count rows some apart.1 in rw other (omega (arith, rest)))
+    ]
+
+total-le-both : {X : Type 0} (f g h : X → ℕ) (xs : List X) → ((x : X) → f x ≤ g x + h x) → total f xs ≤ total g xs + total h xs
+total-le-both f g h [] less = omega arith
+total-le-both f g h (x ∷ xs) less = omega (arith, less x, total-le-both f g h xs less)
+
+-- so the places are enough for the packets that are left
+left-places : (bounds : List ℕ) (here others : List Arrival) (rows : List KeptRow) → AreApart rows → LeavesOne here others → places bounds others rows ≤ places bounds here rows
+unfolding places
+left-places bounds here others rows apart leaves =
+    let gained = gain-one leaves.lead leaves.count rows leaves.has_lead apart in
+    let more = total-le-both (places_of bounds others) (places_of bounds here) (gain leaves.lead leaves.count) rows (λ row. omega (arith, leaves.held row.lead)) in
+    omega (arith, gained, more, leaves.fewer)
+
+-- ---- packets that are eligible late
+
+-- a packet of the arrival number of the one that leaves is eligible by then
+abbrev IsEarly : Start → ℕ → Arrival → Type 0
+IsEarly start t p = start.packet.place ≡ p.place → p.eligible ≤ t
+
+early-at : (rate clock taken t : ℕ) (here : List Arrival) (start : Start) → AreNumbered 0 here taken → IsRunning rate clock here start → start.packet.eligible ≤ t → Each (IsEarly start t) here
+early-at rate clock taken t here start numbered running early =
+    Each-if (IsFound here) (IsEarly start t) here
+    (λ p found same.
+    let e : start.packet ≡ p = some-same start.packet p (sym running.is_here ∙ ap (λ place. find (is_at place) here) same ∙ found) in
+    subst (λ (q : Arrival). q.eligible ≤ t) e early)
+    (numbered-found 0 here taken numbered)
+
+-- the packets that are eligible later stay
+late-stays : (start : Start) (lead t : ℕ) (here : List Arrival) → Each (IsEarly start t) here → late_packets lead t (filter (is_other start) here) ≡ late_packets lead t here
+unfolding late_packets
+late-stays start lead t [] early = refl
+late-stays start lead t (p ∷ here) early =
+    let rest = late-stays start lead t here early.1 in
+    elim (cases_Bool (nat_eq start.packet.place p.place)) [
+      | inl this ↦ (
+          let not_late : is_late lead t p ≡ false = and_right (has_lead lead p) (nat_lt t p.eligible) (le-ltb t p.eligible (early.0 (eqb-true start.packet.place p.place this))) in
+          rw (this, not_late) rest)
+      | inr other ↦ rw other (
+          elim (is_late lead t p) as (λ b. length (cond b (p ∷ filter (is_late lead t) (filter (is_other start) here)) (filter (is_late lead t) (filter (is_other start) here))) ≡ length (cond b (p ∷ filter (is_late lead t) here) (filter (is_late lead t) here))) [ true ↦ ap suc rest | false ↦ rest ])
+    ]
+
+-- a row stays sound without the packet
+left-row : (levels clock taken : ℕ) (here : List Arrival) (start : Start) (row : KeptRow) → ((t : ℕ) → 2 ^ 62 ≤ t → Each (IsEarly start t) here) → IsSoundRow levels clock taken here row → IsSoundRow levels clock taken (filter (is_other start) here) row
+left-row levels clock taken here start row early sound = record {
+  contract = sound.contract;
+  level_most = sound.level_most;
+  reach_most = sound.reach_most;
+  up_reach_most = sound.up_reach_most;
+  up_bound_most = sound.up_bound_most;
+  taken_most = sound.taken_most;
+  lead_most = sound.lead_most;
+  paced = λ t late.
+      let same = late-stays start row.lead t here (early t late) in
+      let times : row.terms.contract.interval * late_packets row.lead t (filter (is_other start) here) ≡ row.terms.contract.interval * late_packets row.lead t here = ap (λ n. row.terms.contract.interval * n) same in
+      omega (arith, times, sound.paced t late);
+  ahead = sound.ahead;
+}
+
+-- ---- the account
+
+-- the account with another clock, other packets here, and another that occupies the link
+abbrev pub with_service : Kept → ℕ → List Arrival → Option Start → Kept
+with_service k clock here on = record k { clock = clock; here = here; on = on }
+
+-- no packet occupies the link
+serves-none : (shape : LinkShape) (room : ℕ) (k : Kept) → IsSound shape room k → Each (IsSoundRow (length shape.bounds) (suc k.clock) k.taken k.here) k.rows → IsSound shape room (with_service k (suc k.clock) k.here None)
+serves-none shape room k sound later = record {
+  taken_most = omega (arith, sound.taken_most);
+  numbered = sound.numbered;
+  packets = sound.packets;
+  apart = sound.apart;
+  rows = later;
+  fits = sound.fits;
+  running = λ start some. cc;
+}
+
+-- the one that occupies it stays
+serves-on : (shape : LinkShape) (room : ℕ) (k : Kept) (start : Start) → IsSound shape room k → Each (IsSoundRow (length shape.bounds) (suc k.clock) k.taken k.here) k.rows → IsRunning shape.rate k.clock k.here start → suc k.clock < leaves_at shape.rate start → IsSound shape room (with_service k (suc k.clock) k.here (Some start))
+serves-on shape room k start sound later running goes = record {
+  taken_most = omega (arith, sound.taken_most);
+  numbered = sound.numbered;
+  packets = sound.packets;
+  apart = sound.apart;
+  rows = later;
+  fits = sound.fits;
+  running = λ other same. subst (IsRunning shape.rate (suc k.clock) k.here) (some-same start other same) (record { is_here = running.is_here; eligible = running.eligible; begun = omega (arith, running.begun); leaves_later = goes });
+}
+
+-- or it leaves
+serves-last : (shape : LinkShape) (room : ℕ) (k : Kept) (start : Start) → k.clock < 2 ^ 61 → IsSound shape room k → Each (IsSoundRow (length shape.bounds) (suc k.clock) k.taken k.here) k.rows → IsRunning shape.rate k.clock k.here start → IsSound shape room (with_service k (suc k.clock) (filter (is_other start) k.here) None)
+serves-last shape room k start early sound later running =
+    let levels : ℕ = length shape.bounds in
+    let leaves = one-leaves start 0 k.here k.taken sound.numbered (packets-lead levels k.taken k.here sound.packets) in
+    record {
+      taken_most = omega (arith, sound.taken_most, leaves.fewer, leaves.most);
+      numbered = numbered-filter (is_other start) 0 k.here k.taken sound.numbered;
+      packets = Each-filter (IsSoundPacket levels k.taken) (is_other start) k.here sound.packets;
+      apart = sound.apart;
+      rows = Each-if (IsSoundRow levels (suc k.clock) k.taken k.here) (IsSoundRow levels (suc k.clock) k.taken (filter (is_other start) k.here)) k.rows
+          (λ row each. left-row levels (suc k.clock) k.taken k.here start row (λ t late. early-at shape.rate k.clock k.taken t k.here start sound.numbered running (omega (arith, running.eligible, running.begun))) each)
+          later;
+      fits = omega (arith, left-places shape.bounds k.here (filter (is_other start) k.here) k.rows sound.apart leaves, sound.fits);
+      running = λ other some. cc;
+    }
+
+serves-start : (shape : LinkShape) (room : ℕ) (k : Kept) (start : Start) (by : Bool) → k.clock < 2 ^ 61 → IsSound shape room k → Each (IsSoundRow (length shape.bounds) (suc k.clock) k.taken k.here) k.rows → IsRunning shape.rate k.clock k.here start → leaves_by shape.rate k.clock start ≡ by → IsSound shape room (with_service k (suc k.clock) (cond by (filter (is_other start) k.here) k.here) (cond by None (Some start)))
+serves-start shape room k start true early sound later running by = serves-last shape room k start early sound later running
+serves-start shape room k start false early sound later running by = serves-on shape room k start sound later running (leb-false (leaves_at shape.rate start) (suc k.clock) by)
+
+-- the tick is over for the packets here and the one that occupies the link in it
+pub service-sound : (shape : LinkShape) (room : ℕ) (k : Kept) (on : Option Start) → k.clock < 2 ^ 61 → IsSound shape room k → Each (IsSoundRow (length shape.bounds) (suc k.clock) k.taken k.here) k.rows → ForSome on (IsRunning shape.rate k.clock k.here) → IsSound shape room (with_service k (suc k.clock) (still_here shape.rate k.clock on k.here) (still_on shape.rate k.clock on))
+service-sound shape room k None early sound later running = serves-none shape room k sound later
+service-sound shape room k (Some start) early sound later running = serves-start shape room k start (leaves_by shape.rate k.clock start) early sound later (running start refl) refl

@@ -1,0 +1,238 @@
+-- In a tick rows expire, and the sources of the others bring their packets: the account stays sound, and has room.
+use Rattle.std.proofs.Common.{◌≡◌, ℕ, suc, ◌+◌, ◌^◌, ◌<◌, ◌≤◌, Bool, true, false, List, [], ◌∷◌, ◌++◌, length, Option, Some, None, ⊎_elim, refl, sym, subst, arith, append_assoc, length-append}
+use Rattle.std.proofs.lemmas.Bool.{cases_eq, ltb-true}
+use Rattle.std.specs.Prelude.{find}
+use Rattle.traffic_contract.proofs.AdmissionFacts.{total-filter-le}
+use Rattle.traffic_contract.specs.Admission.{total}
+use Rattle.link_steps.specs.declared.shape.LinkShape.{LinkShape}
+use Rattle.link_steps.specs.Buffer.{slots_of, has_slot, held_packets}
+use Rattle.link_steps.specs.Kept.{Kept, KeptRow, kept_stays, kept_step, kept_tick, kept_packet, past_tick, kept_after_step, kept_packets, kept_rows_after, held_rows, brought, present}
+use Rattle.link_steps.specs.Lists.{Each}
+use Rattle.link_steps.specs.Rows.{SourcePacket, is_for}
+use Rattle.link_steps.specs.Service.{Arrival}
+use Rattle.link_steps.specs.Sources.{SourceStep, Rests, Brings, Loses, lead_with, source_step, taken_by}
+use Rattle.link_steps.proofs.ListFacts.{Each-append, Each-filter, Each-find, Each-if}
+use Rattle.link_server.specs.Sound.{places_of, places, AreNumbered, HasSize, AreAhead, IsApartFrom, AreApart, IsSoundPacket, IsSoundRow, IsSound, with_brought}
+use Rattle.link_server.proofs.SoundPackets.{HasLead, packets-lead, numbered-append, held-more, held-taken, late-taken}
+use Rattle.link_server.proofs.SoundRows.{AreApart-filter, apart-lead_with, lead_with-first, lead_with-later, ahead-earlier, ahead-sizes, left-ahead}
+use Rattle.link_server.proofs.SoundTaking.{lead_with-most, taken-sound, more-sound, packets-more, packet-sound, places-taken, running-more}
+
+-- ---- one row
+
+-- what a source brings has a size, and finds a slot free
+abbrev pub IsStep : List ℕ → List Arrival → KeptRow → SourceStep → Type 0
+IsStep bounds here row (Brings size) = (held_packets row.lead here < slots_of bounds row.terms) × (1 ≤ size) × (size ≤ 65536)
+IsStep bounds here row Rests = Unit {0}
+IsStep bounds here row Loses = Unit {0}
+
+pub kept_step-is : (bounds : List ℕ) (here : List Arrival) (t u : ℕ) (row : KeptRow) → AreAhead u row.left → IsStep bounds here row (kept_step bounds here t row)
+unfolding kept_step
+kept_step-is bounds here t u row ahead = by-found (has_slot bounds row.terms row.lead here) refl (find (is_for t) row.left) refl where
+  by-found : (slot : Bool) → has_slot bounds row.terms row.lead here ≡ slot → (found : Option SourcePacket) → find (is_for t) row.left ≡ found → IsStep bounds here row (source_step slot found)
+  by-found true free None is = tt
+  by-found false free None is = tt
+  by-found false free (Some p) is = tt
+  by-found true free (Some p) is =
+      let size = Each-find HasSize (is_for t) row.left p (ahead-sizes u row.left ahead) is in
+      (ltb-true (held_packets row.lead here) (slots_of bounds row.terms) free, size.least, size.most)
+
+-- the packet, if there is one, is counted
+pub packet-length : (step : SourceStep) (t place : ℕ) (row : KeptRow) → length (kept_packet step t place row) ≡ taken_by step
+packet-length (Brings size) t place row = refl
+packet-length Rests t place row = refl
+packet-length Loses t place row = refl
+
+packet-numbered : (step : SourceStep) (t taken : ℕ) (row : KeptRow) → AreNumbered taken (kept_packet step t (suc taken) row) (taken + taken_by step)
+packet-numbered (Brings size) t taken row = (omega arith, omega arith)
+packet-numbered Rests t taken row = omega arith
+packet-numbered Loses t taken row = omega arith
+
+-- its place is one of the row's free slots
+step-places : (bounds : List ℕ) (here before behind : List Arrival) (t place : ℕ) (row : KeptRow) (step : SourceStep) → Each HasLead here → IsStep bounds here row step → taken_by step + places_of bounds (here ++ (before ++ (kept_packet step t place row ++ behind))) (kept_after_step step t place row) ≤ places_of bounds here row
+step-places bounds here before behind t place row (Brings size) leads is =
+    omega (arith, places-taken bounds here (here ++ (before ++ (kept_packet (Brings size) t place row ++ behind))) place (kept_tick row t) row is.0 (held-taken row.lead place here before _ behind leads refl))
+step-places bounds here before behind t place row Rests leads is = omega (arith, held-more row.lead here (before ++ behind))
+step-places bounds here before behind t place row Loses leads is = omega (arith, held-more row.lead here (before ++ behind))
+
+-- the row without what was planned for the tick
+past-sound : (levels t taken : ℕ) (here : List Arrival) (row : KeptRow) → IsSoundRow levels t taken here row → IsSoundRow levels (suc t) taken here (past_tick t row)
+past-sound levels t taken here row sound = record {
+  contract = sound.contract;
+  level_most = sound.level_most;
+  reach_most = sound.reach_most;
+  up_reach_most = sound.up_reach_most;
+  up_bound_most = sound.up_bound_most;
+  taken_most = sound.taken_most;
+  lead_most = sound.lead_most;
+  paced = sound.paced;
+  ahead = left-ahead t (suc t) row.left sound.ahead;
+}
+
+-- the row after its source's step
+step-sound : (levels t before_all taken more : ℕ) (here before behind : List Arrival) (row : KeptRow) (step : SourceStep) → t < 2 ^ 61 → before_all ≤ taken → taken + taken_by step ≤ more → Each HasLead here → IsSoundRow levels t before_all here row → IsSoundRow levels (suc t) more (here ++ (before ++ (kept_packet step t (suc taken) row ++ behind))) (kept_after_step step t (suc taken) row)
+step-sound levels t before_all taken more here before behind row (Brings size) early less upto leads sound =
+    let later = past-sound levels t before_all here row sound in
+    taken-sound levels (suc t) before_all more here (here ++ (before ++ (kept_packet (Brings size) t (suc taken) row ++ behind))) t 0 (suc taken) (past_tick t row)
+    (omega arith) (omega arith) (omega arith) (omega arith) (omega (arith, sound.taken_most))
+    (λ x past. late-taken row.lead (suc taken) x here before _ behind leads refl past)
+    later
+step-sound levels t before_all taken more here before behind row Rests early less upto leads sound =
+    more-sound levels (suc t) before_all more here (before ++ behind) (past_tick t row) (omega arith) (past-sound levels t before_all here row sound)
+step-sound levels t before_all taken more here before behind row Loses early less upto leads sound =
+    more-sound levels (suc t) before_all more here (before ++ behind) (past_tick t row) (omega arith) (past-sound levels t before_all here row sound)
+
+-- the packet that it brings
+step-packet : (levels t before_all taken more : ℕ) (bounds : List ℕ) (here : List Arrival) (row : KeptRow) (step : SourceStep) → before_all ≤ taken → taken + taken_by step ≤ more → IsStep bounds here row step → IsSoundRow levels t before_all here row → Each (IsSoundPacket levels more) (kept_packet step t (suc taken) row)
+step-packet levels t before_all taken more bounds here row (Brings size) less upto is sound =
+    (packet-sound levels t before_all more here (suc taken) (suc row.taken) size t (kept_tick row t) row (omega arith) (omega arith) (omega arith) is.1 is.2 sound, tt)
+step-packet levels t before_all taken more bounds here row Rests less upto is sound = tt
+step-packet levels t before_all taken more bounds here row Loses less upto is sound = tt
+
+-- its lead afterwards: the one that it had, or else the new arrival number
+step-lead : (P : ℕ → Type 0) (t place : ℕ) (row : KeptRow) (step : SourceStep) → P row.lead → P (lead_with row.lead place) → P (kept_after_step step t place row).lead
+step-lead P t place row (Brings size) before new = new
+step-lead P t place row Rests before new = before
+step-lead P t place row Loses before new = before
+
+step-lead-most : (t taken : ℕ) (row : KeptRow) (step : SourceStep) → row.lead ≤ taken → (kept_after_step step t (suc taken) row).lead ≤ taken + taken_by step
+step-lead-most t taken row (Brings size) most = omega (arith, lead_with-most row.lead (suc taken) (suc taken) (omega arith) (omega arith))
+step-lead-most t taken row Rests most = omega arith
+step-lead-most t taken row Loses most = omega arith
+
+-- ---- all rows
+
+-- each row's step, from plans that lie ahead
+abbrev pub AreSteps : List ℕ → List Arrival → ℕ → List KeptRow → Type 0
+AreSteps bounds here t rows = Each (λ row. IsStep bounds here row (kept_step bounds here t row)) rows
+
+pub kept_steps-are : (bounds : List ℕ) (here : List Arrival) (levels t taken : ℕ) (rows : List KeptRow) → Each (IsSoundRow levels t taken here) rows → AreSteps bounds here t rows
+kept_steps-are bounds here levels t taken rows each =
+    Each-if (IsSoundRow levels t taken here) (λ row. IsStep bounds here row (kept_step bounds here t row)) rows (λ row sound. kept_step-is bounds here t t row sound.ahead) each
+
+-- the packets brought take places of their rows
+pub sources-places : (bounds : List ℕ) (here before : List Arrival) (t taken : ℕ) (rows : List KeptRow) → Each HasLead here → AreSteps bounds here t rows → length (kept_packets bounds here t taken rows) + total (places_of bounds (here ++ (before ++ kept_packets bounds here t taken rows))) (kept_rows_after bounds here t taken rows) ≤ total (places_of bounds here) rows
+unfolding kept_packets kept_rows_after
+sources-places bounds here before t taken [] leads steps = omega arith
+sources-places bounds here before t taken (row ∷ rows) leads steps =
+    let step : SourceStep = kept_step bounds here t row in
+    let packet : List Arrival = kept_packet (kept_step bounds here t row) t (suc taken) row in
+    let behind : List Arrival = kept_packets bounds here t (taken + taken_by (kept_step bounds here t row)) rows in
+    let first = step-places bounds here before behind t (suc taken) row step leads steps.0 in
+    let rest = rw (append_assoc before packet behind) at (sources-places bounds here (before ++ packet) t (taken + taken_by (kept_step bounds here t row)) rows leads steps.1) in
+    omega (arith, first, rest, length-append packet behind, packet-length step t (suc taken) row)
+
+pub sources-numbered : (bounds : List ℕ) (here : List Arrival) (t taken : ℕ) (rows : List KeptRow) → AreNumbered taken (kept_packets bounds here t taken rows) (taken + length (kept_packets bounds here t taken rows))
+unfolding kept_packets
+sources-numbered bounds here t taken [] = omega arith
+sources-numbered bounds here t taken (row ∷ rows) =
+    let step : SourceStep = kept_step bounds here t row in
+    let packet : List Arrival = kept_packet (kept_step bounds here t row) t (suc taken) row in
+    let behind : List Arrival = kept_packets bounds here t (taken + taken_by (kept_step bounds here t row)) rows in
+    let e : taken + length (packet ++ behind) ≡ taken + taken_by step + length behind = omega (arith, length-append packet behind, packet-length step t (suc taken) row) in
+    subst (AreNumbered taken (packet ++ behind)) (sym e)
+    (numbered-append taken (taken + taken_by step) (taken + taken_by step + length behind) packet behind (packet-numbered step t taken row) (sources-numbered bounds here t (taken + taken_by step) rows))
+
+pub sources-packets : (levels t before_all taken more : ℕ) (bounds : List ℕ) (here : List Arrival) (rows : List KeptRow) → before_all ≤ taken → taken + length (kept_packets bounds here t taken rows) ≤ more → AreSteps bounds here t rows → Each (IsSoundRow levels t before_all here) rows → Each (IsSoundPacket levels more) (kept_packets bounds here t taken rows)
+unfolding kept_packets
+sources-packets levels t before_all taken more bounds here [] less upto steps each = tt
+sources-packets levels t before_all taken more bounds here (row ∷ rows) less upto steps each =
+    let step : SourceStep = kept_step bounds here t row in
+    let packet : List Arrival = kept_packet (kept_step bounds here t row) t (suc taken) row in
+    let behind : List Arrival = kept_packets bounds here t (taken + taken_by (kept_step bounds here t row)) rows in
+    let n = length-append packet behind in
+    let m = packet-length step t (suc taken) row in
+    Each-append (IsSoundPacket levels more) packet behind
+    (step-packet levels t before_all taken more bounds here row step less (omega (arith, upto, n, m)) steps.0 each.0)
+    (sources-packets levels t before_all (taken + taken_by step) more bounds here rows (omega (arith, less)) (omega (arith, upto, n, m)) steps.1 each.1)
+
+pub sources-rows : (levels t before_all taken more : ℕ) (bounds : List ℕ) (here before : List Arrival) (rows : List KeptRow) → t < 2 ^ 61 → before_all ≤ taken → taken + length (kept_packets bounds here t taken rows) ≤ more → Each HasLead here → Each (IsSoundRow levels t before_all here) rows → Each (IsSoundRow levels (suc t) more (here ++ (before ++ kept_packets bounds here t taken rows))) (kept_rows_after bounds here t taken rows)
+unfolding kept_packets kept_rows_after
+sources-rows levels t before_all taken more bounds here before [] early less upto leads each = tt
+sources-rows levels t before_all taken more bounds here before (row ∷ rows) early less upto leads each =
+    let step : SourceStep = kept_step bounds here t row in
+    let packet : List Arrival = kept_packet (kept_step bounds here t row) t (suc taken) row in
+    let behind : List Arrival = kept_packets bounds here t (taken + taken_by (kept_step bounds here t row)) rows in
+    let n = length-append packet behind in
+    let m = packet-length step t (suc taken) row in
+    let rest = sources-rows levels t before_all (taken + taken_by step) more bounds here (before ++ packet) rows early (omega (arith, less)) (omega (arith, upto, n, m)) leads each.1 in (
+      step-sound levels t before_all taken more here before behind row step early less (omega (arith, upto, n, m)) leads each.0,
+      subst (λ ps. Each (IsSoundRow levels (suc t) more (here ++ ps)) (kept_rows_after bounds here t (taken + taken_by (kept_step bounds here t row)) rows)) (append_assoc before packet behind) rest,
+    )
+
+-- leads: those that the rows had, and new ones
+leads-after : (P : ℕ → Type 0) (bounds : List ℕ) (here : List Arrival) (t taken : ℕ) (rows : List KeptRow) → ((n : ℕ) → taken < n → P n) → Each (λ row. P row.lead) rows → Each (λ row. P row.lead) (kept_rows_after bounds here t taken rows)
+unfolding kept_rows_after
+leads-after P bounds here t taken [] new each = tt
+leads-after P bounds here t taken (row ∷ rows) new each = (
+  step-lead P t (suc taken) row (kept_step bounds here t row) each.0
+      (⊎_elim (λ (first : row.lead ≡ 0). subst P (sym (lead_with-first row.lead (suc taken) first)) (new (suc taken) (omega arith)))
+      (λ (later : row.lead ≡ 0 → ⊥). subst P (sym (lead_with-later row.lead (suc taken) (omega arith))) each.0)
+      (cases_eq row.lead 0)),
+  leads-after P bounds here t (taken + taken_by (kept_step bounds here t row)) rows (λ n above. new n (omega arith)) each.1,
+)
+
+pub sources-apart : (bounds : List ℕ) (here : List Arrival) (t taken : ℕ) (rows : List KeptRow) → Each (λ row. row.lead ≤ taken) rows → AreApart rows → AreApart (kept_rows_after bounds here t taken rows)
+unfolding kept_rows_after
+sources-apart bounds here t taken [] most apart = tt
+sources-apart bounds here t taken (row ∷ rows) most apart =
+    let step : SourceStep = kept_step bounds here t row in
+    let lead : ℕ = (kept_after_step (kept_step bounds here t row) t (suc taken) row).lead in
+    let upto = step-lead-most t taken row step most.0 in
+    let old : Each (IsApartFrom lead) rows = step-lead (λ n. Each (IsApartFrom n) rows) t (suc taken) row step apart.0 (apart-lead_with (suc taken) row.lead rows (Each-if (λ r. r.lead ≤ taken) (λ r. r.lead < suc taken) rows (λ r h. omega (arith, h)) most.1) apart.0) in (
+      leads-after (λ n. n ≡ lead → lead ≡ 0) bounds here t (taken + taken_by step) rows (λ n above same. absurd (omega (arith, above, same, upto))) old,
+      sources-apart bounds here t (taken + taken_by step) rows (Each-if (λ r. r.lead ≤ taken) (λ r. r.lead ≤ taken + taken_by step) rows (λ r h. omega (arith, h)) most.1) apart.1,
+    )
+
+-- ---- the account in the tick
+
+-- the rows that stay held are sound
+pub held-sound : (shape : LinkShape) (room : ℕ) (k : Kept) → IsSound shape room k → Each (IsSoundRow (length shape.bounds) k.clock k.taken k.here) (held_rows shape k)
+held-sound shape room k sound = Each-filter (IsSoundRow (length shape.bounds) k.clock k.taken k.here) (kept_stays shape.bounds k.clock) k.rows sound.rows
+
+-- the places of the packets that are brought were places of those rows
+pub brought-places : (shape : LinkShape) (room : ℕ) (k : Kept) → IsSound shape room k → length (brought shape k) + total (places_of shape.bounds (present shape k)) (kept_rows_after shape.bounds k.here k.clock k.taken (held_rows shape k)) ≤ total (places_of shape.bounds k.here) (held_rows shape k)
+brought-places shape room k sound =
+    sources-places shape.bounds k.here [] k.clock k.taken (held_rows shape k) (packets-lead (length shape.bounds) k.taken k.here sound.packets)
+    (kept_steps-are shape.bounds k.here (length shape.bounds) k.clock k.taken (held_rows shape k) (held-sound shape room k sound))
+
+-- the rows lie ahead of the next tick
+pub brought-rows : (shape : LinkShape) (room : ℕ) (k : Kept) → k.clock < 2 ^ 61 → IsSound shape room k → Each (IsSoundRow (length shape.bounds) (suc k.clock) (k.taken + length (brought shape k)) (present shape k)) (kept_rows_after shape.bounds k.here k.clock k.taken (held_rows shape k))
+brought-rows shape room k early sound =
+    sources-rows (length shape.bounds) k.clock k.taken k.taken (k.taken + length (brought shape k)) shape.bounds k.here [] (held_rows shape k) early (omega arith) (omega arith)
+    (packets-lead (length shape.bounds) k.taken k.here sound.packets) (held-sound shape room k sound)
+
+-- a row that lies ahead of the next tick lies ahead of this one
+row-earlier : (levels t taken : ℕ) (here : List Arrival) (row : KeptRow) → IsSoundRow levels (suc t) taken here row → IsSoundRow levels t taken here row
+row-earlier levels t taken here row sound = record {
+  contract = sound.contract;
+  level_most = sound.level_most;
+  reach_most = sound.reach_most;
+  up_reach_most = sound.up_reach_most;
+  up_bound_most = sound.up_bound_most;
+  taken_most = sound.taken_most;
+  lead_most = sound.lead_most;
+  paced = sound.paced;
+  ahead = ahead-earlier (suc t) t row.left (omega arith) sound.ahead;
+}
+
+-- once the sources have brought their packets the account is sound
+pub brought-sound : (shape : LinkShape) (room : ℕ) (k : Kept) → k.clock < 2 ^ 61 → IsSound shape room k → IsSound shape room (with_brought shape k)
+unfolding with_brought places
+brought-sound shape room k early sound =
+    let levels : ℕ = length shape.bounds in
+    let rows : List KeptRow = held_rows shape k in
+    let more : ℕ = k.taken + length (brought shape k) in
+    let held = held-sound shape room k sound in
+    let longer = length-append k.here (brought shape k) in
+    record {
+      taken_most = omega (arith, sound.taken_most, longer);
+      numbered = numbered-append 0 k.taken more k.here (brought shape k) sound.numbered (sources-numbered shape.bounds k.here k.clock k.taken rows);
+      packets = Each-append (IsSoundPacket levels more) k.here (brought shape k) (packets-more levels k.taken more k.here (omega arith) sound.packets)
+          (sources-packets levels k.clock k.taken k.taken more shape.bounds k.here rows (omega arith) (omega arith) (kept_steps-are shape.bounds k.here levels k.clock k.taken rows held) held);
+      apart = sources-apart shape.bounds k.here k.clock k.taken rows
+          (Each-if (IsSoundRow levels k.clock k.taken k.here) (λ row. row.lead ≤ k.taken) rows (λ row each. each.lead_most) held)
+          (AreApart-filter (kept_stays shape.bounds k.clock) k.rows sound.apart);
+      rows = Each-if (IsSoundRow levels (suc k.clock) more (present shape k)) (IsSoundRow levels k.clock more (present shape k)) _ (row-earlier levels k.clock more (present shape k)) (brought-rows shape room k early sound);
+      fits = omega (arith, brought-places shape room k sound, total-filter-le (places_of shape.bounds k.here) (kept_stays shape.bounds k.clock) k.rows, longer, sound.fits);
+      running = λ start on. running-more shape.rate k.clock k.here (brought shape k) start (sound.running start on);
+    }

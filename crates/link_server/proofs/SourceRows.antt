@@ -1,0 +1,199 @@
+-- The rows make their steps of a tick one after another: what the first have done, and what those behind do after them,
+-- is together what all do.
+use Rattle.std.proofs.Common.{◌≡◌, ℕ, zero, suc, ◌+◌, ◌<◌, ◌≤◌, Bool, true, false, List, [], ◌∷◌, ◌++◌, length, map, take, drop, get_or, set, refl, sym, ap, ◌∙◌, subst, arith}
+use Rattle.std.specs.Prelude.{if◌then◌else◌}
+use Rattle.std.proofs.lemmas.List.{drop_more, drop-set-lt, take_more_set, map_push, append_assoc, length-append, append-nil, length-map, take-append-le, drop_all, take_all}
+use Rattle.net_units.specs.Numbers.{channel_number, level_number}
+use Rattle.rcsp_admission.specs.Sums.{held_at}
+use Rattle.link_steps.specs.Kept.{KeptRow, kept_packet, kept_after_step, kept_packets, kept_rows_after, kept_lost}
+use Rattle.link_steps.specs.Lists.{Each}
+use Rattle.link_steps.specs.Service.{Arrival}
+use Rattle.link_steps.specs.Sources.{SourceStep, taken_by, lost_by}
+use Rattle.link_steps.specs.Sources.SourceStep.{Rests, Brings, Loses}
+use Rattle.link_server.specs.Rows.{terms_in, row_in, summed, IsWithin}
+use Rattle.link_server.specs.Sources.{step_in, brought_by, rows_by, lost_by_rows, IsReady, AreReady}
+use Rattle.link_server.specs.Packets.{arrival_in, here_in}
+use Rattle.link_server.specs.declared.held_row.HeldRow.{HeldRow}
+use Rattle.link_server.specs.declared.packets.HeldPacket.{HeldPacket}
+
+-- the first i of the rows have made their step
+pub record HaveStepped (bounds : List ℕ) (was : List Arrival) (t before : ℕ) (old : List HeldRow) (i : ℕ) (rows : List HeldRow) (now : List Arrival) (count dropped : ℕ) : Type 0 where
+  pub behind : drop i rows ≡ drop i old
+  pub front : map row_in (take i rows) ++ rows_by bounds was t count (drop i old) ≡ rows_by bounds was t before old
+  pub here : now ++ brought_by bounds was t count (drop i old) ≡ was ++ brought_by bounds was t before old
+  pub taken : count + length (brought_by bounds was t count (drop i old)) ≡ before + length (brought_by bounds was t before old)
+  pub lost : dropped + lost_by_rows bounds was t (drop i old) ≡ lost_by_rows bounds was t old
+  pub few : dropped ≤ i
+
+-- at the beginning none has
+pub none-stepped : (bounds : List ℕ) (was : List Arrival) (t before : ℕ) (old : List HeldRow) → HaveStepped bounds was t before old 0 old was before 0
+none-stepped bounds was t before old = record { behind = refl; front = refl; here = refl; taken = refl; lost = omega arith; few = omega arith }
+
+-- a row's step takes as many packets as it brings
+taken-brought : (step : SourceStep) (t place : ℕ) (row : KeptRow) → length (kept_packet step t place row) ≡ taken_by step
+taken-brought Rests t place row = refl
+taken-brought (Brings size) t place row = refl
+taken-brought Loses t place row = refl
+
+lost-few : (step : SourceStep) → lost_by step ≤ 1
+lost-few Rests = omega arith
+lost-few (Brings size) = omega arith
+lost-few Loses = omega arith
+
+-- the rows from one on are that one and those behind it
+from-row : (rows : List HeldRow) (i : ℕ) (d : HeldRow) → i < length rows → drop i rows ≡ get_or rows i d ∷ drop (i + 1) rows
+from-row rows i d inside = drop_more rows i d inside
+
+drop-suc : {A : Type 0} (xs : List A) (i : ℕ) → drop 1 (drop i xs) ≡ drop (suc i) xs
+drop-suc [] zero = refl
+drop-suc [] (suc i) = refl
+drop-suc (x ∷ xs) zero = refl
+drop-suc (x ∷ xs) (suc i) = drop-suc xs i
+
+drop-next : {A : Type 0} (xs : List A) (i : ℕ) → drop 1 (drop i xs) ≡ drop (i + 1) xs
+drop-next xs i =
+    let next : suc i ≡ i + 1 = omega arith in
+    drop-suc xs i ∙ ap (λ n. drop n xs) next
+
+behind-next : (old rows : List HeldRow) (i : ℕ) → drop i rows ≡ drop i old → drop (i + 1) old ≡ drop (i + 1) rows
+behind-next old rows i behind = sym (drop-next old i) ∙ ap (drop 1) (sym behind) ∙ drop-next rows i
+
+-- the packets that they take are those of that one, and then those of the rows behind it
+brought-from : (bounds : List ℕ) (was : List Arrival) (t taken : ℕ) (old : List HeldRow) (i : ℕ) (rows : List HeldRow) (d : HeldRow) → drop i rows ≡ drop i old → i < length rows
+    → length (brought_by bounds was t taken (drop i old)) ≡ taken_by (step_in bounds was t (get_or rows i d)) + length (brought_by bounds was t (taken + taken_by (step_in bounds was t (get_or rows i d))) (drop (i + 1) old))
+unfolding kept_packets
+brought-from bounds was t taken old i rows d behind inside =
+    let step = step_in bounds was t (get_or rows i d) in
+    ap (λ all. length (brought_by bounds was t taken all)) (sym behind ∙ from-row rows i d inside)
+    ∙ length-append (kept_packet step t (suc taken) (row_in (get_or rows i d))) (brought_by bounds was t (taken + taken_by step) (drop (i + 1) rows))
+    ∙ ap (λ n. n + length (brought_by bounds was t (taken + taken_by step) (drop (i + 1) rows))) (taken-brought step t (suc taken) (row_in (get_or rows i d)))
+    ∙ ap (λ all. taken_by step + length (brought_by bounds was t (taken + taken_by step) all)) (sym (behind-next old rows i behind))
+
+-- so before its step there is room for its packet, where there is room for all
+pub packets-now : (bounds : List ℕ) (was : List Arrival) (t taken : ℕ) (old : List HeldRow) (i : ℕ) (rows : List HeldRow) (d : HeldRow) → drop i rows ≡ drop i old → i < length rows
+    → taken_by (step_in bounds was t (get_or rows i d)) ≤ length (brought_by bounds was t taken (drop i old))
+packets-now bounds was t taken old i rows d behind inside = let split = brought-from bounds was t taken old i rows d behind inside in omega (arith, split)
+
+-- and it is ready
+each-behind : (P : KeptRow → Type 0) (rows : List HeldRow) (i : ℕ) → Each P (map row_in rows) → Each P (map row_in (drop i rows))
+each-behind P [] zero each = each
+each-behind P [] (suc i) each = each
+each-behind P (row ∷ rows) zero each = each
+each-behind P (row ∷ rows) (suc i) each = each-behind P rows i each.1
+
+pub ready-now : (t : ℕ) (old : List HeldRow) (i : ℕ) (rows : List HeldRow) (d : HeldRow) → drop i rows ≡ drop i old → AreReady t old → i < length rows → IsReady t (row_in (get_or rows i d))
+ready-now t old i rows d behind ready inside =
+    (subst (λ all. Each (IsReady t) (map row_in all)) (sym behind ∙ from-row rows i d inside) (each-behind (IsReady t) old i ready)).0
+
+-- one row more has made its step
+pub one-stepped : (bounds : List ℕ) (was : List Arrival) (t before : ℕ) (old : List HeldRow) (i : ℕ) (rows : List HeldRow) (here : List Arrival) (taken lost : ℕ) (d new : HeldRow) (now : List Arrival) (taken' lost' : ℕ)
+    → HaveStepped bounds was t before old i rows here taken lost
+    → i < length rows
+    → row_in new ≡ kept_after_step (step_in bounds was t (get_or rows i d)) t (suc taken) (row_in (get_or rows i d))
+    → now ≡ here ++ kept_packet (step_in bounds was t (get_or rows i d)) t (suc taken) (row_in (get_or rows i d))
+    → taken' ≡ taken + taken_by (step_in bounds was t (get_or rows i d))
+    → lost' ≡ lost + lost_by (step_in bounds was t (get_or rows i d))
+    → HaveStepped bounds was t before old (i + 1) (set rows i new) now taken' lost'
+unfolding kept_packets kept_rows_after kept_lost
+one-stepped bounds was t before old i rows here taken lost d new now taken' lost' so inside stepped brought more dropped =
+    let row = get_or rows i d in
+    let step = step_in bounds was t row in
+    let rest : drop i old ≡ row ∷ drop (i + 1) rows = sym so.behind ∙ from-row rows i d inside in
+    let front = behind-next old rows i so.behind in
+    let packets = brought-from bounds was t taken old i rows d so.behind inside in
+    let same : length (brought_by bounds was t taken' (drop (i + 1) old)) ≡ length (brought_by bounds was t (taken + taken_by step) (drop (i + 1) old)) = ap (λ n. length (brought_by bounds was t n (drop (i + 1) old))) more in
+    let losses : lost_by_rows bounds was t (drop i old) ≡ lost_by step + lost_by_rows bounds was t (drop (i + 1) old) =
+    ap (lost_by_rows bounds was t) rest ∙ ap (λ behind. lost_by step + lost_by_rows bounds was t behind) (sym front) in
+    record {
+      behind = drop-set-lt (i + 1) rows i new (omega arith) ∙ sym front;
+      front =
+          ap (λ all. map row_in all ++ rows_by bounds was t taken' (drop (i + 1) old)) (take_more_set rows i new inside)
+          ∙ ap (λ all. all ++ rows_by bounds was t taken' (drop (i + 1) old)) (map_push row_in (take i rows) new)
+          ∙ append_assoc (map row_in (take i rows)) (row_in new ∷ []) (rows_by bounds was t taken' (drop (i + 1) old))
+          ∙ ap (λ r. map row_in (take i rows) ++ (r ∷ rows_by bounds was t taken' (drop (i + 1) old))) stepped
+          ∙ ap (λ n. map row_in (take i rows) ++ (kept_after_step step t (suc taken) (row_in row) ∷ rows_by bounds was t n (drop (i + 1) old))) more
+          ∙ ap (λ behind. map row_in (take i rows) ++ (kept_after_step step t (suc taken) (row_in row) ∷ rows_by bounds was t (taken + taken_by step) behind)) front
+          ∙ ap (λ all. map row_in (take i rows) ++ rows_by bounds was t taken all) (sym rest)
+          ∙ so.front;
+      here =
+          ap (λ all. all ++ brought_by bounds was t taken' (drop (i + 1) old)) brought
+          ∙ append_assoc here (kept_packet step t (suc taken) (row_in row)) (brought_by bounds was t taken' (drop (i + 1) old))
+          ∙ ap (λ n. here ++ (kept_packet step t (suc taken) (row_in row) ++ brought_by bounds was t n (drop (i + 1) old))) more
+          ∙ ap (λ behind. here ++ (kept_packet step t (suc taken) (row_in row) ++ brought_by bounds was t (taken + taken_by step) behind)) front
+          ∙ ap (λ all. here ++ brought_by bounds was t taken all) (sym rest)
+          ∙ so.here;
+      taken = let all = so.taken in omega (arith, all, packets, same, more);
+      lost = let all = so.lost in omega (arith, all, losses, dropped);
+      few = let few = so.few in let one = lost-few step in omega (arith, few, one, dropped);
+    }
+
+-- at the end all have
+pub record StandsStepped (bounds : List ℕ) (was : List Arrival) (t before : ℕ) (old rows : List HeldRow) (now : List Arrival) (count dropped : ℕ) : Type 0 where
+  pub all : map row_in rows ≡ rows_by bounds was t before old
+  pub here : now ≡ was ++ brought_by bounds was t before old
+  pub taken : count ≡ before + length (brought_by bounds was t before old)
+  pub lost : dropped ≡ lost_by_rows bounds was t old
+
+pub all-stepped : (bounds : List ℕ) (was : List Arrival) (t before : ℕ) (old : List HeldRow) (i : ℕ) (rows : List HeldRow) (here : List Arrival) (taken lost : ℕ)
+    → HaveStepped bounds was t before old i rows here taken lost → length old ≤ i → length rows ≤ i → StandsStepped bounds was t before old rows here taken lost
+unfolding kept_packets kept_rows_after kept_lost
+all-stepped bounds was t before old i rows here taken lost so past end =
+    let none : drop i old ≡ [] = drop_all i old past in
+    let full : take i rows ≡ rows = take_all i rows end in
+    record {
+      all =
+          sym (append-nil (map row_in rows)) ∙ ap (λ all. map row_in all ++ []) (sym full)
+          ∙ ap (λ behind. map row_in (take i rows) ++ rows_by bounds was t taken behind) (sym none) ∙ so.front;
+      here = sym (append-nil here) ∙ ap (λ behind. here ++ brought_by bounds was t taken behind) (sym none) ∙ so.here;
+      taken =
+          let nothing : length (brought_by bounds was t taken (drop i old)) ≡ 0 = ap (λ behind. length (brought_by bounds was t taken behind)) none in
+          let all = so.taken in
+          omega (arith, nothing, all);
+      lost =
+          let nothing : lost_by_rows bounds was t (drop i old) ≡ 0 = ap (lost_by_rows bounds was t) none in
+          let all = so.lost in
+          omega (arith, nothing, all);
+    }
+
+-- a packet that is lost is counted
+pub lost-more : (b : Bool) (lost n new : ℕ) → (if b then 1 else 0) ≡ n → b ≡ true → new ≡ lost + 1 → new ≡ lost + n
+lost-more true lost n new one is more = omega (arith, one, more)
+lost-more false lost n new one is more = absurd (let f : false ≡ true = is in cc)
+
+pub lost-same : (b : Bool) (lost n new : ℕ) → (if b then 1 else 0) ≡ n → b ≡ false → new ≡ lost → new ≡ lost + n
+lost-same true lost n new none is same = absurd (let f : true ≡ false = is in cc)
+lost-same false lost n new none is same = omega (arith, none, same)
+
+-- packets behind those here leave the front of the list
+pub front-same : (before : ℕ) (items new : List HeldPacket) (more : List Arrival) → before ≤ length items → here_in new ≡ here_in items ++ more → take before (here_in new) ≡ take before (here_in items)
+front-same before items new more within brought =
+    let long : length (here_in items) ≡ length items = length-map items arrival_in in
+    ap (take before) brought ∙ take-append-le before (here_in items) more (omega (arith, long, within))
+
+pub front-within : (before : ℕ) (items new : List HeldPacket) (more : List Arrival) → before ≤ length items → here_in new ≡ here_in items ++ more → before ≤ length new
+front-within before items new more within brought =
+    let long : length (here_in items) ≡ length items = length-map items arrival_in in
+    let longer : length (here_in new) ≡ length new = length-map new arrival_in in
+    let both : length (here_in new) ≡ length (here_in items) + length more = ap length brought ∙ length-append (here_in items) more in
+    omega (arith, long, longer, both, within)
+
+-- a step changes no reservation
+same-terms : (step : SourceStep) (t place : ℕ) (row : KeptRow) → (kept_after_step step t place row).terms ≡ row.terms
+same-terms Rests t place row = refl
+same-terms (Brings size) t place row = refl
+same-terms Loses t place row = refl
+
+-- so the row stays as the sums have it, and at its levels
+pub summed-stepped : (step : SourceStep) (t place : ℕ) (new old : HeldRow) → row_in new ≡ kept_after_step step t place (row_in old) → summed new ≡ summed old
+summed-stepped step t place new old same =
+    let terms : terms_in new ≡ terms_in old = ap (λ row. row.terms) same ∙ same-terms step t place (row_in old) in
+    ap (λ terms. held_at (channel_number terms.chan) terms.contract (level_number terms.level)) terms
+
+pub within-stepped : (step : SourceStep) (levels t place : ℕ) (new old : HeldRow) → row_in new ≡ kept_after_step step t place (row_in old) → IsWithin levels old → IsWithin levels new
+within-stepped step levels t place new old same within =
+    let terms : terms_in new ≡ terms_in old = ap (λ row. row.terms) same ∙ same-terms step t place (row_in old) in
+    let at : level_number new.level ≡ level_number old.level = ap (λ terms. level_number terms.level) terms in
+    let far : level_number new.reach ≡ level_number old.reach = ap (λ terms. level_number terms.reach) terms in
+    let near = within.level in
+    let most = within.reach in
+    record { level = omega (arith, at, near); reach = omega (arith, far, most) }

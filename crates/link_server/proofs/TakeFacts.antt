@@ -1,0 +1,64 @@
+-- A row that takes a packet from its source goes on as its account says.
+use Rattle.std.proofs.Common.{◌≡◌, ℕ, suc, ◌+◌, Bool, true, false, List, ◌∷◌, take, refl, ap, ◌∙◌, arith}
+use Rattle.std.specs.Prelude.{max}
+use Rattle.net_units.specs.declared.Kind.{Kind}
+use Rattle.net_units.specs.declared.Kind.TheVariants.{Rate, Jitter}
+use Rattle.net_units.specs.Numbers.{level_number}
+use Rattle.traffic_contract.specs.Contract.{burst_of}
+use Rattle.traffic_contract.specs.Eligible.{eligible}
+use Rattle.regulator_core.specs.Kept.{Kept, kept_with as regulator_with, earliest_tick}
+use Rattle.link_steps.specs.Kept.{KeptRow, kept_with}
+use Rattle.link_steps.specs.Regulator.{waits_until, eligible_next}
+use Rattle.link_steps.specs.Reservation.{Reservation}
+use Rattle.link_steps.specs.Rows.{SourcePacket}
+use Rattle.link_steps.specs.Service.{Arrival}
+use Rattle.link_steps.specs.Sources.{lead_with, arrival_at}
+
+max-none : (t : ℕ) → max t 0 ≡ t
+max-none t = omega arith
+
+-- with no tick at which it is due, a packet may go from its arrival on
+earliest-now : (kind : Kind) (first : Bool) (t : ℕ) → earliest_tick kind t 0 ≡ waits_until kind first t 0
+earliest-now Rate first t = refl
+earliest-now Jitter false t = refl
+earliest-now Jitter true t = max-none t
+
+-- the regulator's answer is the eligible tick of the row
+pub tick-answered : (regulator : Kept) (terms : Reservation) (t e : ℕ) → regulator.terms ≡ terms.contract → regulator.kind ≡ terms.kind → e ≡ eligible regulator.terms regulator.recent (earliest_tick regulator.kind t 0) → e ≡ eligible_next terms regulator.recent t 0
+unfolding eligible_next
+tick-answered regulator terms t e same kind value =
+    value
+    ∙ ap (λ contract. eligible contract regulator.recent (earliest_tick regulator.kind t 0)) same
+    ∙ ap (λ kind. eligible terms.contract regulator.recent (earliest_tick kind t 0)) kind
+    ∙ ap (eligible terms.contract regulator.recent) (earliest-now terms.kind terms.first t)
+
+-- the packet with that tick and the row's lead is the one that the account takes
+abbrev packet-of : Reservation → ℕ → ℕ → ℕ → ℕ → ℕ → ℕ → Arrival
+packet-of terms lead place number size t e = record {
+  place = place;
+  lead = lead;
+  chan = terms.chan;
+  number = number;
+  size = size;
+  at = t;
+  eligible = e;
+  level = level_number terms.level;
+  next = terms.next;
+}
+
+pub packet-taken : (terms : Reservation) (lead new_lead place taken size t e answered : ℕ) → new_lead ≡ lead_with lead place → answered ≡ e → packet-of terms new_lead place (taken + 1) size t answered ≡ arrival_at terms lead place (suc taken) size t e
+packet-taken terms lead new_lead place taken size t e answered same tick =
+    let more : taken + 1 ≡ suc taken = omega arith in
+    rw (more, same, tick) refl
+
+-- and so is the row
+abbrev row-of : Reservation → ℕ → ℕ → List ℕ → List SourcePacket → KeptRow
+row-of terms lead taken recent left = record { terms = terms; lead = lead; taken = taken; recent = recent; left = left }
+
+pub row-taken : (terms : Reservation) (lead new_lead place taken : ℕ) (left : List SourcePacket) (old new : Kept) (e answered : ℕ) → new_lead ≡ lead_with lead place → old.terms ≡ terms.contract → new ≡ regulator_with old answered → answered ≡ e
+    → row-of terms new_lead (taken + 1) new.recent left ≡ kept_with place e (record { terms = terms; lead = lead; taken = taken; recent = old.recent; left = left })
+row-taken terms lead new_lead place taken left old new e answered same contract kept tick =
+    let recent : new.recent ≡ take (burst_of terms.contract) (e ∷ old.recent) =
+    ap (λ k. k.recent) kept ∙ ap (λ c. take (burst_of c) (answered ∷ old.recent)) contract ∙ ap (λ n. take (burst_of terms.contract) (n ∷ old.recent)) tick in
+    let more : taken + 1 ≡ suc taken = omega arith in
+    rw (more, same, recent) refl

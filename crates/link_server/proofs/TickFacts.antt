@@ -1,0 +1,72 @@
+-- What the parts of a tick make of a link, one after another, is what the account says of the tick.
+use Rattle.std.proofs.Common.{◌≡◌, ℕ, suc, ◌+◌, List, ◌++◌, length, map, take, drop, ap, ◌∙◌, arith}
+use Rattle.std.specs.Prelude.{Option}
+use Rattle.std.proofs.lemmas.List.{append-nil, drop_all, take_all}
+use Rattle.link_steps.specs.declared.asks.Ask.TheVariants.{Tick}
+use Rattle.link_steps.specs.declared.replies.Reply.TheVariants.{Ticked}
+use Rattle.link_steps.specs.declared.replies.Reply.{Reply}
+use Rattle.link_steps.specs.declared.replies.Sent.{Sent}
+use Rattle.link_steps.specs.declared.shape.LinkShape.{LinkShape}
+use Rattle.link_steps.specs.Kept.{Kept, KeptRow, kept_reply, kept_after, kept_tick_reply, kept_after_tick, kept_lost, kept_packets, kept_rows_after, held_rows, brought, present, occupies, served, departs, still_here, still_on}
+use Rattle.link_steps.specs.Service.{Arrival, Start}
+use Rattle.link_server.specs.Account.{account}
+use Rattle.link_server.specs.Packets.{here_in, on_in}
+use Rattle.link_server.specs.Rows.{row_in}
+use Rattle.link_server.specs.Sources.{brought_by, rows_by, lost_by_rows}
+use Rattle.link_server.specs.declared.held_row.HeldRow.{HeldRow}
+use Rattle.link_server.specs.declared.packets.Packets.{Packets}
+
+-- rows written over as many are those written
+pub all-written : {X : Type 0} (n : ℕ) (new old : List X) → n ≡ length old → length new ≡ length old → take n (new ++ drop (length new) old) ≡ new
+all-written n new old count same =
+    ap (λ behind. take n (new ++ behind)) (drop_all (length new) old (omega (arith, same)))
+    ∙ ap (take n) (append-nil new)
+    ∙ take_all n new (omega (arith, count, same))
+
+-- the rows that stay bring the packets that the account says
+pub brought-is : (shape : LinkShape) (k : Kept) (rows : List HeldRow) → map row_in rows ≡ held_rows shape k → brought_by shape.bounds k.here k.clock k.taken rows ≡ brought shape k
+brought-is shape k rows stay = ap (kept_packets shape.bounds k.here k.clock k.taken) stay
+
+-- so after the sources' step those are here that the account says
+pub present-is : (shape : LinkShape) (k : Kept) (rows : List HeldRow) (mid : Packets) → map row_in rows ≡ held_rows shape k → here_in mid.here.items ≡ k.here ++ brought_by shape.bounds k.here k.clock k.taken rows → here_in mid.here.items ≡ present shape k
+present-is shape k rows mid stay here = here ∙ ap (λ more. k.here ++ more) (brought-is shape k rows stay)
+
+-- and the link serves the one that the account says
+pub occupies-is : (shape : LinkShape) (k : Kept) (mid : Packets) → here_in mid.here.items ≡ present shape k → on_in mid.on ≡ k.on → served k.clock (here_in mid.here.items) (on_in mid.on) ≡ occupies shape k
+occupies-is shape k mid here on = ap (λ all. served k.clock all (on_in mid.on)) here ∙ ap (served k.clock (present shape k)) on
+
+-- the reply
+pub tick-replied : (shape : LinkShape) (k : Kept) (rows : List HeldRow) (mid : Packets) (full : ℕ) (sent : Option Sent) → map row_in rows ≡ held_rows shape k → full ≡ lost_by_rows shape.bounds k.here k.clock rows
+    → served k.clock (here_in mid.here.items) (on_in mid.on) ≡ occupies shape k → sent ≡ departs shape k.clock (served k.clock (here_in mid.here.items) (on_in mid.on))
+    → Ticked k.clock full sent ≡ kept_reply shape k Tick
+unfolding kept_reply kept_tick_reply
+tick-replied shape k rows mid full sent stay lost occupant left =
+    ap (λ n. Ticked k.clock n sent) (lost ∙ ap (kept_lost shape.bounds k.here k.clock) stay)
+    ∙ ap (Ticked k.clock (kept_lost shape.bounds k.here k.clock (held_rows shape k))) (left ∙ ap (departs shape k.clock) occupant)
+
+-- the account of the parts that a tick has changed
+abbrev parts : ℕ → ℕ → List KeptRow → List Arrival → Option Start → Kept
+parts clock taken rows here on = record { clock = clock; taken = taken; rows = rows; here = here; on = on }
+
+-- the account after it
+pub tick-kept : (shape : LinkShape) (k : Kept) (rows last : List HeldRow) (mid new : Packets) (clock : ℕ) (reply : Reply)
+    → clock ≡ k.clock + 1
+    → map row_in rows ≡ held_rows shape k → map row_in last ≡ rows_by shape.bounds k.here k.clock k.taken rows
+    → here_in mid.here.items ≡ present shape k → mid.taken ≡ k.taken + length (brought_by shape.bounds k.here k.clock k.taken rows)
+    → served k.clock (here_in mid.here.items) (on_in mid.on) ≡ occupies shape k
+    → new.taken ≡ mid.taken
+    → here_in new.here.items ≡ still_here shape.rate k.clock (served k.clock (here_in mid.here.items) (on_in mid.on)) (here_in mid.here.items)
+    → on_in new.on ≡ still_on shape.rate k.clock (served k.clock (here_in mid.here.items) (on_in mid.on))
+    → account clock new last ≡ kept_after shape k Tick reply
+unfolding kept_after kept_after_tick
+tick-kept shape k rows last mid new clock reply next stay stepped here taken occupant kept_taken left on =
+    let one : clock ≡ suc k.clock = omega (arith, next) in
+    let rows_same = stepped ∙ ap (kept_rows_after shape.bounds k.here k.clock k.taken) stay in
+    let taken_same = kept_taken ∙ taken ∙ ap (λ more. k.taken + length more) (brought-is shape k rows stay) in
+    let here_same = left ∙ ap (λ start. still_here shape.rate k.clock start (here_in mid.here.items)) occupant ∙ ap (still_here shape.rate k.clock (occupies shape k)) here in
+    let on_same = on ∙ ap (still_on shape.rate k.clock) occupant in
+    ap (λ t. parts t new.taken (map row_in last) (here_in new.here.items) (on_in new.on)) one
+    ∙ ap (λ n. parts (suc k.clock) n (map row_in last) (here_in new.here.items) (on_in new.on)) taken_same
+    ∙ ap (λ all. parts (suc k.clock) (k.taken + length (brought shape k)) all (here_in new.here.items) (on_in new.on)) rows_same
+    ∙ ap (λ all. parts (suc k.clock) (k.taken + length (brought shape k)) (kept_rows_after shape.bounds k.here k.clock k.taken (held_rows shape k)) all (on_in new.on)) here_same
+    ∙ ap (parts (suc k.clock) (k.taken + length (brought shape k)) (kept_rows_after shape.bounds k.here k.clock k.taken (held_rows shape k)) (still_here shape.rate k.clock (occupies shape k) (present shape k))) on_same

@@ -1,0 +1,25 @@
+use Rattle.std.proofs.Common.{◌≡◌, ◌≤◌, ◌-◌, length, map}
+use Rattle.std.specs.Prelude.{filter}
+use Rattle.rcsp_admission.specs.Sums.{AreAdmitted}
+use Rattle.link_steps.specs.Kept.{kept_stays}
+use Rattle.link_server.specs.Rows.{row_in, summed, AreWithin}
+use Rattle.link_server.specs.Sources.{AreReady}
+use Rattle.link_server.proofs.ExpiryFacts.{staying}
+use Rattle.link_server.proofs.expiry.expire.Given as goal
+
+-- the rows before the place stay, and those from it on are still to be judged
+abbrev pub invariant-loop-place : goal.invariant-loop-place
+invariant-loop-place l = record {
+  place : l.place ≤ length l.rows.items;
+  stay : staying l.bounds l.clock l.place l.rows.items ≡ filter (kept_stays l.bounds l.clock) (map row_in l.fn.rows.items);
+  ready : AreReady l.clock l.rows.items;
+  within : AreWithin (length l.bounds) l.rows.items;
+  admitted : AreAdmitted l.sums;
+  server : l.sums.server ≡ l.fn.sums.server;
+  same : l.sums.rows ≡ map summed l.rows.items;
+  few : length l.rows.items ≤ length l.fn.rows.items;
+}
+
+-- each turn passes a row or takes one out
+abbrev pub decreases-loop-place : goal.decreases-loop-place
+decreases-loop-place l = length l.rows.items - l.place

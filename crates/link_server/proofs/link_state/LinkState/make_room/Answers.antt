@@ -1,0 +1,45 @@
+-- The memory that is taken changes nothing that the link keeps.
+use Rattle.std.proofs.Common.{◌≡◌, map, length, sym, ap, ◌∙◌, subst, arith}
+use Rattle.std.proofs.lemmas.List.{length-map}
+use Rattle.traffic_contract.specs.Admission.{total}
+use Rattle.link_server.specs.Rows.{row_in, summed, AreWithin}
+use Rattle.link_server.specs.Sound.{all_places_of, IsSound}
+use Rattle.link_server.specs.State.{kept_in}
+use Rattle.link_server.proofs.RoomFacts.{account-same, most_places-are}
+use Rattle.link_server.proofs.SoundNumbers.{rows-upto}
+use Rattle.link_server.proofs.SoundSetup.{sound-larger}
+use Rattle.link_server.proofs.link_state.LinkState.make_room.Goals as goal
+
+pub places_of-requires-clause-few : goal.places_of-requires-clause-few
+places_of-requires-clause-few c =
+    let upto = rows-upto c.args.self.now.shape c.args.self.now.room (kept_in c.args.self.now) c.args.self.now.sound in
+    let long = length-map c.args.self.now.rows.items row_in in
+    let shown = ap length c.deref.ensures.value in
+    let most = c.args.self.now.room_most in
+    omega (arith, upto, long, shown, most)
+
+pub invariant_of-self-2 : goal.invariant_of-self-2
+invariant_of-self-2 c =
+    let same = account-same c.args.self.now.clock c.args.self.now.packets c.reserve-3.new.self c.args.self.now.rows.items c.reserve.new.self.items c.reserve-3.ensures.taken c.reserve-3.ensures.here c.reserve-3.ensures.on c.reserve.ensures.items in
+    let larger = sound-larger c.args.self.now.shape c.args.self.now.room c.max-self.result (kept_in c.args.self.now) (omega (arith, c.max-self.ensures)) c.args.self.now.sound in
+    let grows = c.reserve-3.ensures.grows in
+    let roomy = c.args.self.now.roomy in
+    let most = c.args.self.now.room_most in
+    let taken = c.in_ok-reserve-3.ensures.room in
+    record {
+      admitted = c.reserve-2.ensures.admitted;
+      same_server = c.reserve-2.ensures.server ∙ c.args.self.now.same_server;
+      same_rows = c.reserve-2.ensures.rows ∙ c.args.self.now.same_rows ∙ ap (map summed) (sym c.reserve.ensures.items);
+      within = subst (AreWithin (length c.args.self.now.shape.bounds)) (sym c.reserve.ensures.items) c.args.self.now.within;
+      sound = subst (IsSound c.args.self.now.shape c.max-self.result) (sym same) larger;
+      roomy = omega (arith, c.max-self.ensures, grows, roomy, taken, c.len.ensures, ap length c.reserve-3.ensures.here);
+      room_most = omega (arith, c.max-self.ensures, most, c.if-room-from.false, c.from.ensures);
+    }
+
+pub returns-clause-packets_fit : goal.returns-clause-packets_fit
+returns-clause-packets_fit c =
+    let places : c.places_of.result ≡ total (all_places_of c.args.self.now.shape.bounds) (map row_in c.reserve.new.self.items) =
+    c.places_of.ensures.value ∙ ap (λ rows. total (all_places_of c.args.self.now.shape.bounds) (map row_in rows)) (c.deref.ensures.value ∙ sym c.reserve.ensures.items) in
+    let all = most_places-are c.args.self.now.shape.bounds c.reserve-3.new.self.here.items c.reserve.new.self.items c.places_of.result places in
+    let here = ap length c.reserve-3.ensures.here in
+    omega (arith, all, here, c.len.ensures, c.slots.ensures.value, c.max-self.ensures)

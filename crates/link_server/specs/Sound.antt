@@ -1,0 +1,130 @@
+-- An account is sound when its numbers keep their bounds and its packets have room, as in every state of a link. At most
+-- one packet leaves in a tick: so a link has taken at most as many packets as it has made ticks and has packets here.
+-- The packets here stand in the order of their arrival numbers, and no two rows have the same first packet. There is
+-- room for the packets here, for one packet more in each slot that is free, and for one more a row. A row's newest
+-- eligible tick is past tick 2^62 by at most an interval for each of its packets here that are eligible so late. What a
+-- row plans lies ahead, in order of time. The packet that occupies the link is one of those here, was eligible when it
+-- started, and hasn't left.
+use Rattle.std.specs.Prelude.{◌≡◌, ℕ, suc, ◌+◌, ◌-◌, ◌*◌, ◌^◌, ◌<◌, ◌≤◌, Bool, nat_eq, nat_lt, ◌&&◌, Some, List, [], ◌∷◌, length, filter, find}
+use Rattle.std.specs.Option.{ForSome}
+use Rattle.net_units.specs.Numbers.{level_number}
+use Rattle.traffic_contract.specs.Admission.{total}
+use Rattle.traffic_contract.specs.Contract.{IsContract}
+use Rattle.traffic_contract.specs.Eligible.{newest}
+use Rattle.link_steps.specs.declared.shape.LinkShape.{LinkShape}
+use Rattle.link_steps.specs.Buffer.{slots_of, has_lead, held_packets}
+use Rattle.link_steps.specs.Kept.{Kept, KeptRow, kept_rows_after, held_rows, brought, present}
+use Rattle.link_steps.specs.Lists.{Each}
+use Rattle.link_steps.specs.Rows.{SourcePacket}
+use Rattle.link_steps.specs.Service.{Arrival, Start, leaves_at}
+
+-- ---- room
+
+-- the slots of a row that no packet here holds
+abbrev pub free_slots : List ℕ → List Arrival → KeptRow → ℕ
+free_slots bounds here row = slots_of bounds row.terms - held_packets row.lead here
+
+-- the places that a row may still want: one for each free slot, and one more
+abbrev pub places_of : List ℕ → List Arrival → KeptRow → ℕ
+places_of bounds here row = suc (free_slots bounds here row)
+
+-- those that it may want in all
+abbrev pub all_places_of : List ℕ → KeptRow → ℕ
+all_places_of bounds row = suc (slots_of bounds row.terms)
+
+-- the places that the packets here have and the rows may still want
+unfoldable pub places : List ℕ → List Arrival → List KeptRow → ℕ
+places bounds here rows = length here + total (places_of bounds here) rows
+
+-- the same where no slot holds a packet: it is never less
+unfoldable pub most_places : List ℕ → List Arrival → List KeptRow → ℕ
+most_places bounds here rows = length here + total (all_places_of bounds) rows
+
+-- ---- packets
+
+-- the arrival numbers of the packets rise, from above `low` to at most `high`
+abbrev pub AreNumbered : ℕ → List Arrival → ℕ → Type 0
+AreNumbered low [] high = low ≤ high
+AreNumbered low (p ∷ ps) high = (low < p.place) × AreNumbered p.place ps high
+
+-- the numbers of a packet are in their bounds, at a link of so many levels that has taken so many packets
+pub record IsSoundPacket (levels taken : ℕ) (p : Arrival) : Type 0 where
+  pub lead_least : 1 ≤ p.lead
+  pub lead_most : p.lead ≤ taken
+  pub size_least : 1 ≤ p.size
+  pub size_most : p.size ≤ 65536
+  pub level_least : 1 ≤ p.level
+  pub level_most : p.level ≤ levels
+
+-- whether a packet has this arrival number
+abbrev pub is_at : ℕ → Arrival → Bool
+is_at place p = nat_eq p.place place
+
+-- the packet that occupies the link in the tick of the clock is among those here
+pub record IsRunning (rate clock : ℕ) (here : List Arrival) (start : Start) : Type 0 where
+  pub is_here : find (is_at start.packet.place) here ≡ Some start.packet
+  pub eligible : start.packet.eligible ≤ start.tick
+  pub begun : start.tick ≤ clock
+  pub leaves_later : clock < leaves_at rate start
+
+-- ---- rows
+
+-- whether a packet has this lead and is eligible later than tick t
+abbrev pub is_late : ℕ → ℕ → Arrival → Bool
+is_late lead t p = has_lead lead p && nat_lt t p.eligible
+
+-- how many of the packets here are so
+unfoldable pub late_packets : ℕ → ℕ → List Arrival → ℕ
+late_packets lead t here = length (filter (is_late lead t) here)
+
+-- the size of a planned packet is in its bounds
+pub record HasSize (p : SourcePacket) : Type 0 where
+  pub least : 1 ≤ p.size
+  pub most : p.size ≤ 65536
+
+-- the planned packets are for ticks from t on, each later than the one before it
+abbrev pub AreAhead : ℕ → List SourcePacket → Type 0
+AreAhead t [] = Unit {0}
+AreAhead t (p ∷ ps) = (t ≤ p.tick) × HasSize p × AreAhead (suc p.tick) ps
+
+-- the row has another lead than this, if it is one
+abbrev pub IsApartFrom : ℕ → KeptRow → Type 0
+IsApartFrom lead row = row.lead ≡ lead → lead ≡ 0
+
+-- no two rows have the same lead, but for those that have taken no packet yet, whose lead is 0
+abbrev pub AreApart : List KeptRow → Type 0
+AreApart [] = Unit {0}
+AreApart (row ∷ rows) = Each (IsApartFrom row.lead) rows × AreApart rows
+
+-- the numbers of a row are in their bounds, at a link of so many levels that has taken so many packets, at this clock
+-- and with these packets here
+pub record IsSoundRow (levels clock taken : ℕ) (here : List Arrival) (row : KeptRow) : Type 0 where
+  pub contract : IsContract row.terms.contract
+  pub level_most : level_number row.terms.level ≤ levels
+  pub reach_most : level_number row.terms.reach ≤ levels
+  pub up_reach_most : row.terms.up_reach ≤ 1048576
+  pub up_bound_most : row.terms.up_bound ≤ 1048576
+  pub taken_most : row.taken ≤ taken
+  pub lead_most : row.lead ≤ taken
+  pub paced : (t : ℕ) → 2 ^ 62 ≤ t → newest row.recent ≤ t + row.terms.contract.interval * late_packets row.lead t here
+  pub ahead : AreAhead clock row.left
+
+-- ---- the account
+
+-- the account is sound, with room for so many packets
+pub record IsSound (shape : LinkShape) (room : ℕ) (k : Kept) : Type 0 where
+  pub taken_most : k.taken ≤ k.clock + length k.here
+  pub numbered : AreNumbered 0 k.here k.taken
+  pub packets : Each (IsSoundPacket (length shape.bounds) k.taken) k.here
+  pub apart : AreApart k.rows
+  pub rows : Each (IsSoundRow (length shape.bounds) k.clock k.taken k.here) k.rows
+  pub fits : places shape.bounds k.here k.rows ≤ room
+  pub running : ForSome k.on (IsRunning shape.rate k.clock k.here)
+
+-- the account in the tick of its clock, once rows have expired and the sources have brought their packets: it is served so
+unfoldable pub with_brought : LinkShape → Kept → Kept
+with_brought shape k = record k {
+  taken = k.taken + length (brought shape k);
+  rows = kept_rows_after shape.bounds k.here k.clock k.taken (held_rows shape k);
+  here = present shape k;
+}

@@ -1,0 +1,38 @@
+-- In a tick each row with a packet planned for it takes that packet, where one of its slots is free, or else drops it.
+-- The rows do so in the order of their reserves, and a slot is free by the packets that are here as the tick begins. The
+-- account says what each row and the packets become; here it is said of the rows and packets that the link keeps.
+use Rattle.std.specs.Prelude.{ℕ, ◌<◌, ◌^◌, List, map}
+use Rattle.traffic_contract.specs.Eligible.{newest}
+use Rattle.link_steps.specs.Kept.{KeptRow, kept_step, kept_packets, kept_rows_after, kept_lost}
+use Rattle.link_steps.specs.Lists.{Each}
+use Rattle.link_steps.specs.Service.{Arrival}
+use Rattle.link_steps.specs.Sources.{SourceStep}
+use Rattle.link_server.specs.Planned.{IsFrom}
+use Rattle.link_server.specs.Rows.{row_in}
+use Rattle.link_server.specs.declared.held_row.HeldRow.{HeldRow}
+
+-- what the row's source does in tick t, with these packets here
+abbrev pub step_in : List ℕ → List Arrival → ℕ → HeldRow → SourceStep
+step_in bounds here t row = kept_step bounds here t (row_in row)
+
+-- the packets that the rows take in tick t, after `taken` packets in all
+abbrev pub brought_by : List ℕ → List Arrival → ℕ → ℕ → List HeldRow → List Arrival
+brought_by bounds here t taken rows = kept_packets bounds here t taken (map row_in rows)
+
+-- the rows afterwards
+abbrev pub rows_by : List ℕ → List Arrival → ℕ → ℕ → List HeldRow → List KeptRow
+rows_by bounds here t taken rows = kept_rows_after bounds here t taken (map row_in rows)
+
+-- how many packets they drop
+abbrev pub lost_by_rows : List ℕ → List Arrival → ℕ → List HeldRow → ℕ
+lost_by_rows bounds here t rows = kept_lost bounds here t (map row_in rows)
+
+-- a row that can make the step of the tick of the clock: nothing is planned for an earlier tick, and its numbers have
+-- room to grow
+pub record IsReady (clock : ℕ) (row : KeptRow) : Type 0 where
+  pub ahead : Each (IsFrom clock) row.left
+  pub last : newest row.recent < 2 ^ 63
+  pub few : row.taken < 2 ^ 63
+
+abbrev pub AreReady : ℕ → List HeldRow → Type 0
+AreReady clock rows = Each (IsReady clock) (map row_in rows)

@@ -1,0 +1,35 @@
+//! The first part of a tick: rows whose hold has ended expire.
+ghost use Rattle.std.specs.Prelude.{◌≡◌, ◌<◌, ◌≤◌, length, map, filter};
+ghost use Rattle.rcsp_admission.specs.Sums.{AreAdmitted};
+ghost use Rattle.link_steps.specs.Kept.{kept_stays};
+ghost use Rattle.link_server.specs.Rows.{row_in, summed, AreWithin};
+ghost use Rattle.link_server.specs.Sources.{AreReady};
+
+use crate::held_row::HeldRow;
+use net_units::Bounds;
+use rcsp_admission::LevelSums;
+
+// Takes out the rows whose hold has ended by this tick, of the rows and of the admission sums.
+pub(crate) fn expire(rows: &mut Vec<HeldRow>, sums: &mut LevelSums, bounds: &Bounds, clock: u64)
+    requires ready { AreReady clock rows.old.items }
+    requires within { AreWithin (length bounds.now) rows.old.items }
+    requires admitted { AreAdmitted sums.old }
+    requires same { sums.old.rows ≡ map summed rows.old.items }
+    ensures rows { map row_in rows.new.items ≡ filter (kept_stays bounds.now clock) (map row_in rows.old.items) }
+    ensures within { AreWithin (length bounds.now) rows.new.items }
+    ensures admitted { AreAdmitted sums.new }
+    ensures server { sums.new.server ≡ sums.old.server }
+    ensures same { sums.new.rows ≡ map summed rows.new.items }
+    ensures ready { AreReady clock rows.new.items }
+    ensures few { length rows.new.items ≤ length rows.old.items }
+{
+    let mut place = 0;
+    while place < rows.len() {
+        if rows[place].has_ended(bounds, clock) {
+            sums.remove(rows[place].chan.get());
+            rows.remove(place);
+        } else {
+            place += 1;
+        }
+    }
+}

@@ -1,0 +1,108 @@
+//! Worked services of packets at one link.
+ghost use Rattle.std.specs.Prelude.{◌↔◌, IsTrue, All};
+ghost use Rattle.std.specs.Bool.{OnTrue};
+ghost use Rattle.link_server.specs.Packets.{arrival_in, here_in, on_in, start_in};
+ghost use Rattle.link_server.specs.Serving.{CanServe, GoesOn, IsAtLevel};
+
+use super::{HeldPacket, Packets, Running};
+use crate::in_line::held;
+use link_steps::{LinkShape, Sent};
+use net_units::{Bounds, ChanNo, Level, LinkNo};
+use std::test::Fail;
+
+// A link of a unit a tick, with levels with bounds of 10, 20 and 40 ticks, and 2 ticks of propagation.
+fn shape() -> Result<LinkShape, Fail> {
+    let number = LinkNo::new(0).ok_or("link")?;
+    let bounds = Bounds::new(&[10, 20, 40]).ok_or("bounds")?;
+    Ok(LinkShape::new(number, 1, 4, 2, 100, bounds)?)
+}
+
+// A packet that arrived in tick 0, alone of its reservation.
+fn packet(place: u64, level: u8, size: u32, eligible: u64) -> Result<HeldPacket, Fail> {
+    if size == 0 {
+        return Err("size")?;
+    }
+    Ok(HeldPacket {
+        place,
+        lead: place,
+        chan: ChanNo::new(7).ok_or("channel")?,
+        number: 1,
+        size,
+        at: 0,
+        eligible,
+        level: Level::new(level).ok_or("level")?,
+        next: None,
+    })
+}
+
+// Whether each is at a level of the link.
+fn are_at_levels(packets: &[HeldPacket], shape: &LinkShape) -> bool
+    ensures { IsTrue result ↔ All (λ packet. IsAtLevel shape.now (arrival_in packet)) packets.now }
+{
+    let levels = shape.bounds.len();
+    packets.iter().all(|packet| packet.level.get() <= levels)
+}
+
+// Whether one that has started can go on in this tick.
+fn goes_on(running: &Running, shape: &LinkShape, tick: u64) -> bool
+    ensures { OnTrue result (GoesOn shape.now tick (start_in running.now)) }
+{
+    if running.packet.level.get() > shape.bounds.len() || running.packet.eligible > tick {
+        return false;
+    }
+    tick < running.leaves_at(shape.rate)
+}
+
+// Whether the packets can be served in this tick.
+fn can_serve(packets: &Packets, shape: &LinkShape, tick: u64) -> bool
+    ensures { OnTrue result (CanServe shape.now tick (here_in packets.now.here.items) (on_in packets.now.on)) }
+{
+    if !are_at_levels(&packets.here, shape) {
+        return false;
+    }
+    match packets.on {
+        None => true,
+        Some(running) => goes_on(&running, shape, tick),
+    }
+}
+
+fn serve(packets: &mut Packets, shape: &LinkShape, tick: u64) -> Result<Option<Sent>, Fail> {
+    if tick >= 1 << 61 || !can_serve(packets, shape, tick) {
+        return Err("tick")?;
+    }
+    Ok(packets.serve(shape, tick))
+}
+
+#[test]
+fn a_packet_isnt_interrupted_and_then_the_least_level_starts(rt: HostRuntime) -> Result<(), Fail> {
+    let shape = shape()?;
+    let mut packets = Packets::new(rt.alloc());
+    packets.reserve(3)?;
+    packets.push(packet(1, 3, 4, 0)?);
+    packets.push(packet(2, 3, 4, 1)?);
+    packets.push(packet(3, 1, 2, 1)?);
+    assert_eq!(rt; packets.taken, 3);
+    for (tick, want) in [
+        (0, None),
+        (1, None),
+        (2, None),
+        (3, Some((42, 6))),
+        (4, None),
+        (5, Some((13, 8))),
+        (6, None),
+        (7, None),
+        (8, None),
+        (9, Some((43, 12))),
+        (10, None),
+    ] {
+        let sent = serve(&mut packets, &shape, tick)?;
+        let seen = sent.map(|sent| (sent.packet.due, sent.arrives));
+        assert_eq!(rt; seen, want, "tick {tick}");
+        assert_eq!(rt;
+            held(&packets.here, 2),
+            usize::from(tick < 9),
+            "tick {tick}"
+        );
+    }
+    Ok(())
+}

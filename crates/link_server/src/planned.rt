@@ -1,0 +1,47 @@
+//! The source packets of a row that are planned and left.
+ghost use Rattle.std.specs.Prelude.{◌≡◌, ◌+◌, ◌*◌, ◌^◌, ◌<◌, ◌≤◌, find, IfSome};
+
+// The first at `tick`, and then one each `gap` ticks, `count` in all, each of `size` units.
+#[derive(Clone, Copy)]
+pub(crate) struct Planned {
+    pub(crate) tick: u64,
+    pub(crate) gap: u64,
+    pub(crate) size: u32,
+    pub(crate) count: u64,
+    ghost apart: { 1 ≤ gap },
+    ghost has_size: { 1 ≤ size },
+    ghost ends: { tick + gap * count < 2 ^ 62 },
+}
+
+impl Planned {
+    ghost use Rattle.link_steps.specs.Rows.{is_for, left_at};
+    ghost use Rattle.link_server.specs.Planned.{left_in, size_of, IsAhead};
+
+    // None are planned.
+    pub(crate) const NONE: Planned = Planned {
+        tick: 0,
+        gap: 1,
+        size: 1,
+        count: 0,
+    };
+
+    // The size of the packet that is planned for this tick, if there is one. Then it is no longer left.
+    pub(crate) fn take_at(&mut self, clock: u64) -> Option<u32>
+        requires ahead { IsAhead clock self.old }
+        ensures size { result ≡ size_of (find (is_for clock) (left_in self.old)) }
+        ensures least { IfSome result (λ size. 1 ≤ size) }
+        ensures left { left_in self.new ≡ left_at (clock + 1) (left_in self.old) }
+    {
+        if self.count == 0 || self.tick != clock {
+            return None;
+        }
+        let size = self.size;
+        *self = Planned {
+            tick: self.tick + self.gap,
+            gap: self.gap,
+            size,
+            count: self.count - 1,
+        };
+        Some(size)
+    }
+}

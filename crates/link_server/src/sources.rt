@@ -1,0 +1,77 @@
+//! The sources' part of a tick: the packets that are planned for it arrive.
+ghost use Rattle.std.specs.Prelude.{◌≡◌, ◌+◌, ◌^◌, ◌<◌, ◌≤◌, ◌++◌, suc, if◌then◌else◌, length, map, take};
+ghost use Rattle.std.specs.Vec.{vec_capacity};
+ghost use Rattle.link_steps.specs.Kept.{kept_packet, kept_after_step};
+ghost use Rattle.link_steps.specs.Sources.{taken_by, lost_by};
+ghost use Rattle.link_server.specs.Packets.{here_in};
+ghost use Rattle.link_server.specs.Rows.{row_in, summed, IsWithin, AreWithin};
+ghost use Rattle.link_server.specs.Sources.{step_in, brought_by, rows_by, lost_by_rows, IsReady, AreReady};
+
+use crate::held_row::HeldRow;
+use crate::packets::Packets;
+use net_units::Bounds;
+
+// The rows take the packets that are planned for this tick, in their order. It answers how many found no slot free.
+pub(crate) fn take_source_packets(
+    rows: &mut [HeldRow],
+    packets: &mut Packets,
+    bounds: &Bounds,
+    clock: u64,
+) -> u32
+    requires early { clock < 2 ^ 61 }
+    requires few { length rows.old < 2 ^ 32 }
+    requires ready { AreReady clock rows.old }
+    requires within { AreWithin (length bounds.now) rows.old }
+    requires room { length packets.old.here.items + length (brought_by bounds.now (here_in packets.old.here.items) clock packets.old.taken rows.old) ≤ vec_capacity packets.old.here }
+    requires numbers { packets.old.taken + length (brought_by bounds.now (here_in packets.old.here.items) clock packets.old.taken rows.old) < 2 ^ 64 }
+    ensures lost { result ≡ lost_by_rows bounds.now (here_in packets.old.here.items) clock rows.old }
+    ensures rows { map row_in rows.new ≡ rows_by bounds.now (here_in packets.old.here.items) clock packets.old.taken rows.old }
+    ensures here { here_in packets.new.here.items ≡ here_in packets.old.here.items ++ brought_by bounds.now (here_in packets.old.here.items) clock packets.old.taken rows.old }
+    ensures taken { packets.new.taken ≡ packets.old.taken + length (brought_by bounds.now (here_in packets.old.here.items) clock packets.old.taken rows.old) }
+    ensures on { packets.new.on ≡ packets.old.on }
+    ensures capacity { vec_capacity packets.new.here ≡ vec_capacity packets.old.here }
+    ensures summed { map summed rows.new ≡ map summed rows.old }
+    ensures levels { AreWithin (length bounds.now) rows.new }
+{
+    let before = packets.here.len();
+    let mut lost = 0;
+    for row in rows.iter_mut() {
+        if take_source_packet(row, packets, before, bounds, clock) {
+            lost += 1;
+        }
+    }
+    lost
+}
+
+// The row takes the packet that is planned for this tick, if there is one. It answers whether that found no slot free
+// among the packets that were here as the tick began, so many.
+fn take_source_packet(
+    row: &mut HeldRow,
+    packets: &mut Packets,
+    before: usize,
+    bounds: &Bounds,
+    clock: u64,
+) -> bool
+    requires early { clock < 2 ^ 61 }
+    requires ready { IsReady clock (row_in row.old) }
+    requires within { IsWithin (length bounds.now) row.old }
+    requires before { before ≤ length packets.old.here.items }
+    requires room { length packets.old.here.items + taken_by (step_in bounds.now (take before (here_in packets.old.here.items)) clock row.old) ≤ vec_capacity packets.old.here }
+    requires numbers { packets.old.taken + taken_by (step_in bounds.now (take before (here_in packets.old.here.items)) clock row.old) < 2 ^ 64 }
+    ensures lost { (if result then 1 else 0) ≡ lost_by (step_in bounds.now (take before (here_in packets.old.here.items)) clock row.old) }
+    ensures row { row_in row.new ≡ kept_after_step (step_in bounds.now (take before (here_in packets.old.here.items)) clock row.old) clock (suc packets.old.taken) (row_in row.old) }
+    ensures here { here_in packets.new.here.items ≡ here_in packets.old.here.items ++ kept_packet (step_in bounds.now (take before (here_in packets.old.here.items)) clock row.old) clock (suc packets.old.taken) (row_in row.old) }
+    ensures taken { packets.new.taken ≡ packets.old.taken + taken_by (step_in bounds.now (take before (here_in packets.old.here.items)) clock row.old) }
+    ensures on { packets.new.on ≡ packets.old.on }
+    ensures capacity { vec_capacity packets.new.here ≡ vec_capacity packets.old.here }
+{
+    let Some(size) = row.next_planned(clock) else {
+        return false;
+    };
+    if !row.has_slot(bounds, &packets.here[..before]) {
+        return true;
+    }
+    let packet = row.take(size, packets.taken + 1, clock);
+    packets.push(packet);
+    false
+}
