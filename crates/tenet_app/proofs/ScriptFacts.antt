@@ -42,10 +42,11 @@ opened_before-append before opened (operation.Send send ∷ xs) ys = opened_befo
 pub first_own-caller : (script : List Operation) (name : List ℕ) → first_own (script ++ operation.Caller name ∷ []) ≡ length (requests_in script)
 first_own-caller script name = opened_before-append 0 0 script (operation.Caller name ∷ []) ∙ omega arith
 
--- with other operations it stays
+-- a request leaves it where it is
 pub first_own-open : (script : List Operation) (request : Request) → first_own (script ++ operation.Open request ∷ []) ≡ first_own script
 first_own-open script request = opened_before-append 0 0 script (operation.Open request ∷ [])
 
+-- a send leaves it, too
 pub first_own-send : (script : List Operation) (send : Send) → first_own (script ++ operation.Send send ∷ []) ≡ first_own script
 first_own-send script send = opened_before-append 0 0 script (operation.Send send ∷ [])
 
@@ -114,6 +115,7 @@ script_keeps P step [] done g now = subst P (sym (append-nil done)) now
 script_keeps P step (next ∷ script) done g now =
     subst P (append_assoc done (next ∷ []) script) (script_keeps P step script (done ++ next ∷ []) g.1 (step done next g.0 now))
 
+-- an operation leaves few requests
 few_requests : (done : List Operation) (next : Operation) → MayFollow done next → length (requests_in done) ≤ 1024 → length (requests_in (done ++ next ∷ [])) ≤ 1024
 few_requests done (operation.Caller name) may few = omega (arith, ap length (requests_in-append done (operation.Caller name ∷ []) ∙ append-nil (requests_in done)))
 few_requests done (operation.Open request) may few =
@@ -124,6 +126,7 @@ few_requests done (operation.Send send) may few = omega (arith, ap length (reque
 pub script_requests : (script : List Operation) → IsScript script → length (requests_in script) ≤ 1024
 script_requests script is = script_keeps (λ done. length (requests_in done) ≤ 1024) few_requests script [] is (omega arith)
 
+-- and few callers
 few_callers : (done : List Operation) (next : Operation) → MayFollow done next → length (callers_in done) ≤ 64 → length (callers_in (done ++ next ∷ [])) ≤ 64
 few_callers done (operation.Caller name) may few =
     omega (arith, may.few, ap length (callers_in-append done (operation.Caller name ∷ [])), length-append (callers_in done) (name ∷ []))
@@ -134,6 +137,7 @@ few_callers done (operation.Send send) may few = omega (arith, ap length (caller
 pub script_callers : (script : List Operation) → IsScript script → length (callers_in script) ≤ 64
 script_callers script is = script_keeps (λ done. length (callers_in done) ≤ 64) few_callers script [] is (omega arith)
 
+-- and a load within the limit
 small_load : (done : List Operation) (next : Operation) → MayFollow done next → load_in done ≤ 262144 → load_in (done ++ next ∷ []) ≤ 262144
 small_load done (operation.Caller name) may few = omega (arith, load_in-append done (operation.Caller name ∷ []))
 small_load done (operation.Open request) may few = omega (arith, load_in-append done (operation.Open request ∷ []))
