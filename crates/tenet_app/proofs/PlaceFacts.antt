@@ -6,6 +6,7 @@ use Rattle.std.specs.Cmp.Lexicographic.{pointwise}
 use Rattle.tenet_app.specs.Forms.{is_among, place_of}
 use Rattle.tenet_app.specs.Grammar.{are_distinct}
 
+-- from one name to the next
 place_next : (names : List (List ℕ)) (name : List ℕ) (place : ℕ) → place < length names
     → place_of (drop place names) name ≡ (if pointwise nat_eq (get_or names place []) name then 0 else suc (place_of (drop (suc place) names) name))
 place_next [] name place h = absurd (omega arith)
@@ -64,7 +65,7 @@ distinct_drop [] (suc count) d = refl
 distinct_drop (n ∷ names) zero d = d
 distinct_drop (n ∷ names) (suc count) d = distinct_drop names count (and_parts (not (is_among names n)) (are_distinct names) d).1
 
--- a name that is none of two lists is none of their names
+-- a name is among two lists where it is among one
 among_split : (xs ys : List (List ℕ)) (name : List ℕ) → is_among (xs ++ ys) name ≡ (is_among xs name || is_among ys name)
 among_split [] ys name = refl
 among_split (x ∷ xs) ys name = ap (λ t. pointwise nat_eq x name || t) (among_split xs ys name) ∙ or_again (pointwise nat_eq x name) (is_among xs name) (is_among ys name)

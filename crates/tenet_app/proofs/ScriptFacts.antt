@@ -42,10 +42,11 @@ opened_before-append before opened (operation.Send send ∷ xs) ys = opened_befo
 pub first_own-caller : (script : List Operation) (name : List ℕ) → first_own (script ++ operation.Caller name ∷ []) ≡ length (requests_in script)
 first_own-caller script name = opened_before-append 0 0 script (operation.Caller name ∷ []) ∙ omega arith
 
--- with other operations it stays
+-- a request leaves it where it is
 pub first_own-open : (script : List Operation) (request : Request) → first_own (script ++ operation.Open request ∷ []) ≡ first_own script
 first_own-open script request = opened_before-append 0 0 script (operation.Open request ∷ [])
 
+-- a send leaves it, too
 pub first_own-send : (script : List Operation) (send : Send) → first_own (script ++ operation.Send send ∷ []) ≡ first_own script
 first_own-send script send = opened_before-append 0 0 script (operation.Send send ∷ [])
 
@@ -107,59 +108,41 @@ no_script (operation.Caller name ∷ script) is none = cc
 no_script (operation.Open request ∷ script) is none = absurd (omega (arith, is.0.caller))
 no_script (operation.Send send ∷ script) is none = absurd (omega (arith, is.0.caller))
 
-requests_go_on : (script done : List Operation) → GoOn done script → length (requests_in done) ≤ 1024 → length (requests_in done) + length (requests_in script) ≤ 1024
-requests_go_on [] done g few = omega arith
-requests_go_on (operation.Caller name ∷ script) done g few =
-    let same = ap length (requests_in-append done (operation.Caller name ∷ []) ∙ append-nil (requests_in done)) in
-    let rest = requests_go_on script (done ++ operation.Caller name ∷ []) g.1 (omega arith) in
-    omega arith
-requests_go_on (operation.Open request ∷ script) done g few =
-    let more = ap length (requests_in-append done (operation.Open request ∷ [])) ∙ length-append (requests_in done) (request ∷ []) in
-    let rest = requests_go_on script (done ++ operation.Open request ∷ []) g.1 (omega (arith, g.0.few)) in
-    omega arith
-requests_go_on (operation.Send send ∷ script) done g few =
-    let same = ap length (requests_in-append done (operation.Send send ∷ []) ∙ append-nil (requests_in done)) in
-    let rest = requests_go_on script (done ++ operation.Send send ∷ []) g.1 (omega arith) in
-    omega arith
+-- what each operation that may follow keeps, a script keeps
+pub script_keeps : (P : List Operation → Type 0) → ((done : List Operation) (next : Operation) → MayFollow done next → P done → P (done ++ next ∷ []))
+    → (script done : List Operation) → GoOn done script → P done → P (done ++ script)
+script_keeps P step [] done g now = subst P (sym (append-nil done)) now
+script_keeps P step (next ∷ script) done g now =
+    subst P (append_assoc done (next ∷ []) script) (script_keeps P step script (done ++ next ∷ []) g.1 (step done next g.0 now))
+
+-- an operation leaves few requests
+few_requests : (done : List Operation) (next : Operation) → MayFollow done next → length (requests_in done) ≤ 1024 → length (requests_in (done ++ next ∷ [])) ≤ 1024
+few_requests done (operation.Caller name) may few = omega (arith, ap length (requests_in-append done (operation.Caller name ∷ []) ∙ append-nil (requests_in done)))
+few_requests done (operation.Open request) may few =
+    omega (arith, may.few, ap length (requests_in-append done (operation.Open request ∷ [])), length-append (requests_in done) (request ∷ []))
+few_requests done (operation.Send send) may few = omega (arith, ap length (requests_in-append done (operation.Send send ∷ []) ∙ append-nil (requests_in done)))
 
 -- a script has at most 1,024 requests
 pub script_requests : (script : List Operation) → IsScript script → length (requests_in script) ≤ 1024
-script_requests script is = let all = requests_go_on script [] is (omega arith) in omega arith
+script_requests script is = script_keeps (λ done. length (requests_in done) ≤ 1024) few_requests script [] is (omega arith)
 
-callers_go_on : (script done : List Operation) → GoOn done script → length (callers_in done) ≤ 64 → length (callers_in done) + length (callers_in script) ≤ 64
-callers_go_on [] done g few = omega arith
-callers_go_on (operation.Caller name ∷ script) done g few =
-    let more = ap length (callers_in-append done (operation.Caller name ∷ [])) ∙ length-append (callers_in done) (name ∷ []) in
-    let rest = callers_go_on script (done ++ operation.Caller name ∷ []) g.1 (omega (arith, g.0.few)) in
-    omega arith
-callers_go_on (operation.Open request ∷ script) done g few =
-    let same = ap length (callers_in-append done (operation.Open request ∷ []) ∙ append-nil (callers_in done)) in
-    let rest = callers_go_on script (done ++ operation.Open request ∷ []) g.1 (omega arith) in
-    omega arith
-callers_go_on (operation.Send send ∷ script) done g few =
-    let same = ap length (callers_in-append done (operation.Send send ∷ []) ∙ append-nil (callers_in done)) in
-    let rest = callers_go_on script (done ++ operation.Send send ∷ []) g.1 (omega arith) in
-    omega arith
+-- and few callers
+few_callers : (done : List Operation) (next : Operation) → MayFollow done next → length (callers_in done) ≤ 64 → length (callers_in (done ++ next ∷ [])) ≤ 64
+few_callers done (operation.Caller name) may few =
+    omega (arith, may.few, ap length (callers_in-append done (operation.Caller name ∷ [])), length-append (callers_in done) (name ∷ []))
+few_callers done (operation.Open request) may few = omega (arith, ap length (callers_in-append done (operation.Open request ∷ []) ∙ append-nil (callers_in done)))
+few_callers done (operation.Send send) may few = omega (arith, ap length (callers_in-append done (operation.Send send ∷ []) ∙ append-nil (callers_in done)))
 
 -- and at most 64 callers
 pub script_callers : (script : List Operation) → IsScript script → length (callers_in script) ≤ 64
-script_callers script is = let all = callers_go_on script [] is (omega arith) in omega arith
+script_callers script is = script_keeps (λ done. length (callers_in done) ≤ 64) few_callers script [] is (omega arith)
 
-load_goes_on : (script done : List Operation) → GoOn done script → load_in done ≤ 262144 → load_in done + load_in script ≤ 262144
-load_goes_on [] done g few = omega arith
-load_goes_on (operation.Caller name ∷ script) done g few =
-    let same = load_in-append done (operation.Caller name ∷ []) in
-    let rest = load_goes_on script (done ++ operation.Caller name ∷ []) g.1 (omega arith) in
-    omega arith
-load_goes_on (operation.Open request ∷ script) done g few =
-    let same = load_in-append done (operation.Open request ∷ []) in
-    let rest = load_goes_on script (done ++ operation.Open request ∷ []) g.1 (omega arith) in
-    omega arith
-load_goes_on (operation.Send send ∷ script) done g few =
-    let more = load_in-append done (operation.Send send ∷ []) in
-    let rest = load_goes_on script (done ++ operation.Send send ∷ []) g.1 (omega (arith, g.0.load)) in
-    omega arith
+-- and a load within the limit
+small_load : (done : List Operation) (next : Operation) → MayFollow done next → load_in done ≤ 262144 → load_in (done ++ next ∷ []) ≤ 262144
+small_load done (operation.Caller name) may few = omega (arith, load_in-append done (operation.Caller name ∷ []))
+small_load done (operation.Open request) may few = omega (arith, load_in-append done (operation.Open request ∷ []))
+small_load done (operation.Send send) may few = omega (arith, may.load, load_in-append done (operation.Send send ∷ []))
 
 -- and its sends plan at most 262,144 packets
 pub script_load : (script : List Operation) → IsScript script → load_in script ≤ 262144
-script_load script is = let all = load_goes_on script [] is (omega arith) in omega arith
+script_load script is = script_keeps (λ done. load_in done ≤ 262144) small_load script [] is (omega arith)

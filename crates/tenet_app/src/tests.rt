@@ -339,6 +339,7 @@ fn too_many_bytes_are_refused_behind_the_whole_lines(rt: HostRuntime) -> Result<
 }
 
 // The link of the first scenario establishes its request, and the report tells it.
+#[tactic(auto, using(crate::proofs::PlayFacts::plan_few))]
 fn answers_first(rt: &impl Abort, alloc: Global, plan: &Draft) -> Result<(), Fail>
     requires { IsPlan plan.now }
 {

@@ -13,6 +13,7 @@ record IsNameAt (names : List (List ℕ)) (place : ℕ) (name : List ℕ) : Type
   within : place < length names
   at : name ≡ get_or names place []
 
+-- that is what the look-up reads there
 name_at : (script other : List Operation) (requests : List Request) (place count : ℕ) (request : Request) (name : List ℕ) → requests ≡ requests_in script → script ≡ other
     → count ≡ length requests → place < count → request ≡ get_or requests place request → name ≡ request.name → IsNameAt (names_of (requests_in other)) place name
 name_at script other requests place count request name kept view all within is named =
