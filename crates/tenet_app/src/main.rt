@@ -8,6 +8,7 @@ ghost use Rattle.tenet_app.specs.declared.status.Status.TheVariants.{Memory, Wor
 
 pub mod batch;
 pub mod establishment;
+pub mod laws;
 pub mod player;
 pub mod playing;
 pub mod report;

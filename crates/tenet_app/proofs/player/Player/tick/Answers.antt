@@ -16,7 +16,3 @@ loop-preserved c =
       at = λ h at. at-next c.args.self.now.link.shape c.loop.self.link.shape h c.loop.counter c.ask.new.self before.same.shape
       (c.in_ok-ask.ensures.at (after_ticks c.args.self.now.link.shape h c.loop.counter) (before.at h at));
     }
-
--- until the link answers ticks
-pub ask-requires-clause-built : goal.ask-requires-clause-built
-ask-requires-clause-built c = ?
