@@ -40,8 +40,8 @@ after-opened run old new chan request verdicts verdict is after at told =
     record {
       at = subst P same at;
       said = map-append verdict_of verdicts (verdict ∷ [])
-      ∙ ap (λ v. map verdict_of verdicts ++ v ∷ []) (told ∙ ap (λ c. settled shape request (reply_to shape run.history (reserve_for c request))) same)
-      ∙ ap (λ vs. vs ++ settled shape request (reply_to shape run.history (reserve_for (channel_at (length run.verdicts)) request)) ∷ []) after.said;
+          ∙ ap (λ v. map verdict_of verdicts ++ v ∷ []) (told ∙ ap (λ c. settled shape request (reply_to shape run.history (reserve_for c request))) same)
+          ∙ ap (λ vs. vs ++ settled shape request (reply_to shape run.history (reserve_for (channel_at (length run.verdicts)) request)) ∷ []) after.said;
     }
 
 -- a send that it has made, and one that it makes no step for

@@ -266,7 +266,7 @@ tells-step h ask reply old new tells steps sent dropped few channels planned =
       few_dropped = omega (arith, steps, dropped, few, tells.few_dropped);
       channels = rw same all;
       planned = λ number. planned number ∙ ap (λ ticks. ticks ++ map tick_of (planned_by number ask reply)) (tells.planned number)
-      ∙ sym (map-append tick_of (planned_in number h) (planned_by number ask reply));
+          ∙ sym (map-append tick_of (planned_in number h) (planned_by number ask reply));
     }
 
 -- ---- the ticks of a batch, one after another

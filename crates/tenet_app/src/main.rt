@@ -14,6 +14,7 @@ pub mod playing;
 pub mod report;
 pub mod run;
 pub mod scenario;
+pub mod shapes;
 pub mod status;
 pub mod tallies;
 pub mod tally;

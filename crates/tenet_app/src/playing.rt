@@ -1,9 +1,8 @@
 //! The word `play`: from the bytes of a scenario to the bytes of its report.
 ghost use Rattle.std.specs.Prelude.{◌≡◌, ◌≤◌, ℕ, ◌⊎◌, List, Some, IfOk, string_bytes};
-ghost use Rattle.tenet_app.specs.Plans.{IsLink, IsPlan};
+ghost use Rattle.tenet_app.specs.Plans.{IsPlan};
 ghost use Rattle.tenet_app.specs.Playing.{Ends, MeetsNoFault, plan_report, refusal_line, due_status, Plays, Counts, WritesAll};
 ghost use Rattle.tenet_app.specs.Reading.{reading};
-ghost use Rattle.tenet_app.specs.Shapes.{shape_of};
 ghost use Rattle.tenet_app.specs.declared.scenario.reader.TheConstants.{MOST_BYTES};
 ghost use Rattle.tenet_app.specs.declared.status.Status.TheVariants as status;
 
@@ -11,12 +10,11 @@ use crate::report::report;
 use crate::run::run;
 use crate::scenario::cause::Cause;
 use crate::scenario::draft::Draft;
-use crate::scenario::plan::Link;
 use crate::scenario::reader::{ReadRefusal, read_scenario};
+use crate::shapes::shape_of;
 use crate::status::Status;
 use byte_ends::{Sink, Source, put_all};
-use link_steps::LinkShape;
-use net_units::{LinkNo, OutOfMemory};
+use net_units::OutOfMemory;
 use std::alloc::{AllocError, Global};
 
 /// Reads a scenario, establishes its requests, and writes the report. It waits for nobody.
@@ -63,25 +61,6 @@ fn answer(alloc: Global, plan: &Draft) -> Result<String, OutOfMemory>
             let played = run(alloc, shape_of(link), plan.script(), requests.len(), ticks)?;
             report(alloc, &link.name, requests, &played)
         }
-    }
-}
-
-/// The shape of the link of a plan.
-fn shape_of(link: &Link) -> LinkShape
-    requires { IsLink link.now }
-    ensures { shape_of link.now ≡ Some result }
-{
-    let number = LinkNo::new(0).unwrap();
-    match LinkShape::new(
-        number,
-        link.rate,
-        link.cap,
-        link.prop,
-        link.buffer,
-        link.bounds,
-    ) {
-        Ok(shape) => shape,
-        Err(_) => unreachable!(),
     }
 }
 

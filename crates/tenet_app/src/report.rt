@@ -39,9 +39,7 @@ impl fmt::Display for VerdictLine {
             Verdict::NoBuffer { need, free } => {
                 writeln!(f, "deny {name} hop 1 buffer {need} {free}")
             }
-            Verdict::TooWide { smax, cap } => {
-                writeln!(f, "deny {name} hop 1 wide {smax} {cap}")
-            }
+            Verdict::TooWide { smax, cap } => { writeln!(f, "deny {name} hop 1 wide {smax} {cap}") }
             Verdict::TooLate { sum, bound } => {
                 writeln!(f, "deny {name} end delay {sum} {bound}")
             }

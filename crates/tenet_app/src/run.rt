@@ -36,9 +36,9 @@ pub fn run(
     ensures channels { IfOk result (λ played. length played.player.tallies.channels.items ≡ requests) }
     ensures few { IfOk result (λ played. played.player.tallies.steps < 2 ^ 31) }
     ensures after { IfOk result (λ played. IsAfter (record {
-        history = after_ticks shape (after_script shape no_steps script.now).history ticks;
-        verdicts = (after_script shape no_steps script.now).verdicts
-      }) played.player played.verdicts.items) }
+      history = after_ticks shape (after_script shape no_steps script.now).history ticks;
+      verdicts = (after_script shape no_steps script.now).verdicts;
+    }) played.player played.verdicts.items) }
 {
     let mut player = Player::new(alloc, shape, requests)?;
     let verdicts = follow(alloc, &mut player, script)?;

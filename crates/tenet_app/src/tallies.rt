@@ -82,7 +82,10 @@ fn plan(batches: &mut Vec<Batch>, ask: &Ask, reply: &Reply) -> Result<(), OutOfM
     match (ask, reply) {
         (
             Ask::Submit {
-                chan, count, gap, ..
+                chan,
+                count,
+                gap,
+                ..
             },
             Reply::Planned { clock },
         ) => {

@@ -2,12 +2,14 @@
 //! packets: `5 10 20 2` brings at most two packets of two units in 10 or 20 ticks, and four in 40.
 ghost use Rattle.tenet_app.specs.Plans.{IsPlan};
 
-use crate::establishment::{Verdict, establish};
+use crate::establishment::Verdict;
 use crate::playing::play;
 use crate::report::report;
+use crate::run::run;
 use crate::scenario::cause::Cause;
 use crate::scenario::draft::Draft;
 use crate::scenario::reader::read_scenario;
+use crate::shapes::shape_of;
 use crate::status::Status;
 use crate::top::top;
 use byte_ends::{MemSink, MemSource};
@@ -17,6 +19,8 @@ use std::process::Abort;
 use std::sync::Wait;
 use std::test::Fail;
 use std::thread::Threads;
+
+mod runs;
 
 const FIRST: &str = "tenet 1
 link A n1 n2 rate 1 cap 4 prop 2 buffer 100 levels 10 20 40
@@ -347,15 +351,18 @@ fn answers_first(rt: &impl Abort, alloc: Global, plan: &Draft) -> Result<(), Fai
     match plan.links() {
         [] => assert!(rt; false, "no link"),
         [link, ..] => {
-            let verdicts = establish(alloc, link, requests)?;
+            let played = run(alloc, shape_of(link), plan.script(), requests.len(), 0)?;
             let accepted = Verdict::Accepted {
                 level: Level::LEAST,
                 delay: 12,
             };
-            assert_eq!(rt; verdicts.as_slice(), [accepted].as_slice());
+            assert!(rt; accepted.is_accepted());
+            let verdicts = played.verdicts.as_slice();
+            assert_eq!(rt; verdicts, [accepted].as_slice());
             assert_eq!(rt; requests.len(), 1);
             assert_eq!(rt; verdicts.len(), 1);
-            let text = report(alloc, &link.name, requests, verdicts.as_slice())?;
+            assert_eq!(rt; played.player.tallies.steps, 2);
+            let text = report(alloc, &link.name, requests, &played)?;
             assert_eq!(rt; text.as_str(), FIRST_REPORT);
         }
     }

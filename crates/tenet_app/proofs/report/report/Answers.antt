@@ -10,6 +10,17 @@ unfolding report_of
 returns c = λ run after.
     let tells = after.at.tells in
     let clock : c.clock-clock.result ≡ clock_of run.history = c.clock-clock.ensures ∙ at-clock run.history c.args.played.now.player after.at in
-    rw (c.in_ok-writeln-2.ensures.bytes, c.in_ok-writeln.ensures.bytes, c.in_ok-push_channels.ensures run.history after.at, c.in_ok-push_verdicts.ensures, c.new-text.ensures.bytes, c.deref.ensures.value,
-    after.said, clock, tells.sent, tells.dropped, tells.steps)
+    rw (
+      c.in_ok-writeln-2.ensures.bytes,
+      c.in_ok-writeln.ensures.bytes,
+      c.in_ok-push_channels.ensures run.history after.at,
+      c.in_ok-push_verdicts.ensures,
+      c.new-text.ensures.bytes,
+      c.deref.ensures.value,
+      after.said,
+      clock,
+      tells.sent,
+      tells.dropped,
+      tells.steps,
+    )
     (simp append_assoc refl)

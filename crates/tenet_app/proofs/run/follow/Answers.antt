@@ -28,6 +28,6 @@ loop-operation-preserved c =
       same = same-both c.args.player.now c.loop-operation.player c.operate.new.player before.same c.in_ok-operate.ensures.same;
       steps = omega (arith, before.steps, c.in_ok-operate.ensures.steps);
       after = after-next c.args.player.now.link.shape c.loop-operation.player.link.shape c.args.script.now c.loop-operation.operation-index c.operation-item.result
-      c.operate.new.player c.operate.new.verdicts.items c.loop-operation-test.true before.same.shape
-      (rw c.operation-item.is at (c.in_ok-operate.ensures.after _ before.after));
+          c.operate.new.player c.operate.new.verdicts.items c.loop-operation-test.true before.same.shape
+          (rw c.operation-item.is at (c.in_ok-operate.ensures.after _ before.after));
     }

@@ -14,5 +14,5 @@ loop-preserved c =
       same = same-both c.args.self.now c.loop.self c.ask.new.self before.same c.in_ok-ask.ensures.same;
       steps = omega (arith, c.in_ok-ask.ensures.steps, before.steps);
       at = λ h at. at-next c.args.self.now.link.shape c.loop.self.link.shape h c.loop.counter c.ask.new.self before.same.shape
-      (c.in_ok-ask.ensures.at (after_ticks c.args.self.now.link.shape h c.loop.counter) (before.at h at));
+          (c.in_ok-ask.ensures.at (after_ticks c.args.self.now.link.shape h c.loop.counter) (before.at h at));
     }

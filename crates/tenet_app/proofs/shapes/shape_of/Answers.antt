@@ -1,7 +1,7 @@
 use Rattle.std.proofs.Common.{◌∙◌}
 use Rattle.tenet_app.specs.Shapes.{first_link}
 use Rattle.tenet_app.proofs.ShapeFacts.{same_link, shape-is}
-use Rattle.tenet_app.proofs.playing.shape_of.Goals as goal
+use Rattle.tenet_app.proofs.shapes.shape_of.Goals as goal
 
 pub returns : goal.returns
 returns c =
