@@ -1,99 +1,149 @@
--- The row that was reserved last: what giving it back and moving it leave.
-use Rattle.std.proofs.Common.{◌≡◌, ℕ, zero, suc, ◌+◌, ◌-◌, ◌<◌, ◌≤◌, List, [], ◌∷◌, ◌++◌, map, Some, length, get_or, refl, ap, arith, length-append}
-use Rattle.std.proofs.lemmas.Bool.{ne_eqb, eq-eqb, le-ltb}
-use Rattle.std.proofs.lemmas.List.{map-append}
-use Rattle.std.proofs.lemmas.List.Elements.{Contains-append_right}
-use Rattle.traffic_contract.specs.Contract.{Terms}
-use Rattle.traffic_contract.specs.Admission.{Row, with_row, best_level}
-use Rattle.rcsp_admission.specs.Sums.{Held, Holds, HoldsUpTo, held_at, rows_of, key_of, added, moved, without}
-use Rattle.tenet_app.specs.Establishment.{KeysBelow, IsReserved, server_over, delay_at, allotted, accepted_at, settled_at, settled_by, settle}
-use Rattle.tenet_app.specs.declared.scenario.plan.Link.{Link}
+-- What the reply to a reserve comes to, and what is asked behind it.
+use Rattle.std.proofs.Common.{◌≡◌, ℕ, ◌+◌, ◌-◌, ◌<◌, ◌≤◌, true, false, List, length, map, refl, sym, subst, ◌∙◌, ap, ltb, arith}
+use Rattle.std.specs.Prelude.{Result, Ok, Err, OnOk}
+use Rattle.std.proofs.lemmas.Bool.{le-ltb, lt-ltb}
+use Rattle.net_units.specs.Numbers.{level_number}
+use Rattle.net_units.specs.declared.numbers.ChanNo.{ChanNo}
+use Rattle.net_units.specs.declared.numbers.Level.{Level}
+use Rattle.net_units.proofs.BoundFacts.{bounds_parts}
+use Rattle.traffic_contract.specs.Admission.{best_level}
+use Rattle.traffic_contract.proofs.AdmissionFacts.{best_level-is}
+use Rattle.link_steps.specs.Levels.{level_of}
+use Rattle.link_steps.specs.Replies.{reserve_reply, reply_at, reply_to}
+use Rattle.link_steps.specs.Reservation.{admitted}
+use Rattle.link_steps.specs.Rows.{row_terms}
+use Rattle.link_steps.specs.Scan.{clock_of, scan_of}
+use Rattle.link_steps.specs.Shape.{server_of}
+use Rattle.link_steps.specs.declared.asks.Ask.{Ask}
+use Rattle.link_steps.specs.declared.asks.Ask.TheVariants.{Relax, Deny}
+use Rattle.link_steps.specs.declared.replies.Entry.{Entry}
+use Rattle.link_steps.specs.declared.replies.Refusal.{Refusal}
+use Rattle.link_steps.specs.declared.replies.Reply.{Reply}
+use Rattle.link_steps.specs.declared.replies.Reply.TheVariants as Is
+use Rattle.link_steps.specs.declared.shape.LinkShape.{LinkShape}
+use Rattle.link_steps.proofs.AdmissionHolds.{offer-best}
+use Rattle.link_steps.proofs.LevelFacts.{same_level, level_of-number}
+use Rattle.tenet_app.specs.Establishment.{Settled, IsAccepted, IsTooLate, IsPending, reserve_for, delay_at, allotted, relaxed_to, way_back, at_destination, settled}
+use Rattle.tenet_app.specs.Run.{asked, replied, after_open}
+use Rattle.tenet_app.specs.Tallies.{IsAt, SameLink}
+use Rattle.tenet_app.specs.declared.player.Player.{Player}
 use Rattle.tenet_app.specs.declared.scenario.plan.Request.{Request}
 
--- a key that all others are below isn't among them
-pub new_key : (key : ℕ) (rows : List Held) → KeysBelow key rows → Holds rows key → ⊥
-new_key key rows below holds = go rows holds.0 below holds.1 holds.2 where
-  go : (rows : List Held) (i : ℕ) → KeysBelow key rows → i < length (map key_of rows) → get_or (map key_of rows) i key ≡ key → ⊥
-  go [] i below h e = omega arith
-  go (held ∷ rows) zero below h e = omega (arith, below.0)
-  go (held ∷ rows) (suc i) below h e = go rows i below.1 (omega arith) e
+-- the reply ends the setup: it offers nothing
+abbrev pub IsLast : Reply → Type 0
+IsLast (Is.Offer level reach) = ⊥
+IsLast _ = Unit {0}
 
--- keys stay below a larger number
-pub keys_below_more : (key : ℕ) (rows : List Held) → KeysBelow key rows → KeysBelow (key + 1) rows
-keys_below_more key [] below = tt
-keys_below_more key (held ∷ rows) below = (omega (arith, below.0), keys_below_more key rows below.1)
+replied-last : (shape : LinkShape) (h : List Entry) (chan : ChanNo) (request : Request) (reply : Reply) → IsLast reply → replied shape h chan request reply ≡ h
+replied-last shape h chan request (Is.Offer level reach) last = absurd last
+replied-last shape h chan request _ last = refl
 
--- with a row of this key, all keys are below the next
-pub keys_below_added : (key : ℕ) (rows : List Held) (terms : Terms) (level : ℕ) → KeysBelow key rows → KeysBelow (key + 1) (added rows key terms level)
-keys_below_added key [] terms level below = (omega arith, tt)
-keys_below_added key (held ∷ rows) terms level below = (omega (arith, below.0), keys_below_added key rows terms level below.1)
+module _ (shape : LinkShape) (h : List Entry) (chan : ChanNo) (request : Request) (reply : Reply) (is : reply ≡ reply_to shape h (reserve_for chan request)) where
+  -- a reserve that is refused is the whole setup
+  pub open-ends : IsLast reply → after_open shape h chan request ≡ asked shape h (reserve_for chan request)
+  unfolding after_open
+  open-ends last = ap (replied shape (asked shape h (reserve_for chan request)) chan request) (sym is) ∙ replied-last shape _ chan request reply last
 
--- giving the last row back leaves the others
-pub without-added : (key : ℕ) (rows : List Held) (terms : Terms) (level : ℕ) → KeysBelow key rows → without (added rows key terms level) key ≡ rows
-without-added key [] terms level below = rw (eq-eqb key key refl) refl
-without-added key (held ∷ rows) terms level below =
-    let other : held.key ≡ key → ⊥ = λ e. omega (arith, below.0) in
-    rw (ne_eqb held.key key other) (ap (λ rs. held ∷ rs) (without-added key rows terms level below.1))
+  -- behind an offer comes the way back
+  pub open-goes_on : (level reach : Level) → reply ≡ Is.Offer level reach
+      → after_open shape h chan request ≡ asked shape (asked shape h (reserve_for chan request)) (way_back shape chan request level)
+  unfolding after_open
+  open-goes_on level reach offer = ap (replied shape (asked shape h (reserve_for chan request)) chan request) (sym is ∙ offer)
 
--- moving the last row leaves the others
-pub moved-added : (key : ℕ) (rows : List Held) (terms : Terms) (level to : ℕ) → KeysBelow key rows → moved (added rows key terms level) key to ≡ added rows key terms to
-moved-added key [] terms level to below = rw (eq-eqb key key refl) refl
-moved-added key (held ∷ rows) terms level to below =
-    let other : held.key ≡ key → ⊥ = λ e. omega (arith, below.0) in
-    rw (ne_eqb held.key key other) (ap (λ rs. held ∷ rs) (moved-added key rows terms level to below.1))
+  pub settled-is : settled shape request (reply_to shape h (reserve_for chan request)) ≡ settled shape request reply
+  settled-is = ap (settled shape request) (sym is)
 
--- the rows alone, with the new one at the end
-pub rows_of-added : (key : ℕ) (rows : List Held) (terms : Terms) (level : ℕ) → rows_of (added rows key terms level) ≡ with_row (rows_of rows) terms level
-rows_of-added key [] terms level = refl
-rows_of-added key (held ∷ rows) terms level = ap (λ rs. held.row ∷ rs) (rows_of-added key rows terms level)
+  -- the level of an offer is one of the link's
+  pub offer-within : (level reach : Level) → reply ≡ Is.Offer level reach → level_number level ≤ length shape.bounds
+  unfolding reply_to reply_at reserve_reply
+  offer-within level reach offer =
+      let held = map row_terms (scan_of shape h).rows in
+      let found = offer-best shape held chan request.contract request.delay 0 (best_level (server_of shape) (map admitted held) request.contract) level reach (sym offer ∙ is) in
+      let tells = best_level-is (server_of shape) (map admitted held) request.contract found.0 found.1 in
+      let most = (bounds_parts shape.bounds shape.bounds_rise).most in
+      let n = ap level_number found.2 ∙ level_of-number found.0 tells.from (omega (arith, tells.upto, most)) in
+      omega (arith, n, tells.upto)
 
--- the place behind a list has what follows
-at_end : {X : Type 0} (xs : List X) (x d : X) → get_or (xs ++ x ∷ []) (length xs) d ≡ x
-at_end [] x d = refl
-at_end (y ∷ xs) x d = at_end xs x d
+-- a reply that is neither is pending
+pub pending-else : (shape : LinkShape) (request : Request) (reply : Reply) → ((level reach : Level) → reply ≡ Is.Offer level reach → ⊥)
+    → ((refusal : Refusal) → reply ≡ Is.Refused refusal → ⊥) → (settled shape request reply ≡ IsPending) × IsLast reply
+pending-else shape request (Is.Offer level reach) offer refused = absurd (offer level reach refl)
+pending-else shape request (Is.Refused refusal) offer refused = absurd (refused refusal refl)
+pending-else shape request _ offer refused = (refl, tt)
 
--- the last row is held
-pub holds-added : (key : ℕ) (rows : List Held) (terms : Terms) (level : ℕ) → Holds (added rows key terms level) key
-holds-added key rows terms level =
-    rw (map-append key_of rows (held_at key terms level ∷ []))
-    (Contains-append_right (map key_of rows) (key ∷ []) key (0, omega arith, refl))
+-- ---- the destination
 
--- the last row is held at its level
-pub holds_up_to-added : (key : ℕ) (rows : List Held) (terms : Terms) (level to : ℕ) → level ≤ to → HoldsUpTo (added rows key terms level) key to
-holds_up_to-added key rows terms level to h =
-    (length rows, held_at key terms level, rw length-append (omega arith), at_end rows (held_at key terms level) (held_at key terms level), (refl, h))
+module _ (shape : LinkShape) (chan : ChanNo) (request : Request) (offered : Level) (total bound : ℕ)
+    (sum : total ≡ delay_at shape (level_number offered)) (limit : bound ≡ request.delay) where
+  -- it refuses an offer that is over the bound
+  pub late-verdict : bound < total → IsTooLate total bound ≡ at_destination shape request offered
+  unfolding at_destination
+  late-verdict late =
+      let over : request.delay < delay_at shape (level_number offered) = omega arith in
+      rw (lt-ltb request.delay (delay_at shape (level_number offered)) over, sum, limit) refl
 
--- giving a reserved row back leaves the others, moving it puts it at another level
-module _ (key : ℕ) (terms : Terms) (level : ℕ) (held : List Held) (reserved : IsReserved key terms level held) where
-  pub reserved-held : Holds held key
-  reserved-held = rw reserved.last (holds-added key reserved.before terms level)
+  pub late-back : bound < total → way_back shape chan request offered ≡ Deny chan
+  unfolding way_back
+  late-back late =
+      let over : request.delay < delay_at shape (level_number offered) = omega arith in
+      rw (lt-ltb request.delay (delay_at shape (level_number offered)) over) refl
 
-  pub reserved-held_up_to : (to : ℕ) → level ≤ to → HoldsUpTo held key to
-  reserved-held_up_to to h = rw reserved.last (holds_up_to-added key reserved.before terms level to h)
+  -- and lets one pass that isn't
+  module _ (level : Level) (allots : level_number level ≡ allotted shape (level_number offered) (bound - total)) (in_time : total ≤ bound) where
+    relaxed-is : level_number level ≡ relaxed_to shape request offered
+    relaxed-is = allots ∙ ap (λ n. allotted shape (level_number offered) (n - total)) limit
+        ∙ ap (λ n. allotted shape (level_number offered) (request.delay - n)) sum
 
-  pub without-reserved : without held key ≡ reserved.before
-  without-reserved = rw reserved.last (without-added key reserved.before terms level reserved.below)
+    not-late : ltb request.delay (delay_at shape (level_number offered)) ≡ false
+    not-late = le-ltb request.delay (delay_at shape (level_number offered)) (omega arith)
 
-  pub keys_below-without : KeysBelow (key + 1) (without held key)
-  keys_below-without = rw without-reserved (keys_below_more key reserved.before reserved.below)
+    pub passed-verdict : (delay : ℕ) → delay ≡ delay_at shape (level_number level) → IsAccepted (level_number level) delay ≡ at_destination shape request offered
+    unfolding at_destination
+    passed-verdict delay is = rw (not-late, is, relaxed-is) refl
 
-  pub keys_below-moved : (to : ℕ) → KeysBelow (key + 1) (moved held key to)
-  keys_below-moved to =
-      rw (reserved.last, moved-added key reserved.before terms level to reserved.below)
-      (keys_below_added key reserved.before terms to reserved.below)
+    pub passed-back : way_back shape chan request offered ≡ Relax chan level 0
+    unfolding way_back
+    passed-back =
+        let n = level_of-number (level_number level) level.least level.most in
+        rw (not-late, ← relaxed-is, same_level (level_of (level_number level)) level n) refl
 
-  pub rows_of-moved : (to : ℕ) → rows_of (moved held key to) ≡ with_row (rows_of (without held key)) terms to
-  rows_of-moved to =
-      rw without-reserved
-      (rw (reserved.last, moved-added key reserved.before terms level to reserved.below) (rows_of-added key reserved.before terms to))
+-- ---- a step behind another
 
--- where the destination lets the offer pass, the channel is accepted
-pub settled_accepts : (link : Link) (rows : List Row) (request : Request) (offered : ℕ) → delay_at link offered ≤ request.delay
-    → settled_at link rows request offered ≡ accepted_at link rows request offered (allotted link offered (request.delay - delay_at link offered))
-settled_accepts link rows request offered h = rw (le-ltb request.delay (delay_at link offered) h) refl
+pub on_ok-more : {T E P Q : Type 0} (r : Result T E) → (P → Q) → OnOk r P → OnOk r Q
+on_ok-more (Ok x) more p = more p
+on_ok-more (Err e) more p = tt
 
--- an offered level is settled at the destination
-pub settle_offers : (link : Link) (rows : List Row) (request : Request) (offered : ℕ) → best_level (server_over link) rows request.contract ≡ Some offered
-    → settle link rows request ≡ settled_at link rows request offered
-unfolding settle
-settle_offers link rows request offered e = ap (λ o. settled_by o link rows request) e
+-- the setup of a reserve with an offer
+pub at-settled : (old between new : Player) (chan : ChanNo) (request : Request) (ask : Ask) (reply : Reply) (level reach : Level) → ask ≡ reserve_for chan request
+    → SameLink old between
+    → ((h : List Entry) → IsAt h old → reply ≡ reply_to old.link.shape h ask)
+    → ((h : List Entry) → IsAt h old → IsAt (asked old.link.shape h ask) between)
+    → reply ≡ Is.Offer level reach
+    → ((h : List Entry) → IsAt h between → IsAt (asked between.link.shape h (way_back between.link.shape chan request level)) new)
+    → (h : List Entry) → IsAt h old → IsAt (after_open old.link.shape h chan request) new
+at-settled old between new chan request ask reply level reach is same legal asks offer settles h at =
+    let shape = old.link.shape in
+    let replies = legal h at ∙ ap (reply_to shape h) is in
+    let P : List Entry → Type 0 = λ all. IsAt all new in
+    let Q : LinkShape → Type 0 = λ s. IsAt (asked s (asked shape h ask) (way_back s chan request level)) new in
+    let behind : IsAt (asked shape (asked shape h ask) (way_back shape chan request level)) new = subst Q same.shape (settles (asked shape h ask) (asks h at)) in
+    subst P (ap (λ a. asked shape (asked shape h a) (way_back shape chan request level)) is ∙ sym (open-goes_on shape h chan request reply replies level reach offer)) behind
+
+-- the setup of a reserve with none
+pub at-ended : (old new : Player) (chan : ChanNo) (request : Request) (ask : Ask) (reply : Reply) → ask ≡ reserve_for chan request → IsLast reply
+    → ((h : List Entry) → IsAt h old → reply ≡ reply_to old.link.shape h ask)
+    → ((h : List Entry) → IsAt h old → IsAt (asked old.link.shape h ask) new)
+    → (h : List Entry) → IsAt h old → IsAt (after_open old.link.shape h chan request) new
+at-ended old new chan request ask reply is last legal asks h at =
+    let shape = old.link.shape in
+    let replies = legal h at ∙ ap (reply_to shape h) is in
+    let P : List Entry → Type 0 = λ all. IsAt all new in
+    subst P (ap (asked shape h) is ∙ sym (open-ends shape h chan request reply replies last)) (asks h at)
+
+-- its verdict
+pub verdict-ended : (old : Player) (chan : ChanNo) (request : Request) (ask : Ask) (reply : Reply) (verdict : Settled) → ask ≡ reserve_for chan request
+    → ((h : List Entry) → IsAt h old → reply ≡ reply_to old.link.shape h ask)
+    → verdict ≡ settled old.link.shape request reply
+    → (h : List Entry) → IsAt h old → verdict ≡ settled old.link.shape request (reply_to old.link.shape h (reserve_for chan request))
+verdict-ended old chan request ask reply verdict is legal told h at =
+    told ∙ ap (settled old.link.shape request) (legal h at ∙ ap (reply_to old.link.shape h) is)

@@ -1,13 +1,8 @@
--- The first bound of a link is the least, and no empty link is over any of its bounds.
+-- The first bound of a link is the least.
 use Rattle.std.proofs.Common.{◌≡◌, ℕ, zero, suc, ◌-◌, ◌<◌, ◌≤◌, true, List, [], ◌∷◌, length, get_or, ltb, arith}
 use Rattle.std.proofs.lemmas.Bool.{and_parts}
 use Rattle.net_units.specs.Steps.{are_bounds, rises_above, bound_at}
 use Rattle.net_units.proofs.BoundFacts.{above_low, bounds_parts}
-use Rattle.traffic_contract.specs.Admission.{Passes}
-use Rattle.traffic_contract.proofs.AdmissionFacts.{Passes-nil}
-use Rattle.tenet_app.specs.Plans.{IsLink}
-use Rattle.tenet_app.specs.Establishment.{server_over}
-use Rattle.tenet_app.specs.declared.scenario.plan.Link.{Link}
 
 first_below : (low : ℕ) (bs : List ℕ) (j : ℕ) → rises_above low bs ≡ true → j < length bs → get_or bs 0 0 ≤ get_or bs j 0
 first_below low [] j r h = absurd (omega arith)
@@ -19,8 +14,3 @@ first_below low (b ∷ bs) (suc j) r h =
 -- the first bound is the least
 pub first_least : (bs : List ℕ) (m : ℕ) → are_bounds bs ≡ true → 1 ≤ m → m ≤ length bs → bound_at bs 1 ≤ bound_at bs m
 first_least bs m h one within = first_below 0 bs (m - 1) (bounds_parts bs h).rising (omega arith)
-
--- an empty link passes: its largest packet fits into its first bound, and so into each
-pub empty_passes : (link : Link) → IsLink link → Passes (server_over link) []
-empty_passes link sound =
-    Passes-nil (server_over link) (λ m one within. omega (arith, sound.prompt, first_least link.bounds m sound.bounds one within))

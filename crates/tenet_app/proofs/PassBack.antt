@@ -1,11 +1,11 @@
 -- The lines of a plan pass their rules, and say the parts of the plan.
-use Rattle.std.proofs.Common.{◌≡◌, ℕ, ◌+◌, ◌*◌, ◌<◌, ◌≤◌, Bool, true, false, not, ◌&&◌, ◌||◌, nat_eq, nat_lt, nat_le, List, [], ◌∷◌, length, map, get_or, take, drop, Some, None, decimal, codes, is_some, refl, ◌∙◌, ap, arith, zero-mul}
+use Rattle.std.proofs.Common.{◌≡◌, ℕ, ◌+◌, ◌*◌, ◌-◌, ◌<◌, ◌≤◌, Bool, true, false, not, ◌&&◌, ◌||◌, nat_eq, nat_lt, nat_le, List, [], ◌∷◌, length, map, get_or, take, drop, None, decimal, codes, is_some, refl, sym, ◌∙◌, ap, arith, get_or-drop, length-drop}
 use Rattle.std.proofs.lemmas.Bool.{leb-true, le-leb, lt-ltb, eq-eqb, and_parts, or_left, or_parts, not-true}
 use Rattle.std.proofs.lemmas.List.{drop_all, length-map}
 use Rattle.std.proofs.lemmas.Slice.Eq.{bytes_eq-Decides}
 use Rattle.std.specs.Cmp.Lexicographic.{pointwise}
 use Rattle.net_units.specs.Quotient.{ceil_quotient}
-use Rattle.net_units.specs.Steps.{rises_above, are_bounds, bound_at, last_bound}
+use Rattle.net_units.specs.Steps.{rises_above, are_bounds, bound_at}
 use Rattle.net_units.specs.Text.{begins_as_name, is_kept_word, is_name}
 use Rattle.net_units.proofs.BoundFacts.{above_low, all_at}
 use Rattle.std.specs.List.{list_all}
@@ -14,17 +14,20 @@ use Rattle.traffic_contract.specs.Refusal.{first_bad}
 use Rattle.tenet_app.specs.Causes.{Rule, unless, first_cause}
 use Rattle.tenet_app.specs.Decimal.{value_of}
 use Rattle.tenet_app.specs.Fields.{field_at}
-use Rattle.tenet_app.specs.Forms.{is_word, is_among, has_form, name_rule, new_name_rule, used_name_rule, number_rule}
-use Rattle.tenet_app.specs.Grammar.{link_form, bound_fields, link_of, levels_rule, is_ample, link_numbers_rule, bound_numbers_rule, link_fields_rule, link_rule, caller_rule, rate_form, jitter_form, hops_of, route_fields, behind_route, terms_in, contract_of, request_of, route_names_rule, terms_rule, jitter_rule, are_distinct, largest_carried, open_fields_rule, open_limits_rule, open_rule, rounds_form, rounds_rule, is_within_load, tail_form, tail_rule}
-use Rattle.tenet_app.specs.PlanText.{link_fields, caller_fields, request_fields, rounds_fields, tail_fields}
-use Rattle.tenet_app.specs.Plans.{Said, link_names, request_names, IsLink, IsRequest}
+use Rattle.tenet_app.specs.Forms.{is_word, is_among, place_of, has_form, name_rule, new_name_rule, used_name_rule, number_rule}
+use Rattle.tenet_app.specs.Grammar.{link_form, bound_fields, link_of, levels_rule, link_numbers_rule, bound_numbers_rule, link_fields_rule, link_rule, caller_rule, rate_form, jitter_form, hops_of, route_fields, behind_route, terms_in, contract_of, request_of, route_names_rule, terms_rule, jitter_rule, are_distinct, open_fields_rule, open_limits_rule, open_rule, send_form, send_of, send_fields_rule, send_rule, rounds_form, rounds_rule, is_within_load, tail_form, tail_rule}
+use Rattle.tenet_app.specs.PlanText.{link_fields, caller_fields, request_fields, send_fields, rounds_fields, tail_fields}
+use Rattle.tenet_app.specs.Plans.{Said, requests_in, load_in, first_own, names_of, own_names, own_place, link_names, callers_of, requests_of, request_names, rounds_of, IsLink, IsRequest, IsCallerAfter, IsOpenAfter, IsSendAfter, AreRounds}
 use Rattle.tenet_app.specs.declared.scenario.cause.Cause.{Cause}
 use Rattle.tenet_app.specs.declared.scenario.cause.Cause.TheVariants as cause
 use Rattle.tenet_app.specs.declared.scenario.form.Keyword.TheVariants as word
 use Rattle.tenet_app.specs.declared.scenario.form.Part.TheVariants as part
 use Rattle.tenet_app.specs.declared.scenario.plan.Link.{Link}
+use Rattle.tenet_app.specs.declared.scenario.plan.Operation.{Operation}
 use Rattle.tenet_app.specs.declared.scenario.plan.Request.{Request}
+use Rattle.tenet_app.specs.declared.scenario.plan.Send.{Send}
 use Rattle.tenet_app.proofs.PassFacts.{RulesPass}
+use Rattle.tenet_app.proofs.PlaceFacts.{among_at, place_at, distinct_drop}
 use Rattle.tenet_app.proofs.NumberText.{value-decimal, decimal_passes, decimals_pass, values-decimals}
 
 -- rules that pass each pass together
@@ -100,8 +103,6 @@ link_back said link none l =
     let few : length said.links ≡ 0 = ap length none in
     let levels : levels_rule (link_of (link_fields link)) ≡ None =
     ap levels_rule (link_again link l) ∙ rw (l.bounds, le-leb (ceil_quotient link.cap link.rate) (bound_at link.bounds 1) l.prompt) refl in
-    let ample : unless (is_ample (link_of (link_fields link))) cause.Later ≡ None =
-    ap (λ k. unless (is_ample k) cause.Later) (link_again link l) ∙ unless_holds (is_ample link) cause.Later (le-leb (link.rate * last_bound link.bounds) link.buffer l.ample) in
     let numbers = pass_all (number_rule 1 65536 (field_at fields 5) ∷ number_rule 1 65536 (field_at fields 7) ∷ number_rule 0 1048576 (field_at fields 9)
     ∷ number_rule 0 262144 (field_at fields 11) ∷ []) (
       decimal_passes 1 65536 link.rate l.rate_least l.rate_most (omega arith),
@@ -115,49 +116,43 @@ link_back said link none l =
     ∷ link_numbers_rule fields ∷ bound_numbers_rule (bound_fields fields) ∷ [])
     (new_name_back (link_names said) link.name l.name new, (name_back link.from l.from, (name_back link.to l.to, (numbers, (bounds, tt))))) in
     pass_all (unless (has_form link_form fields) cause.Shape ∷ link_fields_rule said fields ∷ unless (nat_lt (length said.links) 32) cause.Many
-    ∷ levels_rule (link_of fields) ∷ unless (nat_eq (length said.links) 0) cause.Later ∷ unless (is_ample (link_of fields)) cause.Later ∷ []) (
+    ∷ levels_rule (link_of fields) ∷ unless (nat_eq (length said.links) 0) cause.Later ∷ []) (
       unless_holds (has_form link_form fields) cause.Shape (link_form_back link b),
       (
         left,
         (
           unless_holds (nat_lt (length said.links) 32) cause.Many (lt-ltb (length said.links) 32 (omega arith)),
-          (levels, (unless_holds (nat_eq (length said.links) 0) cause.Later (eq-eqb (length said.links) 0 few), (ample, tt))),
+          (levels, (unless_holds (nat_eq (length said.links) 0) cause.Later (eq-eqb (length said.links) 0 few), tt)),
         ),
       ),
     )
 
 -- ---- callers and counts
 
--- a caller line passes where there is none
-pub caller_back : (said : Said) (name : List ℕ) → said.callers ≡ [] → is_name name ≡ true → caller_rule said (caller_fields name) ≡ None
-caller_back said name none is = rw (none, is) refl
+-- a caller line passes where its caller may begin
+pub caller_back : (said : Said) (name : List ℕ) → IsCallerAfter said.script name → caller_rule said (caller_fields name) ≡ None
+caller_back said name is =
+    let many = unless_holds (nat_lt (length (callers_of said)) 64) cause.Many (lt-ltb (length (callers_of said)) 64 is.few) in
+    rw (new_name_back (callers_of said) name is.is is.new, many) refl
 
--- the value of `0`
-no_count : nat_eq (value_of (decimal 0)) 0 ≡ true
-no_count = eq-eqb (value_of (decimal 0)) 0 (value-decimal 0 (omega arith))
+-- a line of rounds passes where they are few
+pub rounds_back : (count : ℕ) → count ≤ 524288 → rounds_rule (rounds_fields count) ≡ None
+rounds_back count few =
+    let fields = rounds_fields count in
+    pass_all (unless (has_form rounds_form fields) cause.Shape ∷ number_rule 0 524288 (field_at fields 1) ∷ [])
+    (refl, (decimal_passes 0 524288 count (omega arith) few (omega arith), tt))
 
--- `rounds 0` passes
-pub rounds_back : rounds_rule (rounds_fields 0) ≡ None
-rounds_back =
-    let fields = rounds_fields 0 in
-    pass_all (unless (has_form rounds_form fields) cause.Shape ∷ number_rule 0 524288 (field_at fields 1) ∷ unless (nat_eq (value_of (field_at fields 1)) 0) cause.Later ∷ [])
-    (refl, (decimal_passes 0 524288 0 (omega arith) (omega arith) (omega arith), (unless_holds (nat_eq (value_of (decimal 0)) 0) cause.Later no_count, tt)))
-
--- `tail 0` passes behind `rounds 0`
-pub tail_back : (said : Said) → said.rounds ≡ Some 0 → tail_rule said (tail_fields 0) ≡ None
-tail_back said e =
-    let fields = tail_fields 0 in
-    let load : is_within_load said (value_of (decimal 0)) ≡ true =
-    rw (e, value-decimal 0 (omega arith)) (le-leb (0 * length said.links) 524288 (omega (arith, zero-mul (length said.links)))) in
-    pass_all (unless (has_form tail_form fields) cause.Shape ∷ number_rule 0 524288 (field_at fields 1) ∷ unless (is_within_load said (value_of (field_at fields 1))) cause.Load
-    ∷ unless (nat_eq (value_of (field_at fields 1)) 0) cause.Later ∷ []) (
+-- a tail line passes where the rounds are few together
+pub tail_back : (said : Said) (count : ℕ) → AreRounds (length said.links) (rounds_of said) count → tail_rule said (tail_fields count) ≡ None
+tail_back said count few =
+    let fields = tail_fields count in
+    let load : is_within_load said (value_of (decimal count)) ≡ true =
+    rw (value-decimal count (omega (arith, few.tail_most))) (le-leb ((rounds_of said + count) * length said.links) 524288 few.load) in
+    pass_all (unless (has_form tail_form fields) cause.Shape ∷ number_rule 0 524288 (field_at fields 1) ∷ unless (is_within_load said (value_of (field_at fields 1))) cause.Load ∷ []) (
       refl,
       (
-        decimal_passes 0 524288 0 (omega arith) (omega arith) (omega arith),
-        (
-          unless_holds (is_within_load said (value_of (decimal 0))) cause.Load load,
-          (unless_holds (nat_eq (value_of (decimal 0)) 0) cause.Later no_count, tt),
-        ),
+        decimal_passes 0 524288 count (omega arith) few.tail_most (omega arith),
+        (unless_holds (is_within_load said (value_of (decimal count))) cause.Load load, tt),
       ),
     )
 
@@ -212,15 +207,16 @@ terms_back name r e c =
     rw (xmin, xave, interval, smax) refl
 
 -- an open line says its request
-pub request_again : (cap : ℕ) (name : List ℕ) (r : Request) → is_word word.Contract name ≡ false → IsRequest cap r → request_of (request_fields name r) ≡ r
-request_again cap name r e is =
+pub request_again : (name : List ℕ) (r : Request) → is_word word.Contract name ≡ false → IsRequest r → request_of (request_fields name r) ≡ r
+request_again name r e is =
     let delay = ap value_of (behind_back name r 6 e) ∙ value-decimal r.delay (omega (arith, is.delay_most)) in
     rw (terms_back name r e is.contract, delay) refl
 
 -- an open line over the one link passes behind the caller
-pub open_back : (said : Said) (name : List ℕ) (r : Request) → link_names said ≡ name ∷ [] → is_name name ≡ true → IsRequest (largest_carried said) r
-    → is_among (request_names said) r.name ≡ false → length said.requests < 1024 → open_rule said (request_fields name r) ≡ None
-open_back said name r links is_link is new few =
+pub open_back : (said : Said) (name : List ℕ) (r : Request) → link_names said ≡ name ∷ [] → is_name name ≡ true → IsOpenAfter said.script r
+    → open_rule said (request_fields name r) ≡ None
+open_back said name r links is_link after =
+    let is = after.sound in
     let fields = request_fields name r in
     let e = name_no_contract name is_link in
     let c = is.contract in
@@ -240,26 +236,66 @@ open_back said name r links is_link is new few =
     ∷ number_rule 1 65536 (behind_route fields 4) ∷ []) (xmin, (xave, (interval, (smax, tt)))) in
     let left = pass_all (new_name_rule (request_names said) (field_at fields 1) ∷ route_names_rule said (route_fields fields) ∷ terms_rule fields
     ∷ number_rule 1 67108864 (behind_route fields 6) ∷ jitter_rule fields ∷ [])
-    (new_name_back (request_names said) r.name is.name new, (route, (terms, (delay, (jitter, tt))))) in
+    (new_name_back (request_names said) r.name is.name after.new, (route, (terms, (delay, (jitter, tt))))) in
     let contract : is_some (contract_of (terms_in (request_fields name r))) ≡ true =
     ap (λ t. is_some (contract_of t)) (terms_back name r e c) ∙ contract_back r.contract c in
-    let fits : nat_le (terms_in (request_fields name r)).smax (largest_carried said) ≡ true =
-    ap (λ (t : Terms). nat_le t.smax (largest_carried said)) (terms_back name r e c) ∙ le-leb r.contract.smax (largest_carried said) is.fits in
-    let limits = pass_all (unless (nat_lt (length said.requests) 1024) cause.Many ∷ unless (is_some (contract_of (terms_in fields))) cause.Contract
-    ∷ unless (are_distinct (route_fields fields)) cause.Route ∷ unless (has_form rate_form fields) cause.Later
-    ∷ unless (nat_le (terms_in fields).smax (largest_carried said)) cause.Later ∷ []) (
-      unless_holds (nat_lt (length said.requests) 1024) cause.Many (lt-ltb (length said.requests) 1024 few),
+    let limits = pass_all (unless (nat_lt (length (requests_of said)) 1024) cause.Many ∷ unless (is_some (contract_of (terms_in fields))) cause.Contract
+    ∷ unless (are_distinct (route_fields fields)) cause.Route ∷ unless (has_form rate_form fields) cause.Later ∷ []) (
+      unless_holds (nat_lt (length (requests_of said)) 1024) cause.Many (lt-ltb (length (requests_of said)) 1024 after.few),
       (
         unless_holds (is_some (contract_of (terms_in fields))) cause.Contract contract,
         (
           unless_holds (are_distinct (route_fields fields)) cause.Route distinct,
-          (
-            unless_holds (has_form rate_form fields) cause.Later (rate_back name r e),
-            (unless_holds (nat_le (terms_in fields).smax (largest_carried said)) cause.Later fits, tt),
-          ),
+          (unless_holds (has_form rate_form fields) cause.Later (rate_back name r e), tt),
         ),
       ),
     ) in
     let form = or_left (has_form rate_form fields) (has_form jitter_form fields) (rate_back name r e) in
     pass_all (unless (has_form rate_form fields || has_form jitter_form fields) cause.Shape ∷ open_fields_rule said fields ∷ open_limits_rule said fields ∷ [])
     (unless_holds (has_form rate_form fields || has_form jitter_form fields) cause.Shape form, (left, (limits, tt)))
+
+-- ---- sends
+
+-- the name of a request that the last caller has opened is among its own, at its place there
+own_back : (script : List Operation) (place : ℕ) → are_distinct (names_of (requests_in script)) ≡ true → first_own script ≤ place → place < length (requests_in script)
+    → (is_among (own_names script) (get_or (names_of (requests_in script)) place []) ≡ true) × (own_place script (get_or (names_of (requests_in script)) place []) ≡ place)
+own_back script place apart own opened =
+    let names = names_of (requests_in script) in
+    let first = first_own script in
+    let count = length-map (requests_in script) (λ (r : Request). r.name) in
+    let left = length-drop (first_own script) (names_of (requests_in script)) in
+    let within : place - first_own script < length (own_names script) = omega arith in
+    let here : get_or (own_names script) (place - first_own script) [] ≡ get_or (names_of (requests_in script)) place [] =
+    get_or-drop first names (place - first) [] ∙ ap (λ i. get_or names i []) (omega arith) in
+    let among = ap (is_among (own_names script)) (sym here) ∙ among_at (own_names script) (place - first) within in
+    let at = ap (place_of (own_names script)) (sym here) ∙ place_at (own_names script) (place - first) (distinct_drop names first apart) within in
+    (among, omega (arith, at))
+
+-- a send line says its send
+pub send_again : (said : Said) (send : Send) → are_distinct (request_names said) ≡ true → IsSendAfter said.script send → send_of said (send_fields (request_names said) send) ≡ send
+send_again said send apart is =
+    let request = (own_back said.script send.request apart is.own is.opened).1 in
+    let count = value-decimal send.count (omega (arith, is.count_most)) in
+    let gap = value-decimal send.gap (omega (arith, is.gap_most)) in
+    let size = value-decimal send.size (omega (arith, is.size_most)) in
+    rw (request, count, gap, size) refl
+
+-- a send line passes where its send may follow
+pub send_back : (said : Said) (send : Send) → are_distinct (request_names said) ≡ true → is_name (field_at (request_names said) send.request) ≡ true → IsSendAfter said.script send
+    → send_rule said (send_fields (request_names said) send) ≡ None
+send_back said send apart is_request is =
+    let fields = send_fields (request_names said) send in
+    let own = (own_back said.script send.request apart is.own is.opened).0 in
+    let name : used_name_rule (own_names said.script) (field_at (request_names said) send.request) ≡ None = rw (name_back (field_at (request_names said) send.request) is_request, own) refl in
+    let load : nat_le (load_in said.script + value_of (decimal send.count)) 262144 ≡ true =
+    rw (value-decimal send.count (omega (arith, is.count_most))) (le-leb (load_in said.script + send.count) 262144 is.load) in
+    let left = pass_all (used_name_rule (own_names said.script) (field_at fields 1) ∷ number_rule 1 262144 (field_at fields 2) ∷ number_rule 1 1048576 (field_at fields 3)
+    ∷ number_rule 1 65536 (field_at fields 4) ∷ []) (
+      name,
+      (
+        decimal_passes 1 262144 send.count is.count_least is.count_most (omega arith),
+        (decimal_passes 1 1048576 send.gap is.gap_least is.gap_most (omega arith), (decimal_passes 1 65536 send.size is.size_least is.size_most (omega arith), tt)),
+      ),
+    ) in
+    pass_all (unless (has_form send_form fields) cause.Shape ∷ send_fields_rule said fields ∷ unless (nat_le (load_in said.script + value_of (field_at fields 2)) 262144) cause.Load ∷ [])
+    (refl, (left, (unless_holds (nat_le (load_in said.script + value_of (decimal send.count)) 262144) cause.Load load, tt)))

@@ -1,6 +1,6 @@
 -- What holds of a line that its rules let pass.
-use Rattle.std.proofs.Common.{◌≡◌, ℕ, ◌≤◌, Bool, true, false, not, ◌&&◌, nat_eq, nat_le, List, [], ◌∷◌, length, Option, Some, None, Ok, is_some, is_none, if◌then◌else◌, refl, arith}
-use Rattle.std.proofs.lemmas.Bool.{leb-true, eqb-true, and_parts, not-true}
+use Rattle.std.proofs.Common.{◌≡◌, ℕ, ◌≤◌, Bool, true, false, not, ◌&&◌, nat_eq, nat_le, List, [], ◌∷◌, length, Option, Some, None, Ok, is_some, is_none, if◌then◌else◌, refl, inl, inr, arith}
+use Rattle.std.proofs.lemmas.Bool.{leb-true, eqb-true, eq-eqb, and_parts, not-true, both_ways, cases_lt}
 use Rattle.net_units.specs.Text.{is_name}
 use Rattle.traffic_contract.specs.Contract.{Terms, IsContract, burst_of}
 use Rattle.traffic_contract.specs.Refusal.{first_bad, fits_xmin, fits_xave, fits_interval, fits_smax}
@@ -8,7 +8,7 @@ use Rattle.traffic_contract.specs.declared.contract.ContractField.{ContractField
 use Rattle.traffic_contract.specs.declared.contract.ContractField.TheVariants.{Xmin, Xave, Interval, Smax}
 use Rattle.tenet_app.specs.Causes.{Rule, unless, or_else, first_cause, judged}
 use Rattle.tenet_app.specs.Decimal.{is_number, value_of}
-use Rattle.tenet_app.specs.Forms.{is_among, name_rule, new_name_rule, number_rule}
+use Rattle.tenet_app.specs.Forms.{is_among, name_rule, new_name_rule, used_name_rule, number_rule}
 use Rattle.tenet_app.specs.Grammar.{contract_of}
 use Rattle.tenet_app.specs.declared.scenario.cause.Cause.{Cause}
 use Rattle.tenet_app.specs.declared.scenario.cause.Cause.TheVariants as cause
@@ -66,6 +66,16 @@ pub new_name_passes : (known : List (List ℕ)) (field : List ℕ) → new_name_
 new_name_passes known field e =
     let p = both_pass (name_rule field) (unless (not (is_among known field)) cause.Known) e in
     (name_passes field p.0, not-true (is_among known field) (unless_passes (not (is_among known field)) cause.Known p.1))
+
+-- a field that passes as a known name
+pub used_name_passes : (known : List (List ℕ)) (field : List ℕ) → used_name_rule known field ≡ None → (is_name field ≡ true) × (is_among known field ≡ true)
+used_name_passes known field e =
+    let p = both_pass (name_rule field) (unless (is_among known field) cause.Unknown) e in
+    (name_passes field p.0, unless_passes (is_among known field) cause.Unknown p.1)
+
+-- a number that isn't 0
+pub some_count : (n : ℕ) → not (nat_eq n 0) ≡ true → 1 ≤ n
+some_count n e = elim (cases_lt n 1) [ inl none ↦ absurd (both_ways (nat_eq n 0) (not-true (nat_eq n 0) e) (eq-eqb n 0 (omega arith))) | inr some ↦ some ]
 
 -- a list of length 0
 pub no_items : {X : Type 0} (xs : List X) → nat_eq (length xs) 0 ≡ true → xs ≡ []

@@ -1,30 +1,26 @@
 -- What is written for a plan, and what the status then says.
-use Rattle.std.proofs.Common.{◌≡◌, ◌⊎◌, inl, inr, refl, ℕ, ◌≤◌, List, [], ◌∷◌, Option, Some, None, length, subst, sym, ◌∙◌, ap, arith}
+use Rattle.std.proofs.Common.{◌≡◌, ◌⊎◌, inl, inr, refl, ℕ, ◌≤◌, List, [], ◌∷◌, Option, Some, None, length, subst, sym, ◌∙◌, ap}
 use Rattle.std.specs.Prelude.{Ok, IfSome}
 use Rattle.std.specs.Io.KnownBytes.{Appends, IsAtEnd}
 use Rattle.byte_ends.specs.Writing.{WritesFront}
 use Rattle.tenet_app.specs.PlanText.{plan_text}
-use Rattle.tenet_app.specs.Plans.{Said, IsPlan, AreCallers}
+use Rattle.tenet_app.specs.Plans.{Said, requests_of, IsPlan}
 use Rattle.tenet_app.specs.Reading.{Reading, IsRead, IsBad, IsOver, reading}
 use Rattle.tenet_app.specs.ReadSteps.{Tells}
 use Rattle.tenet_app.specs.Playing.{Ends, ComesTo, Plays, MeetsNoFault, due_status, WritesAll, AllWritten, FrontWritten, plan_report, due_text}
 use Rattle.tenet_app.specs.declared.scenario.cause.Cause.{Cause}
 use Rattle.tenet_app.specs.declared.scenario.plan.Link.{Link}
-use Rattle.tenet_app.specs.declared.scenario.plan.Request.{Request}
 use Rattle.tenet_app.specs.declared.scenario.reader.TheConstants.{MOST_BYTES}
 use Rattle.tenet_app.specs.declared.status.Status.{Status}
 use Rattle.tenet_app.specs.declared.status.Status.TheVariants as status
+use Rattle.tenet_app.proofs.ScriptFacts.{script_requests}
 use Rattle.tenet_app.proofs.TextRead.{read_text}
-use Rattle.tenet_app.proofs.StepsPass.{every_step_passes}
-
-callers_few : (callers : List (List ℕ)) (requests : List Request) → AreCallers callers requests → length requests ≤ 1024
-callers_few [] requests none = rw none (omega arith)
-callers_few (caller ∷ []) requests few = few.1
-callers_few (caller ∷ other ∷ callers) requests two = absurd two
+use Rattle.tenet_app.proofs.RunLegal.{run-passes, run-guaranteed}
+use Rattle.tenet_app.proofs.ShapeFacts.{shape-some}
 
 -- a plan has at most 1,024 requests
-pub plan_few : (said : Said) → IsPlan said → length said.requests ≤ 1024
-plan_few said plan = callers_few said.callers said.requests plan.plan.callers
+pub plan_few : (said : Said) → IsPlan said → length (requests_of said) ≤ 1024
+plan_few said plan = script_requests said.script plan.plan.script
 
 -- what was read is what the bytes come to
 read_as : (left : Option (List ℕ)) (said : Said) → Tells (Ok said) left → ComesTo left (λ r. r ≡ IsRead said)
@@ -67,7 +63,10 @@ plays_plan before after answer said text plan told ended e (AllWritten a w) =
       text = text_as before.left said plan told;
       ended = ended;
       written = (let P : List ℕ → Type 0 = λ due. Appends before.written after.written due in subst P e w);
-      passes = every_step_passes plan.link said.requests plan.plan.sound;
+      shape = (shape-some plan.link plan.plan.sound).0;
+      of_link = (shape-some plan.link plan.plan.sound).1;
+      passes = run-passes (shape-some plan.link plan.plan.sound).0 said plan.plan.script;
+      in_time = run-guaranteed (shape-some plan.link plan.plan.sound).0 said plan.plan.script;
     })
 plays_plan before after answer said text plan told ended e (FrontWritten a r w) =
     rw a (record { rises = r; written = front_due before.left said text before.written after.written told e w })

@@ -1,26 +1,31 @@
 -- A plan's text is read as that plan.
-use Rattle.std.proofs.Common.{◌≡◌, ℕ, suc, ◌+◌, ◌^◌, ◌<◌, ◌≤◌, Bool, true, false, not, List, [], ◌∷◌, ◌++◌, length, map, Option, Some, None, Ok, decimal, get_or, refl, sym, ◌∙◌, ap, subst, arith, append_assoc, append-nil, length-append, le_of_eq}
-use Rattle.std.proofs.lemmas.Bool.{cond-false}
-use Rattle.std.proofs.lemmas.List.{map-append}
+use Rattle.std.proofs.Common.{◌≡◌, ℕ, suc, ◌^◌, ◌<◌, ◌≤◌, Bool, true, not, nat_eq, List, [], ◌∷◌, ◌++◌, length, map, Option, Some, None, Ok, is_some, decimal, get_or, refl, sym, ◌∙◌, ap, subst, arith, append_assoc, append-nil, le_of_eq}
+use Rattle.std.proofs.lemmas.Bool.{cond-false, ne_eqb, not_from_false, and_from}
+use Rattle.std.proofs.lemmas.List.{length-map}
+use Rattle.std.proofs.lemmas.List.Elements.{All-get_or}
+use Rattle.std.specs.Prelude.{unwrap_or}
 use Rattle.byte_ends.specs.WholeLines.{all_given}
 use Rattle.net_units.specs.Text.{is_name}
 use Rattle.tenet_app.specs.Causes.{Rule, judged}
 use Rattle.tenet_app.specs.Fields.{fields_of, line_of, are_fields, field_at}
-use Rattle.tenet_app.specs.Forms.{is_among}
 use Rattle.tenet_app.specs.Grammar.{may_stand, line_word, judge_as, judge_word, judge_fields, judge}
-use Rattle.tenet_app.specs.PlanText.{header_fields, link_fields, caller_fields, request_fields, rounds_fields, tail_fields, plan_lines, plan_text}
-use Rattle.tenet_app.specs.Plans.{Said, nothing_said, with_item, IsLink, IsRequest, AreRequests, AreCallers, IsPlanOver, IsPlan}
+use Rattle.tenet_app.specs.PlanText.{header_fields, link_fields, caller_fields, request_fields, send_fields, operation_fields, rounds_fields, tail_fields, plan_lines, plan_text}
+use Rattle.tenet_app.specs.Plans.{Said, nothing_said, with_item, callers_in, requests_in, names_of, request_names, rounds_of, tail_of, IsLink, IsRequest, IsSendAfter, MayFollow, GoOn, AreRounds, IsPlanOver, IsPlan}
 use Rattle.tenet_app.specs.Reading.{IsRead, on_judged, reading_of, reading_on, reading}
 use Rattle.tenet_app.specs.declared.scenario.form.Keyword.{Keyword}
 use Rattle.tenet_app.specs.declared.scenario.form.Keyword.TheVariants as word
 use Rattle.tenet_app.specs.declared.scenario.plan.Item.{Item}
 use Rattle.tenet_app.specs.declared.scenario.plan.Item.TheVariants as item
 use Rattle.tenet_app.specs.declared.scenario.plan.Link.{Link}
+use Rattle.tenet_app.specs.declared.scenario.plan.Operation.{Operation}
+use Rattle.tenet_app.specs.declared.scenario.plan.Operation.TheVariants as operation
 use Rattle.tenet_app.specs.declared.scenario.plan.Request.{Request}
+use Rattle.tenet_app.specs.declared.scenario.plan.Send.{Send}
 use Rattle.tenet_app.proofs.FieldText.{fields_back, name_field, number_field}
 use Rattle.tenet_app.proofs.LineFacts.{AreLines, lines_of_text}
-use Rattle.tenet_app.proofs.PassBack.{bound_parts, link_again, link_back, caller_back, rounds_back, tail_back, name_no_contract, request_again, open_back}
+use Rattle.tenet_app.proofs.PassBack.{bound_parts, link_again, link_back, caller_back, rounds_back, tail_back, name_no_contract, request_again, open_back, send_again, send_back}
 use Rattle.tenet_app.proofs.NumberText.{value-decimal}
+use Rattle.tenet_app.proofs.ScriptText.{line_of_next, AreNamed, named_begins, named_push}
 
 -- ---- the lines of a plan are made of fields
 
@@ -50,8 +55,8 @@ caller_is_line : (name : List ℕ) → is_name name ≡ true → are_fields (cal
 caller_is_line name is = rw (name_field name is) refl
 
 -- and an open line
-request_is_line : (cap : ℕ) (name : List ℕ) (r : Request) → is_name name ≡ true → IsRequest cap r → are_fields (request_fields name r) ≡ true
-request_is_line cap name r is_link is =
+request_is_line : (name : List ℕ) (r : Request) → is_name name ≡ true → IsRequest r → are_fields (request_fields name r) ≡ true
+request_is_line name r is_link is =
     let c = is.contract in
     rw (
       name_field r.name is.name,
@@ -63,13 +68,35 @@ request_is_line cap name r is_link is =
       number_field r.delay (omega (arith, is.delay_most)),
     ) refl
 
--- and `rounds 0`
-rounds_is_line : are_fields (rounds_fields 0) ≡ true
-rounds_is_line = rw (number_field 0 (omega arith)) refl
+-- the name of a send's request
+send_name : (script : List Operation) (send : Send) → AreNamed script → IsSendAfter script send → is_name (field_at (names_of (requests_in script)) send.request) ≡ true
+send_name script send named is =
+    let count = length-map (requests_in script) (λ (r : Request). r.name) in
+    All-get_or (λ name. is_name name ≡ true) (names_of (requests_in script)) send.request [] (omega (arith, is.opened)) named.named
 
--- and `tail 0`
-tail_is_line : are_fields (tail_fields 0) ≡ true
-tail_is_line = rw (number_field 0 (omega arith)) refl
+-- and a send line
+send_is_line : (script : List Operation) (send : Send) → AreNamed script → IsSendAfter script send → are_fields (send_fields (names_of (requests_in script)) send) ≡ true
+send_is_line script send named is =
+    rw (
+      name_field (field_at (names_of (requests_in script)) send.request) (send_name script send named is),
+      number_field send.count (omega (arith, is.count_most)),
+      number_field send.gap (omega (arith, is.gap_most)),
+      number_field send.size (omega (arith, is.size_most)),
+    ) refl
+
+-- and so the line of any operation
+operation_is_line : (link : List ℕ) (script : List Operation) (next : Operation) → is_name link ≡ true → AreNamed script → MayFollow script next
+    → are_fields (operation_fields link (names_of (requests_in script)) next) ≡ true
+operation_is_line link script (operation.Caller name) is_link named may = caller_is_line name may.is
+operation_is_line link script (operation.Open request) is_link named may = request_is_line link request is_link may.sound
+operation_is_line link script (operation.Send send) is_link named may = send_is_line script send named may
+
+-- and the lines of rounds and tail
+rounds_is_line : (count : ℕ) → count ≤ 524288 → are_fields (rounds_fields count) ≡ true
+rounds_is_line count few = rw (number_field count (omega (arith, few))) refl
+
+tail_is_line : (count : ℕ) → count ≤ 524288 → are_fields (tail_fields count) ≡ true
+tail_is_line count few = rw (number_field count (omega (arith, few))) refl
 
 -- ---- each line says its part
 
@@ -102,13 +129,13 @@ header_judged = refl
 passed : {X : Type 0} (rule : Rule) (x : X) → rule ≡ None → judged rule x ≡ Ok x
 passed rule x e = rw e refl
 
--- what was read, up to a caller's requests
-abbrev front : Link → List (List ℕ) → List Request → Said
-front link callers requests = record { headed = true; links = link ∷ []; callers = callers; requests = requests; rounds = None; tail = None }
+-- what was read, up to these operations
+abbrev front : Link → List Operation → Said
+front link script = record { headed = true; links = link ∷ []; script = script; rounds = None; tail = None }
 
 -- the plan with these parts
-abbrev whole : Link → List (List ℕ) → List Request → Said
-whole link callers requests = record { headed = true; links = link ∷ []; callers = callers; requests = requests; rounds = Some 0; tail = Some 0 }
+abbrev whole : Link → List Operation → ℕ → ℕ → Said
+whole link script rounds tail = record { headed = true; links = link ∷ []; script = script; rounds = Some rounds; tail = Some tail }
 
 -- a link line is let pass behind the header
 link_judged : (link : Link) → IsLink link → judge (with_item item.Header nothing_said) (line_of (link_fields link)) ≡ Ok (item.Link link)
@@ -117,32 +144,42 @@ link_judged link l =
     judged_as said (link_fields link) word.Link (item.Link link) (link_is_line link l) refl refl refl
     (passed _ _ (link_back said link refl l) ∙ ap (λ k. Ok (item.Link k)) (link_again link l))
 
--- a caller line is let pass behind the link
-caller_judged : (link : Link) (name : List ℕ) → is_name name ≡ true → judge (front link [] []) (line_of (caller_fields name)) ≡ Ok (item.Caller name)
-caller_judged link name is =
-    judged_as (front link [] []) (caller_fields name) word.Caller (item.Caller name) (caller_is_line name is) refl refl refl
-    (passed _ _ (caller_back (front link [] []) name refl is))
+-- a caller stands where there is one
+caller_stands : (script : List Operation) → 1 ≤ length (callers_in script) → not (nat_eq (length (callers_in script)) 0) ≡ true
+caller_stands script some = not_from_false (nat_eq (length (callers_in script)) 0) (ne_eqb (length (callers_in script)) 0 (λ e. omega arith))
 
--- an open line is let pass behind the caller
-open_judged : (link : Link) (caller : List ℕ) (done : List Request) (r : Request) → IsLink link → IsRequest link.cap r → is_among (map (λ (r : Request). r.name) done) r.name ≡ false → length done < 1024
-    → judge (front link (caller ∷ []) done) (line_of (request_fields link.name r)) ≡ Ok (item.Open r)
-open_judged link caller done r l is new few =
-    let said = front link (caller ∷ []) done in
-    judged_as said (request_fields link.name r) word.Open (item.Open r) (request_is_line link.cap link.name r l.name is) refl refl refl
-    (passed _ _ (open_back said link.name r refl l.name is new few) ∙ ap (λ k. Ok (item.Open k)) (request_again link.cap link.name r (name_no_contract link.name l.name) is))
+-- the line of an operation is let pass behind those before it
+operation_judged : (link : Link) (script : List Operation) (next : Operation) → IsLink link → AreNamed script → MayFollow script next
+    → judge (front link script) (line_of (operation_fields link.name (names_of (requests_in script)) next)) ≡ Ok (item.Script next)
+operation_judged link script (operation.Caller name) l named may =
+    judged_as (front link script) (caller_fields name) word.Caller (item.Script (operation.Caller name)) (caller_is_line name may.is) refl refl refl
+    (passed _ _ (caller_back (front link script) name may))
+operation_judged link script (operation.Open r) l named may =
+    let said = front link script in
+    judged_as said (request_fields link.name r) word.Open (item.Script (operation.Open r)) (request_is_line link.name r l.name may.sound) refl refl
+    (and_from _ true (caller_stands script may.caller) refl)
+    (passed _ _ (open_back said link.name r refl l.name may)
+    ∙ ap (λ k. Ok (item.Script (operation.Open k))) (request_again link.name r (name_no_contract link.name l.name) may.sound))
+operation_judged link script (operation.Send send) l named may =
+    let said = front link script in
+    judged_as said (send_fields (request_names said) send) word.Send (item.Script (operation.Send send)) (send_is_line script send named may) refl refl
+    (and_from _ true (caller_stands script may.caller) refl)
+    (passed _ _ (send_back said send named.apart (send_name script send named may) may)
+    ∙ ap (λ k. Ok (item.Script (operation.Send k))) (send_again said send named.apart may))
 
--- `rounds 0` is let pass behind callers and requests
-rounds_judged : (link : Link) (callers : List (List ℕ)) (requests : List Request) → judge (front link callers requests) (line_of (rounds_fields 0)) ≡ Ok (item.Rounds 0)
-rounds_judged link callers requests =
-    judged_as (front link callers requests) (rounds_fields 0) word.Rounds (item.Rounds 0) rounds_is_line refl refl refl
-    (passed _ _ rounds_back ∙ ap (λ n. Ok (item.Rounds n)) (value-decimal 0 (omega arith)))
+-- rounds are let pass behind the script
+rounds_judged : (link : Link) (script : List Operation) (count : ℕ) → count ≤ 524288 → judge (front link script) (line_of (rounds_fields count)) ≡ Ok (item.Rounds count)
+rounds_judged link script count few =
+    judged_as (front link script) (rounds_fields count) word.Rounds (item.Rounds count) (rounds_is_line count few) refl refl refl
+    (passed _ _ (rounds_back count few) ∙ ap (λ n. Ok (item.Rounds n)) (value-decimal count (omega (arith, few))))
 
--- `tail 0` is let pass behind that
-tail_judged : (link : Link) (callers : List (List ℕ)) (requests : List Request) → judge (with_item (item.Rounds 0) (front link callers requests)) (line_of (tail_fields 0)) ≡ Ok (item.Tail 0)
-tail_judged link callers requests =
-    let said = with_item (item.Rounds 0) (front link callers requests) in
-    judged_as said (tail_fields 0) word.Tail (item.Tail 0) tail_is_line refl refl refl
-    (passed _ _ (tail_back said refl) ∙ ap (λ n. Ok (item.Tail n)) (value-decimal 0 (omega arith)))
+-- the tail is let pass behind them
+tail_judged : (link : Link) (script : List Operation) (rounds tail : ℕ) → AreRounds 1 rounds tail
+    → judge (with_item (item.Rounds rounds) (front link script)) (line_of (tail_fields tail)) ≡ Ok (item.Tail tail)
+tail_judged link script rounds tail few =
+    let said = with_item (item.Rounds rounds) (front link script) in
+    judged_as said (tail_fields tail) word.Tail (item.Tail tail) (tail_is_line tail few.tail_most) refl refl refl
+    (passed _ _ (tail_back said tail few) ∙ ap (λ n. Ok (item.Tail n)) (value-decimal tail (omega (arith, few.tail_most))))
 
 -- ---- the lines lead to the plan
 
@@ -152,63 +189,64 @@ read_one : (count : ℕ) (line : List ℕ) (lines : List (List ℕ)) (said : Sai
 read_one count line lines said what e = ap (λ r. on_judged r (suc count) said (λ after. reading_of (suc count) lines all_given after)) e
 
 -- the last two lines
-abbrev last_lines : List (List (List ℕ))
-last_lines = rounds_fields 0 ∷ tail_fields 0 ∷ []
+abbrev last_lines : ℕ → ℕ → List (List (List ℕ))
+last_lines rounds tail = rounds_fields rounds ∷ tail_fields tail ∷ []
 
 -- the last two lines lead to the plan
-read_last : (count : ℕ) (link : Link) (callers : List (List ℕ)) (requests : List Request) → reading_of count (map line_of last_lines) all_given (front link callers requests) ≡ IsRead (whole link callers requests)
-read_last count link callers requests =
-    read_one count (line_of (rounds_fields 0)) (line_of (tail_fields 0) ∷ []) (front link callers requests) (item.Rounds 0) (rounds_judged link callers requests)
-    ∙ read_one (suc count) (line_of (tail_fields 0)) [] (with_item (item.Rounds 0) (front link callers requests)) (item.Tail 0) (tail_judged link callers requests)
+read_last : (count : ℕ) (link : Link) (script : List Operation) (rounds tail : ℕ) → AreRounds 1 rounds tail
+    → reading_of count (map line_of (last_lines rounds tail)) all_given (front link script) ≡ IsRead (whole link script rounds tail)
+read_last count link script rounds tail few =
+    read_one count (line_of (rounds_fields rounds)) (line_of (tail_fields tail) ∷ []) (front link script) (item.Rounds rounds) (rounds_judged link script rounds few.rounds_most)
+    ∙ read_one (suc count) (line_of (tail_fields tail)) [] (with_item (item.Rounds rounds) (front link script)) (item.Tail tail) (tail_judged link script rounds tail few)
 
--- the lines of requests and what is behind them
-abbrev open_lines : List ℕ → List Request → List (List (List ℕ))
-open_lines name requests = map (request_fields name) requests ++ last_lines
+-- the lines of operations and what is behind them, where requests have these names
+abbrev script_lines : List ℕ → List (List ℕ) → List Operation → ℕ → ℕ → List (List (List ℕ))
+script_lines link names script rounds tail = map (operation_fields link names) script ++ last_lines rounds tail
 
--- the lines of requests lead to the plan, behind those done
-read_requests : (requests done : List Request) (count : ℕ) (link : Link) (caller : List ℕ) → IsLink link → AreRequests link.cap (map (λ (r : Request). r.name) done) requests
-    → length done + length requests ≤ 1024
-    → reading_of count (map line_of (open_lines link.name requests)) all_given (front link (caller ∷ []) done) ≡ IsRead (whole link (caller ∷ []) (done ++ requests))
-read_requests [] done count link caller l are few =
-    read_last count link (caller ∷ []) done ∙ ap (λ rs. IsRead (whole link (caller ∷ []) rs)) (sym (append-nil done))
-read_requests (r ∷ requests) done count link caller l are few =
-    let names : map (λ (r : Request). r.name) done ++ r.name ∷ [] ≡ map (λ (r : Request). r.name) (done ++ r ∷ []) = sym (map-append (λ (r : Request). r.name) done (r ∷ [])) in
-    let rest = read_requests requests (done ++ r ∷ []) (suc count) link caller l (subst (λ known. AreRequests link.cap known requests) names are.2)
-    (omega (arith, length-append done (r ∷ []))) in
-    read_one count (line_of (request_fields link.name r)) (map line_of (open_lines link.name requests)) (front link (caller ∷ []) done) (item.Open r)
-    (open_judged link caller done r l are.0 are.1 (omega arith))
-    ∙ rest ∙ ap (λ rs. IsRead (whole link (caller ∷ []) rs)) (append_assoc done (r ∷ []) requests)
+-- the lines of operations lead to the plan, behind those done
+read_script : (script done : List Operation) (count : ℕ) (link : Link) (rounds tail : ℕ) → IsLink link → AreNamed done → GoOn done script → AreRounds 1 rounds tail
+    → reading_of count (map line_of (script_lines link.name (names_of (requests_in (done ++ script))) script rounds tail)) all_given (front link done)
+    ≡ IsRead (whole link (done ++ script) rounds tail)
+read_script [] done count link rounds tail l named g few =
+    read_last count link done rounds tail few ∙ ap (λ all. IsRead (whole link all rounds tail)) (sym (append-nil done))
+read_script (next ∷ script) done count link rounds tail l named g few =
+    let all = done ++ next ∷ script in
+    let names = names_of (requests_in (done ++ next ∷ script)) in
+    let line = line_of_next link.name done (next ∷ script) next g.0 in
+    let behind = map line_of (script_lines link.name names script rounds tail) in
+    let same = append_assoc done (next ∷ []) script in
+    let rest = read_script script (done ++ next ∷ []) (suc count) link rounds tail l (named_push done next named g.0) g.1 few in
+    ap (λ fields. reading_of count (line_of fields ∷ behind) all_given (front link done)) line
+    ∙ read_one count (line_of (operation_fields link.name (names_of (requests_in done)) next)) behind (front link done) (item.Script next) (operation_judged link done next l named g.0)
+    ∙ subst (λ whole_script. reading_of (suc count) (map line_of (script_lines link.name (names_of (requests_in whole_script)) script rounds tail)) all_given (front link (done ++ next ∷ []))
+    ≡ IsRead (whole link whole_script rounds tail)) same rest
 
--- the lines of callers and what is behind them
-abbrev caller_lines : List ℕ → List (List ℕ) → List Request → List (List (List ℕ))
-caller_lines name callers requests = map caller_fields callers ++ map (request_fields name) requests ++ last_lines
-
--- the lines behind the link lead to the plan
-read_callers : (count : ℕ) (link : Link) (callers : List (List ℕ)) (requests : List Request) → IsLink link → AreCallers callers requests → AreRequests link.cap [] requests
-    → reading_of count (map line_of (caller_lines link.name callers requests)) all_given (front link [] []) ≡ IsRead (whole link callers requests)
-read_callers count link [] requests l none are =
-    ap (λ rs. reading_of count (map line_of (caller_lines link.name [] rs)) all_given (front link [] [])) none
-    ∙ read_last count link [] [] ∙ ap (λ rs. IsRead (whole link [] rs)) (sym none)
-read_callers count link (caller ∷ []) requests l is are =
-    read_one count (line_of (caller_fields caller)) (map line_of (open_lines link.name requests)) (front link [] []) (item.Caller caller) (caller_judged link caller is.0)
-    ∙ read_requests requests [] (suc count) link caller l are (omega (arith, is.1))
-read_callers count link (caller ∷ other ∷ callers) requests l is are = absurd is
+-- what was said is what was said
+said_again : (o : Option ℕ) → is_some o ≡ true → Some (unwrap_or o 0) ≡ o
+said_again None e = cc
+said_again (Some x) e = refl
 
 -- the same by its parts
-same_parts : (link : Link) (headed : Bool) (links : List Link) (callers : List (List ℕ)) (requests : List Request) (rounds tail : Option ℕ) → headed ≡ true → links ≡ link ∷ []
-    → rounds ≡ Some 0 → tail ≡ Some 0 → whole link callers requests ≡ record { headed = headed; links = links; callers = callers; requests = requests; rounds = rounds; tail = tail }
-same_parts link headed links callers requests rounds tail h l r t = rw (h, l, r, t) refl
+same_parts : (link : Link) (headed : Bool) (links : List Link) (script : List Operation) (rounds tail : Option ℕ) → headed ≡ true → links ≡ link ∷ []
+    → is_some rounds ≡ true → is_some tail ≡ true
+    → whole link script (unwrap_or rounds 0) (unwrap_or tail 0) ≡ record { headed = headed; links = links; script = script; rounds = rounds; tail = tail }
+same_parts link headed links script rounds tail h l r t = rw (h, l, said_again rounds r, said_again tail t) refl
 
 -- the parts of a plan are the plan
-same_whole : (link : Link) (said : Said) → IsPlanOver link said → whole link said.callers said.requests ≡ said
-same_whole link said p = same_parts link said.headed said.links said.callers said.requests said.rounds said.tail p.headed p.links p.rounds p.tail
+same_whole : (link : Link) (said : Said) → IsPlanOver link said → whole link said.script (rounds_of said) (tail_of said) ≡ said
+same_whole link said p = same_parts link said.headed said.links said.script said.rounds said.tail p.headed p.links p.rounds p.tail
+
+-- its rounds are few
+plan_rounds : (link : Link) (said : Said) → IsPlanOver link said → AreRounds 1 (rounds_of said) (tail_of said)
+plan_rounds link said p = subst (λ n. AreRounds n (rounds_of said) (tail_of said)) (ap length p.links) p.load
 
 -- the lines of a plan lead to it
 read_lines : (link : Link) (said : Said) → IsPlanOver link said → reading_of 0 (map line_of (plan_lines link said)) all_given nothing_said ≡ IsRead said
 read_lines link said p =
-    read_one 0 (line_of header_fields) (line_of (link_fields link) ∷ map line_of (caller_lines link.name said.callers said.requests)) nothing_said item.Header header_judged
-    ∙ read_one 1 (line_of (link_fields link)) (map line_of (caller_lines link.name said.callers said.requests)) (with_item item.Header nothing_said) (item.Link link) (link_judged link p.sound)
-    ∙ read_callers 2 link said.callers said.requests p.sound p.callers p.requests
+    let behind = map line_of (script_lines link.name (request_names said) said.script (rounds_of said) (tail_of said)) in
+    read_one 0 (line_of header_fields) (line_of (link_fields link) ∷ behind) nothing_said item.Header header_judged
+    ∙ read_one 1 (line_of (link_fields link)) behind (with_item item.Header nothing_said) (item.Link link) (link_judged link p.sound)
+    ∙ read_script said.script [] 2 link (rounds_of said) (tail_of said) p.sound named_begins p.script (plan_rounds link said p)
     ∙ ap IsRead (same_whole link said p)
 
 -- two lists of lines
@@ -216,27 +254,27 @@ AreLines-append : (xs ys : List (List (List ℕ))) → AreLines xs → AreLines 
 AreLines-append [] ys p q = q
 AreLines-append (x ∷ xs) ys p q = (p.0, AreLines-append xs ys p.1 q)
 
--- caller lines are made of fields
-callers_are_lines : (callers : List (List ℕ)) (requests : List Request) → AreCallers callers requests → AreLines (map caller_fields callers)
-callers_are_lines [] requests is = tt
-callers_are_lines (caller ∷ []) requests is = (caller_is_line caller is.0, tt)
-callers_are_lines (caller ∷ other ∷ callers) requests is = absurd is
-
--- open lines are made of fields
-requests_are_lines : (cap : ℕ) (name : List ℕ) (known : List (List ℕ)) (requests : List Request) → is_name name ≡ true → AreRequests cap known requests → AreLines (map (request_fields name) requests)
-requests_are_lines cap name known [] is are = tt
-requests_are_lines cap name known (r ∷ requests) is are = (request_is_line cap name r is are.0, requests_are_lines cap name (known ++ r.name ∷ []) requests is are.2)
+-- the lines of operations are made of fields
+script_are_lines : (script done : List Operation) (link : List ℕ) → is_name link ≡ true → AreNamed done → GoOn done script
+    → AreLines (map (operation_fields link (names_of (requests_in (done ++ script)))) script)
+script_are_lines [] done link is named g = tt
+script_are_lines (next ∷ script) done link is named g =
+    let same = append_assoc done (next ∷ []) script in (
+      ap are_fields (line_of_next link done (next ∷ script) next g.0) ∙ operation_is_line link done next is named g.0,
+      subst (λ all. AreLines (map (operation_fields link (names_of (requests_in all))) script)) same
+          (script_are_lines script (done ++ next ∷ []) link is (named_push done next named g.0) g.1),
+    )
 
 -- the lines of a plan are made of fields
 plan_are_lines : (link : Link) (said : Said) → IsPlanOver link said → AreLines (plan_lines link said)
 plan_are_lines link said p =
-    let callers = callers_are_lines said.callers said.requests p.callers in
-    let requests = requests_are_lines link.cap link.name [] said.requests p.sound.name p.requests in (
+    let few = plan_rounds link said p in (
       refl,
       (
         link_is_line link p.sound,
-        AreLines-append (map caller_fields said.callers ++ map (request_fields link.name) said.requests) last_lines
-            (AreLines-append (map caller_fields said.callers) (map (request_fields link.name) said.requests) callers requests) (rounds_is_line, (tail_is_line, tt)),
+        AreLines-append (map (operation_fields link.name (request_names said)) said.script) (last_lines (rounds_of said) (tail_of said))
+            (script_are_lines said.script [] link.name p.sound.name named_begins p.script)
+            (rounds_is_line (rounds_of said) few.rounds_most, (tail_is_line (tail_of said) few.tail_most, tt)),
       ),
     )
 

@@ -49,8 +49,8 @@ end_read too_long count said after d e = cc
 text_with : (said : Said) (line : List ℕ) (what : Item) → IsDraft said → judge said line ≡ Ok what → draft_text (with_item what said) ≡ draft_text said ++ ended line
 text_with said line what d e =
     ap (flat_map ended_line) (lines_with said (fields_of line) what d (says said line what e).1)
-    ∙ flat_map-append ended_line (draft_lines said) (item_fields said.links what ∷ [])
-    ∙ ap (λ rest. draft_text said ++ rest) (append-nil (ended_line (item_fields said.links what)) ∙ ap ended (sym (line_text said line what d e)))
+    ∙ flat_map-append ended_line (draft_lines said) (item_fields said what ∷ [])
+    ∙ ap (λ rest. draft_text said ++ rest) (append-nil (ended_line (item_fields said what)) ∙ ap ended (sym (line_text said line what d e)))
 
 -- a line that is let pass, and those behind it
 one_read : (lines : List (List ℕ)) (end : Ending) (count : ℕ) (said after : Said) (line : List ℕ) (r : Result Item Cause) → IsDraft said → judge said line ≡ r

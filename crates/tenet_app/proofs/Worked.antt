@@ -1,10 +1,11 @@
 -- Worked values, found by computing with the definitions.
-use Rattle.std.proofs.Common.{◌≡◌, ℕ, true, List, [], ◌∷◌, ◌++◌, Some, codes, refl}
+use Rattle.std.proofs.Common.{◌≡◌, ℕ, true, List, [], ◌∷◌, ◌++◌, map, flat_map, Some, None, Err, codes, refl}
 use Rattle.tenet_app.specs.Grammar.{judge}
 use Rattle.tenet_app.specs.Plans.{Said}
 use Rattle.tenet_app.specs.Reading.{IsRead, IsBad, IsOver, reading}
 use Rattle.tenet_app.specs.declared.scenario.cause.Cause.TheVariants as cause
 use Rattle.tenet_app.specs.declared.scenario.plan.Link.{Link}
+use Rattle.tenet_app.specs.declared.scenario.plan.Operation.TheVariants as operation
 use Rattle.tenet_app.specs.declared.scenario.plan.Request.{Request}
 use Rattle.tenet_app.specs.declared.scenario.reader.TheConstants.{MOST_BYTES}
 
@@ -23,11 +24,30 @@ abbrev scenario : List ℕ
 scenario = codes "tenet 1\nlink A n1 n2 rate 1 cap 4 prop 2 buffer 100 levels 10 20 40\ncaller k1\nopen r1 route A contract 5 10 20 2 delay 12 rate\nrounds 0\ntail 0\n"
 
 abbrev plan : Said
-plan = record { headed = true; links = link_a ∷ []; callers = codes "k1" ∷ []; requests = request_1 ∷ []; rounds = Some 0; tail = Some 0 }
+plan = record { headed = true; links = link_a ∷ []; script = operation.Caller (codes "k1") ∷ operation.Open request_1 ∷ []; rounds = Some 0; tail = Some 0 }
 
 reads_the_scenario : reading MOST_BYTES scenario ≡ IsRead plan
 unfolding reading judge
 reads_the_scenario = refl
+
+-- two callers: a request's place counts those of all callers, and each sends on its own; packets may be larger than the
+-- link carries, and its buffer may hold nothing
+abbrev two_callers : List ℕ
+two_callers = codes "tenet 1\nlink A n1 n2 rate 1 cap 1 prop 2 buffer 0 levels 10\ncaller k1\nopen r1 route A contract 5 10 20 2 delay 12 rate\nsend r1 3 10 2\ncaller k2\nopen r2 route A contract 5 10 20 2 delay 12 rate\nsend r2 262141 1048576 65536\nrounds 524287\ntail 1\n"
+
+abbrev plan_of_two : Said
+plan_of_two = record {
+  headed = true;
+  links = record { name = codes "A"; from = codes "n1"; to = codes "n2"; rate = 1; cap = 1; prop = 2; buffer = 0; bounds = 10 ∷ [] } ∷ [];
+  script = operation.Caller (codes "k1") ∷ operation.Open request_1 ∷ operation.Send (record { request = 0; count = 3; gap = 10; size = 2 })
+      ∷ operation.Caller (codes "k2") ∷ operation.Open (record request_1 { name = codes "r2" }) ∷ operation.Send (record { request = 1; count = 262141; gap = 1048576; size = 65536 }) ∷ [];
+  rounds = Some 524287;
+  tail = Some 1;
+}
+
+reads_two_callers : reading MOST_BYTES two_callers ≡ IsRead plan_of_two
+unfolding reading judge
+reads_two_callers = refl
 
 -- ---- refused lines, one for each cause that a line can have so far
 
@@ -84,10 +104,94 @@ refuses_a_link_twice : reading 200 (header_line ++ link_line ++ caller_line ++ c
 unfolding reading judge
 refuses_a_link_twice = refl
 
--- later versions make rounds
-refuses_rounds : reading 100 (header_line ++ link_line ++ codes "rounds 1\n") ≡ IsBad 3 cause.Later
+-- ---- sends
+
+abbrev open_line : List ℕ
+open_line = codes "open r1 route A contract 5 10 20 2 delay 12 rate\n"
+
+-- a caller with a request
+abbrev opened : List ℕ
+opened = header_line ++ link_line ++ caller_line ++ open_line
+
+refuses_a_send_before_a_caller : reading 200 (header_line ++ link_line ++ codes "send r1 1 1 1\n") ≡ IsBad 3 cause.Word
 unfolding reading judge
-refuses_rounds = refl
+refuses_a_send_before_a_caller = refl
+
+refuses_a_send_without_a_size : reading 200 (opened ++ codes "send r1 1 1\n") ≡ IsBad 5 cause.Shape
+unfolding reading judge
+refuses_a_send_without_a_size = refl
+
+refuses_a_send_on_no_name : reading 200 (opened ++ codes "send 1 1 1 1\n") ≡ IsBad 5 cause.Name
+unfolding reading judge
+refuses_a_send_on_no_name = refl
+
+refuses_a_send_on_no_request : reading 200 (opened ++ codes "send r2 1 1 1\n") ≡ IsBad 5 cause.Unknown
+unfolding reading judge
+refuses_a_send_on_no_request = refl
+
+-- the request is another caller's
+refuses_a_send_on_anothers_request : reading 200 (opened ++ codes "caller k2\nsend r1 1 1 1\n") ≡ IsBad 6 cause.Unknown
+unfolding reading judge
+refuses_a_send_on_anothers_request = refl
+
+-- and its name is known to all callers
+refuses_anothers_request_again : reading 300 (opened ++ codes "caller k2\n" ++ open_line) ≡ IsBad 6 cause.Known
+unfolding reading judge
+refuses_anothers_request_again = refl
+
+refuses_a_send_of_no_number : reading 200 (opened ++ codes "send r1 01 1 1\n") ≡ IsBad 5 cause.Number
+unfolding reading judge
+refuses_a_send_of_no_number = refl
+
+refuses_a_send_of_no_packets : reading 200 (opened ++ codes "send r1 0 1 2\n") ≡ IsBad 5 cause.Range
+unfolding reading judge
+refuses_a_send_of_no_packets = refl
+
+refuses_a_send_of_large_packets : reading 200 (opened ++ codes "send r1 1 1 65537\n") ≡ IsBad 5 cause.Range
+unfolding reading judge
+refuses_a_send_of_large_packets = refl
+
+-- a packet more than all sends together may plan
+refuses_a_packet_too_many : reading 200 (opened ++ codes "send r1 262144 1 1\nsend r1 1 1 1\n") ≡ IsBad 6 cause.Load
+unfolding reading judge
+refuses_a_packet_too_many = refl
+
+-- a round more than there may be together
+refuses_a_round_too_many : reading 200 (header_line ++ link_line ++ codes "rounds 524288\ntail 1\n") ≡ IsBad 4 cause.Load
+unfolding reading judge
+refuses_a_round_too_many = refl
+
+-- ---- the most callers and requests
+
+-- a list eight times
+eight_times : {X : Type 0} → List X → List X
+eight_times xs = let twice : List _ = xs ++ xs in let four : List _ = twice ++ twice in four ++ four
+
+-- 65 names
+abbrev names : List (List ℕ)
+names = codes "x" ∷ flat_map (λ (a : ℕ). map (λ (b : ℕ). a ∷ b ∷ []) (codes "abcdefgh")) (codes "abcdefgh")
+
+refuses_the_65th_caller : reading 1000 (header_line ++ link_line ++ flat_map (λ (name : List ℕ). codes "caller " ++ name ++ codes "\n") names) ≡ IsBad 67 cause.Many
+unfolding reading judge
+refuses_the_65th_caller = refl
+
+-- behind 1,024 requests, one more
+refuses_the_1025th_request : judge (record { headed = true; links = link_a ∷ []; script = operation.Caller (codes "k1") ∷ eight_times (eight_times (eight_times (operation.Open request_1 ∷ operation.Open request_1 ∷ []))); rounds = None; tail = None })
+    (codes "open r2 route A contract 5 10 20 2 delay 12 rate") ≡ Err cause.Many
+unfolding judge eight_times
+refuses_the_1025th_request = refl
+
+-- ---- what isn't built yet
+
+refuses_a_close : reading 200 (opened ++ codes "close r1\n") ≡ IsBad 5 cause.Later
+unfolding reading judge
+refuses_a_close = refl
+
+refuses_an_empty_line : reading 200 (header_line ++ codes "\n") ≡ IsBad 2 cause.Shape
+unfolding reading judge
+refuses_an_empty_line = refl
+
+-- ---- how the input ends
 
 refuses_no_tail : reading 100 header_line ≡ IsBad 2 cause.End
 unfolding reading judge

@@ -1,110 +1,100 @@
 -- A channel over one link is established in one round trip (after the Tenet suite, Banerjea, Ferrari et al. 1996).
--- Forward, the link reserves: it offers the least level at which its held channels and the new one pass the
--- admission test, and holds the channel there; where no level passes, the request is denied. The destination adds
--- the offered level's bound and the link's propagation, and denies the request where that is over its delay bound;
--- the row is then given back. Otherwise the slack, what is left of the delay bound, relaxes the reservation: the
--- channel gets the largest level whose bound is at most the offered bound and the slack. Its end-to-end bound is
--- that level's bound and the propagation. (That the whole slack goes to the one hop is this project's rule.)
-use Rattle.std.specs.Prelude.{◌≡◌, ℕ, ◌+◌, ◌-◌, ◌<◌, nat_lt, if◌then◌else◌, Option, Some, None, List, [], ◌∷◌}
-use Rattle.std.specs.List.{flat_map}
+-- Forward, the link is asked to reserve, and it offers a level or refuses: its packets are too large for the link, no
+-- level passes the admission test, or the buffer isn't free. A refusal denies the request. The destination adds the
+-- offered level's bound and the link's propagation, and denies the request where that is over its delay bound; the
+-- link is then asked to give the row back. Otherwise the slack, what is left of the delay bound, relaxes the
+-- reservation: the channel gets the largest level whose bound is at most the offered bound and the slack. Its
+-- end-to-end bound is that level's bound and the propagation. (That the whole slack goes to the one hop is this
+-- project's rule.)
+use Rattle.std.specs.Prelude.{ℕ, ◌+◌, ◌-◌, Bool, true, false, nat_lt, if◌then◌else◌, min, None}
+use Rattle.std.proofs.Common.{lit<}
+use Rattle.std.proofs.Math.Nat.{min-le_left, lt_of_le_of_lt}
 use Rattle.net_units.specs.Numbers.{level_number}
-use Rattle.net_units.specs.Quotient.{ceil_quotient}
-use Rattle.net_units.specs.Steps.{bound_at, last_bound, levels_within}
-use Rattle.traffic_contract.specs.Admission.{Server, Row, with_row, best_level, refused_sum}
-use Rattle.rcsp_admission.specs.Sums.{Held, added}
-use Rattle.traffic_contract.specs.Contract.{Terms}
-use Rattle.tenet_app.specs.declared.scenario.plan.Link.{Link}
+use Rattle.net_units.specs.Steps.{bound_at, levels_within}
+use Rattle.net_units.specs.declared.Kind.TheVariants.{Rate}
+use Rattle.net_units.specs.declared.numbers.ChanNo.{ChanNo}
+use Rattle.net_units.specs.declared.numbers.Level.{Level}
+use Rattle.link_steps.specs.Levels.{level_of}
+use Rattle.link_steps.specs.declared.asks.Ask.{Ask}
+use Rattle.link_steps.specs.declared.asks.Ask.TheVariants.{Reserve, Relax, Deny}
+use Rattle.link_steps.specs.declared.replies.Refusal.{Refusal}
+use Rattle.link_steps.specs.declared.replies.Refusal.TheVariants.{NoLevel, NoBuffer, TooWide}
+use Rattle.link_steps.specs.declared.replies.Reply.{Reply}
+use Rattle.link_steps.specs.declared.replies.Reply.TheVariants.{Offer, Refused}
+use Rattle.link_steps.specs.declared.shape.LinkShape.{LinkShape}
 use Rattle.tenet_app.specs.declared.scenario.plan.Request.{Request}
 use Rattle.tenet_app.specs.declared.establishment.Verdict.{Verdict}
 use Rattle.tenet_app.specs.declared.establishment.Verdict.TheVariants as verdict
 
--- the link, as far as admission goes
-abbrev pub server_over : Link → Server
-server_over link = record { bounds = link.bounds; rate = link.rate; blocking = ceil_quotient link.cap link.rate }
-
--- what a request comes to: accepted with its level and its end-to-end bound; or denied by the link, with the sum of
--- its last level and that level's bound; or denied by the destination, with the delay offered and the one asked for
+-- what a request comes to: accepted, with its level and its end-to-end bound; denied by the link, with the sum of its
+-- last level and that level's bound, with the units that the row needs and those free, or with the largest packet of
+-- the contract and that of the link; denied by the destination, with the delay offered and the one asked for; or
+-- nothing, where its reserve has no such reply
 pub data Settled : Type 0 where
   IsAccepted : ℕ → ℕ → Settled
   HasNoLevel : ℕ → ℕ → Settled
+  HasNoBuffer : ℕ → ℕ → Settled
+  IsTooWide : ℕ → ℕ → Settled
   IsTooLate : ℕ → ℕ → Settled
+  IsPending : Settled
 
 -- what a verdict says
 abbrev pub verdict_of : Verdict → Settled
 verdict_of (verdict.Accepted level delay) = IsAccepted (level_number level) delay
 verdict_of (verdict.NoLevel sum bound) = HasNoLevel sum bound
+verdict_of (verdict.NoBuffer need free) = HasNoBuffer need free
+verdict_of (verdict.TooWide smax cap) = IsTooWide smax cap
 verdict_of (verdict.TooLate sum bound) = IsTooLate sum bound
+verdict_of verdict.Pending = IsPending
+
+-- whether a channel was established
+abbrev pub is_accepted : Settled → Bool
+is_accepted (IsAccepted level delay) = true
+is_accepted _ = false
+
+-- the number of a channel, for a place below 2^20: the place of its request among all requests, from 0
+abbrev pub channel_at : ℕ → ChanNo
+channel_at place = record { number = min 1048575 place; small = lt_of_le_of_lt (min-le_left 1048575 place) (lit< tt) }
+
+-- the reserve of a request, with rate-jitter control. The one hop is the first, and none is behind it
+abbrev pub reserve_for : ChanNo → Request → Ask
+reserve_for chan request = Reserve chan request.contract Rate request.delay 0 true None
 
 -- the end-to-end delay over the link at a level, in ticks
-abbrev pub delay_at : Link → ℕ → ℕ
-delay_at link level = bound_at link.bounds level + link.prop
+abbrev pub delay_at : LinkShape → ℕ → ℕ
+delay_at shape level = bound_at shape.bounds level + shape.prop
 
 -- the level that a channel is allotted: the largest whose bound is at most the offered one and the slack
-abbrev pub allotted : Link → ℕ → ℕ → ℕ
-allotted link offered slack = levels_within link.bounds (bound_at link.bounds offered + slack)
+abbrev pub allotted : LinkShape → ℕ → ℕ → ℕ
+allotted shape offered slack = levels_within shape.bounds (bound_at shape.bounds offered + slack)
 
--- how a request was settled: its verdict, the rows that the link held after each of its steps, and those it holds
--- at the end
-pub record Settlement : Type 0 where
-  pub verdict : Settled
-  pub held : List (List Row)
-  pub after : List Row
+-- that of a request to which the link offers a level
+abbrev pub relaxed_to : LinkShape → Request → Level → ℕ
+relaxed_to shape request offered = allotted shape (level_number offered) (request.delay - delay_at shape (level_number offered))
 
--- the reserve is refused: one step, after which the rows are as before
-abbrev pub refused_over : Link → List Row → Request → Settlement
-refused_over link rows request = record {
-  verdict = HasNoLevel (refused_sum (server_over link) rows request.contract) (last_bound link.bounds);
-  held = rows ∷ [];
-  after = rows;
-}
+-- whether the destination refuses the offer
+abbrev pub is_late : LinkShape → Request → Level → Bool
+is_late shape request offered = nat_lt request.delay (delay_at shape (level_number offered))
 
--- the destination refuses: a reserve, and a deny that gives the row back
-abbrev pub denied_at : Link → List Row → Request → ℕ → Settlement
-denied_at link rows request offered = record {
-  verdict = IsTooLate (delay_at link offered) request.delay;
-  held = with_row rows request.contract offered ∷ rows ∷ [];
-  after = rows;
-}
+-- what the link is asked behind the offer
+unfoldable pub way_back : LinkShape → ChanNo → Request → Level → Ask
+way_back shape chan request offered = if is_late shape request offered then Deny chan else Relax chan (level_of (relaxed_to shape request offered)) 0
 
--- the channel is accepted: a reserve, and a relax that moves the row to its allotted level
-abbrev pub accepted_at : Link → List Row → Request → ℕ → ℕ → Settlement
-accepted_at link rows request offered level = record {
-  verdict = IsAccepted level (delay_at link level);
-  held = with_row rows request.contract offered ∷ with_row rows request.contract level ∷ [];
-  after = with_row rows request.contract level;
-}
+-- what a request with this offer comes to
+unfoldable pub at_destination : LinkShape → Request → Level → Settled
+at_destination shape request offered =
+    if is_late shape request offered then IsTooLate (delay_at shape (level_number offered)) request.delay
+    else IsAccepted (relaxed_to shape request offered) (delay_at shape (relaxed_to shape request offered))
 
--- the destination's test of an offered level, and what follows
-abbrev pub settled_at : Link → List Row → Request → ℕ → Settlement
-settled_at link rows request offered =
-    if nat_lt request.delay (delay_at link offered) then denied_at link rows request offered
-    else accepted_at link rows request offered (allotted link offered (request.delay - delay_at link offered))
+-- what a request comes to whose reserve is refused
+abbrev pub refused_as : Refusal → Settled
+refused_as (NoLevel sum bound) = HasNoLevel sum bound
+refused_as (NoBuffer need free) = HasNoBuffer need free
+refused_as (TooWide smax cap) = IsTooWide smax cap
+refused_as _ = IsPending
 
--- how an offer, or none, is settled
-abbrev pub settled_by : Option ℕ → Link → List Row → Request → Settlement
-settled_by None link rows request = refused_over link rows request
-settled_by (Some offered) link rows request = settled_at link rows request offered
-
--- how a request is settled on a link that holds these rows
-unfoldable pub settle : Link → List Row → Request → Settlement
-settle link rows request = settled_by (best_level (server_over link) rows request.contract) link rows request
-
--- how requests are settled, one after another
-abbrev pub settlements : Link → List Row → List Request → List Settlement
-settlements link rows [] = []
-settlements link rows (request ∷ requests) = settle link rows request ∷ settlements link (settle link rows request).after requests
-
--- the rows held after each step of all requests, from an empty link
-abbrev pub held_after_steps : Link → List Request → List (List Row)
-held_after_steps link requests = flat_map (λ (s : Settlement). s.held) (settlements link [] requests)
-
--- the keys of all rows are below this number
-abbrev pub KeysBelow : ℕ → List Held → Type 0
-KeysBelow key [] = Unit {0}
-KeysBelow key (held ∷ rows) = (held.key < key) × KeysBelow key rows
-
--- the last row is that of this key, at this level, and the keys of all others are below it
-pub record IsReserved (key : ℕ) (terms : Terms) (level : ℕ) (rows : List Held) : Type 0 where
-  pub before : List Held
-  pub below : KeysBelow key before
-  pub last : rows ≡ added before key terms level
+-- what a request comes to whose reserve has this reply
+abbrev pub settled : LinkShape → Request → Reply → Settled
+settled shape request (Offer level reach) = at_destination shape request level
+settled shape request (Refused refusal) = refused_as refusal
+settled shape request _ = IsPending

@@ -77,6 +77,11 @@ name_rule field = unless (is_name field) cause.Name
 abbrev pub is_among : List (List ℕ) → List ℕ → Bool
 is_among names field = list_any (λ name. pointwise nat_eq name field) names
 
+-- the place of the first of these names that is this one, from 0; behind the last where none is
+abbrev pub place_of : List (List ℕ) → List ℕ → ℕ
+place_of [] field = 0
+place_of (name ∷ names) field = if pointwise nat_eq name field then 0 else suc (place_of names field)
+
 -- a field that has to be a new name
 abbrev pub new_name_rule : List (List ℕ) → List ℕ → Rule
 new_name_rule known field = or_else (name_rule field) (unless (not (is_among known field)) cause.Known)

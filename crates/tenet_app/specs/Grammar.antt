@@ -1,19 +1,18 @@
--- The lines of a scenario, in their order: the header; the links; the callers, each followed by the requests that
--- it opens; `rounds`; and `tail`. Each kind of line has a form, a list of rules in the order in which they are
--- judged, and what it says. The rules behind the others, by the cause `later`, refuse what a network will be able
--- to do and this program can't yet: more than one link or caller, a buffer that could run out, packets that are
--- too large for the link, delay-jitter control, sending, closing, rounds, and schedules.
-use Rattle.std.specs.Prelude.{ℕ, ◌+◌, ◌*◌, Bool, true, false, nat_eq, nat_lt, nat_le, not, ◌&&◌, ◌||◌, if◌then◌else◌, Option, Some, None, Result, Err, List, [], ◌∷◌, length, map, take, drop, codes, is_some, is_none, unwrap_or}
+-- The lines of a scenario, in their order: the header; the links; the callers, each followed by its operations, which
+-- open requests and send on them; `rounds`; and `tail`. Each kind of line has a form, a list of rules in the order in
+-- which they are judged, and what it says. The rules behind the others, by the cause `later`, refuse what a network
+-- will be able to do and this program can't yet: more than one link, delay-jitter control, closing, and schedules.
+use Rattle.std.specs.Prelude.{ℕ, ◌+◌, ◌*◌, Bool, true, false, nat_eq, nat_lt, nat_le, not, ◌&&◌, ◌||◌, if◌then◌else◌, Option, Some, None, Result, Err, List, [], ◌∷◌, length, map, take, drop, codes, is_some, is_none}
 use Rattle.std.specs.Cmp.Lexicographic.{pointwise}
 use Rattle.net_units.specs.Quotient.{ceil_quotient}
-use Rattle.net_units.specs.Steps.{are_bounds, bound_at, last_bound}
+use Rattle.net_units.specs.Steps.{are_bounds, bound_at}
 use Rattle.traffic_contract.specs.Contract.{Terms, terms_of}
 use Rattle.traffic_contract.specs.Refusal.{first_bad}
 use Rattle.tenet_app.specs.Causes.{Rule, unless, first_cause, judged}
 use Rattle.tenet_app.specs.Decimal.{value_of}
 use Rattle.tenet_app.specs.Fields.{fields_of, are_fields, field_at}
 use Rattle.tenet_app.specs.Forms.{is_word, route_length, has_form, name_rule, new_name_rule, used_name_rule, is_among, number_rule}
-use Rattle.tenet_app.specs.Plans.{Said, link_names, request_names}
+use Rattle.tenet_app.specs.Plans.{Said, load_in, own_place, link_names, callers_of, requests_of, request_names, own_names, rounds_of}
 use Rattle.tenet_app.specs.declared.scenario.cause.Cause.{Cause}
 use Rattle.tenet_app.specs.declared.scenario.cause.Cause.TheVariants as cause
 use Rattle.tenet_app.specs.declared.scenario.form.Keyword.{Keyword}
@@ -22,6 +21,8 @@ use Rattle.tenet_app.specs.declared.scenario.form.Part.{Part}
 use Rattle.tenet_app.specs.declared.scenario.form.Part.TheVariants as part
 use Rattle.tenet_app.specs.declared.scenario.plan.Link.{Link}
 use Rattle.tenet_app.specs.declared.scenario.plan.Request.{Request}
+use Rattle.tenet_app.specs.declared.scenario.plan.Send.{Send}
+use Rattle.tenet_app.specs.declared.scenario.plan.Operation.TheVariants as operation
 use Rattle.tenet_app.specs.declared.scenario.plan.Item.{Item}
 use Rattle.tenet_app.specs.declared.scenario.plan.Item.TheVariants as item
 
@@ -59,10 +60,6 @@ bounds_of numbers = if are_bounds numbers then Some numbers else None
 abbrev pub levels_rule : Link → Rule
 levels_rule link = unless (are_bounds link.bounds && nat_le (ceil_quotient link.cap link.rate) (bound_at link.bounds 1)) cause.Levels
 
--- the buffer holds what the last level lets through, so that no request lacks buffer
-abbrev pub is_ample : Link → Bool
-is_ample link = nat_le (link.rate * last_bound link.bounds) link.buffer
-
 -- its rate, cap, propagation and buffer, each in its range
 abbrev pub link_numbers_rule : List (List ℕ) → Rule
 link_numbers_rule fields = first_cause (
@@ -93,7 +90,6 @@ link_rule said fields = first_cause (
     ∷ unless (nat_lt (length said.links) 32) cause.Many
     ∷ levels_rule (link_of fields)
     ∷ unless (nat_eq (length said.links) 0) cause.Later
-    ∷ unless (is_ample (link_of fields)) cause.Later
     ∷ [])
 
 -- caller NAME
@@ -103,9 +99,8 @@ caller_form = part.Word word.Caller ∷ part.Field ∷ []
 abbrev pub caller_rule : Said → List (List ℕ) → Rule
 caller_rule said fields = first_cause (
     unless (has_form caller_form fields) cause.Shape
-    ∷ new_name_rule said.callers (field_at fields 1)
-    ∷ unless (nat_lt (length said.callers) 64) cause.Many
-    ∷ unless (nat_eq (length said.callers) 0) cause.Later
+    ∷ new_name_rule (callers_of said) (field_at fields 1)
+    ∷ unless (nat_lt (length (callers_of said)) 64) cause.Many
     ∷ [])
 
 -- open NAME route LINK1 .. LINKh contract XMIN XAVE I SMAX delay D
@@ -158,13 +153,6 @@ abbrev pub are_distinct : List (List ℕ) → Bool
 are_distinct [] = true
 are_distinct (name ∷ names) = not (is_among names name) && are_distinct names
 
--- the largest packet that the first link carries, in units
-abbrev pub largest_carried : Said → ℕ
-largest_carried said = cap_of said.links where
-  cap_of : List Link → ℕ
-  cap_of [] = 0
-  cap_of (link ∷ links) = link.cap
-
 -- the numbers of the contract, each in its range
 abbrev pub terms_rule : List (List ℕ) → Rule
 terms_rule fields = first_cause (
@@ -187,11 +175,10 @@ open_fields_rule said fields = first_cause (
 -- what is judged of an open line once its fields pass
 abbrev pub open_limits_rule : Said → List (List ℕ) → Rule
 open_limits_rule said fields = first_cause (
-    unless (nat_lt (length said.requests) 1024) cause.Many
+    unless (nat_lt (length (requests_of said)) 1024) cause.Many
     ∷ unless (is_some (contract_of (terms_in fields))) cause.Contract
     ∷ unless (are_distinct (route_fields fields)) cause.Route
     ∷ unless (has_form rate_form fields) cause.Later
-    ∷ unless (nat_le (terms_in fields).smax (largest_carried said)) cause.Later
     ∷ [])
 
 abbrev pub open_rule : Said → List (List ℕ) → Rule
@@ -199,6 +186,35 @@ open_rule said fields = first_cause (
     unless (has_form rate_form fields || has_form jitter_form fields) cause.Shape
     ∷ open_fields_rule said fields
     ∷ open_limits_rule said fields
+    ∷ [])
+
+-- send NAME COUNT GAP SIZE
+abbrev pub send_form : List Part
+send_form = part.Word word.Send ∷ part.Field ∷ part.Field ∷ part.Field ∷ part.Field ∷ []
+
+-- the send that these fields say
+abbrev pub send_of : Said → List (List ℕ) → Send
+send_of said fields = record {
+  request = own_place said.script (field_at fields 1);
+  count = value_of (field_at fields 2);
+  gap = value_of (field_at fields 3);
+  size = value_of (field_at fields 4);
+}
+
+-- the fields of a send line, from left to right
+abbrev pub send_fields_rule : Said → List (List ℕ) → Rule
+send_fields_rule said fields = first_cause (
+    used_name_rule (own_names said.script) (field_at fields 1)
+    ∷ number_rule 1 262144 (field_at fields 2)
+    ∷ number_rule 1 1048576 (field_at fields 3)
+    ∷ number_rule 1 65536 (field_at fields 4)
+    ∷ [])
+
+abbrev pub send_rule : Said → List (List ℕ) → Rule
+send_rule said fields = first_cause (
+    unless (has_form send_form fields) cause.Shape
+    ∷ send_fields_rule said fields
+    ∷ unless (nat_le (load_in said.script + value_of (field_at fields 2)) 262144) cause.Load
     ∷ [])
 
 -- rounds R
@@ -209,7 +225,6 @@ abbrev pub rounds_rule : List (List ℕ) → Rule
 rounds_rule fields = first_cause (
     unless (has_form rounds_form fields) cause.Shape
     ∷ number_rule 0 524288 (field_at fields 1)
-    ∷ unless (nat_eq (value_of (field_at fields 1)) 0) cause.Later
     ∷ [])
 
 -- tail Q
@@ -218,23 +233,22 @@ tail_form = part.Word word.Tail ∷ part.Field ∷ []
 
 -- the run's ticks on all links together are within the limit
 abbrev pub is_within_load : Said → ℕ → Bool
-is_within_load said tail = nat_le ((unwrap_or said.rounds 0 + tail) * length said.links) 524288
+is_within_load said tail = nat_le ((rounds_of said + tail) * length said.links) 524288
 
 abbrev pub tail_rule : Said → List (List ℕ) → Rule
 tail_rule said fields = first_cause (
     unless (has_form tail_form fields) cause.Shape
     ∷ number_rule 0 524288 (field_at fields 1)
     ∷ unless (is_within_load said (value_of (field_at fields 1))) cause.Load
-    ∷ unless (nat_eq (value_of (field_at fields 1)) 0) cause.Later
     ∷ [])
 
 -- whether a line with this first word may come next
 abbrev pub may_stand : Said → Keyword → Bool
-may_stand said word.Link = nat_eq (length said.callers) 0 && is_none said.rounds
+may_stand said word.Link = nat_eq (length (callers_of said)) 0 && is_none said.rounds
 may_stand said word.Caller = not (nat_eq (length said.links) 0) && is_none said.rounds
-may_stand said word.Open = not (nat_eq (length said.callers) 0) && is_none said.rounds
-may_stand said word.Send = not (nat_eq (length said.callers) 0) && is_none said.rounds
-may_stand said word.Close = not (nat_eq (length said.callers) 0) && is_none said.rounds
+may_stand said word.Open = not (nat_eq (length (callers_of said)) 0) && is_none said.rounds
+may_stand said word.Send = not (nat_eq (length (callers_of said)) 0) && is_none said.rounds
+may_stand said word.Close = not (nat_eq (length (callers_of said)) 0) && is_none said.rounds
 may_stand said word.Rounds = not (nat_eq (length said.links) 0) && is_none said.rounds
 may_stand said word.Tail = is_some said.rounds && is_none said.tail
 may_stand said word.Schedule = is_some said.tail
@@ -255,8 +269,9 @@ line_word field =
 -- what a line that begins with this word says, or its cause
 abbrev pub judge_as : Keyword → Said → List (List ℕ) → Result Item Cause
 judge_as word.Link said fields = judged (link_rule said fields) (item.Link (link_of fields))
-judge_as word.Caller said fields = judged (caller_rule said fields) (item.Caller (field_at fields 1))
-judge_as word.Open said fields = judged (open_rule said fields) (item.Open (request_of fields))
+judge_as word.Caller said fields = judged (caller_rule said fields) (item.Script (operation.Caller (field_at fields 1)))
+judge_as word.Open said fields = judged (open_rule said fields) (item.Script (operation.Open (request_of fields)))
+judge_as word.Send said fields = judged (send_rule said fields) (item.Script (operation.Send (send_of said fields)))
 judge_as word.Rounds said fields = judged (rounds_rule fields) (item.Rounds (value_of (field_at fields 1)))
 judge_as word.Tail said fields = judged (tail_rule said fields) (item.Tail (value_of (field_at fields 1)))
 judge_as other said fields = Err cause.Later

@@ -1,4 +1,5 @@
 pub mod Causes
+pub mod Channels
 pub mod Codes
 pub mod Decimal
 pub mod Drafts
@@ -9,6 +10,9 @@ pub mod Grammar
 pub mod PlanText
 pub mod Plans
 pub mod Playing
-pub mod Reading
 pub mod ReadSteps
+pub mod Reading
 pub mod Report
+pub mod Run
+pub mod Shapes
+pub mod Tallies

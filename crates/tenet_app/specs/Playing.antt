@@ -2,24 +2,24 @@
 -- they are the text of; one line, where a line is refused; or nothing, where there are too many bytes. The status
 -- says how far that came. A fault of reading or writing is answered only where the count of faults of the source or
 -- the sink rose. What is said of bytes is said where the source and the sink tell them.
-use Rattle.std.specs.Prelude.{◌≡◌, ℕ, ◌≤◌, Bool, false, nat_eq, ◌&&◌, Option, IfSome, List, [], ◌∷◌, map, length, codes}
-use Rattle.std.specs.List.{AllByRecursion}
+use Rattle.std.specs.Prelude.{◌≡◌, ℕ, ◌≤◌, Bool, false, nat_eq, ◌&&◌, Option, Some, None, IfSome, List, [], ◌∷◌, length, codes}
 use Rattle.std.specs.Cmp.Lexicographic.{pointwise}
 use Rattle.std.specs.Fmt.{decimal}
 use Rattle.std.specs.Io.KnownBytes.{Appends, Keeps, IsAtEnd}
 use Rattle.byte_ends.specs.Faults.{Rises}
 use Rattle.byte_ends.specs.Writing.{WritesFront}
-use Rattle.traffic_contract.specs.Admission.{Passes}
+use Rattle.link_steps.specs.HopGuarantee.{AfterEach, HeldRowsPass, HopGuarantee}
+use Rattle.link_steps.specs.declared.shape.LinkShape.{LinkShape}
 use Rattle.tenet_app.specs.Fields.{ended_line}
 use Rattle.tenet_app.specs.PlanText.{plan_text}
-use Rattle.tenet_app.specs.Plans.{Said, IsPlan}
+use Rattle.tenet_app.specs.Plans.{Said, requests_of, IsPlan}
 use Rattle.tenet_app.specs.Reading.{Reading, IsRead, IsBad, IsOver, reading, LetsPass}
-use Rattle.tenet_app.specs.Establishment.{Settlement, settlements, server_over, held_after_steps}
 use Rattle.tenet_app.specs.Report.{report_of}
+use Rattle.tenet_app.specs.Run.{run_of}
+use Rattle.tenet_app.specs.Shapes.{shape_of}
 use Rattle.tenet_app.specs.declared.scenario.cause.Cause.{Cause}
 use Rattle.tenet_app.specs.declared.scenario.cause.Cause.TheVariants as cause
 use Rattle.tenet_app.specs.declared.scenario.plan.Link.{Link}
-use Rattle.tenet_app.specs.declared.scenario.plan.Request.{Request}
 use Rattle.tenet_app.specs.declared.scenario.reader.TheConstants.{MOST_BYTES}
 use Rattle.tenet_app.specs.declared.status.Status.{Status}
 use Rattle.tenet_app.specs.declared.status.Status.TheVariants as status
@@ -31,14 +31,19 @@ pub record Ends : Type 0 where
   pub written : Option (List ℕ)
   pub write_faults : ℕ
 
--- the report of requests over the first of these links
-abbrev pub report_over : List Link → List Request → List ℕ
-report_over [] requests = []
-report_over (link ∷ links) requests = report_of link.name requests (map (λ (s : Settlement). s.verdict) (settlements link [] requests))
+-- the report of a plan's run over a link of this shape and name
+abbrev pub report_at : Option LinkShape → List ℕ → Said → List ℕ
+report_at None name said = []
+report_at (Some shape) name said = report_of name (requests_of said) (run_of shape said)
+
+-- that over the first of these links
+abbrev pub report_over : List Link → Said → List ℕ
+report_over [] said = []
+report_over (link ∷ links) said = report_at (shape_of link) link.name said
 
 -- the report of a plan
 abbrev pub plan_report : Said → List ℕ
-plan_report said = report_over said.links said.requests
+plan_report said = report_over said.links said
 
 -- the line that tells which line is refused; until the whole language is built, by one word for every cause
 abbrev pub refusal_line : ℕ → List ℕ
@@ -54,8 +59,8 @@ due_text IsOver = []
 abbrev pub ComesTo : Option (List ℕ) → (Reading → Type 0) → Type 0
 ComesTo left P = IfSome left (λ bytes. P (reading MOST_BYTES bytes))
 
--- the scenario was read to its end and its plan's report was written; after every step of the plan's requests the
--- rows that its link held pass the admission test
+-- the scenario was read to its end and the report of its plan's run was written; after every step of the run the rows
+-- that the link holds pass the admission test; and each packet leaves the link within the bound of its level
 pub record PlaysDone (before after : Ends) : Type 0 where
   pub said : Said
   pub plan : IsPlan said
@@ -63,7 +68,10 @@ pub record PlaysDone (before after : Ends) : Type 0 where
   pub text : IfSome before.left (λ bytes. bytes ≡ plan_text plan.link said)
   pub ended : IsAtEnd after.left
   pub written : Appends before.written after.written (plan_report said)
-  pub passes : AllByRecursion (Passes (server_over plan.link)) (held_after_steps plan.link said.requests)
+  pub shape : LinkShape
+  pub of_link : shape_of plan.link ≡ Some shape
+  pub passes : AfterEach (HeldRowsPass shape) (run_of shape said).history
+  pub in_time : HopGuarantee shape (run_of shape said).history
 
 -- the line is refused, and one line that tells it was written
 pub record PlaysRefused (line : ℕ) (told : Cause) (before after : Ends) : Type 0 where

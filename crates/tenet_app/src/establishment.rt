@@ -1,18 +1,17 @@
-//! Establishing requests on one link, each in one round trip.
-ghost use Rattle.std.specs.Prelude.{◌≡◌, ◌+◌, ◌<◌, ◌≤◌, ◌^◌, [], List, IfOk, OnOk, map, length};
+//! Establishing a request on one link, in one round trip.
+ghost use Rattle.std.specs.Prelude.{◌≡◌, ℕ, ◌+◌, ◌-◌, ◌<◌, ◌≤◌, ◌^◌, List, IfOk, OnOk, length};
 ghost use Rattle.net_units.specs.Numbers.{level_number};
-ghost use Rattle.std.specs.List.{AllByRecursion};
-ghost use Rattle.rcsp_admission.specs.Sums.{rows_of, without};
-ghost use Rattle.traffic_contract.specs.Admission.{Passes};
-ghost use Rattle.tenet_app.specs.declared.scenario.plan.Link.{Link as LinkTerms};
-ghost use Rattle.tenet_app.specs.declared.scenario.plan.Request.{Request as RequestTerms};
-ghost use Rattle.tenet_app.specs.Establishment.{server_over, allotted, delay_at, settled_at, settle, settlements, verdict_of, held_after_steps, KeysBelow, IsReserved};
-ghost use Rattle.tenet_app.specs.Plans.{IsLink};
+ghost use Rattle.link_steps.specs.Replies.{reply_to};
+ghost use Rattle.link_steps.specs.declared.replies.Entry.{Entry};
+ghost use Rattle.link_steps.specs.declared.shape.LinkShape.{LinkShape as Shape};
+ghost use Rattle.tenet_app.specs.Establishment.{reserve_for, way_back, delay_at, allotted, at_destination, refused_as, settled, verdict_of};
+ghost use Rattle.tenet_app.specs.Run.{asked, after_open};
+ghost use Rattle.tenet_app.specs.Tallies.{IsAt, SameLink};
 
-use crate::scenario::plan::{Link, Request};
-use net_units::{Level, OutOfMemory, ceil_div};
-use rcsp_admission::LevelSums;
-use std::alloc::Global;
+use crate::player::Player;
+use crate::scenario::plan::Request;
+use link_steps::{Ask, LinkShape, LinkStep, Refusal, Reply};
+use net_units::{ChanNo, Kind, Level, OutOfMemory};
 
 /// What a request comes to.
 #[derive(Clone, Copy, Debug, PartialEq, Eq)]
@@ -31,6 +30,20 @@ pub enum Verdict {
         /// The bound of the last level, in ticks.
         bound: u64,
     },
+    /// The link's reserve was refused, since its buffer lacks room.
+    NoBuffer {
+        /// The units that the channel needs.
+        need: u64,
+        /// The units that are free.
+        free: u64,
+    },
+    /// The link's reserve was refused, since the channel's packets are too large.
+    TooWide {
+        /// The largest packet of the channel, in units.
+        smax: u64,
+        /// The largest packet of the link, in units.
+        cap: u64,
+    },
     /// The destination refuses the delay that the link offers.
     TooLate {
         /// The offered end-to-end delay in ticks.
@@ -38,118 +51,129 @@ pub enum Verdict {
         /// The delay bound of the request, in ticks.
         bound: u64,
     },
+    /// The reserve has none of these replies.
+    Pending,
 }
 
-/// Establishes the requests in order. Each makes two steps, a reserve and then a relax or a deny; or one, where its
-/// reserve is refused.
-pub fn establish(
-    alloc: Global,
-    link: &Link,
-    requests: &[Request],
-) -> Result<Vec<Verdict>, OutOfMemory>
-    requires link { IsLink link.now }
-    requires few { length requests.now < 2 ^ 32 }
-    ensures verdicts { IfOk result (λ verdicts. map verdict_of verdicts.items ≡ map (λ s. s.verdict) (settlements link.now [] requests.now)) }
-    ensures each { IfOk result (λ verdicts. length verdicts.items ≡ length requests.now) }
-{
-    let blocking = ceil_div(u64::from(link.cap), u64::from(link.rate)) as u32;
-    let mut sums = LevelSums::new(alloc, link.bounds, link.rate, blocking);
-    let mut verdicts = Vec::new(alloc);
-    for (place, request) in requests.iter().enumerate() {
-        verdicts.push(settle(&mut sums, place as u32, link, request)?)?;
+impl Verdict {
+    ghost use Rattle.tenet_app.specs.Establishment.{is_accepted, verdict_of as said_by};
+
+    /// Whether the channel is established.
+    pub fn is_accepted(&self) -> bool
+        ensures { result ≡ is_accepted (said_by self.now) }
+    {
+        matches!(self, Verdict::Accepted { .. })
     }
-    Ok(verdicts)
 }
 
-/// Establishes one request, with a new key for its row.
-#[tactic(auto, unfolding(crate::specs::Establishment::settle))]
-fn settle(
-    sums: &mut LevelSums,
-    key: u32,
-    link: &Link,
+/// Establishes one request on a link that holds no row of its channel.
+pub fn establish(
+    player: &mut Player,
+    chan: ChanNo,
     request: &Request,
 ) -> Result<Verdict, OutOfMemory>
-    requires link { IsLink link.now }
-    requires server { sums.old.server ≡ server_over link.now }
-    requires keys { KeysBelow key sums.old.rows }
-    ensures server { sums.new.server ≡ server_over link.now }
-    ensures keys { KeysBelow (key + 1) sums.new.rows }
-    ensures verdict { IfOk result (λ verdict. verdict_of verdict ≡ (settle link.now (rows_of sums.old.rows) request.now).verdict) }
-    ensures rows { OnOk result (rows_of sums.new.rows ≡ (settle link.now (rows_of sums.old.rows) request.now).after) }
+    requires at { (h : List Entry) × IsAt h player.old }
+    requires few { player.old.tallies.steps < 2 ^ 30 }
+    ensures same { OnOk result (SameLink player.old player.new) }
+    ensures steps { OnOk result (player.new.tallies.steps ≤ player.old.tallies.steps + 2) }
+    ensures verdict { IfOk result (λ verdict. (h : List Entry) → IsAt h player.old
+        → verdict_of verdict ≡ settled player.old.link.shape request.now (reply_to player.old.link.shape h (reserve_for chan request.now))) }
+    ensures at { OnOk result ((h : List Entry) → IsAt h player.old → IsAt (after_open player.old.link.shape h chan request.now) player.new) }
 {
-    sums.reserve(1)?;
-    match sums.best(&request.contract) {
-        Ok(offered) => {
-            sums.add(key, request.contract, offered);
-            Ok(test_at_destination(sums, key, link, request, offered))
-        }
-        Err(none) => Ok(Verdict::NoLevel {
-            sum: none.sum,
-            bound: none.bound,
-        }),
+    let _smax = request.contract.smax();
+    let reply = player.ask(&Ask::Reserve {
+        chan,
+        contract: request.contract,
+        kind: Kind::Rate,
+        delay: u64::from(request.delay),
+        up_reach: 0,
+        first: true,
+        next: None,
+    })?;
+    match reply {
+        Reply::Offer { level, .. } => settle(player, chan, request, level),
+        Reply::Refused(refusal) => Ok(denied(&refusal)),
+        _ => Ok(Verdict::Pending),
     }
 }
 
-/// The destination's test of a level that the link offered and reserved, and the way back: a deny, or a relax.
-fn test_at_destination(
-    sums: &mut LevelSums,
-    key: u32,
-    link: &Link,
+// The verdict of a request whose reserve is refused.
+fn denied(refusal: &Refusal) -> Verdict
+    ensures { verdict_of result ≡ refused_as refusal.now }
+{
+    match refusal {
+        Refusal::NoLevel { sum, bound } => Verdict::NoLevel {
+            sum: *sum,
+            bound: *bound,
+        },
+        Refusal::NoBuffer { need, free } => Verdict::NoBuffer {
+            need: *need,
+            free: *free,
+        },
+        Refusal::TooWide { smax, cap } => Verdict::TooWide {
+            smax: *smax,
+            cap: *cap,
+        },
+        _ => Verdict::Pending,
+    }
+}
+
+// The destination's test of a level that the link offered, and the way back: a deny, or a relax.
+fn settle(
+    player: &mut Player,
+    chan: ChanNo,
     request: &Request,
     offered: Level,
-) -> Verdict
-    requires link { IsLink link.now }
-    requires server { sums.old.server ≡ server_over link.now }
-    requires within { level_number offered ≤ length link.now.bounds }
-    requires reserved { IsReserved key request.now.contract (level_number offered) sums.old.rows }
-    ensures server { sums.new.server ≡ sums.old.server }
-    ensures keys { KeysBelow (key + 1) sums.new.rows }
-    ensures verdict { verdict_of result ≡ (settled_at link.now (rows_of (without sums.old.rows key)) request.now (level_number offered)).verdict }
-    ensures rows { rows_of sums.new.rows ≡ (settled_at link.now (rows_of (without sums.old.rows key)) request.now (level_number offered)).after }
+) -> Result<Verdict, OutOfMemory>
+    requires at { (h : List Entry) × IsAt h player.old }
+    requires few { player.old.tallies.steps < 2 ^ 31 }
+    requires within { level_number offered ≤ length player.old.link.shape.bounds }
+    ensures same { OnOk result (SameLink player.old player.new) }
+    ensures steps { OnOk result (player.new.tallies.steps ≡ player.old.tallies.steps + 1) }
+    ensures verdict { IfOk result (λ verdict. verdict_of verdict ≡ at_destination player.old.link.shape request.now offered) }
+    ensures at { OnOk result ((h : List Entry) → IsAt h player.old
+        → IsAt (asked player.old.link.shape h (way_back player.old.link.shape chan request.now offered)) player.new) }
 {
-    let sum = delay_at(link, offered);
+    let shape = player.link.shape();
+    let sum = delay_at(&shape, offered);
     let bound = u64::from(request.delay);
     if sum > bound {
-        sums.remove(key);
-        return Verdict::TooLate { sum, bound };
+        player.ask(&Ask::Deny { chan })?;
+        return Ok(Verdict::TooLate { sum, bound });
     }
-    let level = relaxed(link, offered, bound - sum);
-    sums.move_to(key, level);
-    Verdict::Accepted {
+    let level = relaxed(&shape, offered, bound - sum);
+    player.ask(&Ask::Relax {
+        chan,
         level,
-        delay: delay_at(link, level),
-    }
+        up_bound: 0,
+    })?;
+    Ok(Verdict::Accepted {
+        level,
+        delay: delay_at(&shape, level),
+    })
 }
 
-/// The end-to-end delay over the link at a level, in ticks.
-fn delay_at(link: &Link, level: Level) -> u64
-    requires { level_number level ≤ length link.now.bounds }
-    ensures value { result ≡ delay_at link.now (level_number level) }
+// The end-to-end delay over the link at a level, in ticks.
+fn delay_at(shape: &LinkShape, level: Level) -> u64
+    requires { level_number level ≤ length shape.now.bounds }
+    ensures value { result ≡ delay_at shape.now (level_number level) }
     ensures small { result < 2 ^ 33 }
 {
-    u64::from(link.bounds.at(level)) + u64::from(link.prop)
+    u64::from(shape.bounds.at(level)) + u64::from(shape.prop)
 }
 
-/// The largest level whose bound is at most the offered one and the slack, in ticks.
-fn relaxed(link: &Link, offered: Level, slack: u64) -> Level
-    requires link { IsLink link.now }
-    requires offered { level_number offered ≤ length link.now.bounds }
+// The largest level whose bound is at most the offered one and the slack, in ticks.
+fn relaxed(shape: &LinkShape, offered: Level, slack: u64) -> Level
+    requires offered { level_number offered ≤ length shape.now.bounds }
     requires slack { slack < 2 ^ 33 }
-    ensures value { level_number result ≡ allotted link.now (level_number offered) slack }
-    ensures within { level_number result ≤ length link.now.bounds }
-    ensures no_smaller { level_number offered ≤ level_number result }
+    ensures value { level_number result ≡ allotted shape.now (level_number offered) slack }
+    ensures within { level_number result ≤ length shape.now.bounds }
 {
-    match link
+    match shape
         .bounds
-        .within(u64::from(link.bounds.at(offered)) + slack)
+        .within(u64::from(shape.bounds.at(offered)) + slack)
     {
         Some(level) => level,
         None => offered,
     }
 }
-
-/// After every step of every list of requests, the rows that the link holds pass the admission test.
-pub fn every_step_passes()
-    ensures { (link : LinkTerms) (requests : List RequestTerms) → IsLink link
-        → AllByRecursion (Passes (server_over link)) (held_after_steps link requests) }
-{}

@@ -6,11 +6,12 @@ ghost use Rattle.tenet_app.specs.Reading.{reading};
 ghost use Rattle.tenet_app.specs.declared.scenario.reader.TheConstants.{MOST_BYTES};
 ghost use Rattle.tenet_app.specs.declared.status.Status.TheVariants as status;
 
-use crate::establishment::establish;
 use crate::report::report;
+use crate::run::run;
 use crate::scenario::cause::Cause;
 use crate::scenario::draft::Draft;
 use crate::scenario::reader::{ReadRefusal, read_scenario};
+use crate::shapes::shape_of;
 use crate::status::Status;
 use byte_ends::{Sink, Source, put_all};
 use net_units::OutOfMemory;
@@ -56,8 +57,9 @@ fn answer(alloc: Global, plan: &Draft) -> Result<String, OutOfMemory>
         [] => Ok(String::new(alloc)),
         [link, ..] => {
             let requests = plan.requests();
-            let verdicts = establish(alloc, link, requests)?;
-            report(alloc, &link.name, requests, verdicts.as_slice())
+            let ticks = plan.rounds() + plan.tail();
+            let played = run(alloc, shape_of(link), plan.script(), requests.len(), ticks)?;
+            report(alloc, &link.name, requests, &played)
         }
     }
 }

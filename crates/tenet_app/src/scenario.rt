@@ -9,4 +9,8 @@ mod link_line;
 mod open_line;
 pub mod plan;
 pub mod reader;
+pub mod script;
+mod send_line;
+#[cfg(test)]
+mod tests;
 pub mod values;

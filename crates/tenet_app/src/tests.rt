@@ -2,12 +2,14 @@
 //! packets: `5 10 20 2` brings at most two packets of two units in 10 or 20 ticks, and four in 40.
 ghost use Rattle.tenet_app.specs.Plans.{IsPlan};
 
-use crate::establishment::{Verdict, establish};
+use crate::establishment::Verdict;
 use crate::playing::play;
 use crate::report::report;
+use crate::run::run;
 use crate::scenario::cause::Cause;
 use crate::scenario::draft::Draft;
 use crate::scenario::reader::read_scenario;
+use crate::shapes::shape_of;
 use crate::status::Status;
 use crate::top::top;
 use byte_ends::{MemSink, MemSource};
@@ -17,6 +19,8 @@ use std::process::Abort;
 use std::sync::Wait;
 use std::test::Fail;
 use std::thread::Threads;
+
+mod runs;
 
 const FIRST: &str = "tenet 1
 link A n1 n2 rate 1 cap 4 prop 2 buffer 100 levels 10 20 40
@@ -266,40 +270,36 @@ fn a_run_that_stops_says_why(rt: HostRuntime) -> Result<(), Fail> {
 }
 
 // Inputs, each with the line that is refused.
-const BAD_INPUTS: [(&str, u64, &str); 6] = [
+const BAD_INPUTS: [(&str, u64, &str); 5] = [
     ("", 1, "refused 1 later\n"),
     ("tenet 2\n", 1, "refused 1 later\n"),
-    // The buffer holds less than the last level lets through.
-    (
-        "tenet 1
-link A n1 n2 rate 1 cap 4 prop 2 buffer 3 levels 10 20 40
-",
-        2,
-        "refused 2 later\n",
-    ),
-    // The contract's packets are larger than the link carries.
+    // A caller sends on the request of another.
     (
         "tenet 1
 link A n1 n2 rate 1 cap 4 prop 2 buffer 100 levels 10 20 40
 caller k1
-open r1 route A contract 5 10 20 5 delay 50 rate
-rounds 0
-tail 0
-",
-        4,
-        "refused 4 later\n",
-    ),
-    // A second caller.
-    (
-        "tenet 1
-link A n1 n2 rate 1 cap 4 prop 2 buffer 100 levels 10 20 40
-caller k1
+open r1 route A contract 5 10 20 2 delay 12 rate
 caller k2
+send r1 1 1 1
 rounds 0
 tail 0
 ",
-        4,
-        "refused 4 later\n",
+        6,
+        "refused 6 later\n",
+    ),
+    // The sends plan a packet too many.
+    (
+        "tenet 1
+link A n1 n2 rate 1 cap 4 prop 2 buffer 100 levels 10 20 40
+caller k1
+open r1 route A contract 5 10 20 2 delay 12 rate
+send r1 262144 1 1
+send r1 1 1 1
+rounds 0
+tail 0
+",
+        6,
+        "refused 6 later\n",
     ),
     // The last line has no line feed.
     (
@@ -343,6 +343,7 @@ fn too_many_bytes_are_refused_behind_the_whole_lines(rt: HostRuntime) -> Result<
 }
 
 // The link of the first scenario establishes its request, and the report tells it.
+#[tactic(auto, using(crate::proofs::PlayFacts::plan_few))]
 fn answers_first(rt: &impl Abort, alloc: Global, plan: &Draft) -> Result<(), Fail>
     requires { IsPlan plan.now }
 {
@@ -350,15 +351,18 @@ fn answers_first(rt: &impl Abort, alloc: Global, plan: &Draft) -> Result<(), Fai
     match plan.links() {
         [] => assert!(rt; false, "no link"),
         [link, ..] => {
-            let verdicts = establish(alloc, link, requests)?;
+            let played = run(alloc, shape_of(link), plan.script(), requests.len(), 0)?;
             let accepted = Verdict::Accepted {
                 level: Level::LEAST,
                 delay: 12,
             };
-            assert_eq!(rt; verdicts.as_slice(), [accepted].as_slice());
+            assert!(rt; accepted.is_accepted());
+            let verdicts = played.verdicts.as_slice();
+            assert_eq!(rt; verdicts, [accepted].as_slice());
             assert_eq!(rt; requests.len(), 1);
             assert_eq!(rt; verdicts.len(), 1);
-            let text = report(alloc, &link.name, requests, verdicts.as_slice())?;
+            assert_eq!(rt; played.player.tallies.steps, 2);
+            let text = report(alloc, &link.name, requests, &played)?;
             assert_eq!(rt; text.as_str(), FIRST_REPORT);
         }
     }
@@ -377,39 +381,5 @@ fn each_part_answers_for_the_first_scenario(rt: HostRuntime) -> Result<(), Fail>
     let mut sink = MemSink::new(alloc, 2_000, 7, Vec::new(alloc))?;
     assert_eq!(rt; play(alloc, &mut source, &mut sink), Status::Done);
     assert_eq!(rt; sink.bytes(), FIRST_REPORT.as_bytes());
-    Ok(())
-}
-
-#[test]
-fn a_draft_keeps_what_its_lines_say(rt: HostRuntime) -> Result<(), Fail> {
-    let mut draft = Draft::new(rt.alloc());
-    for line in FIRST.lines() {
-        assert!(rt; !draft.is_complete());
-        let item = draft.judge(line.as_bytes())?;
-        draft.put(&item)?;
-    }
-    assert!(rt; draft.is_complete());
-    for link in draft.links() {
-        assert_eq!(rt; link.name.as_str(), "A");
-        assert_eq!(rt; (link.from.as_str(), link.to.as_str()), ("n1", "n2"));
-        assert_eq!(rt;
-            (link.rate, link.cap, link.prop, link.buffer),
-            (1, 4, 2, 100)
-        );
-        assert_eq!(rt; (link.bounds.len(), link.bounds.last()), (3, 40));
-    }
-    for request in draft.requests() {
-        assert_eq!(rt; request.name.as_str(), "r1");
-        assert_eq!(rt;
-            (
-                request.contract.xmin(),
-                request.contract.smax(),
-                request.delay
-            ),
-            (5, 2, 12)
-        );
-    }
-    assert_eq!(rt; (draft.links().len(), draft.requests().len()), (1, 1));
-    assert_eq!(rt; draft.judge(b"tail 0").err(), Some(Cause::Word));
     Ok(())
 }

@@ -1,8 +1,9 @@
 //! What was read of a scenario so far, and how the next line is judged after it.
 ghost use Rattle.std.specs.Prelude.{◌≡◌, ◌≤◌, OnOk, OnErr, length};
 
-use crate::scenario::plan::{Item, Link, Request};
-use net_units::{Name, OutOfMemory};
+use crate::scenario::plan::{Item, Link, Operation, Request};
+use crate::scenario::script::Script;
+use net_units::OutOfMemory;
 use std::alloc::Global;
 use std::marker::Model;
 
@@ -13,8 +14,7 @@ use std::marker::Model;
 pub struct Draft {
     pub(super) headed: bool,
     pub(super) links: Vec<Link>,
-    pub(super) callers: Vec<Name>,
-    pub(super) requests: Vec<Request>,
+    pub(super) script: Script,
     pub(super) rounds: Option<u64>,
     pub(super) tail: Option<u64>,
 }
@@ -29,8 +29,7 @@ impl Model for Draft {
     ghost view = { λ d. record {
       headed = d.headed;
       links = d.links.items;
-      callers = d.callers.items;
-      requests = d.requests.items;
+      script = d.script;
       rounds = d.rounds;
       tail = d.tail;
     } };
@@ -40,7 +39,7 @@ impl Model for Draft {
 }
 
 impl Draft {
-    ghost use Rattle.tenet_app.specs.Plans.{nothing_said, with_item, is_complete, MayAdd};
+    ghost use Rattle.tenet_app.specs.Plans.{nothing_said, with_item, requests_of, rounds_of, tail_of, is_complete, MayAdd};
 
     /// Before the first line.
     pub fn new(alloc: Global) -> Draft
@@ -49,8 +48,7 @@ impl Draft {
         Draft {
             headed: false,
             links: Vec::new(alloc),
-            callers: Vec::new(alloc),
-            requests: Vec::new(alloc),
+            script: Script::new(alloc),
             rounds: None,
             tail: None,
         }
@@ -65,8 +63,7 @@ impl Draft {
         match item {
             Item::Header => self.headed = true,
             Item::Link(link) => self.links.push(*link)?,
-            Item::Caller(name) => self.callers.push(*name)?,
-            Item::Open(request) => self.requests.push(*request)?,
+            Item::Script(operation) => self.script.push(operation)?,
             Item::Rounds(count) => self.rounds = Some(*count),
             Item::Tail(count) => self.tail = Some(*count),
         }
@@ -80,11 +77,33 @@ impl Draft {
         self.links.as_slice()
     }
 
-    /// The requests, in the order of their lines.
-    pub fn requests(&self) -> &[Request]
-        ensures { result.now ≡ self.now.requests }
+    /// The callers and their operations, in the order of their lines.
+    pub fn script(&self) -> &[Operation]
+        ensures { result.now ≡ self.now.script }
     {
-        self.requests.as_slice()
+        self.script.operations()
+    }
+
+    /// The requests, in the order of their lines. A request's place, from 0, is its channel's number.
+    pub fn requests(&self) -> &[Request]
+        ensures { result.now ≡ requests_of self.now }
+    {
+        self.script.requests()
+    }
+
+    /// How many rounds the plane makes beside the callers.
+    pub fn rounds(&self) -> u64
+        ensures value { result ≡ rounds_of self.now }
+        ensures most { result ≤ 524288 }
+    {
+        self.rounds.unwrap_or(0)
+    }
+
+    /// How many rounds the plane makes after the callers.
+    pub fn tail(&self) -> u64
+        ensures { result ≡ tail_of self.now }
+    {
+        self.tail.unwrap_or(0)
     }
 
     /// Whether the last line of a plan was read.

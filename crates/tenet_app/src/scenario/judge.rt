@@ -7,13 +7,13 @@ ghost use Rattle.tenet_app.specs.Decimal.{value_of};
 ghost use Rattle.tenet_app.specs.Fields.{fields_of, field_at};
 ghost use Rattle.tenet_app.specs.Forms.{is_among};
 ghost use Rattle.tenet_app.specs.Grammar.{is_header, may_stand, line_word, judge_as, judge_word, judge, caller_rule, rounds_rule, tail_rule, is_within_load};
-ghost use Rattle.tenet_app.specs.Plans.{link_names, request_names, MayAdd};
+ghost use Rattle.tenet_app.specs.Plans.{link_names, MayAdd};
 
 use crate::scenario::cause::Cause;
 use crate::scenario::draft::Draft;
 use crate::scenario::fields::{field, field_count, has_fields};
 use crate::scenario::form::{Keyword, Part, has_form};
-use crate::scenario::plan::Item;
+use crate::scenario::plan::{Item, Operation};
 use crate::scenario::values::{new_name, number, require};
 use net_units::Name;
 
@@ -60,8 +60,9 @@ impl Draft {
     {
         match word {
             Keyword::Link => Ok(Item::Link(self.judge_link(line)?)),
-            Keyword::Caller => Ok(Item::Caller(self.judge_caller(line)?)),
-            Keyword::Open => Ok(Item::Open(self.judge_open(line)?)),
+            Keyword::Caller => Ok(Item::Script(Operation::Caller(self.judge_caller(line)?))),
+            Keyword::Open => Ok(Item::Script(Operation::Open(self.judge_open(line)?))),
+            Keyword::Send => Ok(Item::Script(Operation::Send(self.judge_send(line)?))),
             Keyword::Rounds => Ok(Item::Rounds(judge_rounds(line)?)),
             Keyword::Tail => Ok(Item::Tail(self.judge_tail(line)?)),
             _ => Err(Cause::Later),
@@ -72,10 +73,10 @@ impl Draft {
         ensures { result ≡ may_stand self.now word }
     {
         match word {
-            Keyword::Link => self.callers.is_empty() && self.rounds.is_none(),
+            Keyword::Link => self.script.callers().is_empty() && self.rounds.is_none(),
             Keyword::Caller | Keyword::Rounds => !self.links.is_empty() && self.rounds.is_none(),
             Keyword::Open | Keyword::Send | Keyword::Close => {
-                !self.callers.is_empty() && self.rounds.is_none()
+                !self.script.callers().is_empty() && self.rounds.is_none()
             }
             Keyword::Tail => self.rounds.is_some() && self.tail.is_none(),
             Keyword::Schedule => self.tail.is_some(),
@@ -89,27 +90,12 @@ impl Draft {
         self.links.iter().any(|link| link.name.as_bytes() == name)
     }
 
-    pub(super) fn has_request(&self, name: &[u8]) -> bool
-        ensures { result ≡ is_among (request_names self.now) name.now }
-    {
-        self.requests
-            .iter()
-            .any(|request| request.name.as_bytes() == name)
-    }
-
-    fn has_caller(&self, name: &[u8]) -> bool
-        ensures { result ≡ is_among self.now.callers name.now }
-    {
-        self.callers.iter().any(|caller| caller.as_bytes() == name)
-    }
-
     fn judge_caller(&self, line: &[u8]) -> Result<Name, Cause>
         ensures { Judges result (caller_rule self.now (fields_of line.now)) (field_at (fields_of line.now) 1) }
     {
         require(has_form(&CALLER_FORM, line), Cause::Shape)?;
-        let caller = new_name(field(line, 1), self.has_caller(field(line, 1)))?;
-        require(self.callers.len() < 64, Cause::Many)?;
-        require(self.callers.is_empty(), Cause::Later)?;
+        let caller = new_name(field(line, 1), self.script.has_caller(field(line, 1)))?;
+        require(self.script.callers().len() < 64, Cause::Many)?;
         Ok(caller)
     }
 
@@ -119,7 +105,6 @@ impl Draft {
         require(has_form(&TAIL_FORM, line), Cause::Shape)?;
         let count = number(field(line, 1), 0, 524_288)?;
         require(self.is_within_load(count), Cause::Load)?;
-        require(count == 0, Cause::Later)?;
         Ok(count)
     }
 
@@ -127,8 +112,7 @@ impl Draft {
         requires { tail ≤ 524288 }
         ensures { result ≡ is_within_load self.now tail }
     {
-        let rounds = self.rounds.unwrap_or(0);
-        (rounds + tail) * self.links.len() as u64 <= 524_288
+        (self.rounds() + tail) * self.links.len() as u64 <= 524_288
     }
 }
 
@@ -137,9 +121,7 @@ fn judge_rounds(line: &[u8]) -> Result<u64, Cause>
     ensures range { IfOk result (λ count. count ≤ 524288) }
 {
     require(has_form(&ROUNDS_FORM, line), Cause::Shape)?;
-    let count = number(field(line, 1), 0, 524_288)?;
-    require(count == 0, Cause::Later)?;
-    Ok(count)
+    number(field(line, 1), 0, 524_288)
 }
 
 fn is_header(line: &[u8]) -> bool

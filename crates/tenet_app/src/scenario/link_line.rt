@@ -1,7 +1,7 @@
 //! Judging a link line.
-ghost use Rattle.std.specs.Prelude.{◌≡◌, ◌*◌, ◌≤◌, IfOk, OnOk, ◌<◌, ◌&&◌, nat_le, map, length};
+ghost use Rattle.std.specs.Prelude.{◌≡◌, ◌≤◌, IfOk, OnOk, ◌<◌, ◌&&◌, nat_le, map, length};
 ghost use Rattle.net_units.specs.Quotient.{ceil_quotient};
-ghost use Rattle.net_units.specs.Steps.{are_bounds, bound_at, last_bound};
+ghost use Rattle.net_units.specs.Steps.{are_bounds, bound_at};
 ghost use Rattle.tenet_app.specs.Causes.{Judges, unless};
 ghost use Rattle.tenet_app.specs.Decimal.{value_of};
 ghost use Rattle.tenet_app.specs.Fields.{fields_of, field_at};
@@ -91,7 +91,6 @@ impl Draft {
         require(self.links.len() < 32, Cause::Many)?;
         let bounds = prompt(link.bounds, link.numbers.cap, link.numbers.rate)?;
         require(self.links.is_empty(), Cause::Later)?;
-        require(link.numbers.is_ample(&bounds), Cause::Later)?;
         Ok(Link {
             name: link.name,
             from: link.from,
@@ -152,13 +151,4 @@ fn prompt(bounds: Option<Bounds>, cap: u32, rate: u32) -> Result<Bounds, Cause>
         Cause::Levels,
     )?;
     Ok(bounds)
-}
-
-impl LinkNumbers {
-    fn is_ample(&self, bounds: &Bounds) -> bool
-        requires { self.now.rate ≤ 65536 }
-        ensures { result ≡ nat_le (self.now.rate * last_bound bounds.now) self.now.buffer }
-    {
-        u64::from(self.rate) * u64::from(bounds.last()) <= u64::from(self.buffer)
-    }
 }

@@ -1,11 +1,11 @@
 //! Judging an open line.
-ghost use Rattle.std.specs.Prelude.{◌≡◌, ◌+◌, ◌<◌, ◌≤◌, IsTrue, ◌||◌, drop};
+ghost use Rattle.std.specs.Prelude.{◌≡◌, ◌+◌, ◌<◌, ◌≤◌, IsTrue, OnOk, ◌||◌, drop, length};
 ghost use Rattle.tenet_app.specs.Causes.{Judges};
 ghost use Rattle.tenet_app.specs.Decimal.{value_of};
 ghost use Rattle.tenet_app.specs.Fields.{fields_of, field_at};
 ghost use Rattle.tenet_app.specs.Forms.{is_among, used_name_rule, has_form};
-ghost use Rattle.tenet_app.specs.Grammar.{largest_carried, are_distinct, behind_route, open_fields_rule, open_limits_rule, open_rule, rate_form, jitter_form, request_of, hops_of, route_fields, route_names_rule, terms_in, contract_of, terms_rule, jitter_rule};
-ghost use Rattle.tenet_app.specs.Plans.{link_names};
+ghost use Rattle.tenet_app.specs.Grammar.{are_distinct, behind_route, open_fields_rule, open_limits_rule, open_rule, rate_form, jitter_form, request_of, hops_of, route_fields, route_names_rule, terms_in, contract_of, terms_rule, jitter_rule};
+ghost use Rattle.tenet_app.specs.Plans.{link_names, requests_of};
 
 use crate::scenario::cause::Cause;
 use crate::scenario::draft::Draft;
@@ -65,7 +65,7 @@ impl Draft {
           delay = value_of (behind_route (fields_of line.now) 6);
         }) }
     {
-        let request_name = new_name(field(line, 1), self.has_request(field(line, 1)))?;
+        let request_name = new_name(field(line, 1), self.script.has_request(field(line, 1)))?;
         self.judge_route(line, hops)?;
         let contract = judge_terms(line, hops)?;
         let delay = number(field(line, 3 + hops + 6), 1, 67_108_864)?;
@@ -88,20 +88,21 @@ impl Draft {
         requires hops { hops ≡ hops_of (fields_of line.now) }
         requires few { hops ≤ 16 }
         requires terms { contract ≡ contract_of (terms_in (fields_of line.now)) }
-        ensures { Judges result (open_limits_rule self.now (fields_of line.now)) (terms_in (fields_of line.now)) }
+        ensures judged { Judges result (open_limits_rule self.now (fields_of line.now)) (terms_in (fields_of line.now)) }
+        ensures room { OnOk result (length (requests_of self.now) < 1024) }
     {
-        require(self.requests.len() < 1024, Cause::Many)?;
+        require(self.script.requests().len() < 1024, Cause::Many)?;
         let Some(contract) = contract else {
             return Err(Cause::Contract);
         };
         require(is_distinct(line, hops), Cause::Route)?;
         require(has_form(&RATE_FORM, line), Cause::Later)?;
-        require(contract.smax() <= self.largest_carried(), Cause::Later)?;
         Ok(contract)
     }
 
     pub(super) fn judge_open(&self, line: &[u8]) -> Result<Request, Cause>
-        ensures { Judges result (open_rule self.now (fields_of line.now)) (request_of (fields_of line.now)) }
+        ensures judged { Judges result (open_rule self.now (fields_of line.now)) (request_of (fields_of line.now)) }
+        ensures room { OnOk result (length (requests_of self.now) < 1024) }
     {
         require(is_open(line), Cause::Shape)?;
         let hops = route_length(line, 3);
@@ -112,15 +113,6 @@ impl Draft {
             contract,
             delay: open.delay,
         })
-    }
-
-    fn largest_carried(&self) -> u32
-        ensures { result ≡ largest_carried self.now }
-    {
-        match self.links.as_slice() {
-            [] => 0,
-            [first, ..] => first.cap,
-        }
     }
 
     fn judge_route(&self, line: &[u8], hops: usize) -> Result<(), Cause>

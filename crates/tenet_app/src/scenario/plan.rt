@@ -34,6 +34,31 @@ pub struct Request {
     pub delay: u32,
 }
 
+/// A caller's send: packets that a channel's source plans.
+#[derive(Clone, Copy)]
+pub struct Send {
+    /// The place of its request among all requests, from 0 in the order of their lines: the channel's number. It is
+    /// below 1,024.
+    pub request: u32,
+    /// How many packets, from 1 to 262,144.
+    pub count: u64,
+    /// Ticks from one packet to the next, from 1 to 1,048,576.
+    pub gap: u64,
+    /// Units of each packet, from 1 to 65,536.
+    pub size: u32,
+}
+
+/// A line of a scenario's script: a caller, or one of the operations of the caller above.
+#[derive(Clone, Copy)]
+pub enum Operation {
+    /// A caller begins, by its name.
+    Caller(Name),
+    /// It opens a request.
+    Open(Request),
+    /// It sends on a request that it has opened above.
+    Send(Send),
+}
+
 /// What a line says, where no rule refuses it.
 #[derive(Clone, Copy)]
 pub enum Item {
@@ -41,12 +66,10 @@ pub enum Item {
     Header,
     /// A link.
     Link(Link),
-    /// A caller.
-    Caller(Name),
-    /// A request of the caller above.
-    Open(Request),
-    /// How many rounds the plane makes beside the callers.
+    /// A line of the script.
+    Script(Operation),
+    /// How many rounds the plane makes beside the callers, at most 524,288.
     Rounds(u64),
-    /// How many rounds the plane makes after them.
+    /// How many rounds the plane makes after them, at most 524,288.
     Tail(u64),
 }

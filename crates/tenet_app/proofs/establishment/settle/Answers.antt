@@ -1,29 +1,34 @@
-use Rattle.std.proofs.Common.{◌≡◌, List, sym, ◌∙◌, ap}
-use Rattle.rcsp_admission.specs.Sums.{Held, rows_of, without}
-use Rattle.tenet_app.specs.Establishment.{Settlement, settled_at}
-use Rattle.tenet_app.proofs.EstablishmentFacts.{new_key, keys_below_more, without-added, settle_offers}
+use Rattle.std.proofs.Common.{◌≡◌, refl, sym, subst, ◌∙◌, ap, arith}
+use Rattle.net_units.specs.Numbers.{level_number}
+use Rattle.link_steps.specs.declared.asks.Ask.{Ask}
+use Rattle.link_steps.specs.declared.shape.LinkShape.{LinkShape}
+use Rattle.tenet_app.specs.Establishment.{delay_at, allotted}
+use Rattle.tenet_app.specs.Run.{asked}
+use Rattle.tenet_app.specs.Tallies.{IsAt}
+use Rattle.tenet_app.proofs.EstablishmentFacts.{late-verdict, late-back, passed-verdict, passed-back}
 use Rattle.tenet_app.proofs.establishment.settle.Goals as goal
 
-pub returns-in_err-reserve-clause-keys : goal.returns-in_err-reserve-clause-keys
-returns-in_err-reserve-clause-keys c =
-    rw c.reserve.ensures.rows (keys_below_more c.args.key c.args.sums.now.rows c.requires.keys)
+pub returns-then-sum-bound-clause-verdict : goal.returns-then-sum-bound-clause-verdict
+returns-then-sum-bound-clause-verdict c =
+    late-verdict c.args.player.now.link.shape c.args.chan c.args.request.now c.args.offered c.delay_at-sum.result c.from-bound.result
+    (rw c.shape-shape.ensures at c.delay_at-sum.ensures.value) c.from-bound.ensures c.if-sum-bound.true
 
-pub add-requires-clause-new : goal.add-requires-clause-new
-add-requires-clause-new c = rw c.reserve.ensures.rows (new_key c.args.key c.args.sums.now.rows c.requires.keys)
+pub returns-then-sum-bound-clause-at : goal.returns-then-sum-bound-clause-at
+returns-then-sum-bound-clause-at c = λ h at.
+    rw (late-back c.args.player.now.link.shape c.args.chan c.args.request.now c.args.offered c.delay_at-sum.result c.from-bound.result
+    (rw c.shape-shape.ensures at c.delay_at-sum.ensures.value) c.from-bound.ensures c.if-sum-bound.true)
+    (c.in_ok-ask.ensures.at h at)
 
-pub returns-in-Err-clause-keys : goal.returns-in-Err-clause-keys
-returns-in-Err-clause-keys c =
-    rw c.reserve.ensures.rows (keys_below_more c.args.key c.args.sums.now.rows c.requires.keys)
+pub returns-clause-verdict : goal.returns-clause-verdict
+returns-clause-verdict c =
+    passed-verdict c.args.player.now.link.shape c.args.chan c.args.request.now c.args.offered c.delay_at-sum.result c.from-bound.result
+    (rw c.shape-shape.ensures at c.delay_at-sum.ensures.value) c.from-bound.ensures
+    c.relaxed-level.result (rw c.shape-shape.ensures at c.relaxed-level.ensures.value) c.if-sum-bound.false
+    c.delay_at.result (rw c.shape-shape.ensures at c.delay_at.ensures.value)
 
-pub returns-in-Ok-clause-rows : goal.returns-in-Ok-clause-rows
-returns-in-Ok-clause-rows c =
-    let link = c.args.link.now in
-    let request = c.args.request.now in
-    let offered = c.in-Ok.offered.number in
-    let before : without c.add.new.self.rows c.args.key ≡ c.args.sums.now.rows =
-    ap (λ (rows : List Held). without rows c.args.key) c.add.ensures.rows
-    ∙ without-added c.args.key c.reserve.new.self.rows request.contract offered (rw c.reserve.ensures.rows c.requires.keys) ∙ c.reserve.ensures.rows in
-    c.test_at_destination.ensures.rows
-    ∙ ap (λ (rows : List Held). (settled_at link (rows_of rows) request offered).after) before
-    ∙ sym (ap (λ (s : Settlement). s.after) (settle_offers link (rows_of c.args.sums.now.rows) request offered
-    (rw (c.reserve.ensures.server ∙ c.requires.server, c.reserve.ensures.rows) at c.in-Ok.ensures.level)))
+pub returns-clause-at : goal.returns-clause-at
+returns-clause-at c = λ h at.
+    rw (passed-back c.args.player.now.link.shape c.args.chan c.args.request.now c.args.offered c.delay_at-sum.result c.from-bound.result
+    (rw c.shape-shape.ensures at c.delay_at-sum.ensures.value) c.from-bound.ensures
+    c.relaxed-level.result (rw c.shape-shape.ensures at c.relaxed-level.ensures.value) c.if-sum-bound.false)
+    (c.in_ok-ask-2.ensures.at h at)

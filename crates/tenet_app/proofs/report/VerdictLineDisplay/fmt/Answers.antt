@@ -6,3 +6,9 @@ returns-in-NoLevel-clause-writes g c plain ok = rw c.in-NoLevel.is (simp append_
 
 pub returns-in-TooLate-clause-writes : goal.returns-in-TooLate-clause-writes
 returns-in-TooLate-clause-writes g c plain ok = rw c.in-TooLate.is (simp append_assoc (c.writeln-in-TooLate.ensures.writes plain ok))
+
+pub returns-in-NoBuffer-clause-writes : goal.returns-in-NoBuffer-clause-writes
+returns-in-NoBuffer-clause-writes g c plain ok = rw c.in-NoBuffer.is (simp append_assoc (c.writeln-in-NoBuffer.ensures.writes plain ok))
+
+pub returns-in-TooWide-clause-writes : goal.returns-in-TooWide-clause-writes
+returns-in-TooWide-clause-writes g c plain ok = rw c.in-TooWide.is (simp append_assoc (c.writeln-in-TooWide.ensures.writes plain ok))

@@ -1,0 +1,27 @@
+//! Laws of every run, each as the contract of a function that does nothing.
+ghost use Rattle.std.specs.Prelude.{◌≡◌, Some};
+ghost use Rattle.link_steps.specs.HopGuarantee.{AfterEach, HeldRowsPass, HopGuarantee};
+ghost use Rattle.link_steps.specs.Shape.{IsShapeOf};
+ghost use Rattle.link_steps.specs.declared.shape.LinkShape.{LinkShape};
+ghost use Rattle.tenet_app.specs.Plans.{Said, IsLink, IsScript};
+ghost use Rattle.tenet_app.specs.Run.{run_of};
+ghost use Rattle.tenet_app.specs.Shapes.{first_link, shape_of};
+ghost use Rattle.tenet_app.specs.declared.scenario.plan.Link.{Link};
+
+/// Every link that can be read has a shape, with its numbers.
+pub fn every_link_has_a_shape()
+    ensures { (link : Link) → IsLink link
+        → (shape : LinkShape) × (shape_of link ≡ Some shape) × IsShapeOf first_link link.rate link.cap link.prop link.buffer link.bounds shape }
+{}
+
+/// After every step of the run of every plan, over a link of any shape, the rows that the link holds pass the
+/// admission test.
+pub fn every_step_passes()
+    ensures { (shape : LinkShape) (said : Said) → IsScript said.script → AfterEach (HeldRowsPass shape) (run_of shape said).history }
+{}
+
+/// In every such run each packet leaves the link later than its eligible tick and within the bound of its level of
+/// that tick.
+pub fn every_packet_leaves_in_time()
+    ensures { (shape : LinkShape) (said : Said) → IsScript said.script → HopGuarantee shape (run_of shape said).history }
+{}
