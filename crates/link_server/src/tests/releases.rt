@@ -29,7 +29,10 @@ fn a_long_history_has_every_reply(rt: HostRuntime) -> Result<(), Fail> {
             phase: Phase::Committed
         })
     );
-    assert_eq!(rt; submit(&mut link, 1, 3, 10, 2)?, Reply::Planned { clock: 0 });
+    assert_eq!(rt;
+        submit(&mut link, 1, 3, 10, 2)?,
+        Reply::Planned { clock: 0 }
+    );
     assert_eq!(rt;
         submit(&mut link, 1, 3, 10, 2)?,
         Reply::Refused(Refusal::Busy { left: 3 })
@@ -63,7 +66,10 @@ fn a_released_channel_holds_its_share(rt: HostRuntime) -> Result<(), Fail> {
     let mut link = open(rt.alloc(), 100)?;
     assert_eq!(rt; reserve(&mut link, 1, &voice()?, 12)?, offer(1, 1)?);
     assert_eq!(rt; relax(&mut link, 1, 1)?, Reply::Relaxed { clock: 0 });
-    assert_eq!(rt; submit(&mut link, 1, 3, 10, 2)?, Reply::Planned { clock: 0 });
+    assert_eq!(rt;
+        submit(&mut link, 1, 3, 10, 2)?,
+        Reply::Planned { clock: 0 }
+    );
     for _before in 0..30_u64 {
         tick(&mut link)?;
     }
