@@ -8,7 +8,7 @@ use Rattle.link_steps.specs.Buffer.{kept_units}
 use Rattle.link_steps.specs.Reservation.{Reservation}
 use Rattle.link_server.specs.declared.held_row.HeldRow.{HeldRow}
 use Rattle.link_server.specs.Planned.{left_in}
-use Rattle.link_server.specs.Rows.{terms_in, row_in, is_row_of, is_first_row_of, HasNone, IsPlace, IsAbsent, IsPlaceOf}
+use Rattle.link_server.specs.Rows.{terms_in, row_in, is_row_of, is_row_at_hop, HasNone, IsPlace, IsAbsent, IsPlaceOf}
 use Rattle.link_server.specs.Account.{account}
 use Rattle.link_server.specs.Wants.{ask_for}
 use Rattle.link_server.specs.declared.held_row.Wanted.{Wanted}
@@ -128,28 +128,28 @@ reserve-kept shape t packets wanted level reach rows new same =
 
 -- ---- a submit
 
-pub submit-absent : (shape : LinkShape) (t : ℕ) (packets : Packets) (chan : ChanNo) (count gap size : ℕ) (rows : List HeldRow) → HasNone (is_first_row_of chan) rows → Refused NoSuch ≡ kept_reply shape (account t packets rows) (Submit chan count gap size)
+pub submit-absent : (shape : LinkShape) (t : ℕ) (packets : Packets) (chan : ChanNo) (count gap size : ℕ) (rows : List HeldRow) → HasNone (is_row_at_hop chan true) rows → Refused NoSuch ≡ kept_reply shape (account t packets rows) (Submit chan count gap size)
 unfolding kept_reply
-submit-absent shape t packets chan count gap size rows absent = rw (kept-absent (is_first_row_of chan) (is_kept_at_hop chan true) (λ row. refl) rows absent) refl
+submit-absent shape t packets chan count gap size rows absent = rw (kept-absent (is_row_at_hop chan true) (is_kept_at_hop chan true) (λ row. refl) rows absent) refl
 
 -- the reply is that of the row at the place
-submit-found : (shape : LinkShape) (t : ℕ) (packets : Packets) (chan : ChanNo) (count gap size : ℕ) (rows : List HeldRow) (i : ℕ) (d : HeldRow) → IsPlace (is_first_row_of chan) rows i → kept_reply shape (account t packets rows) (Submit chan count gap size) ≡ submit_reply t size (terms_in (get_or rows i d)) (length (left_in (get_or rows i d).planned))
+submit-found : (shape : LinkShape) (t : ℕ) (packets : Packets) (chan : ChanNo) (count gap size : ℕ) (rows : List HeldRow) (i : ℕ) (d : HeldRow) → IsPlace (is_row_at_hop chan true) rows i → kept_reply shape (account t packets rows) (Submit chan count gap size) ≡ submit_reply t size (terms_in (get_or rows i d)) (length (left_in (get_or rows i d).planned))
 unfolding kept_reply
-submit-found shape t packets chan count gap size rows i d place = ap (kept_submit t size) (kept-found (is_first_row_of chan) (is_kept_at_hop chan true) (λ row. refl) rows i d place)
+submit-found shape t packets chan count gap size rows i d place = ap (kept_submit t size) (kept-found (is_row_at_hop chan true) (is_kept_at_hop chan true) (λ row. refl) rows i d place)
 
-pub submit-phase : (shape : LinkShape) (t : ℕ) (packets : Packets) (chan : ChanNo) (count gap size : ℕ) (rows : List HeldRow) (i : ℕ) (d : HeldRow) (refusal : Refusal) → IsPlace (is_first_row_of chan) rows i → Some refusal ≡ not_in_phase Committed (terms_in (get_or rows i d)) → Refused refusal ≡ kept_reply shape (account t packets rows) (Submit chan count gap size)
+pub submit-phase : (shape : LinkShape) (t : ℕ) (packets : Packets) (chan : ChanNo) (count gap size : ℕ) (rows : List HeldRow) (i : ℕ) (d : HeldRow) (refusal : Refusal) → IsPlace (is_row_at_hop chan true) rows i → Some refusal ≡ not_in_phase Committed (terms_in (get_or rows i d)) → Refused refusal ≡ kept_reply shape (account t packets rows) (Submit chan count gap size)
 unfolding submit_reply
 submit-phase shape t packets chan count gap size rows i d refusal place phase = rw (submit-found shape t packets chan count gap size rows i d place, sym phase) refl
 
-pub submit-busy : (shape : LinkShape) (t : ℕ) (packets : Packets) (chan : ChanNo) (count gap size : ℕ) (rows : List HeldRow) (i : ℕ) (d : HeldRow) (refusal : Refusal) → IsPlace (is_first_row_of chan) rows i → None ≡ not_in_phase Committed (terms_in (get_or rows i d)) → Some refusal ≡ busy (length (left_in (get_or rows i d).planned)) → Refused refusal ≡ kept_reply shape (account t packets rows) (Submit chan count gap size)
+pub submit-busy : (shape : LinkShape) (t : ℕ) (packets : Packets) (chan : ChanNo) (count gap size : ℕ) (rows : List HeldRow) (i : ℕ) (d : HeldRow) (refusal : Refusal) → IsPlace (is_row_at_hop chan true) rows i → None ≡ not_in_phase Committed (terms_in (get_or rows i d)) → Some refusal ≡ busy (length (left_in (get_or rows i d).planned)) → Refused refusal ≡ kept_reply shape (account t packets rows) (Submit chan count gap size)
 unfolding submit_reply
 submit-busy shape t packets chan count gap size rows i d refusal place phase left = rw (submit-found shape t packets chan count gap size rows i d place, sym phase, sym left) refl
 
-pub submit-big : (shape : LinkShape) (t : ℕ) (packets : Packets) (chan : ChanNo) (count gap size : ℕ) (rows : List HeldRow) (i : ℕ) (d : HeldRow) (refusal : Refusal) → IsPlace (is_first_row_of chan) rows i → None ≡ not_in_phase Committed (terms_in (get_or rows i d)) → None ≡ busy (length (left_in (get_or rows i d).planned)) → Some refusal ≡ too_big (terms_in (get_or rows i d)) size → Refused refusal ≡ kept_reply shape (account t packets rows) (Submit chan count gap size)
+pub submit-big : (shape : LinkShape) (t : ℕ) (packets : Packets) (chan : ChanNo) (count gap size : ℕ) (rows : List HeldRow) (i : ℕ) (d : HeldRow) (refusal : Refusal) → IsPlace (is_row_at_hop chan true) rows i → None ≡ not_in_phase Committed (terms_in (get_or rows i d)) → None ≡ busy (length (left_in (get_or rows i d).planned)) → Some refusal ≡ too_big (terms_in (get_or rows i d)) size → Refused refusal ≡ kept_reply shape (account t packets rows) (Submit chan count gap size)
 unfolding submit_reply
 submit-big shape t packets chan count gap size rows i d refusal place phase left large = rw (submit-found shape t packets chan count gap size rows i d place, sym phase, sym left, sym large) refl
 
-pub submit-planned : (shape : LinkShape) (t : ℕ) (packets : Packets) (chan : ChanNo) (count gap size : ℕ) (rows : List HeldRow) (i : ℕ) (d : HeldRow) → IsPlace (is_first_row_of chan) rows i → None ≡ not_in_phase Committed (terms_in (get_or rows i d)) → None ≡ busy (length (left_in (get_or rows i d).planned)) → None ≡ too_big (terms_in (get_or rows i d)) size → Planned t ≡ kept_reply shape (account t packets rows) (Submit chan count gap size)
+pub submit-planned : (shape : LinkShape) (t : ℕ) (packets : Packets) (chan : ChanNo) (count gap size : ℕ) (rows : List HeldRow) (i : ℕ) (d : HeldRow) → IsPlace (is_row_at_hop chan true) rows i → None ≡ not_in_phase Committed (terms_in (get_or rows i d)) → None ≡ busy (length (left_in (get_or rows i d).planned)) → None ≡ too_big (terms_in (get_or rows i d)) size → Planned t ≡ kept_reply shape (account t packets rows) (Submit chan count gap size)
 unfolding submit_reply
 submit-planned shape t packets chan count gap size rows i d place phase left large = rw (submit-found shape t packets chan count gap size rows i d place, sym phase, sym left, sym large) refl
 
@@ -158,7 +158,7 @@ unfolding kept_after
 submit-same shape k chan count gap size refusal = refl
 
 -- a submit plans the row's packets
-pub submit-kept : (shape : LinkShape) (t : ℕ) (packets : Packets) (chan : ChanNo) (count gap size clock : ℕ) (rows : List HeldRow) (i : ℕ) (new d : HeldRow) → IsPlace (is_first_row_of chan) rows i → row_in new ≡ kept_planned t count gap size (row_in (get_or rows i d)) → account t packets (set rows i new) ≡ kept_after shape (account t packets rows) (Submit chan count gap size) (Planned clock)
+pub submit-kept : (shape : LinkShape) (t : ℕ) (packets : Packets) (chan : ChanNo) (count gap size clock : ℕ) (rows : List HeldRow) (i : ℕ) (new d : HeldRow) → IsPlace (is_row_at_hop chan true) rows i → row_in new ≡ kept_planned t count gap size (row_in (get_or rows i d)) → account t packets (set rows i new) ≡ kept_after shape (account t packets rows) (Submit chan count gap size) (Planned clock)
 unfolding kept_after
 submit-kept shape t packets chan count gap size clock rows i new d place same =
-    ap (with_kept_rows (account t packets rows)) (kept-changed (is_first_row_of chan) (is_kept_at_hop chan true) (kept_planned t count gap size) (λ row. refl) rows i new d place same)
+    ap (with_kept_rows (account t packets rows)) (kept-changed (is_row_at_hop chan true) (is_kept_at_hop chan true) (kept_planned t count gap size) (λ row. refl) rows i new d place same)

@@ -2,6 +2,8 @@ pub mod PlaceFacts
 pub mod SumsFacts
 pub mod LevelFacts
 pub mod AnswerFacts
+pub mod CloseFacts
+pub mod ArriveFacts
 pub mod StepFacts
 pub mod PlanFacts
 pub mod TakeFacts

@@ -5,10 +5,12 @@ use Rattle.link_steps.specs.declared.asks.Ask.{Ask}
 use Rattle.link_steps.specs.declared.replies.Entry.{Entry}
 use Rattle.link_steps.specs.declared.replies.Reply.{Reply}
 use Rattle.link_steps.specs.declared.shape.LinkShape.{LinkShape}
-use Rattle.link_steps.specs.Kept.{HasContract, StandsFor, Kept, kept_at, kept_reply, kept_after}
-use Rattle.link_steps.specs.Scan.{clock_of}
+use Rattle.link_steps.specs.Kept.{HasContract, StandsFor, Kept, kept_reply, kept_after}
 use Rattle.link_steps.specs.Lists.{Each}
 use Rattle.link_steps.specs.Replies.{reply_to}
+use Rattle.link_steps.specs.HopGuarantee.{HopGuarantee}
+use Rattle.link_steps.specs.Legal.{AskFits, IsLegal}
+use Rattle.link_steps.proofs.HopHolds.{hop-guarantee}
 use Rattle.link_steps.proofs.Account.{stands-reply, stands-entry}
 use Rattle.link_server.specs.declared.held_row.HeldRow.{HeldRow}
 use Rattle.link_server.specs.Asks.{IsOffer}
@@ -43,7 +45,11 @@ reserve-instead shape k ask asked (Ok reply) each is offer = tt
 reserve-instead shape k ask asked (Err e) each is offer =
     λ h stands. subst IsOffer (ap (kept_reply shape k) (sym is) ∙ stands-reply shape k h ask each stands) offer
 
--- the clock is that of each history that the link stands for
-pub stands-clock : (shape : LinkShape) (k : Kept) (h : List Entry) → StandsFor shape k h → k.clock ≡ clock_of h
-unfolding kept_at
-stands-clock shape k h stands = ap (λ kept. kept.clock) stands
+-- where the history is legal, the next one has the hop guarantee
+pub step-guaranteed : (shape : LinkShape) (ask : Ask) (reply : Reply) (k : Kept) → AskFits shape ask → ((h : List Entry) → StandsFor shape k h → reply ≡ reply_to shape h ask) → (h : List Entry) → StandsFor shape k h → IsLegal shape h → HopGuarantee shape (record { ask = ask; reply = reply } ∷ h)
+unfolding IsLegal
+step-guaranteed shape ask reply k fits answered h stands legal = hop-guarantee shape (record { ask = ask; reply = reply } ∷ h) (legal, record { fits = fits; answered = answered h stands })
+
+pub reserve-guaranteed : {E : Type 0} (shape : LinkShape) (ask : Ask) (k : Kept) (r : Result Reply E) → AskFits shape ask → IfOk r (λ reply. (h : List Entry) → StandsFor shape k h → reply ≡ reply_to shape h ask) → IfOk r (λ reply. (h : List Entry) → StandsFor shape k h → IsLegal shape h → HopGuarantee shape (record { ask = ask; reply = reply } ∷ h))
+reserve-guaranteed shape ask k (Ok reply) fits answered = step-guaranteed shape ask reply k fits answered
+reserve-guaranteed shape ask k (Err e) fits answered = tt

@@ -14,23 +14,23 @@ use Rattle.link_steps.specs.Rows.{SourcePacket}
 use Rattle.link_steps.specs.Service.{Arrival}
 use Rattle.link_steps.specs.Sources.{lead_with, arrival_at}
 
-max-none : (t : ℕ) → max t 0 ≡ t
-max-none t = omega arith
+max-none : (t due : ℕ) → due ≡ 0 → max t due ≡ t
+max-none t due none = omega (arith, none)
 
--- with no tick at which it is due, a packet may go from its arrival on
-earliest-now : (kind : Kind) (first : Bool) (t : ℕ) → earliest_tick kind t 0 ≡ waits_until kind first t 0
-earliest-now Rate first t = refl
-earliest-now Jitter false t = refl
-earliest-now Jitter true t = max-none t
+-- a packet at a first hop isn't due before its arrival, and may go from then on
+earliest-tick-waits : (kind : Kind) (first : Bool) (t due : ℕ) → (first ≡ true → due ≡ 0) → earliest_tick kind t due ≡ waits_until kind first t due
+earliest-tick-waits Rate first t due hop = refl
+earliest-tick-waits Jitter false t due hop = refl
+earliest-tick-waits Jitter true t due hop = max-none t due (hop refl)
 
 -- the regulator's answer is the eligible tick of the row
-pub tick-answered : (regulator : Kept) (terms : Reservation) (t e : ℕ) → regulator.terms ≡ terms.contract → regulator.kind ≡ terms.kind → e ≡ eligible regulator.terms regulator.recent (earliest_tick regulator.kind t 0) → e ≡ eligible_next terms regulator.recent t 0
+pub tick-answered : (regulator : Kept) (terms : Reservation) (t due e : ℕ) → (terms.first ≡ true → due ≡ 0) → regulator.terms ≡ terms.contract → regulator.kind ≡ terms.kind → e ≡ eligible regulator.terms regulator.recent (earliest_tick regulator.kind t due) → e ≡ eligible_next terms regulator.recent t due
 unfolding eligible_next
-tick-answered regulator terms t e same kind value =
+tick-answered regulator terms t due e hop same kind value =
     value
-    ∙ ap (λ contract. eligible contract regulator.recent (earliest_tick regulator.kind t 0)) same
-    ∙ ap (λ kind. eligible terms.contract regulator.recent (earliest_tick kind t 0)) kind
-    ∙ ap (eligible terms.contract regulator.recent) (earliest-now terms.kind terms.first t)
+    ∙ ap (λ contract. eligible contract regulator.recent (earliest_tick regulator.kind t due)) same
+    ∙ ap (λ kind. eligible terms.contract regulator.recent (earliest_tick kind t due)) kind
+    ∙ ap (eligible terms.contract regulator.recent) (earliest-tick-waits terms.kind terms.first t due hop)
 
 -- the packet with that tick and the row's lead is the one that the account takes
 abbrev packet-of : Reservation → ℕ → ℕ → ℕ → ℕ → ℕ → ℕ → Arrival

@@ -1,18 +1,8 @@
--- Of the asks of a link all but a release and an arrive are answered so far.
+-- A reserve alone takes memory, and want of it comes in the place of an offer.
 use Rattle.link_steps.specs.declared.asks.Ask.{Ask}
 use Rattle.link_steps.specs.declared.asks.Ask.TheVariants.{Reserve, Relax, Deny, Submit, Release, Arrive, Tick}
 use Rattle.link_steps.specs.declared.replies.Reply.{Reply}
 use Rattle.link_steps.specs.declared.replies.Reply.TheVariants as Is
-
--- the ask is one of them
-abbrev pub IsBuilt : Ask → Type 0
-IsBuilt (Reserve chan contract kind delay up_reach first next) = Unit {0}
-IsBuilt (Relax chan level up_bound) = Unit {0}
-IsBuilt (Deny chan) = Unit {0}
-IsBuilt (Submit chan count gap size) = Unit {0}
-IsBuilt (Release chan upstream) = ⊥
-IsBuilt (Arrive packet) = ⊥
-IsBuilt Tick = Unit {0}
 
 -- the ask takes no memory: it is no reserve
 abbrev pub TakesNone : Ask → Type 0

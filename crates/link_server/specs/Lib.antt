@@ -1,6 +1,7 @@
 pub mod Planned
 pub mod Rows
 pub mod Sources
+pub mod Strays
 pub mod Wants
 pub mod Packets
 pub mod Serving

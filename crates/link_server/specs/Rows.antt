@@ -32,12 +32,12 @@ terms_in row = record {
 abbrev pub row_in : HeldRow → KeptRow
 row_in row = record { terms = terms_in row; lead = row.lead; taken = row.taken; recent = row.regulator.recent; left = left_in row.planned }
 
--- whether it is this channel's; and whether it is so at its first hop
+-- whether it is this channel's; and whether it is so at its first hop, or at a later one
 abbrev pub is_row_of : ChanNo → HeldRow → Bool
 is_row_of chan row = is_of chan (terms_in row)
 
-abbrev pub is_first_row_of : ChanNo → HeldRow → Bool
-is_first_row_of chan row = is_at_hop chan true (terms_in row)
+abbrev pub is_row_at_hop : ChanNo → Bool → HeldRow → Bool
+is_row_at_hop chan first row = is_at_hop chan first (terms_in row)
 
 -- the row as the admission sums have it
 abbrev pub summed : HeldRow → Held

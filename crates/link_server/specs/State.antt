@@ -1,7 +1,9 @@
 -- A link's state stands for a history when the account that it keeps is that of the history.
-use Rattle.std.specs.Prelude.{List}
+use Rattle.std.specs.Prelude.{◌≡◌, List}
+use Rattle.std.proofs.Common.{ap}
 use Rattle.link_steps.specs.declared.replies.Entry.{Entry}
-use Rattle.link_steps.specs.Kept.{Kept, StandsFor}
+use Rattle.link_steps.specs.Kept.{Kept, StandsFor, kept_at}
+use Rattle.link_steps.specs.Scan.{clock_of}
 use Rattle.link_server.specs.Account.{account}
 use Rattle.link_server.specs.declared.link_state.LinkState.{LinkState}
 
@@ -12,3 +14,8 @@ kept_in link = account link.clock link.packets link.rows.items
 -- it stands for this history, newest first
 abbrev pub Stands : LinkState → List Entry → Type 0
 Stands link h = StandsFor link.shape (kept_in link) h
+
+-- its clock is that of every history that it stands for
+pub stands-clock : (link : LinkState) (h : List Entry) → Stands link h → link.clock ≡ clock_of h
+unfolding kept_at
+stands-clock link h stands = ap (λ kept. kept.clock) stands

@@ -1,5 +1,5 @@
 //! A row of a link: a reservation that is held, its regulator, its planned packets, and the units that it keeps.
-ghost use Rattle.std.specs.Prelude.{◌≡◌, ◌^◌, ◌<◌, ◌≤◌, suc, find, IfSome, IfOk, length};
+ghost use Rattle.std.specs.Prelude.{◌≡◌, ◌^◌, ◌<◌, ◌≤◌, suc, true, find, IfSome, IfOk, length};
 ghost use Rattle.traffic_contract.specs.Contract.{IsContract};
 ghost use Rattle.traffic_contract.specs.Eligible.{newest};
 ghost use Rattle.link_steps.specs.Buffer.{units_for};
@@ -9,7 +9,7 @@ ghost use Rattle.link_steps.specs.Sources.{lead_with};
 use crate::in_line::held;
 use crate::packets::HeldPacket;
 use crate::planned::Planned;
-use link_steps::{Phase, Refusal};
+use link_steps::{Packet, Phase, Refusal, Why};
 use net_units::{Bounds, ChanNo, Kind, Level, LinkNo, OutOfMemory};
 use regulator_core::Regulator;
 use release_hold::Draining;
@@ -65,17 +65,20 @@ pub(crate) struct HeldRow {
 }
 
 impl HeldRow {
-    ghost use Rattle.link_steps.specs.Buffer.{stay_of, slots_of, kept_units, has_slot};
+    ghost use Rattle.link_steps.specs.Buffer.{stay_of, slots_of, kept_units, has_slot, held_packets};
     ghost use Rattle.link_steps.specs.declared.replies.Phase.TheVariants.{Tentative, Committed};
-    ghost use Rattle.link_steps.specs.Refusals.{not_in_phase, unfit, too_big};
-    ghost use Rattle.link_steps.specs.Kept.{new_kept, kept_relaxed, kept_planned, past_tick, kept_tick, kept_with};
+    ghost use Rattle.link_steps.specs.Refusals.{not_in_phase, unfit, too_big, full};
+    ghost use Rattle.link_server.specs.Strays.{stray};
+    ghost use Rattle.link_steps.specs.Kept.{new_kept, kept_relaxed, kept_planned, kept_closed, past_tick, kept_with};
+    ghost use Rattle.link_steps.specs.Regulator.{eligible_next};
+    ghost use Rattle.link_steps.specs.Replies.{count_at_release, cancelled_at_release};
     ghost use Rattle.link_steps.specs.Hold.{hold_ended};
     ghost use Rattle.link_steps.specs.Reservation.{tentative};
     ghost use Rattle.link_steps.specs.Rows.{is_for};
     ghost use Rattle.link_steps.specs.Sources.{arrival_at};
     ghost use Rattle.link_server.specs.Packets.{arrival_in, here_in};
     ghost use Rattle.link_server.specs.Planned.{left_in, size_of, IsAhead};
-    ghost use Rattle.link_server.specs.Rows.{terms_in, row_in, is_first_row_of, IsWithin};
+    ghost use Rattle.link_server.specs.Rows.{terms_in, row_in, is_row_at_hop, IsWithin};
 
     // A tentative reservation at the offered level. It takes all memory that it will ever need.
     pub(crate) fn new(
@@ -108,11 +111,11 @@ impl HeldRow {
         })
     }
 
-    // Whether it is this channel's, at its first hop.
-    pub(crate) fn is_first_of(&self, chan: ChanNo) -> bool
-        ensures { result ≡ is_first_row_of chan self.now }
+    // Whether it is this channel's, at its first hop or at a later one.
+    pub(crate) fn is_at_hop(&self, chan: ChanNo, first: bool) -> bool
+        ensures { result ≡ is_row_at_hop chan first self.now }
     {
-        self.chan.get() == chan.get() && self.first
+        self.chan.get() == chan.get() && self.first == first
     }
 
     // The refusal of an ask that wants a tentative reservation.
@@ -191,6 +194,72 @@ impl HeldRow {
         self.planned = planned;
     }
 
+    // The count of its packets, where it is told one from upstream or none, and how many planned ones are cancelled, as
+    // it is released.
+    pub(crate) fn count_at_release(&self, upstream: Option<u64>) -> u64
+        ensures { result ≡ count_at_release upstream self.now.taken }
+    {
+        match upstream {
+            None => self.taken,
+            Some(told) => told.max(self.taken),
+        }
+    }
+
+    pub(crate) fn cancelled_at_release(&self, upstream: Option<u64>) -> u64
+        ensures { result ≡ cancelled_at_release upstream (length (left_in self.now.planned)) }
+    {
+        match upstream {
+            None => self.planned.count,
+            Some(_) => 0,
+        }
+    }
+
+    // Closes it, with the count of its packets. Nothing is planned any more.
+    pub(crate) fn close(&mut self, count: u64)
+        ensures { row_in self.new ≡ kept_closed count (row_in self.old) }
+    {
+        self.phase = Phase::Closing;
+        self.count = count;
+        self.planned = Planned::NONE;
+    }
+
+    // The refusal of a packet from the link before that has no place here.
+    pub(crate) fn stray(&self, packet: &Packet) -> Option<Refusal>
+        requires { self.now.taken < 2 ^ 63 }
+        ensures { result ≡ stray packet.now (terms_in self.now) self.now.taken }
+    {
+        let next = self.taken + 1;
+        let why = if self.first {
+            Why::FirstHop
+        } else if self.phase == Phase::Tentative {
+            Why::Uncommitted
+        } else if packet.number != next {
+            Why::WrongNumber { next }
+        } else if self.phase == Phase::Closing && self.count <= self.taken {
+            Why::PastCount { count: self.count }
+        } else if packet.size > self.contract.smax() {
+            Why::Big {
+                smax: u64::from(self.contract.smax()),
+            }
+        } else {
+            return None;
+        };
+        Some(Refusal::Stray { why })
+    }
+
+    // The refusal of a packet where each slot holds one.
+    pub(crate) fn full(&self, bounds: &Bounds, here: &[HeldPacket]) -> Option<Refusal>
+        requires { IsWithin (length bounds.now) self.now }
+        ensures { result ≡ full (held_packets self.now.lead (here_in here.now)) (slots_of bounds.now (terms_in self.now)) }
+    {
+        let held = held(here, self.lead) as u64;
+        let slots = self.slots(bounds);
+        if held < slots {
+            return None;
+        }
+        Some(Refusal::Full { held, slots })
+    }
+
     // The size of the packet that is planned for this tick, if there is one. Then it is no longer left.
     pub(crate) fn next_planned(&mut self, clock: u64) -> Option<u32>
         requires ahead { IsAhead clock self.old.planned }
@@ -219,16 +288,19 @@ impl HeldRow {
         self.contract.bound(self.stay(bounds))
     }
 
-    // Takes a packet from its source in this tick, with the next arrival number of the link. It takes no memory.
-    pub(crate) fn take(&mut self, size: u32, place: u64, clock: u64) -> HeldPacket
+    // Takes its next packet in this tick, with the next arrival number of the link. It is due at the tick `due`, or 0 at
+    // a first hop. It takes no memory.
+    pub(crate) fn take(&mut self, size: u32, due: u64, place: u64, clock: u64) -> HeldPacket
         requires size { 1 ≤ size }
         requires early { clock < 2 ^ 61 }
+        requires due { due < 2 ^ 62 }
+        requires hop { self.old.first ≡ true → due ≡ 0 }
         requires last { newest (row_in self.old).recent < 2 ^ 63 }
         requires few { self.old.taken < 2 ^ 63 }
-        ensures packet { arrival_in result ≡ arrival_at (terms_in self.old) self.old.lead place (suc self.old.taken) size clock (kept_tick (row_in self.old) clock) }
-        ensures row { row_in self.new ≡ kept_with place (kept_tick (row_in self.old) clock) (row_in self.old) }
+        ensures packet { arrival_in result ≡ arrival_at (terms_in self.old) self.old.lead place (suc self.old.taken) size clock (eligible_next (terms_in self.old) (row_in self.old).recent clock due) }
+        ensures row { row_in self.new ≡ kept_with place (eligible_next (terms_in self.old) (row_in self.old).recent clock due) (row_in self.old) }
     {
-        let eligible = self.regulator.admit(clock, 0);
+        let eligible = self.regulator.admit(clock, due);
         self.last = eligible;
         self.taken += 1;
         self.lead = lead_with(self.lead, place);

@@ -5,6 +5,7 @@
 //! A reserve alone takes memory.
 #![tactic(auto)]
 
+mod carrying;
 mod expiry;
 mod held_row;
 mod in_line;
@@ -12,6 +13,7 @@ mod link_state;
 mod packets;
 mod planned;
 mod rows;
+mod setup;
 mod sources;
 
 pub use link_state::LinkState;

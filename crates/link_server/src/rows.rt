@@ -6,7 +6,7 @@ ghost use Rattle.link_steps.specs.Buffer.{free_units, need_of};
 ghost use Rattle.link_steps.specs.Replies.{reach_of};
 ghost use Rattle.traffic_contract.specs.Admission.{total};
 ghost use Rattle.link_server.specs.Sound.{all_places_of};
-ghost use Rattle.link_server.specs.Rows.{terms_in, row_in, is_first_row_of, HasNone, IsPlace, IsAbsent, IsPlaceOf, AreWithin};
+ghost use Rattle.link_server.specs.Rows.{terms_in, row_in, is_row_at_hop, HasNone, IsPlace, IsAbsent, IsPlaceOf, AreWithin};
 
 use crate::held_row::{HeldRow, units_for};
 use link_steps::LinkShape;
@@ -26,13 +26,13 @@ pub(crate) fn place_of(rows: &[HeldRow], chan: ChanNo) -> Option<usize>
     None
 }
 
-// The place of the channel's row at its first hop.
-pub(crate) fn first_place_of(rows: &[HeldRow], chan: ChanNo) -> Option<usize>
-    ensures none { IfNone result (HasNone (is_first_row_of chan) rows.now) }
-    ensures some { IfSome result (IsPlace (is_first_row_of chan) rows.now) }
+// The place of the channel's row at its first hop, or at a later one.
+pub(crate) fn place_at_hop(rows: &[HeldRow], chan: ChanNo, first: bool) -> Option<usize>
+    ensures none { IfNone result (HasNone (is_row_at_hop chan first) rows.now) }
+    ensures some { IfSome result (IsPlace (is_row_at_hop chan first) rows.now) }
 {
     for (place, row) in rows.iter().enumerate() {
-        if row.is_first_of(chan) {
+        if row.is_at_hop(chan, first) {
             return Some(place);
         }
     }

@@ -71,7 +71,7 @@ fn take_source_packet(
     if !row.has_slot(bounds, &packets.here[..before]) {
         return true;
     }
-    let packet = row.take(size, packets.taken + 1, clock);
+    let packet = row.take(size, 0, packets.taken + 1, clock);
     packets.push(packet);
     false
 }

@@ -1,0 +1,139 @@
+-- The row of the packet's channel is found, and judges it; the packet is then put behind those here.
+use Rattle.std.proofs.Common.{◌≡◌, ◌+◌, ◌<◌, ◌^◌, suc, get_or, set, sym, ap, ◌∙◌, subst, arith}
+use Rattle.std.proofs.Math.Seq.{map-set_same}
+use Rattle.std.proofs.lemmas.List.Elements.{All-set}
+use Rattle.link_steps.specs.declared.asks.Ask.TheVariants.{Arrive}
+use Rattle.link_steps.specs.declared.replies.Reply.TheVariants.{Taken}
+use Rattle.link_steps.specs.Buffer.{held_packets, slots_of}
+use Rattle.link_steps.specs.Kept.{kept_reply, kept_after, kept_with}
+use Rattle.link_steps.specs.Refusals.{full}
+use Rattle.link_steps.specs.Regulator.{eligible_next}
+use Rattle.link_steps.specs.Sources.{arrival_at}
+use Rattle.traffic_contract.specs.Eligible.{newest}
+use Rattle.link_server.specs.Account.{account}
+use Rattle.link_server.specs.Packets.{here_in}
+use Rattle.link_server.specs.Rows.{terms_in, row_in, summed, IsAbsent, IsPlaceOf, IsWithin}
+use Rattle.link_server.specs.Sound.{IsSound}
+use Rattle.link_server.specs.Sources.{IsReady}
+use Rattle.link_server.specs.State.{kept_in}
+use Rattle.link_server.specs.Strays.{stray}
+use Rattle.link_server.proofs.ArriveFacts.{arrive-absent, arrive-stray, arrive-full, arrive-taken, arrive-same, arrive-kept, next-number, summed-arrived, within-arrived, slots-rule, arrive-room}
+use Rattle.link_server.proofs.ExpiryFacts.{each-at}
+use Rattle.link_server.proofs.PlaceFacts.{at-place}
+use Rattle.link_server.proofs.SoundNumbers.{rows-ready}
+use Rattle.link_server.proofs.SoundTaking.{sound-arrive}
+use Rattle.link_server.proofs.link_state.LinkState.arrive.Goals as goal
+use Rattle.link_server.proofs.link_state.LinkState.arrive.Goals.{In-Some, After-take-taken, After-push}
+
+pub returns-in_default-clause-reply : goal.returns-in_default-clause-reply
+returns-in_default-clause-reply c =
+    arrive-absent c.args.self.now.shape c.args.self.now.clock c.args.self.now.packets c.args.packet.now c.args.self.now.rows.items (subst (IsAbsent c.args.packet.now.chan) c.deref.ensures.value c.in_default.ensures.none)
+
+pub returns-in_default-clause-kept : goal.returns-in_default-clause-kept
+returns-in_default-clause-kept c = arrive-same c.args.self.now.shape _ c.args.packet.now _
+
+-- the row stands at the place
+placed : (c : In-Some) → IsPlaceOf c.args.packet.now.chan c.args.self.now.rows.items c.in-Some.place
+placed c = subst (λ rows. IsPlaceOf c.args.packet.now.chan rows c.in-Some.place) c.deref.ensures.value c.in-Some.ensures.some
+
+pub stray-requires : goal.stray-requires
+stray-requires c =
+    let each = rows-ready c.args.self.now.shape c.args.self.now.room (kept_in c.args.self.now) c.requires.early c.args.self.now.room_most c.args.self.now.sound in
+    let ready = each-at (IsReady c.args.self.now.clock) c.args.self.now.rows.items c.in-Some.place c.index.result.now (placed (goal.at.stray-requires c).In-Some).inside each in
+    subst (λ n. n < 2 ^ 63) (sym (ap (λ row. row.taken) c.index.ensures)) ready.few
+
+pub returns-in-Some-stray-clause-reply : goal.returns-in-Some-stray-clause-reply
+returns-in-Some-stray-clause-reply c =
+    arrive-stray c.args.self.now.shape c.args.self.now.clock c.args.self.now.packets c.args.packet.now c.args.self.now.rows.items c.in-Some.place c.index.result.now _
+    (placed (goal.at.returns-in-Some-stray-clause-reply c).In-Some)
+    (c.in-Some-stray.ensures ∙ ap (λ row. stray c.args.packet.now (terms_in row) row.taken) c.index.ensures)
+
+pub returns-in-Some-stray-clause-kept : goal.returns-in-Some-stray-clause-kept
+returns-in-Some-stray-clause-kept c = arrive-same c.args.self.now.shape _ c.args.packet.now _
+
+pub returns-in-Some-full-clause-reply : goal.returns-in-Some-full-clause-reply
+returns-in-Some-full-clause-reply c =
+    let place = placed (goal.at.returns-in-Some-full-clause-reply c).In-Some in
+    arrive-full c.args.self.now.shape c.args.self.now.clock c.args.self.now.packets c.args.packet.now c.args.self.now.rows.items c.in-Some.place c.index.result.now _ place
+    (c.in_default-stray.ensures ∙ ap (λ row. stray c.args.packet.now (terms_in row) row.taken) c.index.ensures)
+    (c.in-Some-full.ensures
+    ∙ ap (λ items. full (held_packets c.index-2.result.now.lead (here_in items)) (slots_of c.args.self.now.shape.bounds (terms_in c.index-2.result.now))) c.deref-2.ensures.value
+    ∙ ap (λ row. slots-rule c.args.self.now.shape c.args.self.now.packets.here.items row) (at-place c.args.self.now.rows.items c.in-Some.place c.index-2.result.now c.index.result.now c.index-2.ensures place.inside))
+
+pub returns-in-Some-full-clause-kept : goal.returns-in-Some-full-clause-kept
+returns-in-Some-full-clause-kept c = arrive-same c.args.self.now.shape _ c.args.packet.now _
+
+pub take-taken-requires-clause-last : goal.take-taken-requires-clause-last
+take-taken-requires-clause-last c =
+    let each = rows-ready c.args.self.now.shape c.args.self.now.room (kept_in c.args.self.now) c.requires.early c.args.self.now.room_most c.args.self.now.sound in
+    let ready = each-at (IsReady c.args.self.now.clock) c.args.self.now.rows.items c.in-Some.place c.index_mut.result.now (placed (goal.at.take-taken-requires-clause-last c).In-Some).inside each in
+    subst (λ n. n < 2 ^ 63) (sym (ap (λ row. newest (row_in row).recent) c.index_mut.ensures.value)) ready.last
+
+pub take-taken-requires-clause-few : goal.take-taken-requires-clause-few
+take-taken-requires-clause-few c =
+    let each = rows-ready c.args.self.now.shape c.args.self.now.room (kept_in c.args.self.now) c.requires.early c.args.self.now.room_most c.args.self.now.sound in
+    let ready = each-at (IsReady c.args.self.now.clock) c.args.self.now.rows.items c.in-Some.place c.index_mut.result.now (placed (goal.at.take-taken-requires-clause-few c).In-Some).inside each in
+    subst (λ n. n < 2 ^ 63) (sym (ap (λ row. row.taken) c.index_mut.ensures.value)) ready.few
+
+-- the reply is the account's
+replied : (c : After-take-taken) → IsPlaceOf c.args.packet.now.chan c.args.self.now.rows.items c.in-Some.place → Taken c.args.self.now.clock c.take-taken.result.eligible ≡ kept_reply c.args.self.now.shape (kept_in c.args.self.now) (Arrive c.args.packet.now)
+replied c place =
+    arrive-taken c.args.self.now.shape c.args.self.now.clock c.args.self.now.packets c.args.packet.now c.args.self.now.rows.items c.in-Some.place c.index.result.now c.take-taken.result.eligible place
+    (c.in_default-stray.ensures ∙ ap (λ row. stray c.args.packet.now (terms_in row) row.taken) c.index.ensures)
+    (c.in_default-full.ensures
+    ∙ ap (λ items. full (held_packets c.index-2.result.now.lead (here_in items)) (slots_of c.args.self.now.shape.bounds (terms_in c.index-2.result.now))) c.deref-2.ensures.value
+    ∙ ap (λ row. slots-rule c.args.self.now.shape c.args.self.now.packets.here.items row) (at-place c.args.self.now.rows.items c.in-Some.place c.index-2.result.now c.index.result.now c.index-2.ensures place.inside))
+    (ap (λ p. p.eligible) c.take-taken.ensures.packet
+    ∙ ap (λ row. eligible_next (terms_in row) (row_in row).recent c.args.self.now.clock c.args.packet.now.due) (at-place c.args.self.now.rows.items c.in-Some.place c.index_mut.result.now c.index.result.now c.index_mut.ensures.value place.inside))
+
+sound : (c : After-take-taken) → IsPlaceOf c.args.packet.now.chan c.args.self.now.rows.items c.in-Some.place → IsSound c.args.self.now.shape c.args.self.now.room (kept_after c.args.self.now.shape (kept_in c.args.self.now) (Arrive c.args.packet.now) (Taken c.args.self.now.clock c.take-taken.result.eligible))
+sound c place =
+    sound-arrive c.args.self.now.shape c.args.self.now.room (kept_in c.args.self.now) c.args.packet.now (Taken c.args.self.now.clock c.take-taken.result.eligible) c.requires.early c.requires.fits c.args.self.now.sound (replied c place)
+
+pub push-requires-clause-room : goal.push-requires-clause-room
+push-requires-clause-room c =
+    let place = placed (goal.at.push-requires-clause-room c).In-Some in
+    let after = sound (goal.at.push-requires-clause-room c).After-take-taken place in
+    let free = arrive-room c.args.self.now.shape c.args.self.now.room c.args.self.now.clock c.take-taken.result.eligible c.args.self.now.packets c.args.packet.now c.args.self.now.rows.items c.in-Some.place c.index_mut.result.now place after in
+    let roomy = c.args.self.now.roomy in
+    omega (arith, free, roomy)
+
+-- what is kept is the account's
+kept : (c : After-push) → IsPlaceOf c.args.packet.now.chan c.args.self.now.rows.items c.in-Some.place
+    → account c.args.self.now.clock c.push.new.self (set c.args.self.now.rows.items c.in-Some.place c.take-taken.new.self) ≡ kept_after c.args.self.now.shape (kept_in c.args.self.now) (Arrive c.args.packet.now) (Taken c.args.self.now.clock c.take-taken.result.eligible)
+kept c place =
+    let was = get_or c.args.self.now.rows.items c.in-Some.place c.index_mut.result.now in
+    let none = c.in_default-stray.ensures ∙ ap (λ row. stray c.args.packet.now (terms_in row) row.taken) (at-place c.args.self.now.rows.items c.in-Some.place c.index.result.now c.index_mut.result.now c.index.ensures place.inside) in
+    arrive-kept c.args.self.now.shape c.args.self.now.clock c.take-taken.result.eligible c.args.self.now.packets c.push.new.self c.args.packet.now c.args.self.now.rows.items c.in-Some.place c.index_mut.result.now c.take-taken.new.self c.take-taken.result place
+    (next-number c.args.packet.now (terms_in was) was.taken none)
+    (c.take-taken.ensures.row ∙ ap (λ row. kept_with (c.args.self.now.packets.taken + 1) (eligible_next (terms_in row) (row_in row).recent c.args.self.now.clock c.args.packet.now.due) (row_in row)) c.index_mut.ensures.value)
+    (c.take-taken.ensures.packet ∙ ap (λ row. arrival_at (terms_in row) row.lead (c.args.self.now.packets.taken + 1) (suc row.taken) c.args.packet.now.size c.args.self.now.clock (eligible_next (terms_in row) (row_in row).recent c.args.self.now.clock c.args.packet.now.due)) c.index_mut.ensures.value)
+    c.push.ensures.taken c.push.ensures.here c.push.ensures.on
+
+pub invariant_of-self-2 : goal.invariant_of-self-2
+invariant_of-self-2 c =
+    let place = placed (goal.at.invariant_of-self-2 c).In-Some in
+    let after = sound (goal.at.invariant_of-self-2 c).After-take-taken place in
+    let same = c.take-taken.ensures.row ∙ ap (λ row. kept_with (c.args.self.now.packets.taken + 1) (eligible_next (terms_in row) (row_in row).recent c.args.self.now.clock c.args.packet.now.due) (row_in row)) c.index_mut.ensures.value in
+    let roomy = c.args.self.now.roomy in
+    record {
+      admitted = c.args.self.now.admitted;
+      same_server = c.args.self.now.same_server;
+      same_rows =
+          c.args.self.now.same_rows
+          ∙ sym (map-set_same summed c.args.self.now.rows.items c.in-Some.place c.take-taken.new.self c.index_mut.result.now
+          (summed-arrived c.take-taken.new.self (get_or c.args.self.now.rows.items c.in-Some.place c.index_mut.result.now) _ _ same));
+      within =
+          All-set (IsWithin _) c.args.self.now.rows.items c.in-Some.place c.take-taken.new.self
+          (within-arrived _ c.take-taken.new.self (get_or c.args.self.now.rows.items c.in-Some.place c.index_mut.result.now) _ _ same (c.args.self.now.within c.in-Some.place c.index_mut.result.now place.inside))
+          c.args.self.now.within;
+      sound = subst (IsSound c.args.self.now.shape c.args.self.now.room) (sym (kept (goal.at.invariant_of-self-2 c).After-push place)) after;
+      roomy = omega (arith, roomy, c.push.ensures.capacity);
+      room_most = c.args.self.now.room_most;
+    }
+
+pub returns-clause-reply : goal.returns-clause-reply
+returns-clause-reply c = replied (goal.at.returns-clause-reply c).After-take-taken (placed (goal.at.returns-clause-reply c).In-Some)
+
+pub returns-clause-kept : goal.returns-clause-kept
+returns-clause-kept c = kept (goal.at.returns-clause-kept c).After-push (placed (goal.at.returns-clause-kept c).In-Some)

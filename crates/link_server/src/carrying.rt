@@ -1,0 +1,113 @@
+//! The asks by which a link carries packets: submit, release, arrive and tick.
+ghost use Rattle.std.specs.Prelude.{◌≡◌, ◌^◌, ◌<◌, suc};
+ghost use Rattle.link_steps.specs.declared.asks.Ask.TheVariants.{Submit as AskSubmit, Release as AskRelease, Arrive as AskArrive, Tick as AskTick};
+ghost use Rattle.link_steps.specs.Kept.{kept_reply, kept_after};
+ghost use Rattle.link_steps.specs.Legal.{SubmitFits, PacketFits};
+ghost use Rattle.link_server.specs.State.{kept_in};
+
+use crate::expiry::expire;
+use crate::link_state::LinkState;
+use crate::planned::Planned;
+use crate::rows::{place_at_hop, place_of};
+use crate::sources::take_source_packets;
+use link_steps::{Packet, Refusal, Reply, Why};
+use net_units::ChanNo;
+
+impl LinkState {
+    // Plans source packets at the first hop, the first at the clock.
+    pub(crate) fn submit(&mut self, chan: ChanNo, count: u64, gap: u64, size: u32) -> Reply
+        requires fits { SubmitFits count gap size }
+        requires early { self.old.clock < 2 ^ 61 }
+        ensures shape { self.new.shape ≡ self.old.shape }
+        ensures clock { self.new.clock ≡ self.old.clock }
+        ensures reply { result ≡ kept_reply self.old.shape (kept_in self.old) (AskSubmit chan count gap size) }
+        ensures kept { kept_in self.new ≡ kept_after self.old.shape (kept_in self.old) (AskSubmit chan count gap size) result }
+    {
+        let Some(place) = place_at_hop(&self.rows, chan, true) else {
+            return Reply::Refused(Refusal::NoSuch);
+        };
+        if let Some(refusal) = self.rows[place].not_committed() {
+            return Reply::Refused(refusal);
+        }
+        if let Some(refusal) = self.rows[place].busy() {
+            return Reply::Refused(refusal);
+        }
+        if let Some(refusal) = self.rows[place].too_big(size) {
+            return Reply::Refused(refusal);
+        }
+        self.rows[place].plan(Planned {
+            tick: self.clock,
+            gap,
+            size,
+            count,
+        });
+        Reply::Planned { clock: self.clock }
+    }
+
+    // Closes a committed reservation: the one at its first hop where no count is told, or else one at a later hop.
+    pub(crate) fn release(&mut self, chan: ChanNo, upstream: Option<u64>) -> Reply
+        ensures shape { self.new.shape ≡ self.old.shape }
+        ensures clock { self.new.clock ≡ self.old.clock }
+        ensures reply { result ≡ kept_reply self.old.shape (kept_in self.old) (AskRelease chan upstream) }
+        ensures kept { kept_in self.new ≡ kept_after self.old.shape (kept_in self.old) (AskRelease chan upstream) result }
+    {
+        let Some(place) = place_at_hop(&self.rows, chan, upstream.is_none()) else {
+            return Reply::Refused(Refusal::NoSuch);
+        };
+        if let Some(refusal) = self.rows[place].not_committed() {
+            return Reply::Refused(refusal);
+        }
+        let count = self.rows[place].count_at_release(upstream);
+        let cancelled = self.rows[place].cancelled_at_release(upstream);
+        self.rows[place].close(count);
+        Reply::Closing { count, cancelled }
+    }
+
+    // Takes a packet from the link before.
+    pub(crate) fn arrive(&mut self, packet: &Packet) -> Reply
+        requires fits { PacketFits packet.now }
+        requires early { self.old.clock < 2 ^ 61 }
+        ensures shape { self.new.shape ≡ self.old.shape }
+        ensures clock { self.new.clock ≡ self.old.clock }
+        ensures reply { result ≡ kept_reply self.old.shape (kept_in self.old) (AskArrive packet.now) }
+        ensures kept { kept_in self.new ≡ kept_after self.old.shape (kept_in self.old) (AskArrive packet.now) result }
+    {
+        let Some(place) = place_of(&self.rows, packet.chan) else {
+            return Reply::Refused(Refusal::Stray { why: Why::NoRow });
+        };
+        if let Some(refusal) = self.rows[place].stray(packet) {
+            return Reply::Refused(refusal);
+        }
+        let bounds = self.shape.bounds;
+        if let Some(refusal) = self.rows[place].full(&bounds, &self.packets.here) {
+            return Reply::Refused(refusal);
+        }
+        let clock = self.clock;
+        let number = self.packets.taken + 1;
+        let taken = self.rows[place].take(packet.size, packet.due, number, clock);
+        self.packets.push(taken);
+        Reply::Taken {
+            clock,
+            eligible: taken.eligible,
+        }
+    }
+
+    // Makes a tick: rows whose hold has ended expire, the source packets that are planned for it arrive, and the link
+    // serves the packets here.
+    pub(crate) fn tick(&mut self) -> Reply
+        requires early { self.old.clock < 2 ^ 61 }
+        ensures shape { self.new.shape ≡ self.old.shape }
+        ensures clock { self.new.clock ≡ suc self.old.clock }
+        ensures reply { result ≡ kept_reply self.old.shape (kept_in self.old) AskTick }
+        ensures kept { kept_in self.new ≡ kept_after self.old.shape (kept_in self.old) AskTick result }
+    {
+        let clock = self.clock;
+        let shape = self.shape;
+        let bounds = shape.bounds;
+        expire(&mut self.rows, &mut self.sums, &bounds, clock);
+        let full = take_source_packets(&mut self.rows, &mut self.packets, &bounds, clock);
+        let sent = self.packets.serve(&shape, clock);
+        self.clock += 1;
+        Reply::Ticked { clock, full, sent }
+    }
+}
