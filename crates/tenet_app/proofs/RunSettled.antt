@@ -159,9 +159,9 @@ operation-settled shape run (operation.Open request) (inr none) so_far = cc
 operation-settled shape run (operation.Open request) (inl few) so_far = record {
   settled = all-push run.verdicts _ so_far.settled (open-settled (length run.verdicts) shape run.history request few so_far.below);
   below = (
-    let count = length-append run.verdicts (settled shape request (reply_to shape run.history (reserve_for (channel_at (length run.verdicts)) request)) ∷ []) in
-    let P : ℕ → Type 0 = λ n. AreBelow n shape (after_open shape run.history (channel_at (length run.verdicts)) request) in
-    subst P (sym count) (open-below (length run.verdicts) shape run.history request few so_far.below));
+      let count = length-append run.verdicts (settled shape request (reply_to shape run.history (reserve_for (channel_at (length run.verdicts)) request)) ∷ []) in
+      let P : ℕ → Type 0 = λ n. AreBelow n shape (after_open shape run.history (channel_at (length run.verdicts)) request) in
+      subst P (sym count) (open-below (length run.verdicts) shape run.history request few so_far.below));
 }
 operation-settled shape run (operation.Send send) few so_far = go (is_accepted (verdict_at send.request run.verdicts)) where
   go : (b : Bool) → AreSettled shape (if b then record run { history = asked shape run.history (submit_for send) } else run)
