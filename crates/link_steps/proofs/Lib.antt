@@ -22,3 +22,8 @@ pub mod WindowWork
 pub mod WindowFits
 pub mod HopHolds
 pub mod Departures
+pub mod PlanFacts
+pub mod FreeSlots
+pub mod RowPackets
+pub mod RowsStanding
+pub mod SourcesServed
