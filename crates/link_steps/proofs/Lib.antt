@@ -27,3 +27,4 @@ pub mod FreeSlots
 pub mod RowPackets
 pub mod RowsStanding
 pub mod SourcesServed
+pub mod SourceHistory
