@@ -22,3 +22,9 @@ pub mod WindowWork
 pub mod WindowFits
 pub mod HopHolds
 pub mod Departures
+pub mod PlanFacts
+pub mod FreeSlots
+pub mod RowPackets
+pub mod RowsStanding
+pub mod SourcesServed
+pub mod SourceHistory

@@ -153,7 +153,7 @@ work-arrival shape m u w t packet scan (Some row) clock e is same counts =
     record { most = omega (arith, more, packets, before) }
 
 -- a relax and a deny find a tentative row, which has no ticks
-relax-tells : (t up_bound : ℕ) (level : Level) (row : Row) (clock : ℕ) → Is.Relaxed clock ≡ relax_reply t level up_bound (Some row.terms) → row.terms.phase ≡ Tentative
+pub relax-tells : (t up_bound : ℕ) (level : Level) (row : Row) (clock : ℕ) → Is.Relaxed clock ≡ relax_reply t level up_bound (Some row.terms) → row.terms.phase ≡ Tentative
 unfolding relax_reply
 relax-tells t up_bound level row clock same =
     let phase = kept-rule _ _ (Is.Relaxed clock) tt same in
