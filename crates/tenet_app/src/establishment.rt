@@ -10,7 +10,7 @@ ghost use Rattle.tenet_app.specs.Tallies.{IsAt, SameLink};
 
 use crate::player::Player;
 use crate::scenario::plan::Request;
-use link_steps::{Ask, LinkShape, Refusal, Reply};
+use link_steps::{Ask, LinkShape, LinkStep, Refusal, Reply};
 use net_units::{ChanNo, Kind, Level, OutOfMemory};
 
 /// What a request comes to.

@@ -1,6 +1,5 @@
 //! A link that is asked one step after another, with the tallies of its run.
 ghost use Rattle.std.specs.Prelude.{◌≡◌, ℕ, ◌+◌, ◌^◌, ◌<◌, ◌≤◌, [], ◌∷◌, List, length, IfOk, OnOk};
-ghost use Rattle.link_server.specs.Asks.{IsBuilt};
 ghost use Rattle.link_steps.specs.Legal.{AskFits};
 ghost use Rattle.link_steps.specs.Replies.{reply_to};
 ghost use Rattle.link_steps.specs.declared.replies.Entry.{Entry};
@@ -10,7 +9,7 @@ ghost use Rattle.tenet_app.specs.Tallies.{IsAt, SameLink};
 
 use crate::tallies::Tallies;
 use link_server::LinkState;
-use link_steps::{Ask, LinkShape, Reply};
+use link_steps::{Ask, LinkShape, LinkStep, Reply};
 use net_units::OutOfMemory;
 use std::alloc::Global;
 
@@ -41,7 +40,6 @@ impl Player {
         requires at { (h : List Entry) × IsAt h self.old }
         requires few { self.old.tallies.steps < 2 ^ 31 }
         requires fits { AskFits self.old.link.shape ask.now }
-        requires built { IsBuilt ask.now }
         ensures same { OnOk result (SameLink self.old self.new) }
         ensures steps { OnOk result (self.new.tallies.steps ≡ self.old.tallies.steps + 1) }
         ensures reply { IfOk result (λ reply. (h : List Entry) → IsAt h self.old → reply ≡ reply_to self.old.link.shape h ask.now) }

@@ -12,6 +12,7 @@ use crate::player::Player;
 use crate::run::Played;
 use crate::scenario::plan::Request;
 use crate::tally::Tally;
+use link_steps::LinkStep;
 use net_units::{Name, OutOfMemory};
 use std::alloc::{AllocError, Global};
 use std::fmt;
