@@ -114,6 +114,7 @@ abbrev pub MayOperate : ℕ → Operation → Type 0
 MayOperate opens (operation.Caller name) = Unit {0}
 MayOperate opens (operation.Open request) = opens < 1024
 MayOperate opens (operation.Send send) = MaySend send
+MayOperate opens (operation.Close request) = request < 1024
 
 -- ---- the whole
 
