@@ -24,6 +24,7 @@ pub mod ContractFacts
 pub mod ReadFacts
 pub mod LinkFacts
 pub mod TallyFacts
+pub mod BatchFacts
 pub mod PlayerFacts
 pub mod ShapeFacts
 pub mod RunLegal

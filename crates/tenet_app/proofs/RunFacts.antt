@@ -1,21 +1,13 @@
 -- A run, operation by operation: where its player stands, and that its history is legal.
-use Rattle.std.proofs.Common.{◌≡◌, ℕ, zero, suc, ◌+◌, ◌*◌, ◌<◌, ◌≤◌, ◌^◌, Bool, true, false, if◌then◌else◌, List, [], ◌∷◌, ◌++◌, length, map, take, drop, get_or, refl, sym, subst, ◌∙◌, ap, arith, add-one, append-nil, append_assoc, length-append}
-use Rattle.std.proofs.lemmas.Bool.{cases_Bool}
+use Rattle.std.proofs.Common.{◌≡◌, ℕ, zero, suc, ◌+◌, ◌<◌, ◌≤◌, Bool, true, false, if◌then◌else◌, List, [], ◌∷◌, ◌++◌, length, map, take, drop, get_or, refl, sym, subst, ◌∙◌, ap, arith, append-nil, append_assoc, length-append}
 use Rattle.std.proofs.lemmas.List.{take_more, length-map, map-append, take-append-drop}
 use Rattle.net_units.specs.declared.numbers.ChanNo.{ChanNo}
-use Rattle.net_units.specs.declared.numbers.Level.{Level}
-use Rattle.link_steps.specs.Legal.{AskFits, SubmitFits, IsLegal}
 use Rattle.link_steps.specs.Replies.{reply_to}
-use Rattle.link_steps.specs.declared.asks.Ask.{Ask}
-use Rattle.link_steps.specs.declared.asks.Ask.TheVariants.{Tick}
-use Rattle.link_steps.specs.declared.replies.Entry.{Entry}
-use Rattle.link_steps.specs.declared.replies.Reply.{Reply}
-use Rattle.link_steps.specs.declared.replies.Reply.TheVariants as Is
 use Rattle.link_steps.specs.declared.shape.LinkShape.{LinkShape}
-use Rattle.tenet_app.specs.Establishment.{Settled, IsPending, is_accepted, verdict_of, channel_at, reserve_for, way_back, settled}
-use Rattle.tenet_app.specs.Plans.{Said, callers_in, requests_in, load_in, closed_in, requests_of, rounds_of, tail_of, MayFollow, GoOn, IsScript, IsPlan}
-use Rattle.tenet_app.specs.Run.{Run, no_steps, asked, replied, after_open, opened, verdict_at, submit_for, sent, release_of, closed, after_operation, after_script, after_ticks, run_of}
-use Rattle.tenet_app.specs.Tallies.{IsAt, IsAfter, MaySend, MayOperate}
+use Rattle.tenet_app.specs.Establishment.{is_accepted, verdict_of, channel_at, reserve_for, settled}
+use Rattle.tenet_app.specs.Plans.{Said, callers_in, requests_in, load_in, closed_in, rounds_of, tail_of, MayFollow, GoOn, IsScript}
+use Rattle.tenet_app.specs.Run.{Run, no_steps, asked, after_open, opened, verdict_at, submit_for, sent, release_of, closed, after_operation, after_script, after_ticks, run_of}
+use Rattle.tenet_app.specs.Tallies.{IsAt, IsAfter, MayOperate}
 use Rattle.tenet_app.specs.declared.establishment.Verdict.{Verdict}
 use Rattle.tenet_app.specs.declared.player.Player.{Player}
 use Rattle.tenet_app.specs.declared.scenario.plan.Operation.{Operation}

@@ -1,7 +1,7 @@
 -- The history of every run of a plan is legal, so it has what every legal history has.
-use Rattle.std.proofs.Common.{◌≡◌, ℕ, zero, suc, ◌+◌, ◌≤◌, Bool, true, false, if◌then◌else◌, List, [], ◌∷◌, ◌++◌, length, refl, arith}
+use Rattle.std.proofs.Common.{ℕ, zero, suc, ◌+◌, ◌≤◌, Bool, true, false, if◌then◌else◌, List, [], ◌∷◌, ◌++◌, length, refl, arith}
 use Rattle.net_units.specs.Numbers.{level_number}
-use Rattle.net_units.specs.Steps.{bound_at, levels_within}
+use Rattle.net_units.specs.Steps.{levels_within}
 use Rattle.net_units.specs.declared.numbers.ChanNo.{ChanNo}
 use Rattle.net_units.specs.declared.numbers.Level.{Level}
 use Rattle.net_units.proofs.BoundFacts.{within_count, bounds_parts}
@@ -17,10 +17,9 @@ use Rattle.link_steps.specs.declared.replies.Reply.TheVariants as Is
 use Rattle.link_steps.specs.declared.shape.LinkShape.{LinkShape}
 use Rattle.link_steps.proofs.AdmissionHolds.{held_rows-pass}
 use Rattle.link_steps.proofs.HopHolds.{hop-guarantee}
-use Rattle.tenet_app.specs.Establishment.{channel_at, reserve_for, delay_at, allotted, relaxed_to, is_late, way_back, is_accepted}
-use Rattle.tenet_app.specs.Plans.{Said, rounds_of, tail_of, MayFollow, GoOn, IsScript, IsRequest, IsPlanOver}
+use Rattle.tenet_app.specs.Establishment.{channel_at, reserve_for, relaxed_to, is_late, way_back, is_accepted}
+use Rattle.tenet_app.specs.Plans.{Said, rounds_of, tail_of, MayFollow, GoOn, IsScript, IsRequest}
 use Rattle.tenet_app.specs.Run.{Run, no_steps, asked, replied, after_open, opened, verdict_at, submit_for, sent, release_of, closed, after_operation, after_script, after_ticks, run_of}
-use Rattle.tenet_app.specs.declared.scenario.plan.Link.{Link}
 use Rattle.tenet_app.specs.declared.scenario.plan.Operation.{Operation}
 use Rattle.tenet_app.specs.declared.scenario.plan.Operation.TheVariants as operation
 use Rattle.tenet_app.specs.declared.scenario.plan.Request.{Request}

@@ -1,4 +1,4 @@
-use Rattle.std.proofs.Common.{◌∙◌, sym, ap}
+use Rattle.std.proofs.Common.{◌∙◌, sym}
 use Rattle.tenet_app.proofs.RunFacts.{after-opened, after-sent, after-unsent, after-closed, after-unclosed}
 use Rattle.tenet_app.proofs.run.operate.Goals as goal
 
