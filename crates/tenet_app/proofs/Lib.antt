@@ -18,6 +18,7 @@ pub mod LineFacts
 pub mod TextRead
 pub mod ReadBack
 pub mod Worked
+pub mod WorkedChannels
 pub mod DistinctFacts
 pub mod PlaceFacts
 pub mod ContractFacts

@@ -53,3 +53,28 @@ impl Batch {
         *self
     }
 }
+
+#[cfg(test)]
+mod tests {
+    use super::Batch;
+    use std::test::Fail;
+
+    // Packets at 5, 15 and 25, and how many of them stay planned where the channel is released at each clock.
+    const LEFT: [(u64, u64); 6] = [(0, 0), (5, 0), (6, 1), (15, 1), (16, 2), (26, 3)];
+
+    #[test]
+    fn a_release_keeps_the_packets_that_were_offered(rt: HostRuntime) -> Result<(), Fail> {
+        let batch = Batch {
+            channel: 1,
+            tick: 5,
+            gap: 10,
+            count: 3,
+        };
+        for (clock, left) in LEFT {
+            assert!(rt; clock < 100);
+            assert_eq!(rt; batch.released(1, clock).count, left);
+            assert_eq!(rt; batch.released(2, clock).count, 3);
+        }
+        Ok(())
+    }
+}

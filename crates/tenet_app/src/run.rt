@@ -139,10 +139,11 @@ fn release(player: &mut Player, request: u32) -> Result<(), OutOfMemory>
     ensures steps { OnOk result (player.new.tallies.steps ≡ player.old.tallies.steps + 1) }
     ensures at { OnOk result ((h : List Entry) → IsAt h player.old → IsAt (asked player.old.link.shape h (release_of request)) player.new) }
 {
-    player.ask(&Ask::Release {
+    let release = Ask::Release {
         chan: channel_at(request),
         upstream: None,
-    })?;
+    };
+    player.ask(&release)?;
     Ok(())
 }
 
