@@ -1,9 +1,9 @@
-//! Worked setups at one link, asked through `step`.
-ghost use Rattle.std.specs.Prelude.{◌≡◌, ◌^◌, ◌<◌, ◌≤◌, ◌∷◌, [], IfOk, length};
+//! One link asked through `step`: what its worked histories share.
+ghost use Rattle.std.specs.Prelude.{◌≡◌, ◌^◌, ◌<◌, ◌≤◌, ◌∷◌, [], IfOk, length, suc};
 ghost use Rattle.link_steps.specs.Legal.{SubmitFits};
 
 use super::LinkState;
-use link_steps::{Ask, LinkShape, LinkStep, Phase, Refusal, Reply};
+use link_steps::{Ask, LinkShape, LinkStep, Packet, Reply};
 use net_units::{Bounds, ChanNo, Kind, Level, LinkNo};
 use std::alloc::Global;
 use std::test::Fail;
@@ -94,110 +94,46 @@ fn voice() -> Result<Contract, Fail> {
     Ok(Contract::new(5, 10, 20, 2)?)
 }
 
-#[test]
-fn a_reservation_is_offered_relaxed_and_no_longer_denied(rt: HostRuntime) -> Result<(), Fail> {
-    let mut link = open(rt.alloc(), 100)?;
-    let voice = voice()?;
-    assert_eq!(rt; link.shape().buffer, 100);
-    assert_eq!(rt; reserve(&mut link, 1, &voice, 12)?, offer(1, 1)?);
-    assert_eq!(rt;
-        reserve(&mut link, 1, &voice, 12)?,
-        Reply::Refused(Refusal::Twice {
-            phase: Phase::Tentative
-        })
-    );
-    assert_eq!(rt;
-        relax(&mut link, 1, 2)?,
-        Reply::Refused(Refusal::Unfit {
-            offer: Level::LEAST,
-            reach: Level::LEAST,
-            up_reach: 0
-        })
-    );
-    assert_eq!(rt; relax(&mut link, 1, 1)?, Reply::Relaxed { clock: 0 });
-    assert_eq!(rt;
-        deny(&mut link, 1)?,
-        Reply::Refused(Refusal::NotInPhase {
-            phase: Phase::Committed
-        })
-    );
-    assert_eq!(rt; deny(&mut link, 9)?, Reply::Refused(Refusal::NoSuch));
-    assert_eq!(rt;
-        submit(&mut link, 1, 3, 10, 2)?,
-        Reply::Planned { clock: 0 }
-    );
-    assert_eq!(rt;
-        submit(&mut link, 1, 3, 10, 2)?,
-        Reply::Refused(Refusal::Busy { left: 3 })
-    );
-    assert_eq!(rt; link.clock(), 0);
-    Ok(())
+// One tick.
+fn tick(link: &mut LinkState) -> Result<Reply, Fail>
+    requires { link.old.clock < 2 ^ 61 }
+    ensures clock { IfOk result (λ _. link.new.clock ≡ suc link.old.clock) }
+    ensures shape { link.new.shape ≡ link.old.shape }
+{
+    Ok(link.step(&Ask::Tick)?)
 }
 
-#[test]
-fn packets_are_planned_for_a_committed_first_hop(rt: HostRuntime) -> Result<(), Fail> {
-    let mut link = open(rt.alloc(), 100)?;
-    let voice = voice()?;
-    assert_eq!(rt;
-        submit(&mut link, 1, 1, 1, 2)?,
-        Reply::Refused(Refusal::NoSuch)
-    );
-    assert_eq!(rt; reserve(&mut link, 1, &voice, 12)?, offer(1, 1)?);
-    assert_eq!(rt;
-        submit(&mut link, 1, 1, 1, 2)?,
-        Reply::Refused(Refusal::NotInPhase {
-            phase: Phase::Tentative
-        })
-    );
-    assert_eq!(rt; relax(&mut link, 1, 1)?, Reply::Relaxed { clock: 0 });
-    assert_eq!(rt;
-        submit(&mut link, 1, 1, 1, 3)?,
-        Reply::Refused(Refusal::TooBig { size: 3, smax: 2 })
-    );
-    Ok(())
+fn release(link: &mut LinkState, chan: u32) -> Result<Reply, Fail>
+    requires { link.old.clock < 2 ^ 61 }
+    ensures clock { link.new.clock ≡ link.old.clock }
+    ensures shape { link.new.shape ≡ link.old.shape }
+{
+    let chan = ChanNo::new(chan).ok_or("channel")?;
+    let reply = link.step(&Ask::Release {
+        chan,
+        upstream: None,
+    })?;
+    Ok(reply)
 }
 
-#[test]
-fn a_denied_reservation_gives_its_share_back(rt: HostRuntime) -> Result<(), Fail> {
-    let mut link = open(rt.alloc(), 100)?;
-    let voice = voice()?;
-    assert_eq!(rt; reserve(&mut link, 1, &voice, 12)?, offer(1, 1)?);
-    assert_eq!(rt; reserve(&mut link, 2, &voice, 12)?, offer(2, 2)?);
-    assert_eq!(rt; deny(&mut link, 1)?, Reply::Denied);
-    assert_eq!(rt; reserve(&mut link, 3, &voice, 12)?, offer(1, 1)?);
-    Ok(())
+// A packet of two units, number 1, from the link before.
+fn arrive(link: &mut LinkState, chan: u32, due: u64) -> Result<Reply, Fail>
+    requires early { link.old.clock < 2 ^ 61 }
+    requires due { due < 2 ^ 62 }
+    ensures clock { link.new.clock ≡ link.old.clock }
+    ensures shape { link.new.shape ≡ link.old.shape }
+{
+    let chan = ChanNo::new(chan).ok_or("channel")?;
+    let packet = Packet {
+        chan,
+        number: 1,
+        size: 2,
+        due,
+    };
+    let reply = link.step(&Ask::Arrive { packet })?;
+    Ok(reply)
 }
 
-#[test]
-fn no_level_admits_a_fifth(rt: HostRuntime) -> Result<(), Fail> {
-    let mut link = open(rt.alloc(), 100)?;
-    let voice = voice()?;
-    assert_eq!(rt;
-        reserve(&mut link, 9, &Contract::new(5, 10, 20, 5)?, 50)?,
-        Reply::Refused(Refusal::TooWide { smax: 5, cap: 4 })
-    );
-    assert_eq!(rt; reserve(&mut link, 1, &voice, 12)?, offer(1, 1)?);
-    assert_eq!(rt; relax(&mut link, 1, 1)?, Reply::Relaxed { clock: 0 });
-    assert_eq!(rt; reserve(&mut link, 2, &voice, 22)?, offer(2, 2)?);
-    assert_eq!(rt; reserve(&mut link, 3, &voice, 22)?, offer(2, 2)?);
-    assert_eq!(rt; reserve(&mut link, 4, &voice, 22)?, offer(2, 2)?);
-    assert_eq!(rt;
-        reserve(&mut link, 5, &voice, 100)?,
-        Reply::Refused(Refusal::NoLevel { sum: 44, bound: 40 })
-    );
-    Ok(())
-}
-
-#[test]
-fn a_relax_cuts_the_buffer(rt: HostRuntime) -> Result<(), Fail> {
-    let mut link = open(rt.alloc(), 10)?;
-    let voice = voice()?;
-    assert_eq!(rt; reserve(&mut link, 1, &voice, 50)?, offer(1, 3)?);
-    assert_eq!(rt; relax(&mut link, 1, 1)?, Reply::Relaxed { clock: 0 });
-    assert_eq!(rt; reserve(&mut link, 2, &voice, 22)?, offer(2, 2)?);
-    assert_eq!(rt;
-        reserve(&mut link, 3, &voice, 22)?,
-        Reply::Refused(Refusal::NoBuffer { need: 4, free: 2 })
-    );
-    Ok(())
-}
+mod releases;
+mod setup;
+mod ticks;

@@ -29,6 +29,8 @@ pub mod BatchFacts
 pub mod PlayerFacts
 pub mod ShapeFacts
 pub mod RunLegal
+pub mod RunSettled
+pub mod WorkedRuns
 pub mod ReportFacts
 pub mod RunFacts
 pub mod EstablishmentFacts

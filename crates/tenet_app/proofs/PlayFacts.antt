@@ -16,6 +16,7 @@ use Rattle.tenet_app.specs.declared.status.Status.TheVariants as status
 use Rattle.tenet_app.proofs.ScriptFacts.{script_requests}
 use Rattle.tenet_app.proofs.TextRead.{read_text}
 use Rattle.tenet_app.proofs.RunLegal.{run-passes, run-guaranteed}
+use Rattle.tenet_app.proofs.RunSettled.{run-settled}
 use Rattle.tenet_app.proofs.ShapeFacts.{shape-some}
 
 -- a plan has at most 1,024 requests
@@ -65,6 +66,7 @@ plays_plan before after answer said text plan told ended e (AllWritten a w) =
       written = (let P : List ℕ → Type 0 = λ due. Appends before.written after.written due in subst P e w);
       shape = (shape-some plan.link plan.plan.sound).0;
       of_link = (shape-some plan.link plan.plan.sound).1;
+      settled = run-settled (shape-some plan.link plan.plan.sound).0 said plan.plan.script;
       passes = run-passes (shape-some plan.link plan.plan.sound).0 said plan.plan.script;
       in_time = run-guaranteed (shape-some plan.link plan.plan.sound).0 said plan.plan.script;
     })

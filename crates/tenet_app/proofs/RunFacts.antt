@@ -100,7 +100,7 @@ after-next shape now script i d new verdicts inside same after =
     subst Q (sym (after_script-more shape no_steps script i d inside)) (subst P same after)
 
 -- there is a verdict for each request
-opened-verdicts : (shape : LinkShape) (run : Run) (operation : Operation) → length (after_operation shape run operation).verdicts ≡ length run.verdicts + length (requests_in (operation ∷ []))
+pub opened-verdicts : (shape : LinkShape) (run : Run) (operation : Operation) → length (after_operation shape run operation).verdicts ≡ length run.verdicts + length (requests_in (operation ∷ []))
 unfolding opened sent closed
 opened-verdicts shape run (operation.Caller name) = omega arith
 opened-verdicts shape run (operation.Open request) = length-append run.verdicts _

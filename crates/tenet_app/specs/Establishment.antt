@@ -47,6 +47,11 @@ verdict_of (verdict.TooWide smax cap) = IsTooWide smax cap
 verdict_of (verdict.TooLate sum bound) = IsTooLate sum bound
 verdict_of verdict.Pending = IsPending
 
+-- it comes to one of the others
+abbrev pub IsSettled : Settled → Type 0
+IsSettled IsPending = ⊥
+IsSettled _ = Unit {0}
+
 -- whether a channel was established
 abbrev pub is_accepted : Settled → Bool
 is_accepted (IsAccepted level delay) = true

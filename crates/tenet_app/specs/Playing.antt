@@ -3,6 +3,7 @@
 -- says how far that came. A fault of reading or writing is answered only where the count of faults of the source or
 -- the sink rose. What is said of bytes is said where the source and the sink tell them.
 use Rattle.std.specs.Prelude.{◌≡◌, ℕ, ◌≤◌, Bool, false, nat_eq, ◌&&◌, Option, Some, None, IfSome, List, [], ◌∷◌, length, codes}
+use Rattle.std.specs.List.{AllByRecursion}
 use Rattle.std.specs.Cmp.Lexicographic.{pointwise}
 use Rattle.std.specs.Fmt.{decimal}
 use Rattle.std.specs.Io.KnownBytes.{Appends, Keeps, IsAtEnd}
@@ -10,6 +11,7 @@ use Rattle.byte_ends.specs.Faults.{Rises}
 use Rattle.byte_ends.specs.Writing.{WritesFront}
 use Rattle.link_steps.specs.HopGuarantee.{AfterEach, HeldRowsPass, HopGuarantee}
 use Rattle.link_steps.specs.declared.shape.LinkShape.{LinkShape}
+use Rattle.tenet_app.specs.Establishment.{IsSettled}
 use Rattle.tenet_app.specs.Fields.{ended_line}
 use Rattle.tenet_app.specs.PlanText.{plan_text}
 use Rattle.tenet_app.specs.Plans.{Said, requests_of, IsPlan}
@@ -59,8 +61,9 @@ due_text IsOver = []
 abbrev pub ComesTo : Option (List ℕ) → (Reading → Type 0) → Type 0
 ComesTo left P = IfSome left (λ bytes. P (reading MOST_BYTES bytes))
 
--- the scenario was read to its end and the report of its plan's run was written; after every step of the run the rows
--- that the link holds pass the admission test; and each packet leaves the link within the bound of its level
+-- the scenario was read to its end and the report of its plan's run was written; in the run each request is settled;
+-- after every step the rows that the link holds pass the admission test; and each packet leaves the link within the
+-- bound of its level
 pub record PlaysDone (before after : Ends) : Type 0 where
   pub said : Said
   pub plan : IsPlan said
@@ -70,6 +73,7 @@ pub record PlaysDone (before after : Ends) : Type 0 where
   pub written : Appends before.written after.written (plan_report said)
   pub shape : LinkShape
   pub of_link : shape_of plan.link ≡ Some shape
+  pub settled : AllByRecursion IsSettled (run_of shape said).verdicts
   pub passes : AfterEach (HeldRowsPass shape) (run_of shape said).history
   pub in_time : HopGuarantee shape (run_of shape said).history
 

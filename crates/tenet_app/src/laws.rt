@@ -1,8 +1,10 @@
 //! Laws of every run, each as the contract of a function that does nothing.
 ghost use Rattle.std.specs.Prelude.{◌≡◌, Some};
+ghost use Rattle.std.specs.List.{AllByRecursion};
 ghost use Rattle.link_steps.specs.HopGuarantee.{AfterEach, HeldRowsPass, HopGuarantee};
 ghost use Rattle.link_steps.specs.Shape.{IsShapeOf};
 ghost use Rattle.link_steps.specs.declared.shape.LinkShape.{LinkShape};
+ghost use Rattle.tenet_app.specs.Establishment.{IsSettled};
 ghost use Rattle.tenet_app.specs.Plans.{Said, IsLink, IsScript};
 ghost use Rattle.tenet_app.specs.Run.{run_of};
 ghost use Rattle.tenet_app.specs.Shapes.{first_link, shape_of};
@@ -12,6 +14,12 @@ ghost use Rattle.tenet_app.specs.declared.scenario.plan.Link.{Link};
 pub fn every_link_has_a_shape()
     ensures { (link : Link) → IsLink link
         → (shape : LinkShape) × (shape_of link ≡ Some shape) × IsShapeOf first_link link.rate link.cap link.prop link.buffer link.bounds shape }
+{}
+
+/// In the run of every plan, over a link of any shape, each request is settled: its reserve is offered a level, or is
+/// refused for the size of its packets, by the admission test or for want of buffer.
+pub fn every_request_is_settled()
+    ensures { (shape : LinkShape) (said : Said) → IsScript said.script → AllByRecursion IsSettled (run_of shape said).verdicts }
 {}
 
 /// After every step of the run of every plan, over a link of any shape, the rows that the link holds pass the
