@@ -16,7 +16,9 @@ use Rattle.link_steps.specs.declared.replies.Reply.{Reply}
 use Rattle.link_steps.specs.declared.replies.Reply.TheVariants as Is
 use Rattle.link_steps.specs.declared.shape.LinkShape.{LinkShape}
 use Rattle.link_steps.proofs.AdmissionHolds.{held_rows-pass}
+use Rattle.link_steps.specs.SourceGuarantee.{SourceGuarantee}
 use Rattle.link_steps.proofs.HopHolds.{hop-guarantee}
+use Rattle.link_steps.proofs.SourceHistory.{source-guarantee}
 use Rattle.tenet_app.specs.Establishment.{channel_at, reserve_for, relaxed_to, is_late, way_back, is_accepted}
 use Rattle.tenet_app.specs.Plans.{Said, rounds_of, tail_of, MayFollow, GoOn, IsScript, IsRequest}
 use Rattle.tenet_app.specs.Run.{Run, no_steps, asked, replied, after_open, opened, verdict_at, submit_for, sent, release_of, closed, after_operation, after_script, after_ticks, run_of}
@@ -107,3 +109,7 @@ run-passes shape said script = held_rows-pass shape (run_of shape said).history 
 
 pub run-guaranteed : (shape : LinkShape) (said : Said) → IsScript said.script → HopGuarantee shape (run_of shape said).history
 run-guaranteed shape said script = hop-guarantee shape (run_of shape said).history (legal-run shape said script)
+
+-- and so each source that keeps its contract is served promptly
+pub run-serves : (shape : LinkShape) (said : Said) → IsScript said.script → SourceGuarantee shape (run_of shape said).history
+run-serves shape said script = source-guarantee shape (run_of shape said).history (legal-run shape said script)
