@@ -30,6 +30,9 @@ pub mod PlayerFacts
 pub mod ShapeFacts
 pub mod RunLegal
 pub mod RunSettled
+pub mod ChannelRow
+pub mod DelayFacts
+pub mod RunPromises
 pub mod WorkedRuns
 pub mod ReportFacts
 pub mod RunFacts
