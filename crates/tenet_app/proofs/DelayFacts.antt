@@ -32,7 +32,7 @@ use Rattle.link_steps.proofs.AccountOfRows.{eligible-from, source_packets-from}
 use Rattle.link_steps.proofs.ListFacts.{Each-append, Each-if}
 use Rattle.link_steps.proofs.ServiceFacts.{starts_below-append}
 use Rattle.tenet_app.specs.Channels.{sent_by, delay_of, delays_in}
-use Rattle.tenet_app.proofs.ChannelRow.{is_packet_in}
+use Rattle.tenet_app.specs.Promises.{is_packet_in}
 
 -- a packet of the channel that has departed by the clock is at the destination in so many ticks
 pub record ArrivesWithin (shape : LinkShape) (n most clock : ℕ) (start : Start) : Type 0 where

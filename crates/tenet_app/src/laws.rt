@@ -42,8 +42,8 @@ pub fn every_source_that_keeps_its_contract_is_served()
     ensures { (shape : LinkShape) (said : Said) → IsScript said.script → SourceGuarantee shape (run_of shape said).history }
 {}
 
-/// In every such run each request that is accepted with a delay, and whose source keeps its contract, has no packet
-/// that arrives at the destination later than that delay after it arrived at the link.
+/// In every such run each request that is accepted with a delay, and whose source keeps its contract, has each packet
+/// that it offers taken at once, and none that is at the destination later than that delay after its arrival.
 pub fn accepted_delays_are_kept()
     ensures { (shape : LinkShape) (said : Said) → IsScript said.script → KeepsPromises shape said }
 {}
