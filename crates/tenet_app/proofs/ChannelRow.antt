@@ -1,7 +1,7 @@
 -- The one row of a channel, held or gone, through every step of a link: its plan is what the history tells of the
 -- channel, and its packets are those of the channel.
-use Rattle.std.proofs.Common.{◌≡◌, ◌≢◌, ◌⊎◌, inl, inr, ℕ, suc, ◌+◌, Bool, true, false, ◌&&◌, Some, None, Option, List, [], ◌∷◌, ◌++◌, length, map, refl, sym, ap, ◌∙◌, subst, arith, append-nil}
-use Rattle.std.proofs.lemmas.Bool.{cases_Bool, eqb-true, eqb-false, ne_eqb, eq-eqb, and_parts, and_from}
+use Rattle.std.proofs.Common.{◌≡◌, ◌≢◌, ◌⊎◌, inl, inr, ℕ, suc, ◌+◌, Bool, true, false, Some, None, List, [], ◌∷◌, ◌++◌, length, map, refl, sym, ap, ◌∙◌, subst, arith, append-nil}
+use Rattle.std.proofs.lemmas.Bool.{cases_Bool, eqb-true, eqb-false, ne_eqb, and_parts, and_from}
 use Rattle.std.proofs.lemmas.List.Elements.{filter-append}
 use Rattle.std.specs.Prelude.{filter, find, reverse, nat_eq}
 use Rattle.net_units.specs.Numbers.{channel_number, level_number}
@@ -15,7 +15,7 @@ use Rattle.link_steps.specs.Reservation.{is_same, tentative}
 use Rattle.link_steps.specs.Rows.{Row, SourcePacket, new_row, planned_from, left_at, made_by}
 use Rattle.link_steps.specs.Scan.{Scan, is_row_of, is_row_at_hop, relax_row, plan_row, close_row, without_expired, with_sources, after_tick, after}
 use Rattle.link_steps.specs.Service.{Arrival, here_at}
-use Rattle.link_steps.specs.Sources.{SourceStep, Rests, Brings, Loses, lead_with, source_tick, step_of, packet_of, row_after, taken_by, source_packets, rows_after}
+use Rattle.link_steps.specs.Sources.{SourceStep, Rests, Brings, Loses, lead_with, step_of, packet_of, row_after, taken_by, source_packets, rows_after}
 use Rattle.link_steps.specs.declared.asks.Ask.{Ask}
 use Rattle.link_steps.specs.declared.asks.Ask.TheVariants.{Reserve, Relax, Deny, Submit, Release, Arrive, Tick}
 use Rattle.link_steps.specs.declared.replies.Phase.TheVariants.{Committed}
@@ -25,7 +25,7 @@ use Rattle.link_steps.specs.declared.replies.Reply.TheVariants as Is
 use Rattle.link_steps.specs.declared.shape.LinkShape.{LinkShape}
 use Rattle.link_steps.proofs.ChangeFacts.{Each-passes}
 use Rattle.link_steps.proofs.FreeSlots.{eligible_of}
-use Rattle.link_steps.proofs.ListFacts.{Each-append, Each-from, Each-if, filter-filter, filter-same, find-filter}
+use Rattle.link_steps.proofs.ListFacts.{Each-append, Each-if, find-filter}
 use Rattle.link_steps.proofs.RefusalFacts.{kept-rule}
 use Rattle.link_steps.proofs.SourcesServed.{ticks-more}
 use Rattle.tenet_app.specs.Channels.{is_number, planned_after}

@@ -1,6 +1,6 @@
 -- In every run each accepted request has one row at the link, with its contract, at its level, and with the plan that
 -- the history tells of its channel.
-use Rattle.std.proofs.Common.{◌≡◌, ◌≢◌, inl, inr, ℕ, suc, ◌+◌, ◌-◌, ◌<◌, ◌≤◌, Bool, true, false, Some, None, List, [], ◌∷◌, ◌++◌, length, map, refl, sym, ap, ◌∙◌, subst, arith, append-nil, append_assoc, length-append, if◌then◌else◌}
+use Rattle.std.proofs.Common.{◌≡◌, ◌≢◌, inl, inr, ℕ, suc, ◌+◌, ◌<◌, ◌≤◌, Bool, true, false, Some, None, List, [], ◌∷◌, ◌++◌, length, map, refl, sym, ap, ◌∙◌, subst, arith, append-nil, append_assoc, length-append, if◌then◌else◌}
 use Rattle.std.specs.Prelude.{filter, find, nat_eq}
 use Rattle.std.proofs.lemmas.Bool.{cases_Bool, eq-eqb, ne_eqb}
 use Rattle.std.proofs.lemmas.List.Elements.{filter-append}
@@ -32,7 +32,6 @@ use Rattle.tenet_app.specs.Run.{Run, asked, replied, after_open, opened, verdict
 use Rattle.tenet_app.specs.declared.scenario.plan.Operation.{Operation}
 use Rattle.tenet_app.specs.declared.scenario.plan.Operation.TheVariants as operation
 use Rattle.tenet_app.specs.declared.scenario.plan.Request.{Request}
-use Rattle.tenet_app.specs.declared.scenario.plan.Send.{Send}
 use Rattle.tenet_app.proofs.ChannelRow.{is_row_in, IsHeld, IsOf, HasRow, Spares, has-after}
 use Rattle.tenet_app.proofs.FilterFacts.{filter-change-own, change-only}
 use Rattle.tenet_app.proofs.RunFacts.{opened-verdicts}

@@ -175,7 +175,7 @@ operation-settled shape run (operation.Close request) few so_far = go (is_accept
   go true = record { settled = so_far.settled; below = asked-below (length run.verdicts) shape run.history (release_of request) tt so_far.below }
   go false = so_far
 
-pub few-verdicts : (done : List Operation) (next : Operation) (n : ℕ) → MayFollow done next → n ≡ length (requests_in done) → n < 1024 ⊎ (requests_in (next ∷ []) ≡ [])
+few-verdicts : (done : List Operation) (next : Operation) (n : ℕ) → MayFollow done next → n ≡ length (requests_in done) → n < 1024 ⊎ (requests_in (next ∷ []) ≡ [])
 few-verdicts done (operation.Caller name) n may count = inr refl
 few-verdicts done (operation.Open request) n may count = inl (omega (arith, may.few, count))
 few-verdicts done (operation.Send send) n may count = inr refl
