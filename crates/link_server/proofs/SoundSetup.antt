@@ -11,6 +11,7 @@ use Rattle.net_units.specs.declared.numbers.ChanNo.{ChanNo}
 use Rattle.net_units.specs.declared.numbers.Level.{Level}
 use Rattle.net_units.specs.declared.numbers.LinkNo.{LinkNo}
 use Rattle.traffic_contract.proofs.AdmissionFacts.{best_level-is}
+use Rattle.traffic_contract.proofs.LongerWindows.{most_in-mono}
 use Rattle.traffic_contract.specs.Admission.{best_level}
 use Rattle.traffic_contract.specs.Contract.{Terms, IsContract, most_in}
 use Rattle.link_steps.specs.declared.asks.Ask.TheVariants.{Reserve, Relax, Deny, Submit, Release}
@@ -36,7 +37,7 @@ use Rattle.link_steps.proofs.ListFacts.{Each-append, Each-find, Each-without_fir
 use Rattle.link_steps.proofs.RefusalFacts.{kept-rule, unless-none}
 use Rattle.link_server.specs.Asks.{IsOffer}
 use Rattle.link_server.specs.Sound.{places_of, all_places_of, places, most_places, AreAhead, AreApart, IsSoundRow, IsSound}
-use Rattle.link_server.proofs.SlotFacts.{most_in-mono, bound_at-mono}
+use Rattle.link_server.proofs.SlotFacts.{bound_at-mono}
 use Rattle.link_server.proofs.SoundRows.{AreApart-without_first, AreApart-push, AreApart-changed, planned-ahead}
 
 -- ---- nothing, and more room

@@ -62,7 +62,7 @@ leaves shape clock packets start among departs work =
     }
 
 -- after a legal history
-guaranteed : (shape : LinkShape) (h : List Entry) → IsLegal shape h → IsGuaranteed shape h
+pub guaranteed : (shape : LinkShape) (h : List Entry) → IsLegal shape h → IsGuaranteed shape h
 guaranteed shape h legal =
     let departs = packets-depart shape h legal in
     let work = packets-have_work shape h legal in

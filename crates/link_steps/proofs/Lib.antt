@@ -3,6 +3,7 @@ pub mod WorkedLink
 pub mod WorkedSetup
 pub mod WorkedPackets
 pub mod WorkedLaterHop
+pub mod WorkedSources
 pub mod LevelFacts
 pub mod ListFacts
 pub mod RefusalFacts
@@ -22,3 +23,9 @@ pub mod WindowWork
 pub mod WindowFits
 pub mod HopHolds
 pub mod Departures
+pub mod PlanFacts
+pub mod FreeSlots
+pub mod RowPackets
+pub mod RowsStanding
+pub mod SourcesServed
+pub mod SourceHistory

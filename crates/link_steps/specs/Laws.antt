@@ -15,6 +15,7 @@ use Rattle.link_steps.specs.Rows.{Row}
 use Rattle.link_steps.specs.Scan.{scan_of}
 use Rattle.link_steps.specs.Service.{Arrival}
 use Rattle.link_steps.specs.Shape.{blocking_of}
+use Rattle.link_steps.specs.SourceGuarantee.{SourceGuarantee}
 
 -- in every legal history the held rows pass the admission test after every entry
 abbrev pub HeldRowsAlwaysPass : Type 0
@@ -63,3 +64,9 @@ EveryWindowFits = (shape : LinkShape) (h : List Entry) (m t : ℕ) → IsLegal s
 -- go
 abbrev pub EveryPacketLeavesInTime : Type 0
 EveryPacketLeavesInTime = (shape : LinkShape) (h : List Entry) → IsLegal shape h → HopGuarantee shape h
+
+-- every legal history has the source guarantee: what a source has offered that keeps its contract has found buffer at its
+-- channel's first hop, was eligible as it arrived, and has left within the bound of its level of its arrival. It doesn't
+-- matter what the other sources do, nor when channels come and go
+abbrev pub HonestSourcesFindBuffer : Type 0
+HonestSourcesFindBuffer = (shape : LinkShape) (h : List Entry) → IsLegal shape h → SourceGuarantee shape h

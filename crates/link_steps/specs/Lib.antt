@@ -13,6 +13,7 @@ pub mod Refusals
 pub mod Replies
 pub mod Legal
 pub mod HopGuarantee
+pub mod SourceGuarantee
 pub mod Kept
 pub mod BusyPeriod
 pub mod Laws

@@ -1,5 +1,5 @@
 //! Laws of a link's rules, each as the contract of a function that does nothing.
-ghost use Rattle.link_steps.specs.Laws.{HeldRowsAlwaysPass, BusyPeriodEnds, AccountGivesReply, AccountGoesOn, LegalHasContracts, EveryRowKeepsItsContract, EveryPacketHasWork, EveryWindowFits, EveryPacketLeavesInTime};
+ghost use Rattle.link_steps.specs.Laws.{HeldRowsAlwaysPass, BusyPeriodEnds, AccountGivesReply, AccountGoesOn, LegalHasContracts, EveryRowKeepsItsContract, EveryPacketHasWork, EveryWindowFits, EveryPacketLeavesInTime, HonestSourcesFindBuffer};
 
 /// In every legal history of every link the held rows pass the admission test after every entry.
 pub fn held_rows_pass()
@@ -54,4 +54,11 @@ pub fn every_window_fits()
 /// hold of released channels is ours.)
 pub fn every_packet_leaves_in_time()
     ensures { EveryPacketLeavesInTime }
+{}
+
+/// In every legal history a source that keeps its contract loses no packet at its channel's first hop. Each of its
+/// packets is eligible in the tick in which it arrives, and leaves within the bound of its level of its arrival. It
+/// doesn't matter what the other sources do, nor when channels come and go.
+pub fn honest_sources_find_buffer()
+    ensures { HonestSourcesFindBuffer }
 {}

@@ -4,14 +4,14 @@ use Rattle.std.proofs.lemmas.Bool.{and_parts, true≢false}
 use Rattle.std.specs.Prelude.{unwrap_or}
 use Rattle.tenet_app.specs.Drafts.{AreLinks, IsDraft}
 use Rattle.tenet_app.specs.Fields.{fields_of, field_at}
-use Rattle.tenet_app.specs.Grammar.{judge, send_of}
-use Rattle.tenet_app.specs.Plans.{Said, nothing_said, with_item, is_complete, callers_in, callers_of, rounds_of, IsLink, IsCallerAfter, IsOpenAfter, IsSendAfter, MayFollow, AreRounds, IsPlan}
+use Rattle.tenet_app.specs.Grammar.{judge, send_of, closed_by}
+use Rattle.tenet_app.specs.Plans.{Said, nothing_said, with_item, is_complete, callers_in, callers_of, rounds_of, IsLink, IsCallerAfter, IsOpenAfter, IsSendAfter, IsCloseAfter, MayFollow, AreRounds, IsPlan}
 use Rattle.tenet_app.specs.declared.scenario.plan.Item.{Item}
 use Rattle.tenet_app.specs.declared.scenario.plan.Item.TheVariants as item
 use Rattle.tenet_app.specs.declared.scenario.plan.Link.{Link}
 use Rattle.tenet_app.specs.declared.scenario.plan.Operation.{Operation}
 use Rattle.tenet_app.specs.declared.scenario.plan.Operation.TheVariants as operation
-use Rattle.tenet_app.proofs.LinePasses.{link_passes, caller_passes, open_passes, SendPasses, send_passes, own_within, rounds_passes, tail_passes}
+use Rattle.tenet_app.proofs.LinePasses.{link_passes, caller_passes, open_passes, SendPasses, send_passes, ClosePasses, close_passes, own_within, rounds_passes, tail_passes}
 use Rattle.tenet_app.proofs.PassFacts.{some_count, not_said}
 use Rattle.tenet_app.proofs.SayFacts.{Says, says}
 use Rattle.tenet_app.proofs.ScriptFacts.{GoOn-push}
@@ -127,7 +127,17 @@ send_follows said fields caller p = record {
   gap_most = p.gap.most;
   size_least = p.size.least;
   size_most = p.size.most;
+  not_closed = p.not_closed;
   load = p.load;
+}
+
+-- a close that passes may follow
+close_follows : (said : Said) (fields : List (List ℕ)) → 1 ≤ length (callers_of said) → ClosePasses said fields → IsCloseAfter said.script (closed_by said fields)
+close_follows said fields caller p = record {
+  caller = caller;
+  own = omega arith;
+  opened = own_within said.script (field_at fields 1) p.own;
+  not_closed = p.not_closed;
 }
 
 -- rounds that were said are few
@@ -152,6 +162,11 @@ operation_follows said fields (operation.Send send) d s =
     let may = and_parts (not (nat_eq (length (callers_of said)) 0)) (is_none said.rounds) s.0.stands in
     let caller = some_count (length (callers_of said)) may.0 in
     (subst (IsSendAfter said.script) s.1 (send_follows said fields caller p), not_said said.rounds may.1, some_links said d may.0)
+operation_follows said fields (operation.Close request) d s =
+    let p = close_passes said fields s.0.rule in
+    let may = and_parts (not (nat_eq (length (callers_of said)) 0)) (is_none said.rounds) s.0.stands in
+    let caller = some_count (length (callers_of said)) may.0 in
+    (subst (IsCloseAfter said.script) s.1 (close_follows said fields caller p), not_said said.rounds may.1, some_links said d may.0)
 
 -- what a line says leaves a draft
 pub draft_says : (said : Said) (fields : List (List ℕ)) (what : Item) → IsDraft said → Says said fields what → IsDraft (with_item what said)

@@ -5,7 +5,7 @@ use Rattle.std.proofs.lemmas.Slice.Eq.{bytes_eq-Decides}
 use Rattle.std.specs.Cmp.Lexicographic.{pointwise}
 use Rattle.tenet_app.specs.Fields.{field_at}
 use Rattle.tenet_app.specs.Forms.{text_of, is_word, route_length, up_to, on_taken, has_form}
-use Rattle.tenet_app.specs.Grammar.{is_header, link_form, bound_fields, caller_form, open_front, rate_form, hops_of, send_form, rounds_form, tail_form}
+use Rattle.tenet_app.specs.Grammar.{is_header, link_form, bound_fields, caller_form, open_front, rate_form, hops_of, send_form, close_form, rounds_form, tail_form}
 use Rattle.tenet_app.specs.PlanText.{header_fields}
 use Rattle.tenet_app.specs.declared.scenario.form.Keyword.{Keyword}
 use Rattle.tenet_app.specs.declared.scenario.form.Keyword.TheVariants as word
@@ -123,6 +123,10 @@ caller_text fields e = as_written caller_form fields 0 e
 pub send_text : (fields : List (List ℕ)) → has_form send_form fields ≡ true
     → fields ≡ codes "send" ∷ field_at fields 1 ∷ field_at fields 2 ∷ field_at fields 3 ∷ field_at fields 4 ∷ []
 send_text fields e = as_written send_form fields 0 e
+
+-- the fields of a close line
+pub close_text : (fields : List (List ℕ)) → has_form close_form fields ≡ true → fields ≡ codes "close" ∷ field_at fields 1 ∷ []
+close_text fields e = as_written close_form fields 0 e
 
 -- the fields of a line of rounds
 pub rounds_text : (fields : List (List ℕ)) → has_form rounds_form fields ≡ true → fields ≡ codes "rounds" ∷ field_at fields 1 ∷ []

@@ -18,12 +18,14 @@ pub mod LineFacts
 pub mod TextRead
 pub mod ReadBack
 pub mod Worked
+pub mod WorkedChannels
 pub mod DistinctFacts
 pub mod PlaceFacts
 pub mod ContractFacts
 pub mod ReadFacts
 pub mod LinkFacts
 pub mod TallyFacts
+pub mod BatchFacts
 pub mod PlayerFacts
 pub mod ShapeFacts
 pub mod RunLegal

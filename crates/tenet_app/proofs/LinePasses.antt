@@ -1,6 +1,6 @@
 -- What a line of each kind holds that its rule lets pass.
-use Rattle.std.proofs.Common.{◌≡◌, ℕ, ◌+◌, ◌*◌, ◌<◌, ◌≤◌, true, false, ◌||◌, nat_eq, nat_lt, nat_le, List, [], ◌∷◌, length, map, None, is_some, arith, length-drop}
-use Rattle.std.proofs.lemmas.Bool.{leb-true, ltb-true, and_parts}
+use Rattle.std.proofs.Common.{◌≡◌, ℕ, ◌+◌, ◌*◌, ◌<◌, ◌≤◌, true, false, not, ◌||◌, nat_eq, nat_lt, nat_le, List, [], ◌∷◌, length, map, None, is_some, arith, length-drop}
+use Rattle.std.proofs.lemmas.Bool.{leb-true, ltb-true, and_parts, not-true}
 use Rattle.std.proofs.lemmas.List.{length-map}
 use Rattle.net_units.specs.Quotient.{ceil_quotient}
 use Rattle.net_units.specs.Steps.{are_bounds, bound_at}
@@ -9,8 +9,8 @@ use Rattle.tenet_app.specs.Causes.{unless}
 use Rattle.tenet_app.specs.Decimal.{value_of}
 use Rattle.tenet_app.specs.Fields.{field_at}
 use Rattle.tenet_app.specs.Forms.{is_among, has_form, name_rule, new_name_rule, used_name_rule, number_rule}
-use Rattle.tenet_app.specs.Grammar.{link_form, bound_fields, link_of, levels_rule, link_numbers_rule, bound_numbers_rule, link_fields_rule, link_rule, caller_form, caller_rule, rate_form, jitter_form, route_fields, behind_route, terms_in, contract_of, request_of, route_names_rule, terms_rule, jitter_rule, are_distinct, open_fields_rule, open_limits_rule, open_rule, send_form, send_fields_rule, send_rule, rounds_form, rounds_rule, is_within_load, tail_form, tail_rule}
-use Rattle.tenet_app.specs.Plans.{Said, requests_in, load_in, first_own, names_of, own_names, own_place, link_names, callers_of, requests_of, request_names, rounds_of, IsLink, IsRequest}
+use Rattle.tenet_app.specs.Grammar.{link_form, bound_fields, link_of, levels_rule, link_numbers_rule, bound_numbers_rule, link_fields_rule, link_rule, caller_form, caller_rule, rate_form, jitter_form, route_fields, behind_route, terms_in, contract_of, request_of, route_names_rule, terms_rule, jitter_rule, are_distinct, open_fields_rule, open_limits_rule, open_rule, not_closed_rule, send_form, send_fields_rule, send_rule, close_form, close_rule, rounds_form, rounds_rule, is_within_load, tail_form, tail_rule}
+use Rattle.tenet_app.specs.Plans.{Said, requests_in, load_in, is_closed, first_own, names_of, own_names, own_place, link_names, callers_of, requests_of, request_names, rounds_of, IsLink, IsRequest}
 use Rattle.tenet_app.specs.declared.scenario.cause.Cause.TheVariants as cause
 use Rattle.tenet_app.specs.declared.scenario.plan.Request.{Request}
 use Rattle.tenet_app.specs.declared.scenario.plan.Operation.{Operation}
@@ -134,6 +134,11 @@ open_passes said fields e =
       };
     }
 
+-- the request of a name that passes isn't closed
+not_closed_passes : (said : Said) (name : List ℕ) → not_closed_rule said name ≡ None → is_closed said.script (own_place said.script name) ≡ false
+not_closed_passes said name e =
+    not-true (is_closed said.script (own_place said.script name)) (unless_passes (not (is_closed said.script (own_place said.script name))) cause.Closed e)
+
 -- what a send line that passes holds
 pub record SendPasses (said : Said) (fields : List (List ℕ)) : Type 0 where
   pub form : has_form send_form fields ≡ true
@@ -141,12 +146,13 @@ pub record SendPasses (said : Said) (fields : List (List ℕ)) : Type 0 where
   pub count : IsNumberFrom 1 262144 (field_at fields 2)
   pub gap : IsNumberFrom 1 1048576 (field_at fields 3)
   pub size : IsNumberFrom 1 65536 (field_at fields 4)
+  pub not_closed : is_closed said.script (own_place said.script (field_at fields 1)) ≡ false
   pub load : load_in said.script + value_of (field_at fields 2) ≤ 262144
 
 -- a send line that passes holds it
 pub send_passes : (said : Said) (fields : List (List ℕ)) → send_rule said fields ≡ None → SendPasses said fields
 send_passes said fields e =
-    let p = all_pass (unless (has_form send_form fields) cause.Shape ∷ send_fields_rule said fields
+    let p = all_pass (unless (has_form send_form fields) cause.Shape ∷ send_fields_rule said fields ∷ not_closed_rule said (field_at fields 1)
     ∷ unless (nat_le (load_in said.script + value_of (field_at fields 2)) 262144) cause.Load ∷ []) e in
     let q = all_pass (used_name_rule (own_names said.script) (field_at fields 1) ∷ number_rule 1 262144 (field_at fields 2) ∷ number_rule 1 1048576 (field_at fields 3)
     ∷ number_rule 1 65536 (field_at fields 4) ∷ []) p.1.0 in
@@ -156,7 +162,24 @@ send_passes said fields e =
       count = number_passes 1 262144 (field_at fields 2) q.1.0;
       gap = number_passes 1 1048576 (field_at fields 3) q.1.1.0;
       size = number_passes 1 65536 (field_at fields 4) q.1.1.1.0;
-      load = leb-true (load_in said.script + value_of (field_at fields 2)) 262144 (unless_passes _ cause.Load p.1.1.0);
+      not_closed = not_closed_passes said (field_at fields 1) p.1.1.0;
+      load = leb-true (load_in said.script + value_of (field_at fields 2)) 262144 (unless_passes _ cause.Load p.1.1.1.0);
+    }
+
+-- what a close line that passes holds
+pub record ClosePasses (said : Said) (fields : List (List ℕ)) : Type 0 where
+  pub form : has_form close_form fields ≡ true
+  pub own : is_among (own_names said.script) (field_at fields 1) ≡ true
+  pub not_closed : is_closed said.script (own_place said.script (field_at fields 1)) ≡ false
+
+-- a close line that passes holds it
+pub close_passes : (said : Said) (fields : List (List ℕ)) → close_rule said fields ≡ None → ClosePasses said fields
+close_passes said fields e =
+    let p = all_pass (unless (has_form close_form fields) cause.Shape ∷ used_name_rule (own_names said.script) (field_at fields 1) ∷ not_closed_rule said (field_at fields 1) ∷ []) e in
+    record {
+      form = unless_passes (has_form close_form fields) cause.Shape p.0;
+      own = (used_name_passes (own_names said.script) (field_at fields 1) p.1.0).1;
+      not_closed = not_closed_passes said (field_at fields 1) p.1.1.0;
     }
 
 -- the place of a request that the last caller has opened is that of a request

@@ -15,9 +15,9 @@ use Rattle.tenet_app.specs.Causes.{Rule, unless, first_cause}
 use Rattle.tenet_app.specs.Decimal.{value_of}
 use Rattle.tenet_app.specs.Fields.{field_at}
 use Rattle.tenet_app.specs.Forms.{is_word, is_among, place_of, has_form, name_rule, new_name_rule, used_name_rule, number_rule}
-use Rattle.tenet_app.specs.Grammar.{link_form, bound_fields, link_of, levels_rule, link_numbers_rule, bound_numbers_rule, link_fields_rule, link_rule, caller_rule, rate_form, jitter_form, hops_of, route_fields, behind_route, terms_in, contract_of, request_of, route_names_rule, terms_rule, jitter_rule, are_distinct, open_fields_rule, open_limits_rule, open_rule, send_form, send_of, send_fields_rule, send_rule, rounds_form, rounds_rule, is_within_load, tail_form, tail_rule}
-use Rattle.tenet_app.specs.PlanText.{link_fields, caller_fields, request_fields, send_fields, rounds_fields, tail_fields}
-use Rattle.tenet_app.specs.Plans.{Said, requests_in, load_in, first_own, names_of, own_names, own_place, link_names, callers_of, requests_of, request_names, rounds_of, IsLink, IsRequest, IsCallerAfter, IsOpenAfter, IsSendAfter, AreRounds}
+use Rattle.tenet_app.specs.Grammar.{link_form, bound_fields, link_of, levels_rule, link_numbers_rule, bound_numbers_rule, link_fields_rule, link_rule, caller_rule, rate_form, jitter_form, hops_of, route_fields, behind_route, terms_in, contract_of, request_of, route_names_rule, terms_rule, jitter_rule, are_distinct, open_fields_rule, open_limits_rule, open_rule, not_closed_rule, send_form, send_of, send_fields_rule, send_rule, close_form, closed_by, close_rule, rounds_form, rounds_rule, is_within_load, tail_form, tail_rule}
+use Rattle.tenet_app.specs.PlanText.{link_fields, caller_fields, request_fields, send_fields, close_fields, rounds_fields, tail_fields}
+use Rattle.tenet_app.specs.Plans.{Said, requests_in, load_in, is_closed, first_own, names_of, own_names, own_place, link_names, callers_of, requests_of, request_names, rounds_of, IsLink, IsRequest, IsCallerAfter, IsOpenAfter, IsSendAfter, IsCloseAfter, AreRounds}
 use Rattle.tenet_app.specs.declared.scenario.cause.Cause.{Cause}
 use Rattle.tenet_app.specs.declared.scenario.cause.Cause.TheVariants as cause
 use Rattle.tenet_app.specs.declared.scenario.form.Keyword.TheVariants as word
@@ -254,7 +254,7 @@ open_back said name r links is_link after =
     pass_all (unless (has_form rate_form fields || has_form jitter_form fields) cause.Shape ∷ open_fields_rule said fields ∷ open_limits_rule said fields ∷ [])
     (unless_holds (has_form rate_form fields || has_form jitter_form fields) cause.Shape form, (left, (limits, tt)))
 
--- ---- sends
+-- ---- sends and closes
 
 -- the name of a request that the last caller has opened is among its own, at its place there
 own_back : (script : List Operation) (place : ℕ) → are_distinct (names_of (requests_in script)) ≡ true → first_own script ≤ place → place < length (requests_in script)
@@ -270,6 +270,13 @@ own_back script place apart own opened =
     let among = ap (is_among (own_names script)) (sym here) ∙ among_at (own_names script) (place - first) within in
     let at = ap (place_of (own_names script)) (sym here) ∙ place_at (own_names script) (place - first) (distinct_drop names first apart) within in
     (among, omega (arith, at))
+
+-- a request that isn't closed passes as one
+not_closed_back : (said : Said) (place : ℕ) → are_distinct (request_names said) ≡ true → first_own said.script ≤ place → place < length (requests_of said) → is_closed said.script place ≡ false
+    → not_closed_rule said (field_at (request_names said) place) ≡ None
+not_closed_back said place apart own opened still =
+    let at = (own_back said.script place apart own opened).1 in
+    rw (at, still) refl
 
 -- a send line says its send
 pub send_again : (said : Said) (send : Send) → are_distinct (request_names said) ≡ true → IsSendAfter said.script send → send_of said (send_fields (request_names said) send) ≡ send
@@ -297,5 +304,21 @@ send_back said send apart is_request is =
         (decimal_passes 1 1048576 send.gap is.gap_least is.gap_most (omega arith), (decimal_passes 1 65536 send.size is.size_least is.size_most (omega arith), tt)),
       ),
     ) in
-    pass_all (unless (has_form send_form fields) cause.Shape ∷ send_fields_rule said fields ∷ unless (nat_le (load_in said.script + value_of (field_at fields 2)) 262144) cause.Load ∷ [])
-    (refl, (left, (unless_holds (nat_le (load_in said.script + value_of (decimal send.count)) 262144) cause.Load load, tt)))
+    let still = not_closed_back said send.request apart is.own is.opened is.not_closed in
+    pass_all (unless (has_form send_form fields) cause.Shape ∷ send_fields_rule said fields ∷ not_closed_rule said (field_at fields 1)
+    ∷ unless (nat_le (load_in said.script + value_of (field_at fields 2)) 262144) cause.Load ∷ [])
+    (refl, (left, (still, (unless_holds (nat_le (load_in said.script + value_of (decimal send.count)) 262144) cause.Load load, tt))))
+
+-- a close line says its request
+pub close_again : (said : Said) (request : ℕ) → are_distinct (request_names said) ≡ true → IsCloseAfter said.script request → closed_by said (close_fields (request_names said) request) ≡ request
+close_again said request apart is = (own_back said.script request apart is.own is.opened).1
+
+-- a close line passes where its close may follow
+pub close_back : (said : Said) (request : ℕ) → are_distinct (request_names said) ≡ true → is_name (field_at (request_names said) request) ≡ true → IsCloseAfter said.script request
+    → close_rule said (close_fields (request_names said) request) ≡ None
+close_back said request apart is_request is =
+    let fields = close_fields (request_names said) request in
+    let own = (own_back said.script request apart is.own is.opened).0 in
+    let name : used_name_rule (own_names said.script) (field_at (request_names said) request) ≡ None = rw (name_back (field_at (request_names said) request) is_request, own) refl in
+    pass_all (unless (has_form close_form fields) cause.Shape ∷ used_name_rule (own_names said.script) (field_at fields 1) ∷ not_closed_rule said (field_at fields 1) ∷ [])
+    (refl, (name, (not_closed_back said request apart is.own is.opened is.not_closed, tt)))

@@ -1,16 +1,19 @@
 -- Where a player stands, step by step.
-use Rattle.std.proofs.Common.{◌≡◌, ℕ, suc, ◌+◌, ◌<◌, ◌≤◌, ◌^◌, List, length, map, refl, sym, subst, ◌∙◌, ap, arith, add-one}
+use Rattle.std.proofs.Common.{◌≡◌, ℕ, ◌+◌, ◌≤◌, List, ◌∷◌, refl, sym, subst, ◌∙◌, ap, arith, add-one}
 use Rattle.std.specs.Prelude.{filter, Result, Ok, Err, IfOk, Vec}
 use Rattle.std.specs.declared.alloc.Global.{Global}
 use Rattle.link_steps.specs.Kept.{kept_at}
-use Rattle.link_steps.specs.Rows.{tick_of}
 use Rattle.link_steps.specs.Scan.{clock_of}
+use Rattle.link_steps.specs.declared.asks.Ask.{Ask}
 use Rattle.link_steps.specs.declared.asks.Ask.TheVariants.{Tick}
+use Rattle.link_steps.specs.declared.replies.Reply.{Reply}
+use Rattle.link_steps.specs.Replies.{reply_to}
+use Rattle.link_server.specs.State.{Stands}
 use Rattle.link_steps.specs.declared.replies.Entry.{Entry}
 use Rattle.link_steps.specs.declared.shape.LinkShape.{LinkShape}
-use Rattle.tenet_app.specs.Channels.{planned_in, offered_in}
+use Rattle.tenet_app.specs.Channels.{offered_in}
 use Rattle.tenet_app.specs.Run.{asked, after_ticks}
-use Rattle.tenet_app.specs.Tallies.{IsAt, SameLink, is_made, made_in}
+use Rattle.tenet_app.specs.Tallies.{IsAt, SameLink, Tells, is_made, made_in}
 use Rattle.tenet_app.specs.declared.player.Player.{Player}
 use Rattle.tenet_app.proofs.TallyFacts.{clock-few, offered-made}
 
@@ -18,6 +21,15 @@ use Rattle.tenet_app.proofs.TallyFacts.{clock-few, offered-made}
 pub at-clock : (h : List Entry) (player : Player) → IsAt h player → player.link.clock ≡ clock_of h
 unfolding kept_at
 at-clock h player at = ap (λ kept. kept.clock) at.stands
+
+-- a step that it has made
+pub at-asked : (h : List Entry) (old new : Player) (clock : ℕ) (ask : Ask) (reply : Reply) → IsAt h old → clock ≡ old.link.clock
+    → reply ≡ reply_to old.link.shape h ask
+    → Stands new.link (record { ask = ask; reply = reply } ∷ h)
+    → (clock ≡ clock_of h → Tells (record { ask = ask; reply = reply } ∷ h) new.tallies)
+    → IsAt (asked old.link.shape h ask) new
+at-asked h old new clock ask reply at same legal stands tells =
+    subst (λ r. IsAt (record { ask = ask; reply = r } ∷ h) new) legal (record { stands = stands; tells = tells (same ∙ at-clock h old at) })
 
 -- which is at most the number of steps
 pub at-early : (h : List Entry) (player : Player) → IsAt h player → player.link.clock ≤ player.tallies.steps

@@ -9,8 +9,8 @@ use Rattle.net_units.specs.Text.{is_name}
 use Rattle.tenet_app.specs.Causes.{Rule, judged}
 use Rattle.tenet_app.specs.Fields.{fields_of, line_of, are_fields, field_at}
 use Rattle.tenet_app.specs.Grammar.{may_stand, line_word, judge_as, judge_word, judge_fields, judge}
-use Rattle.tenet_app.specs.PlanText.{header_fields, link_fields, caller_fields, request_fields, send_fields, operation_fields, rounds_fields, tail_fields, plan_lines, plan_text}
-use Rattle.tenet_app.specs.Plans.{Said, nothing_said, with_item, callers_in, requests_in, names_of, request_names, rounds_of, tail_of, IsLink, IsRequest, IsSendAfter, MayFollow, GoOn, AreRounds, IsPlanOver, IsPlan}
+use Rattle.tenet_app.specs.PlanText.{header_fields, link_fields, caller_fields, request_fields, send_fields, close_fields, operation_fields, rounds_fields, tail_fields, plan_lines, plan_text}
+use Rattle.tenet_app.specs.Plans.{Said, nothing_said, with_item, callers_in, requests_in, names_of, request_names, rounds_of, tail_of, IsLink, IsRequest, IsSendAfter, IsCloseAfter, MayFollow, GoOn, AreRounds, IsPlanOver, IsPlan}
 use Rattle.tenet_app.specs.Reading.{IsRead, on_judged, reading_of, reading_on, reading}
 use Rattle.tenet_app.specs.declared.scenario.form.Keyword.{Keyword}
 use Rattle.tenet_app.specs.declared.scenario.form.Keyword.TheVariants as word
@@ -23,7 +23,7 @@ use Rattle.tenet_app.specs.declared.scenario.plan.Request.{Request}
 use Rattle.tenet_app.specs.declared.scenario.plan.Send.{Send}
 use Rattle.tenet_app.proofs.FieldText.{fields_back, name_field, number_field}
 use Rattle.tenet_app.proofs.LineFacts.{AreLines, lines_of_text}
-use Rattle.tenet_app.proofs.PassBack.{bound_parts, link_again, link_back, caller_back, rounds_back, tail_back, name_no_contract, request_again, open_back, send_again, send_back}
+use Rattle.tenet_app.proofs.PassBack.{bound_parts, link_again, link_back, caller_back, rounds_back, tail_back, name_no_contract, request_again, open_back, send_again, send_back, close_again, close_back}
 use Rattle.tenet_app.proofs.NumberText.{value-decimal}
 use Rattle.tenet_app.proofs.ScriptText.{line_of_next, AreNamed, named_begins, named_push}
 
@@ -68,21 +68,25 @@ request_is_line name r is_link is =
       number_field r.delay (omega (arith, is.delay_most)),
     ) refl
 
--- the name of a send's request
-send_name : (script : List Operation) (send : Send) → AreNamed script → IsSendAfter script send → is_name (field_at (names_of (requests_in script)) send.request) ≡ true
-send_name script send named is =
+-- the name of a request that was opened
+opened_name : (script : List Operation) (request : ℕ) → AreNamed script → request < length (requests_in script) → is_name (field_at (names_of (requests_in script)) request) ≡ true
+opened_name script request named opened =
     let count = length-map (requests_in script) (λ (r : Request). r.name) in
-    All-get_or (λ name. is_name name ≡ true) (names_of (requests_in script)) send.request [] (omega (arith, is.opened)) named.named
+    All-get_or (λ name. is_name name ≡ true) (names_of (requests_in script)) request [] (omega (arith, opened)) named.named
 
 -- and a send line
 send_is_line : (script : List Operation) (send : Send) → AreNamed script → IsSendAfter script send → are_fields (send_fields (names_of (requests_in script)) send) ≡ true
 send_is_line script send named is =
     rw (
-      name_field (field_at (names_of (requests_in script)) send.request) (send_name script send named is),
+      name_field (field_at (names_of (requests_in script)) send.request) (opened_name script send.request named is.opened),
       number_field send.count (omega (arith, is.count_most)),
       number_field send.gap (omega (arith, is.gap_most)),
       number_field send.size (omega (arith, is.size_most)),
     ) refl
+
+-- and a close line
+close_is_line : (script : List Operation) (request : ℕ) → AreNamed script → IsCloseAfter script request → are_fields (close_fields (names_of (requests_in script)) request) ≡ true
+close_is_line script request named is = rw (name_field (field_at (names_of (requests_in script)) request) (opened_name script request named is.opened)) refl
 
 -- and so the line of any operation
 operation_is_line : (link : List ℕ) (script : List Operation) (next : Operation) → is_name link ≡ true → AreNamed script → MayFollow script next
@@ -90,6 +94,7 @@ operation_is_line : (link : List ℕ) (script : List Operation) (next : Operatio
 operation_is_line link script (operation.Caller name) is_link named may = caller_is_line name may.is
 operation_is_line link script (operation.Open request) is_link named may = request_is_line link request is_link may.sound
 operation_is_line link script (operation.Send send) is_link named may = send_is_line script send named may
+operation_is_line link script (operation.Close request) is_link named may = close_is_line script request named may
 
 -- and the lines of rounds and tail
 rounds_is_line : (count : ℕ) → count ≤ 524288 → are_fields (rounds_fields count) ≡ true
@@ -164,8 +169,14 @@ operation_judged link script (operation.Send send) l named may =
     let said = front link script in
     judged_as said (send_fields (request_names said) send) word.Send (item.Script (operation.Send send)) (send_is_line script send named may) refl refl
     (and_from _ true (caller_stands script may.caller) refl)
-    (passed _ _ (send_back said send named.apart (send_name script send named may) may)
+    (passed _ _ (send_back said send named.apart (opened_name script send.request named may.opened) may)
     ∙ ap (λ k. Ok (item.Script (operation.Send k))) (send_again said send named.apart may))
+operation_judged link script (operation.Close request) l named may =
+    let said = front link script in
+    judged_as said (close_fields (request_names said) request) word.Close (item.Script (operation.Close request)) (close_is_line script request named may) refl refl
+    (and_from _ true (caller_stands script may.caller) refl)
+    (passed _ _ (close_back said request named.apart (opened_name script request named may.opened) may)
+    ∙ ap (λ k. Ok (item.Script (operation.Close k))) (close_again said request named.apart may))
 
 -- rounds are let pass behind the script
 rounds_judged : (link : Link) (script : List Operation) (count : ℕ) → count ≤ 524288 → judge (front link script) (line_of (rounds_fields count)) ≡ Ok (item.Rounds count)

@@ -1,28 +1,20 @@
 -- A run, operation by operation: where its player stands, and that its history is legal.
-use Rattle.std.proofs.Common.{◌≡◌, ℕ, zero, suc, ◌+◌, ◌*◌, ◌<◌, ◌≤◌, ◌^◌, Bool, true, false, if◌then◌else◌, List, [], ◌∷◌, ◌++◌, length, map, take, drop, get_or, refl, sym, subst, ◌∙◌, ap, arith, add-one, append-nil, append_assoc, length-append}
-use Rattle.std.proofs.lemmas.Bool.{cases_Bool}
+use Rattle.std.proofs.Common.{◌≡◌, ℕ, zero, suc, ◌+◌, ◌<◌, ◌≤◌, Bool, true, false, if◌then◌else◌, List, [], ◌∷◌, ◌++◌, length, map, take, drop, get_or, refl, sym, subst, ◌∙◌, ap, arith, append-nil, append_assoc, length-append}
 use Rattle.std.proofs.lemmas.List.{take_more, length-map, map-append, take-append-drop}
 use Rattle.net_units.specs.declared.numbers.ChanNo.{ChanNo}
-use Rattle.net_units.specs.declared.numbers.Level.{Level}
-use Rattle.link_steps.specs.Legal.{AskFits, SubmitFits, IsLegal}
 use Rattle.link_steps.specs.Replies.{reply_to}
-use Rattle.link_steps.specs.declared.asks.Ask.{Ask}
-use Rattle.link_steps.specs.declared.asks.Ask.TheVariants.{Tick}
-use Rattle.link_steps.specs.declared.replies.Entry.{Entry}
-use Rattle.link_steps.specs.declared.replies.Reply.{Reply}
-use Rattle.link_steps.specs.declared.replies.Reply.TheVariants as Is
 use Rattle.link_steps.specs.declared.shape.LinkShape.{LinkShape}
-use Rattle.tenet_app.specs.Establishment.{Settled, IsPending, is_accepted, verdict_of, channel_at, reserve_for, way_back, settled}
-use Rattle.tenet_app.specs.Plans.{Said, callers_in, requests_in, load_in, requests_of, rounds_of, tail_of, MayFollow, GoOn, IsScript, IsPlan}
-use Rattle.tenet_app.specs.Run.{Run, no_steps, asked, replied, after_open, opened, verdict_at, submit_for, sent, after_operation, after_script, after_ticks, run_of}
-use Rattle.tenet_app.specs.Tallies.{IsAt, IsAfter, MaySend, MayOperate}
+use Rattle.tenet_app.specs.Establishment.{is_accepted, verdict_of, channel_at, reserve_for, settled}
+use Rattle.tenet_app.specs.Plans.{Said, callers_in, requests_in, load_in, closed_in, rounds_of, tail_of, MayFollow, GoOn, IsScript}
+use Rattle.tenet_app.specs.Run.{Run, no_steps, asked, after_open, opened, verdict_at, submit_for, sent, release_of, closed, after_operation, after_script, after_ticks, run_of}
+use Rattle.tenet_app.specs.Tallies.{IsAt, IsAfter, MayOperate}
 use Rattle.tenet_app.specs.declared.establishment.Verdict.{Verdict}
 use Rattle.tenet_app.specs.declared.player.Player.{Player}
 use Rattle.tenet_app.specs.declared.scenario.plan.Operation.{Operation}
 use Rattle.tenet_app.specs.declared.scenario.plan.Operation.TheVariants as operation
 use Rattle.tenet_app.specs.declared.scenario.plan.Request.{Request}
 use Rattle.tenet_app.specs.declared.scenario.plan.Send.{Send}
-use Rattle.tenet_app.proofs.ScriptFacts.{requests_in-append, script_requests, script_callers, script_load}
+use Rattle.tenet_app.proofs.ScriptFacts.{requests_in-append, script_requests, script_callers, script_load, script_closes}
 
 -- ---- one operation
 
@@ -62,6 +54,24 @@ after-unsent run old send verdicts denied after =
     let is = ap (λ vs. is_accepted (verdict_at send.request vs)) (sym after.said) ∙ denied in
     rw is after
 
+-- a close that it has made, and one that it makes no step for
+pub after-closed : (run : Run) (old new : Player) (request : ℕ) (verdicts : List Verdict) → is_accepted (verdict_at request (map verdict_of verdicts)) ≡ true
+    → IsAfter run old verdicts
+    → IsAt (asked old.link.shape run.history (release_of request)) new
+    → IsAfter (closed old.link.shape run request) new verdicts
+unfolding closed
+after-closed run old new request verdicts accepted after at =
+    let is = ap (λ vs. is_accepted (verdict_at request vs)) (sym after.said) ∙ accepted in
+    rw is (record { at = at; said = after.said })
+
+pub after-unclosed : (run : Run) (old : Player) (request : ℕ) (verdicts : List Verdict) → is_accepted (verdict_at request (map verdict_of verdicts)) ≡ false
+    → IsAfter run old verdicts
+    → IsAfter (closed old.link.shape run request) old verdicts
+unfolding closed
+after-unclosed run old request verdicts denied after =
+    let is = ap (λ vs. is_accepted (verdict_at request vs)) (sym after.said) ∙ denied in
+    rw is after
+
 -- ---- a script
 
 pub after_script-append : (shape : LinkShape) (run : Run) (xs ys : List Operation) → after_script shape run (xs ++ ys) ≡ after_script shape (after_script shape run xs) ys
@@ -91,11 +101,15 @@ after-next shape now script i d new verdicts inside same after =
 
 -- there is a verdict for each request
 pub opened-verdicts : (shape : LinkShape) (run : Run) (operation : Operation) → length (after_operation shape run operation).verdicts ≡ length run.verdicts + length (requests_in (operation ∷ []))
-unfolding opened sent
+unfolding opened sent closed
 opened-verdicts shape run (operation.Caller name) = omega arith
 opened-verdicts shape run (operation.Open request) = length-append run.verdicts _
 opened-verdicts shape run (operation.Send send) = go (is_accepted (verdict_at send.request run.verdicts)) where
   go : (b : Bool) → length (if b then record run { history = asked shape run.history (submit_for send) } else run).verdicts ≡ length run.verdicts + 0
+  go true = omega arith
+  go false = omega arith
+opened-verdicts shape run (operation.Close request) = go (is_accepted (verdict_at request run.verdicts)) where
+  go : (b : Bool) → length (if b then record run { history = asked shape run.history (release_of request) } else run).verdicts ≡ length run.verdicts + 0
   go true = omega arith
   go false = omega arith
 
@@ -141,16 +155,19 @@ may-operate script i n (operation.Send send) is may count = record {
   };
   opened = omega (arith, may.opened, requests-front script i, script_requests script is);
 }
+may-operate script i n (operation.Close request) is may count = omega (arith, may.opened, requests-front script i, script_requests script is)
 
--- a script is no longer than its callers, its requests and its load together
-script-length : (done script : List Operation) → GoOn done script → length script ≤ length (callers_in script) + length (requests_in script) + load_in script
+-- a script is no longer than its callers, its requests, its load and its closes together
+script-length : (done script : List Operation) → GoOn done script → length script ≤ length (callers_in script) + length (requests_in script) + load_in script + length (closed_in script)
 script-length done [] goes = omega arith
 script-length done (operation.Caller name ∷ script) goes = omega (arith, script-length (done ++ operation.Caller name ∷ []) script goes.1)
 script-length done (operation.Open request ∷ script) goes = omega (arith, script-length (done ++ operation.Open request ∷ []) script goes.1)
 script-length done (operation.Send send ∷ script) goes = omega (arith, script-length (done ++ operation.Send send ∷ []) script goes.1, goes.0.count_least)
+script-length done (operation.Close request ∷ script) goes = omega (arith, script-length (done ++ operation.Close request ∷ []) script goes.1)
 
-pub script-few : (script : List Operation) → IsScript script → length script ≤ 263232
-script-few script is = omega (arith, script-length [] script is, script_callers script is, script_requests script is, script_load script is)
+pub script-few : (script : List Operation) → IsScript script → length script ≤ 264256
+script-few script is =
+    omega (arith, script-length [] script is, script_callers script is, script_requests script is, script_load script is, script_closes script is)
 
 -- ---- the run of a plan
 

@@ -1,7 +1,7 @@
 -- The history of every run of a plan is legal, so it has what every legal history has.
-use Rattle.std.proofs.Common.{◌≡◌, ℕ, zero, suc, ◌+◌, ◌≤◌, Bool, true, false, if◌then◌else◌, List, [], ◌∷◌, ◌++◌, length, refl, arith}
+use Rattle.std.proofs.Common.{ℕ, zero, suc, ◌+◌, ◌≤◌, Bool, true, false, if◌then◌else◌, List, [], ◌∷◌, ◌++◌, length, refl, arith}
 use Rattle.net_units.specs.Numbers.{level_number}
-use Rattle.net_units.specs.Steps.{bound_at, levels_within}
+use Rattle.net_units.specs.Steps.{levels_within}
 use Rattle.net_units.specs.declared.numbers.ChanNo.{ChanNo}
 use Rattle.net_units.specs.declared.numbers.Level.{Level}
 use Rattle.net_units.proofs.BoundFacts.{within_count, bounds_parts}
@@ -16,11 +16,12 @@ use Rattle.link_steps.specs.declared.replies.Reply.{Reply}
 use Rattle.link_steps.specs.declared.replies.Reply.TheVariants as Is
 use Rattle.link_steps.specs.declared.shape.LinkShape.{LinkShape}
 use Rattle.link_steps.proofs.AdmissionHolds.{held_rows-pass}
+use Rattle.link_steps.specs.SourceGuarantee.{SourceGuarantee}
 use Rattle.link_steps.proofs.HopHolds.{hop-guarantee}
-use Rattle.tenet_app.specs.Establishment.{channel_at, reserve_for, delay_at, allotted, relaxed_to, is_late, way_back, is_accepted}
-use Rattle.tenet_app.specs.Plans.{Said, rounds_of, tail_of, MayFollow, GoOn, IsScript, IsRequest, IsPlanOver}
-use Rattle.tenet_app.specs.Run.{Run, no_steps, asked, replied, after_open, opened, verdict_at, submit_for, sent, after_operation, after_script, after_ticks, run_of}
-use Rattle.tenet_app.specs.declared.scenario.plan.Link.{Link}
+use Rattle.link_steps.proofs.SourceHistory.{source-guarantee}
+use Rattle.tenet_app.specs.Establishment.{channel_at, reserve_for, relaxed_to, is_late, way_back, is_accepted}
+use Rattle.tenet_app.specs.Plans.{Said, rounds_of, tail_of, MayFollow, GoOn, IsScript, IsRequest}
+use Rattle.tenet_app.specs.Run.{Run, no_steps, asked, replied, after_open, opened, verdict_at, submit_for, sent, release_of, closed, after_operation, after_script, after_ticks, run_of}
 use Rattle.tenet_app.specs.declared.scenario.plan.Operation.{Operation}
 use Rattle.tenet_app.specs.declared.scenario.plan.Operation.TheVariants as operation
 use Rattle.tenet_app.specs.declared.scenario.plan.Request.{Request}
@@ -62,6 +63,13 @@ legal-send shape run send fits legal = go (is_accepted (verdict_at send.request 
   go true = legal-asked shape run.history (submit_for send) fits legal
   go false = legal
 
+legal-close : (shape : LinkShape) (run : Run) (request : ℕ) → IsLegal shape run.history → IsLegal shape (closed shape run request).history
+unfolding closed
+legal-close shape run request legal = go (is_accepted (verdict_at request run.verdicts)) where
+  go : (b : Bool) → IsLegal shape (if b then record run { history = asked shape run.history (release_of request) } else run).history
+  go true = legal-asked shape run.history (release_of request) tt legal
+  go false = legal
+
 -- an operation that may follow those done
 legal-operation : (shape : LinkShape) (run : Run) (done : List Operation) (next : Operation) → MayFollow done next → IsLegal shape run.history → IsLegal shape (after_operation shape run next).history
 unfolding opened
@@ -76,6 +84,7 @@ legal-operation shape run done (operation.Send send) may legal =
       size_least = may.size_least;
       size_most = may.size_most;
     }) legal
+legal-operation shape run done (operation.Close request) may legal = legal-close shape run request legal
 
 legal-script : (shape : LinkShape) (run : Run) (done script : List Operation) → GoOn done script → IsLegal shape run.history → IsLegal shape (after_script shape run script).history
 unfolding after_script
@@ -100,3 +109,7 @@ run-passes shape said script = held_rows-pass shape (run_of shape said).history 
 
 pub run-guaranteed : (shape : LinkShape) (said : Said) → IsScript said.script → HopGuarantee shape (run_of shape said).history
 run-guaranteed shape said script = hop-guarantee shape (run_of shape said).history (legal-run shape said script)
+
+-- and so each source that keeps its contract is served promptly
+pub run-serves : (shape : LinkShape) (said : Said) → IsScript said.script → SourceGuarantee shape (run_of shape said).history
+run-serves shape said script = source-guarantee shape (run_of shape said).history (legal-run shape said script)

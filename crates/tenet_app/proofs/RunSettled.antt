@@ -16,7 +16,7 @@ use Rattle.link_steps.specs.Refusals.{refused_or, first_refusal, unless, no_leve
 use Rattle.link_steps.specs.Replies.{reach_of, reserve_reply_at, reserve_reply, reply_at, reply_to}
 use Rattle.link_steps.specs.Reservation.{Reservation, tentative, admitted, is_of}
 use Rattle.link_steps.specs.Rows.{Row, new_row, row_terms}
-use Rattle.link_steps.specs.Scan.{Scan, clock_of, is_row_of, is_row_at_hop, relax_row, plan_row, after, scan_of}
+use Rattle.link_steps.specs.Scan.{Scan, clock_of, is_row_of, is_row_at_hop, names_first_hop, relax_row, plan_row, close_row, after, scan_of}
 use Rattle.link_steps.specs.Shape.{server_of}
 use Rattle.link_steps.specs.declared.asks.Ask.{Ask}
 use Rattle.link_steps.specs.declared.asks.Ask.TheVariants.{Reserve, Relax, Deny, Submit, Release, Arrive, Tick}
@@ -28,7 +28,7 @@ use Rattle.link_steps.specs.declared.shape.LinkShape.{LinkShape}
 use Rattle.link_steps.proofs.ListFacts.{Each-append, Each-change_first, Each-without_first, Each-if}
 use Rattle.tenet_app.specs.Establishment.{Settled, IsAccepted, IsTooLate, IsSettled, is_accepted, channel_at, reserve_for, delay_at, relaxed_to, is_late, way_back, at_destination, settled}
 use Rattle.tenet_app.specs.Plans.{Said, requests_in, MayFollow, GoOn, IsScript}
-use Rattle.tenet_app.specs.Run.{Run, no_steps, asked, replied, after_open, opened, verdict_at, submit_for, sent, after_operation, after_script, run_of}
+use Rattle.tenet_app.specs.Run.{Run, no_steps, asked, replied, after_open, opened, verdict_at, submit_for, sent, release_of, closed, after_operation, after_script, run_of}
 use Rattle.tenet_app.specs.declared.scenario.plan.Operation.{Operation}
 use Rattle.tenet_app.specs.declared.scenario.plan.Operation.TheVariants as operation
 use Rattle.tenet_app.specs.declared.scenario.plan.Request.{Request}
@@ -87,6 +87,7 @@ AsksBelow n (Reserve chan contract kind delay up_reach first next) = channel_num
 AsksBelow n (Relax chan level up_bound) = Unit {0}
 AsksBelow n (Deny chan) = Unit {0}
 AsksBelow n (Submit chan count gap size) = Unit {0}
+AsksBelow n (Release chan upstream) = Unit {0}
 AsksBelow n _ = ⊥
 
 after-below : (n : ℕ) (shape : LinkShape) (t : ℕ) (scan : Scan) (ask : Ask) (reply : Reply) → AsksBelow n ask → Each (IsBelow n) scan.rows → Each (IsBelow n) (after shape t scan ask reply).rows
@@ -100,7 +101,9 @@ after-below n shape t scan (Deny chan) Is.Denied setup below = Each-without_firs
 after-below n shape t scan (Deny chan) _ setup below = below
 after-below n shape t scan (Submit chan count gap size) (Is.Planned clock) setup below = Each-change_first (IsBelow n) (is_row_at_hop chan true) (plan_row t count gap size) scan.rows (λ row is. is) below
 after-below n shape t scan (Submit chan count gap size) _ setup below = below
-after-below n shape t scan (Release chan upstream) reply setup below = absurd setup
+after-below n shape t scan (Release chan upstream) (Is.Closing count cancelled) setup below =
+    Each-change_first (IsBelow n) (is_row_at_hop chan (names_first_hop upstream)) (close_row t count) scan.rows (λ row is. is) below
+after-below n shape t scan (Release chan upstream) _ setup below = below
 after-below n shape t scan (Arrive packet) reply setup below = absurd setup
 after-below n shape t scan Tick reply setup below = absurd setup
 
@@ -153,25 +156,30 @@ all-push [] last all is = (is, tt)
 all-push (verdict ∷ verdicts) last all is = (all.0, all-push verdicts last all.1 is)
 
 operation-settled : (shape : LinkShape) (run : Run) (next : Operation) → length run.verdicts < 1024 ⊎ (requests_in (next ∷ []) ≡ []) → AreSettled shape run → AreSettled shape (after_operation shape run next)
-unfolding opened sent
+unfolding opened sent closed
 operation-settled shape run (operation.Caller name) few so_far = so_far
 operation-settled shape run (operation.Open request) (inr none) so_far = cc
 operation-settled shape run (operation.Open request) (inl few) so_far = record {
   settled = all-push run.verdicts _ so_far.settled (open-settled (length run.verdicts) shape run.history request few so_far.below);
   below = (
-    let count = length-append run.verdicts (settled shape request (reply_to shape run.history (reserve_for (channel_at (length run.verdicts)) request)) ∷ []) in
-    let P : ℕ → Type 0 = λ n. AreBelow n shape (after_open shape run.history (channel_at (length run.verdicts)) request) in
-    subst P (sym count) (open-below (length run.verdicts) shape run.history request few so_far.below));
+      let count = length-append run.verdicts (settled shape request (reply_to shape run.history (reserve_for (channel_at (length run.verdicts)) request)) ∷ []) in
+      let P : ℕ → Type 0 = λ n. AreBelow n shape (after_open shape run.history (channel_at (length run.verdicts)) request) in
+      subst P (sym count) (open-below (length run.verdicts) shape run.history request few so_far.below));
 }
 operation-settled shape run (operation.Send send) few so_far = go (is_accepted (verdict_at send.request run.verdicts)) where
   go : (b : Bool) → AreSettled shape (if b then record run { history = asked shape run.history (submit_for send) } else run)
   go true = record { settled = so_far.settled; below = asked-below (length run.verdicts) shape run.history (submit_for send) tt so_far.below }
+  go false = so_far
+operation-settled shape run (operation.Close request) few so_far = go (is_accepted (verdict_at request run.verdicts)) where
+  go : (b : Bool) → AreSettled shape (if b then record run { history = asked shape run.history (release_of request) } else run)
+  go true = record { settled = so_far.settled; below = asked-below (length run.verdicts) shape run.history (release_of request) tt so_far.below }
   go false = so_far
 
 few-verdicts : (done : List Operation) (next : Operation) (n : ℕ) → MayFollow done next → n ≡ length (requests_in done) → n < 1024 ⊎ (requests_in (next ∷ []) ≡ [])
 few-verdicts done (operation.Caller name) n may count = inr refl
 few-verdicts done (operation.Open request) n may count = inl (omega (arith, may.few, count))
 few-verdicts done (operation.Send send) n may count = inr refl
+few-verdicts done (operation.Close request) n may count = inr refl
 
 script-settled : (shape : LinkShape) (run : Run) (done script : List Operation) → GoOn done script → length run.verdicts ≡ length (requests_in done) → AreSettled shape run
     → AreSettled shape (after_script shape run script)

@@ -4,7 +4,7 @@ use Rattle.std.proofs.lemmas.Bool.{not-false}
 use Rattle.tenet_app.specs.Causes.{Rule, unless, judged}
 use Rattle.tenet_app.specs.Decimal.{value_of}
 use Rattle.tenet_app.specs.Fields.{fields_of, are_fields, field_at}
-use Rattle.tenet_app.specs.Grammar.{is_header, link_of, link_rule, caller_rule, open_rule, request_of, send_rule, send_of, rounds_rule, tail_rule, may_stand, line_word, judge_as, judge_word, judge}
+use Rattle.tenet_app.specs.Grammar.{is_header, link_of, link_rule, caller_rule, open_rule, request_of, send_rule, send_of, close_rule, closed_by, rounds_rule, tail_rule, may_stand, line_word, judge_as, judge_word, judge}
 use Rattle.tenet_app.specs.Plans.{Said}
 use Rattle.tenet_app.specs.declared.scenario.cause.Cause.{Cause}
 use Rattle.tenet_app.specs.declared.scenario.cause.Cause.TheVariants as cause
@@ -28,6 +28,7 @@ Says said fields (item.Link link) = Passes said word.Link (link_rule said fields
 Says said fields (item.Script (operation.Caller name)) = Passes said word.Caller (caller_rule said fields) × (field_at fields 1 ≡ name)
 Says said fields (item.Script (operation.Open request)) = Passes said word.Open (open_rule said fields) × (request_of fields ≡ request)
 Says said fields (item.Script (operation.Send send)) = Passes said word.Send (send_rule said fields) × (send_of said fields ≡ send)
+Says said fields (item.Script (operation.Close request)) = Passes said word.Close (close_rule said fields) × (closed_by said fields ≡ request)
 Says said fields (item.Rounds count) = Passes said word.Rounds (rounds_rule fields) × (value_of (field_at fields 1) ≡ count)
 Says said fields (item.Tail count) = Passes said word.Tail (tail_rule said fields) × (value_of (field_at fields 1) ≡ count)
 
@@ -45,6 +46,9 @@ says_as word.Open said fields what h m e =
     subst (Says said fields) p.1 (record { headed = h; stands = m; rule = p.0 }, refl)
 says_as word.Send said fields what h m e =
     let p = judged_ok (send_rule said fields) (item.Script (operation.Send (send_of said fields))) what e in
+    subst (Says said fields) p.1 (record { headed = h; stands = m; rule = p.0 }, refl)
+says_as word.Close said fields what h m e =
+    let p = judged_ok (close_rule said fields) (item.Script (operation.Close (closed_by said fields))) what e in
     subst (Says said fields) p.1 (record { headed = h; stands = m; rule = p.0 }, refl)
 says_as word.Rounds said fields what h m e =
     let p = judged_ok (rounds_rule fields) (item.Rounds (value_of (field_at fields 1))) what e in

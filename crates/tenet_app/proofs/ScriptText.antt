@@ -1,11 +1,11 @@
--- The lines of a script: a send names a request opened before it, so its line stays the same whatever comes behind.
+-- The lines of a script: a send or a close names a request opened before it, so its line stays the same whatever comes behind.
 use Rattle.std.proofs.Common.{◌≡◌, ℕ, ◌+◌, ◌<◌, ◌≤◌, true, List, [], ◌∷◌, ◌++◌, length, map, All, refl, sym, ◌∙◌, ap, ap₂, subst, arith, append-nil, length-append}
 use Rattle.std.proofs.Math.ListN.{get_or-append}
 use Rattle.std.proofs.lemmas.List.{map-append, length-map}
 use Rattle.std.proofs.lemmas.List.Elements.{All-nil, All-cons, All-append}
 use Rattle.net_units.specs.Text.{is_name}
 use Rattle.tenet_app.specs.Grammar.{are_distinct}
-use Rattle.tenet_app.specs.PlanText.{send_fields, operation_fields}
+use Rattle.tenet_app.specs.PlanText.{send_fields, close_fields, operation_fields}
 use Rattle.tenet_app.specs.Plans.{requests_in, names_of, MayFollow, GoOn, IsScript}
 use Rattle.tenet_app.specs.declared.scenario.plan.Operation.{Operation}
 use Rattle.tenet_app.specs.declared.scenario.plan.Operation.TheVariants as operation
@@ -22,14 +22,19 @@ names-append xs ys = ap names_of (requests_in-append xs ys) ∙ map-append (λ (
 pub send_line-append : (names more : List (List ℕ)) (send : Send) → send.request < length names → send_fields (names ++ more) send ≡ send_fields names send
 send_line-append names more send within = rw (get_or-append names more [] send.request within) refl
 
--- the sends are on the first `count` requests
+-- and so does that of a close
+pub close_line-append : (names more : List (List ℕ)) (request : ℕ) → request < length names → close_fields (names ++ more) request ≡ close_fields names request
+close_line-append names more request within = rw (get_or-append names more [] request within) refl
+
+-- the sends and closes are of the first `count` requests
 abbrev AreWithin : ℕ → List Operation → Type 0
 AreWithin count [] = Unit {0}
 AreWithin count (operation.Caller name ∷ script) = AreWithin count script
 AreWithin count (operation.Open request ∷ script) = AreWithin count script
 AreWithin count (operation.Send send ∷ script) = (send.request < count) × AreWithin count script
+AreWithin count (operation.Close request ∷ script) = (request < count) × AreWithin count script
 
--- so are those of a script on its requests
+-- so are those of a script of its requests
 sends_within : (script done : List Operation) (count : ℕ) → GoOn done script → length (requests_in done) + length (requests_in script) ≤ count → AreWithin count script
 sends_within [] done count g few = tt
 sends_within (operation.Caller name ∷ script) done count g few =
@@ -41,6 +46,9 @@ sends_within (operation.Open request ∷ script) done count g few =
 sends_within (operation.Send send ∷ script) done count g few =
     let same = ap length (requests_in-append done (operation.Send send ∷ []) ∙ append-nil (requests_in done)) in
     (omega (arith, g.0.opened), sends_within script (done ++ operation.Send send ∷ []) count g.1 (omega arith))
+sends_within (operation.Close request ∷ script) done count g few =
+    let same = ap length (requests_in-append done (operation.Close request ∷ []) ∙ append-nil (requests_in done)) in
+    (omega (arith, g.0.opened), sends_within script (done ++ operation.Close request ∷ []) count g.1 (omega arith))
 
 -- with names behind them, the lines of a script stay
 lines-append : (link : List ℕ) (names more : List (List ℕ)) (script : List Operation) → AreWithin (length names) script
@@ -50,6 +58,8 @@ lines-append link names more (operation.Caller name ∷ script) w = ap (λ lines
 lines-append link names more (operation.Open request ∷ script) w = ap (λ lines. operation_fields link names (operation.Open request) ∷ lines) (lines-append link names more script w)
 lines-append link names more (operation.Send send ∷ script) w =
     ap₂ (λ line lines. line ∷ lines) (send_line-append names more send w.0) (lines-append link names more script w.1)
+lines-append link names more (operation.Close request ∷ script) w =
+    ap₂ (λ line lines. line ∷ lines) (close_line-append names more request w.0) (lines-append link names more script w.1)
 
 -- the line of an operation names requests opened before it
 line_before : (link : List ℕ) (names more : List (List ℕ)) (script : List Operation) (next : Operation) → MayFollow script next → names ≡ names_of (requests_in script)
@@ -58,6 +68,8 @@ line_before link names more script (operation.Caller name) may e = refl
 line_before link names more script (operation.Open request) may e = refl
 line_before link names more script (operation.Send send) may e =
     send_line-append names more send (omega (arith, may.opened, ap length e, length-map (requests_in script) (λ (r : Request). r.name)))
+line_before link names more script (operation.Close request) may e =
+    close_line-append names more request (omega (arith, may.opened, ap length e, length-map (requests_in script) (λ (r : Request). r.name)))
 
 -- the same, where these are the names of that script and more behind it
 pub line_of_next : (link : List ℕ) (script more : List Operation) (next : Operation) → MayFollow script next
@@ -106,4 +118,7 @@ named_push script (operation.Open request) n may =
     }
 named_push script (operation.Send send) n may =
     let same : names_of (requests_in (script ++ operation.Send send ∷ [])) ≡ names_of (requests_in script) = names-append script (operation.Send send ∷ []) ∙ append-nil (names_of (requests_in script)) in
+    record { apart = ap are_distinct same ∙ n.apart; named = subst (All (λ name. is_name name ≡ true)) (sym same) n.named }
+named_push script (operation.Close request) n may =
+    let same : names_of (requests_in (script ++ operation.Close request ∷ [])) ≡ names_of (requests_in script) = names-append script (operation.Close request ∷ []) ∙ append-nil (names_of (requests_in script)) in
     record { apart = ap are_distinct same ∙ n.apart; named = subst (All (λ name. is_name name ≡ true)) (sym same) n.named }

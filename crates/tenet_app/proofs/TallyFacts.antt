@@ -1,6 +1,6 @@
 -- What a history grows by is what the tallies grow by.
-use Rattle.std.proofs.Common.{◌≡◌, ℕ, zero, suc, ◌+◌, ◌-◌, ◌*◌, ◌^◌, ◌<◌, ◌≤◌, Bool, true, false, if◌then◌else◌, Option, Some, None, List, [], ◌∷◌, ◌++◌, length, map, get_or, set, replicate, refl, sym, ◌∙◌, ap, arith, eqb, ltb, zero-add, append_assoc, append-nil, length-append}
-use Rattle.std.specs.Prelude.{filter, nat_eq, nat_lt}
+use Rattle.std.proofs.Common.{◌≡◌, ℕ, zero, suc, ◌+◌, ◌-◌, ◌^◌, ◌<◌, ◌≤◌, Bool, true, false, if◌then◌else◌, Option, Some, None, List, [], ◌∷◌, ◌++◌, length, map, get_or, set, replicate, refl, sym, ◌∙◌, ap, arith, zero-add, append_assoc, append-nil, length-append}
+use Rattle.std.specs.Prelude.{filter, nat_eq}
 use Rattle.std.proofs.lemmas.Bool.{ne_eqb, eq-eqb, le-ltb, lt-ltb}
 use Rattle.std.proofs.lemmas.List.{map-append}
 use Rattle.std.proofs.lemmas.List.Elements.{filter-append}
@@ -16,8 +16,8 @@ use Rattle.link_steps.specs.declared.replies.Sent.{Sent}
 use Rattle.link_steps.specs.Rows.{SourcePacket, planned_from, made_by, is_before, tick_of}
 use Rattle.link_steps.specs.Scan.{clock_of, clock_with}
 use Rattle.link_steps.proofs.ListFacts.{Each-from, filter-map}
-use Rattle.tenet_app.specs.Channels.{is_number, planned_by, planned_in, offered_in, refused_by, refused_in, sent_by, delay_of, delays_in, least_of, worst_of, departures_by, departures_in, dropped_by, dropped_in}
-use Rattle.tenet_app.specs.Tallies.{tally_of, each_from, tallies_of, with_delay, with_refusal, change_at, with_packet, counted, AreFew, ticks_from, ticks_by, ticks_in, is_made, made_in, Tells}
+use Rattle.tenet_app.specs.Channels.{is_number, planned_after, planned_in, offered_in, refused_by, refused_in, sent_by, delay_of, delays_in, departures_by, departures_in, dropped_by, dropped_in}
+use Rattle.tenet_app.specs.Tallies.{tally_of, each_from, tallies_of, with_delay, with_refusal, change_at, with_packet, counted, AreFew, ticks_from, ticks_by, ticks_in, is_made, made_in, ticks_left, Tells}
 use Rattle.tenet_app.specs.declared.batch.Batch.{Batch}
 use Rattle.tenet_app.specs.declared.tallies.Tallies.{Tallies}
 use Rattle.tenet_app.specs.declared.tally.Tally.{Tally}
@@ -216,9 +216,13 @@ pub ticks_in-append : (number : ℕ) (xs ys : List Batch) → ticks_in number (x
 ticks_in-append number [] ys = refl
 ticks_in-append number (batch ∷ xs) ys = ap (λ ticks. ticks_by number batch ++ ticks) (ticks_in-append number xs ys) ∙ sym (append_assoc (ticks_by number batch) (ticks_in number xs) (ticks_in number ys))
 
+-- the ticks of planned packets that are below a clock are those of the packets
+made-planned : (clock : ℕ) (planned : List SourcePacket) → filter (is_made clock) (map tick_of planned) ≡ map tick_of (made_by clock planned)
+made-planned clock planned = filter-map tick_of (is_before clock) (is_made clock) planned (Each-from _ planned (λ p. refl))
+
 -- the ticks offered are those planned that are below the clock
 pub offered-made : (number : ℕ) (h : List Entry) → offered_in number h ≡ filter (is_made (clock_of h)) (map tick_of (planned_in number h))
-offered-made number h = sym (filter-map tick_of (is_before (clock_of h)) (is_made (clock_of h)) (planned_in number h) (Each-from _ (planned_in number h) (λ p. refl)))
+offered-made number h = sym (made-planned (clock_of h) (planned_in number h))
 
 -- the ticks from the clock on aren't made
 pub none-made : (clock u gap count : ℕ) → clock ≤ u → filter (is_made clock) (ticks_from u gap count) ≡ []
@@ -227,13 +231,22 @@ none-made clock u gap (suc count) late =
     let later : clock ≤ u + gap = omega arith in
     rw (le-ltb u clock late) (none-made clock (u + gap) gap count later)
 
--- the ticks of a batch are those of the packets that its submit plans
-pub batch-ticks : (number channel u gap size count : ℕ) (chan : ChanNo) → channel ≡ channel_number chan
-    → (if nat_eq channel number then ticks_from u gap count else []) ≡ map tick_of (planned_by number (Submit chan count gap size) (Is.Planned u))
-batch-ticks number channel u gap size count chan own = rw own (go (is_number number chan)) where
-  go : (b : Bool) → (if b then ticks_from u gap count else []) ≡ map tick_of (if b then planned_from u gap size count else [])
-  go true = sym (ticks-planned u gap size count)
-  go false = refl
+-- with a batch more, the ticks are those of the packets planned with those of its submit
+pub ticks-submitted : (number t channel u gap size count : ℕ) (chan : ChanNo) (ticks : List ℕ) (planned : List SourcePacket) → channel ≡ channel_number chan → ticks ≡ map tick_of planned
+    → ticks ++ (if nat_eq channel number then ticks_from u gap count else []) ≡ map tick_of (planned_after number t planned (Submit chan count gap size) (Is.Planned u))
+ticks-submitted number t channel u gap size count chan ticks planned own same = rw own (go (is_number number chan)) where
+  go : (b : Bool) → ticks ++ (if b then ticks_from u gap count else []) ≡ map tick_of (if b then planned ++ planned_from u gap size count else planned)
+  go true = ap (λ front. front ++ ticks_from u gap count) same ∙ ap (λ new. map tick_of planned ++ new) (sym (ticks-planned u gap size count)) ∙ sym (map-append tick_of planned (planned_from u gap size count))
+  go false = append-nil ticks ∙ same
+
+-- where a channel is released, the ticks left are those of the packets left
+pub ticks-released : (number clock channel count cancelled : ℕ) (upstream : Option ℕ) (chan : ChanNo) (ask : Ask) (reply : Reply) (ticks : List ℕ) (planned : List SourcePacket)
+    → ask ≡ Release chan upstream → reply ≡ Is.Closing count cancelled → channel ≡ channel_number chan → ticks ≡ map tick_of planned
+    → ticks_left channel clock number ticks ≡ map tick_of (planned_after number clock planned ask reply)
+ticks-released number clock channel count cancelled upstream chan ask reply ticks planned asks replies own same = rw (asks, replies, own) (go (is_number number chan)) where
+  go : (b : Bool) → (if b then filter (is_made clock) ticks else ticks) ≡ map tick_of (if b then made_by clock planned else planned)
+  go true = ap (filter (is_made clock)) same ∙ made-planned clock planned
+  go false = same
 
 -- ---- the whole
 
@@ -245,16 +258,17 @@ pub tells-sent : (h : List Entry) (tallies : Tallies) → Tells h tallies → ta
 tells-sent h tallies tells = omega (arith, tells.steps, tells.sent, departures-few h)
 
 -- with one more step the tallies are those of the history with that step
-pub tells-step : (h : List Entry) (ask : Ask) (reply : Reply) (old new : Tallies) → Tells h old
+pub tells-step : (h : List Entry) (clock : ℕ) (ask : Ask) (reply : Reply) (old new : Tallies) → Tells h old → clock ≡ clock_of h
     → new.steps ≡ old.steps + 1
     → new.sent ≡ old.sent + departures_by (sent_by reply)
     → new.dropped ≡ old.dropped + dropped_by reply
     → dropped_by reply < 2 ^ 32
     → new.channels.items ≡ counted ask reply old.channels.items
-    → ((number : ℕ) → ticks_in number new.batches.items ≡ ticks_in number old.batches.items ++ map tick_of (planned_by number ask reply))
+    → ((number : ℕ) (planned : List SourcePacket) → ticks_in number old.batches.items ≡ map tick_of planned
+    → ticks_in number new.batches.items ≡ map tick_of (planned_after number clock planned ask reply))
     → Tells (record { ask = ask; reply = reply } ∷ h) new
 unfolding departures_in dropped_in planned_in
-tells-step h ask reply old new tells steps sent dropped few channels planned =
+tells-step h clock ask reply old new tells time steps sent dropped few channels planned =
     let n = length old.channels.items in
     let all : new.channels.items ≡ tallies_of (length old.channels.items) (record { ask = ask; reply = reply } ∷ h) =
     channels ∙ ap (counted ask reply) tells.channels ∙ counted-tallies n h ask reply in
@@ -265,8 +279,8 @@ tells-step h ask reply old new tells steps sent dropped few channels planned =
       dropped = omega (arith, dropped, tells.dropped);
       few_dropped = omega (arith, steps, dropped, few, tells.few_dropped);
       channels = rw same all;
-      planned = λ number. planned number ∙ ap (λ ticks. ticks ++ map tick_of (planned_by number ask reply)) (tells.planned number)
-          ∙ sym (map-append tick_of (planned_in number h) (planned_by number ask reply));
+      planned = λ number. planned number (planned_in number h) (tells.planned number)
+          ∙ ap (λ t. map tick_of (planned_after number t (planned_in number h) ask reply)) time;
     }
 
 -- ---- the ticks of a batch, one after another

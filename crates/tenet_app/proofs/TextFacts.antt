@@ -11,8 +11,8 @@ use Rattle.tenet_app.specs.Decimal.{value_of}
 use Rattle.tenet_app.specs.Drafts.{AreLinks, IsDraft}
 use Rattle.tenet_app.specs.Fields.{fields_of, field_at, line_of}
 use Rattle.tenet_app.specs.Forms.{is_among, place_of, name_rule, used_name_rule}
-use Rattle.tenet_app.specs.Grammar.{judge, bound_fields, link_of, hops_of, route_fields, behind_route, request_of, send_of, are_distinct}
-use Rattle.tenet_app.specs.PlanText.{header_fields, link_fields, request_fields, send_fields, operation_fields, rounds_fields, tail_fields, plan_lines}
+use Rattle.tenet_app.specs.Grammar.{judge, bound_fields, link_of, hops_of, route_fields, behind_route, request_of, send_of, closed_by, are_distinct}
+use Rattle.tenet_app.specs.PlanText.{header_fields, link_fields, request_fields, send_fields, close_fields, operation_fields, rounds_fields, tail_fields, plan_lines}
 use Rattle.tenet_app.specs.Plans.{Said, with_item, first_own, own_names, own_place, link_names, callers_of, request_names, MayFollow, IsPlanOver}
 use Rattle.tenet_app.specs.declared.scenario.cause.Cause.TheVariants as cause
 use Rattle.tenet_app.specs.declared.scenario.form.Keyword.TheVariants as word
@@ -26,8 +26,8 @@ use Rattle.tenet_app.proofs.RuleFacts.{length-route}
 use Rattle.tenet_app.proofs.PassFacts.{RulesPass, all_pass, unless_passes, both_pass, not_said}
 use Rattle.tenet_app.proofs.SayFacts.{Says, says}
 use Rattle.tenet_app.proofs.DraftFacts.{some_links, operation_follows}
-use Rattle.tenet_app.proofs.FormText.{same_bytes, header_text, link_text, caller_text, send_text, rounds_text, tail_text, some_hops, open_text}
-use Rattle.tenet_app.proofs.LinePasses.{LinkPasses, link_passes, caller_passes, OpenPasses, open_passes, SendPasses, send_passes, rounds_passes, tail_passes}
+use Rattle.tenet_app.proofs.FormText.{same_bytes, header_text, link_text, caller_text, send_text, close_text, rounds_text, tail_text, some_hops, open_text}
+use Rattle.tenet_app.proofs.LinePasses.{LinkPasses, link_passes, caller_passes, OpenPasses, open_passes, SendPasses, send_passes, ClosePasses, close_passes, rounds_passes, tail_passes}
 use Rattle.tenet_app.proofs.NumberText.{decimal-value, decimals-values}
 use Rattle.tenet_app.proofs.PlaceFacts.{name_found}
 use Rattle.tenet_app.proofs.ScriptText.{script_lines-push}
@@ -112,6 +112,10 @@ send_line said fields p =
     let size = decimal-value (field_at fields 4) p.size.number in
     send_text fields p.form ∙ rw (name, count, gap, size) refl
 
+-- a close line is the line of its close
+close_line : (said : Said) (fields : List (List ℕ)) → ClosePasses said fields → fields ≡ close_fields (request_names said) (closed_by said fields)
+close_line said fields p = close_text fields p.form ∙ rw (own_name said (field_at fields 1) p.own) refl
+
 -- a caller behind which requests are stands behind a link
 over_one_link : (links : List Link) → AreLinks links → (links ≡ [] → ⊥) → map (λ link. link.name) links ≡ first_name links ∷ []
 over_one_link [] a some = absurd (some refl)
@@ -126,6 +130,8 @@ says_fields said fields (item.Script (operation.Caller name)) d s =
     caller_text fields (caller_passes said fields s.0.rule).form ∙ ap (λ n. codes "caller" ∷ n ∷ []) s.1
 says_fields said fields (item.Script (operation.Send send)) d s =
     send_line said fields (send_passes said fields s.0.rule) ∙ ap (send_fields (request_names said)) s.1
+says_fields said fields (item.Script (operation.Close request)) d s =
+    close_line said fields (close_passes said fields s.0.rule) ∙ ap (close_fields (request_names said)) s.1
 says_fields said fields (item.Script (operation.Open request)) d s =
     let may = and_parts (not (nat_eq (length (callers_of said)) 0)) (is_none said.rounds) s.0.stands in
     let links = over_one_link said.links d.links (some_links said d may.0) in

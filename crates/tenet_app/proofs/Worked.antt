@@ -156,6 +156,59 @@ refuses_a_packet_too_many : reading 200 (opened ++ codes "send r1 262144 1 1\nse
 unfolding reading judge
 refuses_a_packet_too_many = refl
 
+-- ---- closes
+
+-- a caller that sends on a request and closes it, and opens another
+abbrev closed_lines : List ℕ
+closed_lines = opened ++ codes "send r1 3 10 2\nclose r1\nopen r2 route A contract 5 10 20 2 delay 12 rate\n"
+
+reads_a_close : reading 400 (closed_lines ++ codes "rounds 0\ntail 0\n") ≡ IsRead (record plan {
+  script = operation.Caller (codes "k1") ∷ operation.Open request_1 ∷ operation.Send (record { request = 0; count = 3; gap = 10; size = 2 })
+      ∷ operation.Close 0 ∷ operation.Open (record request_1 { name = codes "r2" }) ∷ [];
+})
+unfolding reading judge
+reads_a_close = refl
+
+-- the other may still be closed
+reads_two_closes : reading 400 (closed_lines ++ codes "close r2\nrounds 0\ntail 0\n") ≡ IsRead (record plan {
+  script = operation.Caller (codes "k1") ∷ operation.Open request_1 ∷ operation.Send (record { request = 0; count = 3; gap = 10; size = 2 })
+      ∷ operation.Close 0 ∷ operation.Open (record request_1 { name = codes "r2" }) ∷ operation.Close 1 ∷ [];
+})
+unfolding reading judge
+reads_two_closes = refl
+
+refuses_a_close_before_a_caller : reading 200 (header_line ++ link_line ++ codes "close r1\n") ≡ IsBad 3 cause.Word
+unfolding reading judge
+refuses_a_close_before_a_caller = refl
+
+refuses_a_close_with_a_number : reading 200 (opened ++ codes "close r1 1\n") ≡ IsBad 5 cause.Shape
+unfolding reading judge
+refuses_a_close_with_a_number = refl
+
+refuses_a_close_of_no_name : reading 200 (opened ++ codes "close 1\n") ≡ IsBad 5 cause.Name
+unfolding reading judge
+refuses_a_close_of_no_name = refl
+
+refuses_a_close_of_anothers_request : reading 200 (opened ++ codes "caller k2\nclose r1\n") ≡ IsBad 6 cause.Unknown
+unfolding reading judge
+refuses_a_close_of_anothers_request = refl
+
+refuses_a_second_close : reading 400 (closed_lines ++ codes "close r1\n") ≡ IsBad 8 cause.Closed
+unfolding reading judge
+refuses_a_second_close = refl
+
+-- a send on a closed request, also one that plans too many packets
+refuses_a_send_on_a_closed_request : reading 400 (closed_lines ++ codes "send r1 262144 1 1\n") ≡ IsBad 8 cause.Closed
+unfolding reading judge
+refuses_a_send_on_a_closed_request = refl
+
+-- its fields are judged before that
+refuses_a_send_of_no_packets_on_a_closed_request : reading 400 (closed_lines ++ codes "send r1 0 1 1\n") ≡ IsBad 8 cause.Range
+unfolding reading judge
+refuses_a_send_of_no_packets_on_a_closed_request = refl
+
+-- ---- rounds
+
 -- a round more than there may be together
 refuses_a_round_too_many : reading 200 (header_line ++ link_line ++ codes "rounds 524288\ntail 1\n") ≡ IsBad 4 cause.Load
 unfolding reading judge
@@ -183,9 +236,9 @@ refuses_the_1025th_request = refl
 
 -- ---- what isn't built yet
 
-refuses_a_close : reading 200 (opened ++ codes "close r1\n") ≡ IsBad 5 cause.Later
+refuses_a_schedule : reading 300 (opened ++ codes "rounds 0\ntail 0\nschedule\n") ≡ IsBad 7 cause.Later
 unfolding reading judge
-refuses_a_close = refl
+refuses_a_schedule = refl
 
 refuses_an_empty_line : reading 200 (header_line ++ codes "\n") ≡ IsBad 2 cause.Shape
 unfolding reading judge

@@ -9,7 +9,7 @@ use Rattle.link_steps.specs.Buffer.{slots_of, need_of, kept_units, free_units, h
 use Rattle.link_steps.specs.Hold.{hold_ended}
 use Rattle.link_steps.specs.Lists.{change_first, without_first}
 use Rattle.link_steps.specs.Regulator.{eligible_next}
-use Rattle.link_steps.specs.Replies.{reserve_reply, relax_reply, deny_reply, submit_reply, sent_at, reply_at, reply_to}
+use Rattle.link_steps.specs.Replies.{reserve_reply, relax_reply, deny_reply, submit_reply, release_reply, sent_at, reply_at, reply_to}
 use Rattle.link_steps.specs.Rows.{planned_from}
 use Rattle.link_steps.specs.Scan.{clock_of, without_expired, with_sources, after_tick, after, scan_of}
 use Rattle.link_steps.specs.Service.{goes_before, first_in_line, is_waiting, serve_tick, starts_below, here_at}
@@ -19,7 +19,7 @@ use Rattle.link_steps.specs.declared.shape.LinkShape.{LinkShape}
 use Rattle.tenet_app.specs.Channels.{planned_in, offered_in, refused_in, delays_in, departures_in, dropped_in}
 use Rattle.tenet_app.specs.Establishment.{Settled, IsAccepted, HasNoLevel, HasNoBuffer, IsTooWide, IsTooLate, way_back, at_destination}
 use Rattle.tenet_app.specs.Plans.{Said}
-use Rattle.tenet_app.specs.Run.{Run, after_open, opened, sent, after_script, after_ticks, run_of}
+use Rattle.tenet_app.specs.Run.{Run, after_open, opened, sent, closed, after_script, after_ticks, run_of}
 use Rattle.tenet_app.specs.Shapes.{first_link}
 use Rattle.tenet_app.specs.declared.scenario.plan.Operation.{Operation}
 use Rattle.tenet_app.specs.declared.scenario.plan.Operation.TheVariants as operation
@@ -60,6 +60,10 @@ asks smax delay = operation.Open (record { name = codes "r"; contract = paced sm
 abbrev sends : ℕ → ℕ → ℕ → ℕ → Operation
 sends place count gap size = operation.Send (record { request = place; count = count; gap = gap; size = size })
 
+-- a close of the request at a place
+abbrev closes : ℕ → Operation
+closes place = operation.Close place
+
 -- a plan of these operations of one caller and so many ticks
 abbrev plan_of : List Operation → ℕ → Said
 plan_of script ticks = record { headed = true; links = []; script = operation.Caller (codes "k1") ∷ script; rounds = Some ticks; tail = Some 0 }
@@ -92,7 +96,7 @@ told_by run = record {
 
 -- the run, computed with all the rules
 run_by : LinkShape → Said → Run
-unfolding run_of after_script after_ticks opened sent after_open way_back at_destination reply_to reply_at reserve_reply relax_reply deny_reply submit_reply sent_at clock_of scan_of after after_tick change_first without_first without_expired with_sources hold_ended here_at starts_below serve_tick is_waiting first_in_line goes_before held_packets slots_of need_of kept_units free_units planned_from eligible_next step_of source_packets rows_after lost_in work_in work_up_to load passes_up_to passes admits first_level best_level most_in first_from eligible may_follow
+unfolding run_of after_script after_ticks opened sent closed after_open way_back at_destination reply_to reply_at reserve_reply relax_reply deny_reply submit_reply release_reply sent_at clock_of scan_of after after_tick change_first without_first without_expired with_sources hold_ended here_at starts_below serve_tick is_waiting first_in_line goes_before held_packets slots_of need_of kept_units free_units planned_from eligible_next step_of source_packets rows_after lost_in work_in work_up_to load passes_up_to passes admits first_level best_level most_in first_from eligible may_follow
 run_by shape said = run_of shape said
 
 run_by-is : (shape : LinkShape) (said : Said) → run_by shape said ≡ run_of shape said
@@ -163,3 +167,28 @@ denied_send : told_by (run_by shape_a (plan_of (asks 2 11 ∷ sends 0 3 10 2 ∷
 }
 unfolding run_by told_by
 denied_send = refl
+
+-- a close cancels all packets, since no tick was made
+closed_before_a_tick : told_by (run_by shape_a (plan_of (asks 2 12 ∷ sends 0 3 10 2 ∷ closes 0 ∷ []) 8)) ≡ record {
+  verdicts = IsAccepted 1 12 ∷ [];
+  offered = [];
+  kept = true;
+  delays = [];
+  refused = 0;
+  clock = 8;
+  departed = 0;
+  dropped = 0;
+  steps = 12;
+}
+unfolding run_by told_by
+closed_before_a_tick = refl
+
+-- the closed channel is in the test still, so that the next one is offered a larger level
+closed_channel_in_the_test : (run_by shape_a (plan_of (asks 2 12 ∷ closes 0 ∷ asks 2 12 ∷ []) 0)).verdicts ≡ IsAccepted 1 12 ∷ IsTooLate 22 12 ∷ []
+unfolding run_by
+closed_channel_in_the_test = refl
+
+-- a close of a denied request makes no step
+denied_close : (run_by shape_a (plan_of (asks 2 11 ∷ closes 0 ∷ []) 0)).history ≡ (run_by shape_a (plan_of (asks 2 11 ∷ []) 0)).history
+unfolding run_by
+denied_close = refl

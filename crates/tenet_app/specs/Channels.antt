@@ -1,33 +1,34 @@
 -- What a history of a link tells of its channels, each known by its number. A submit that was answered plans source
--- packets: one at the tick of the answer, and then one each gap. Those whose tick the link has made are what the
--- source has offered, packets included that found no slot and were dropped. A packet is delivered when it has left the
--- link; its delay is the ticks from its arrival at the link to its arrival at the destination. A send is refused where
--- its submit was.
-use Rattle.std.specs.Prelude.{ℕ, suc, ◌+◌, ◌-◌, Bool, nat_eq, if◌then◌else◌, min, max, Option, Some, None, List, [], ◌∷◌, ◌++◌, map}
+-- packets: one at the tick of the answer, and then one each gap. A release that was answered cancels those whose tick
+-- the link hadn't made yet. What is left of those whose tick it has made is what the source has offered, packets
+-- included that found no slot and were dropped. A packet is delivered when it has left the link; its delay is the ticks
+-- from its arrival at the link to its arrival at the destination. A send is refused where its submit was.
+use Rattle.std.specs.Prelude.{ℕ, ◌+◌, ◌-◌, Bool, nat_eq, if◌then◌else◌, min, max, Option, Some, None, List, [], ◌∷◌, ◌++◌, map}
 use Rattle.net_units.specs.Numbers.{channel_number}
 use Rattle.net_units.specs.declared.numbers.ChanNo.{ChanNo}
 use Rattle.link_steps.specs.Rows.{SourcePacket, planned_from, made_by, tick_of}
 use Rattle.link_steps.specs.Scan.{clock_of}
 use Rattle.link_steps.specs.declared.asks.Ask.{Ask}
-use Rattle.link_steps.specs.declared.asks.Ask.TheVariants.{Submit}
+use Rattle.link_steps.specs.declared.asks.Ask.TheVariants.{Submit, Release}
 use Rattle.link_steps.specs.declared.replies.Entry.{Entry}
 use Rattle.link_steps.specs.declared.replies.Reply.{Reply}
-use Rattle.link_steps.specs.declared.replies.Reply.TheVariants.{Planned, Ticked, Refused}
+use Rattle.link_steps.specs.declared.replies.Reply.TheVariants.{Planned, Closing, Ticked, Refused}
 use Rattle.link_steps.specs.declared.replies.Sent.{Sent}
 
 -- whether this is the channel's number
 abbrev pub is_number : ℕ → ChanNo → Bool
 is_number number chan = nat_eq (channel_number chan) number
 
--- the source packets of a channel that an entry plans, in order of time
-abbrev pub planned_by : ℕ → Ask → Reply → List SourcePacket
-planned_by number (Submit chan count gap size) (Planned tick) = if is_number number chan then planned_from tick gap size count else []
-planned_by number _ _ = []
+-- the source packets of a channel that are planned behind an entry, of those planned before it, where the clock was t
+abbrev pub planned_after : ℕ → ℕ → List SourcePacket → Ask → Reply → List SourcePacket
+planned_after number t planned (Submit chan count gap size) (Planned tick) = if is_number number chan then planned ++ planned_from tick gap size count else planned
+planned_after number t planned (Release chan upstream) (Closing count cancelled) = if is_number number chan then made_by t planned else planned
+planned_after number t planned _ _ = planned
 
--- all of them
+-- those planned behind a history, without the cancelled ones
 unfoldable pub planned_in : ℕ → List Entry → List SourcePacket
 planned_in number [] = []
-planned_in number (e ∷ past) = planned_in number past ++ planned_by number e.ask e.reply
+planned_in number (e ∷ past) = planned_after number (clock_of past) (planned_in number past) e.ask e.reply
 
 -- the ticks at which the channel's source has offered a packet, dropped ones included
 abbrev pub offered_in : ℕ → List Entry → List ℕ

@@ -1,7 +1,8 @@
 -- What was read of a scenario so far, where no line was refused. Its parts come in order: the header; a link; the
 -- script; `rounds`; and `tail`. Behind a part that wasn't read nothing was read, but that a scenario needs no script.
-use Rattle.std.specs.Prelude.{◌≡◌, ℕ, ◌≤◌, false, None, IfSome, List, [], ◌∷◌, length}
-use Rattle.tenet_app.specs.Plans.{Said, callers_in, requests_in, load_in, first_own, rounds_of, IsLink, IsScript, AreRounds}
+use Rattle.std.specs.Prelude.{◌≡◌, ℕ, ◌≤◌, Bool, false, None, IfSome, List, [], ◌∷◌, length}
+use Rattle.std.specs.List.{slice_index_or}
+use Rattle.tenet_app.specs.Plans.{Said, callers_in, requests_in, load_in, is_closed, first_own, rounds_of, IsLink, IsScript, AreRounds}
 use Rattle.tenet_app.specs.declared.scenario.plan.Link.{Link}
 use Rattle.tenet_app.specs.declared.scenario.plan.Request.{Request}
 use Rattle.tenet_app.specs.declared.scenario.plan.Operation.{Operation}
@@ -24,9 +25,11 @@ pub record IsDraft (said : Said) : Type 0 where
   pub tail_behind : said.rounds ≡ None → said.tail ≡ None
 
 -- what is kept of a script beside its operations, so that none of it is looked for again
-pub record IsKeptOf (script : List Operation) (callers : List (List ℕ)) (requests : List Request) (first load : ℕ) : Type 0 where
+pub record IsKeptOf (script : List Operation) (callers : List (List ℕ)) (requests : List Request) (closed : List Bool) (first load : ℕ) : Type 0 where
   pub same_callers : callers ≡ callers_in script
   pub same_requests : requests ≡ requests_in script
+  pub all_closed : length closed ≡ length requests
+  pub same_closed : (place : ℕ) → slice_index_or closed place false ≡ is_closed script place
   pub same_first : first ≡ first_own script
   pub same_load : load ≡ load_in script
   pub first_within : first ≤ length requests

@@ -1,7 +1,7 @@
 -- The lines of a scenario, in their order: the header; the links; the callers, each followed by its operations, which
--- open requests and send on them; `rounds`; and `tail`. Each kind of line has a form, a list of rules in the order in
--- which they are judged, and what it says. The rules behind the others, by the cause `later`, refuse what a network
--- will be able to do and this program can't yet: more than one link, delay-jitter control, closing, and schedules.
+-- open requests, send on them and close them; `rounds`; and `tail`. Each kind of line has a form, a list of rules in
+-- the order in which they are judged, and what it says. The rules behind the others, by the cause `later`, refuse what
+-- a network will be able to do and this program can't yet: more than one link, delay-jitter control, and schedules.
 use Rattle.std.specs.Prelude.{ℕ, ◌+◌, ◌*◌, Bool, true, false, nat_eq, nat_lt, nat_le, not, ◌&&◌, ◌||◌, if◌then◌else◌, Option, Some, None, Result, Err, List, [], ◌∷◌, length, map, take, drop, codes, is_some, is_none}
 use Rattle.std.specs.Cmp.Lexicographic.{pointwise}
 use Rattle.net_units.specs.Quotient.{ceil_quotient}
@@ -12,7 +12,7 @@ use Rattle.tenet_app.specs.Causes.{Rule, unless, first_cause, judged}
 use Rattle.tenet_app.specs.Decimal.{value_of}
 use Rattle.tenet_app.specs.Fields.{fields_of, are_fields, field_at}
 use Rattle.tenet_app.specs.Forms.{is_word, route_length, has_form, name_rule, new_name_rule, used_name_rule, is_among, number_rule}
-use Rattle.tenet_app.specs.Plans.{Said, load_in, own_place, link_names, callers_of, requests_of, request_names, own_names, rounds_of}
+use Rattle.tenet_app.specs.Plans.{Said, load_in, is_closed, own_place, link_names, callers_of, requests_of, request_names, own_names, rounds_of}
 use Rattle.tenet_app.specs.declared.scenario.cause.Cause.{Cause}
 use Rattle.tenet_app.specs.declared.scenario.cause.Cause.TheVariants as cause
 use Rattle.tenet_app.specs.declared.scenario.form.Keyword.{Keyword}
@@ -188,6 +188,10 @@ open_rule said fields = first_cause (
     ∷ open_limits_rule said fields
     ∷ [])
 
+-- the request of this name wasn't closed above
+abbrev pub not_closed_rule : Said → List ℕ → Rule
+not_closed_rule said name = unless (not (is_closed said.script (own_place said.script name))) cause.Closed
+
 -- send NAME COUNT GAP SIZE
 abbrev pub send_form : List Part
 send_form = part.Word word.Send ∷ part.Field ∷ part.Field ∷ part.Field ∷ part.Field ∷ []
@@ -214,7 +218,23 @@ abbrev pub send_rule : Said → List (List ℕ) → Rule
 send_rule said fields = first_cause (
     unless (has_form send_form fields) cause.Shape
     ∷ send_fields_rule said fields
+    ∷ not_closed_rule said (field_at fields 1)
     ∷ unless (nat_le (load_in said.script + value_of (field_at fields 2)) 262144) cause.Load
+    ∷ [])
+
+-- close NAME
+abbrev pub close_form : List Part
+close_form = part.Word word.Close ∷ part.Field ∷ []
+
+-- the place of the request that these fields close
+abbrev pub closed_by : Said → List (List ℕ) → ℕ
+closed_by said fields = own_place said.script (field_at fields 1)
+
+abbrev pub close_rule : Said → List (List ℕ) → Rule
+close_rule said fields = first_cause (
+    unless (has_form close_form fields) cause.Shape
+    ∷ used_name_rule (own_names said.script) (field_at fields 1)
+    ∷ not_closed_rule said (field_at fields 1)
     ∷ [])
 
 -- rounds R
@@ -272,6 +292,7 @@ judge_as word.Link said fields = judged (link_rule said fields) (item.Link (link
 judge_as word.Caller said fields = judged (caller_rule said fields) (item.Script (operation.Caller (field_at fields 1)))
 judge_as word.Open said fields = judged (open_rule said fields) (item.Script (operation.Open (request_of fields)))
 judge_as word.Send said fields = judged (send_rule said fields) (item.Script (operation.Send (send_of said fields)))
+judge_as word.Close said fields = judged (close_rule said fields) (item.Script (operation.Close (closed_by said fields)))
 judge_as word.Rounds said fields = judged (rounds_rule fields) (item.Rounds (value_of (field_at fields 1)))
 judge_as word.Tail said fields = judged (tail_rule said fields) (item.Tail (value_of (field_at fields 1)))
 judge_as other said fields = Err cause.Later

@@ -31,11 +31,16 @@ request_fields link request = codes "open" ∷ request.name ∷ codes "route" �
 abbrev pub send_fields : List (List ℕ) → Send → List (List ℕ)
 send_fields names send = codes "send" ∷ field_at names send.request ∷ decimal send.count ∷ decimal send.gap ∷ decimal send.size ∷ []
 
+-- a close, where requests have these names
+abbrev pub close_fields : List (List ℕ) → ℕ → List (List ℕ)
+close_fields names request = codes "close" ∷ field_at names request ∷ []
+
 -- a line of the script, over the link of this name, where requests have these names
 abbrev pub operation_fields : List ℕ → List (List ℕ) → Operation → List (List ℕ)
 operation_fields link names (operation.Caller name) = caller_fields name
 operation_fields link names (operation.Open request) = request_fields link request
 operation_fields link names (operation.Send send) = send_fields names send
+operation_fields link names (operation.Close request) = close_fields names request
 
 abbrev pub rounds_fields : ℕ → List (List ℕ)
 rounds_fields count = codes "rounds" ∷ decimal count ∷ []

@@ -2,7 +2,8 @@
 -- it the caller's operations, in the order of their lines; and the numbers of rounds, once they were said. When `tail`
 -- was said, this is the plan. A request's place among all requests, from 0 in the order of their lines, is the number
 -- of its channel.
-use Rattle.std.specs.Prelude.{◌≡◌, ℕ, suc, ◌+◌, ◌*◌, ◌<◌, ◌≤◌, Bool, true, false, Option, Some, None, List, [], ◌∷◌, ◌++◌, length, map, drop, is_some, unwrap_or}
+use Rattle.std.specs.Prelude.{◌≡◌, ℕ, suc, ◌+◌, ◌*◌, ◌<◌, ◌≤◌, Bool, true, false, Option, Some, None, List, [], ◌∷◌, ◌++◌, length, map, drop, nat_eq, is_some, unwrap_or}
+use Rattle.std.specs.List.{list_any}
 use Rattle.net_units.specs.Quotient.{ceil_quotient}
 use Rattle.net_units.specs.Steps.{are_bounds, bound_at}
 use Rattle.net_units.specs.Text.{is_name}
@@ -43,6 +44,7 @@ callers_in [] = []
 callers_in (operation.Caller name ∷ script) = name ∷ callers_in script
 callers_in (operation.Open request ∷ script) = callers_in script
 callers_in (operation.Send send ∷ script) = callers_in script
+callers_in (operation.Close request ∷ script) = callers_in script
 
 -- the requests of all callers
 abbrev pub requests_in : List Operation → List Request
@@ -50,6 +52,7 @@ requests_in [] = []
 requests_in (operation.Caller name ∷ script) = requests_in script
 requests_in (operation.Open request ∷ script) = request ∷ requests_in script
 requests_in (operation.Send send ∷ script) = requests_in script
+requests_in (operation.Close request ∷ script) = requests_in script
 
 -- the load of the sends: how many packets they plan, each of which crosses one link
 abbrev pub load_in : List Operation → ℕ
@@ -57,6 +60,19 @@ load_in [] = 0
 load_in (operation.Caller name ∷ script) = load_in script
 load_in (operation.Open request ∷ script) = load_in script
 load_in (operation.Send send ∷ script) = send.count + load_in script
+load_in (operation.Close request ∷ script) = load_in script
+
+-- the places of the requests that were closed
+abbrev pub closed_in : List Operation → List ℕ
+closed_in [] = []
+closed_in (operation.Caller name ∷ script) = closed_in script
+closed_in (operation.Open request ∷ script) = closed_in script
+closed_in (operation.Send send ∷ script) = closed_in script
+closed_in (operation.Close request ∷ script) = request ∷ closed_in script
+
+-- whether the request at this place was
+abbrev pub is_closed : List Operation → ℕ → Bool
+is_closed script place = list_any (nat_eq place) (closed_in script)
 
 -- how many requests were opened before the last caller, where `opened` requests stand in front of the script, and
 -- `before` of them before the caller there
@@ -65,6 +81,7 @@ opened_before before opened [] = before
 opened_before before opened (operation.Caller name ∷ script) = opened_before opened opened script
 opened_before before opened (operation.Open request ∷ script) = opened_before before (suc opened) script
 opened_before before opened (operation.Send send ∷ script) = opened_before before opened script
+opened_before before opened (operation.Close request ∷ script) = opened_before before opened script
 
 -- the place of the first request of the last caller, or that of the next request where it has none yet
 abbrev pub first_own : List Operation → ℕ
@@ -81,11 +98,12 @@ own_names script = drop (first_own script) (names_of (requests_in script))
 abbrev pub own_place : List Operation → List ℕ → ℕ
 own_place script name = first_own script + place_of (own_names script) name
 
--- within the limits, there is room for an operation behind a script
+-- within the limits, there is room for an operation behind a script; a close is of one of its requests
 abbrev pub HasRoom : List Operation → Operation → Type 0
 HasRoom script (operation.Caller name) = Unit {0}
 HasRoom script (operation.Open request) = length (requests_in script) < 1024
 HasRoom script (operation.Send send) = load_in script + send.count ≤ 262144
+HasRoom script (operation.Close request) = request < length (requests_in script)
 
 -- ---- the same of what was read
 
@@ -155,8 +173,8 @@ pub record IsOpenAfter (done : List Operation) (request : Request) : Type 0 wher
   pub new : is_among (names_of (requests_in done)) request.name ≡ false
   pub few : length (requests_in done) < 1024
 
--- a caller may send behind these operations: on a request that it has opened itself, with numbers in range, and all
--- sends with this one plan at most 262,144 packets
+-- a caller may send behind these operations: on a request that it has opened itself and not closed, with numbers in
+-- range, and all sends with this one plan at most 262,144 packets
 pub record IsSendAfter (done : List Operation) (send : Send) : Type 0 where
   pub caller : 1 ≤ length (callers_in done)
   pub own : first_own done ≤ send.request
@@ -167,12 +185,21 @@ pub record IsSendAfter (done : List Operation) (send : Send) : Type 0 where
   pub gap_most : send.gap ≤ 1048576
   pub size_least : 1 ≤ send.size
   pub size_most : send.size ≤ 65536
+  pub not_closed : is_closed done send.request ≡ false
   pub load : load_in done + send.count ≤ 262144
+
+-- a caller may close a request behind these operations: one that it has opened itself and not closed
+pub record IsCloseAfter (done : List Operation) (request : ℕ) : Type 0 where
+  pub caller : 1 ≤ length (callers_in done)
+  pub own : first_own done ≤ request
+  pub opened : request < length (requests_in done)
+  pub not_closed : is_closed done request ≡ false
 
 abbrev pub MayFollow : List Operation → Operation → Type 0
 MayFollow done (operation.Caller name) = IsCallerAfter done name
 MayFollow done (operation.Open request) = IsOpenAfter done request
 MayFollow done (operation.Send send) = IsSendAfter done send
+MayFollow done (operation.Close request) = IsCloseAfter done request
 
 -- each operation may follow those before it, which begin with those done
 abbrev pub GoOn : List Operation → List Operation → Type 0

@@ -10,6 +10,7 @@ use Rattle.std.specs.Io.KnownBytes.{Appends, Keeps, IsAtEnd}
 use Rattle.byte_ends.specs.Faults.{Rises}
 use Rattle.byte_ends.specs.Writing.{WritesFront}
 use Rattle.link_steps.specs.HopGuarantee.{AfterEach, HeldRowsPass, HopGuarantee}
+use Rattle.link_steps.specs.SourceGuarantee.{SourceGuarantee}
 use Rattle.link_steps.specs.declared.shape.LinkShape.{LinkShape}
 use Rattle.tenet_app.specs.Establishment.{IsSettled}
 use Rattle.tenet_app.specs.Fields.{ended_line}
@@ -62,8 +63,9 @@ abbrev pub ComesTo : Option (List ℕ) → (Reading → Type 0) → Type 0
 ComesTo left P = IfSome left (λ bytes. P (reading MOST_BYTES bytes))
 
 -- the scenario was read to its end and the report of its plan's run was written; in the run each request is settled;
--- after every step the rows that the link holds pass the admission test; and each packet leaves the link within the
--- bound of its level
+-- after every step the rows that the link holds pass the admission test; each packet leaves the link within the bound
+-- of its level of its eligible tick; and a source that keeps its contract loses none, and each of its packets leaves
+-- within that bound of its arrival
 pub record PlaysDone (before after : Ends) : Type 0 where
   pub said : Said
   pub plan : IsPlan said
@@ -76,6 +78,7 @@ pub record PlaysDone (before after : Ends) : Type 0 where
   pub settled : AllByRecursion IsSettled (run_of shape said).verdicts
   pub passes : AfterEach (HeldRowsPass shape) (run_of shape said).history
   pub in_time : HopGuarantee shape (run_of shape said).history
+  pub sources : SourceGuarantee shape (run_of shape said).history
 
 -- the line is refused, and one line that tells it was written
 pub record PlaysRefused (line : ℕ) (told : Cause) (before after : Ends) : Type 0 where

@@ -1,14 +1,14 @@
 -- A run of a script over one link. The callers make their operations in the order of their lines, and then the link
 -- makes its ticks. A run is one history of the link, newest first: each step is an ask with the reply that the link's
 -- rules give at that point. An open asks a reserve, and behind an offer a relax, or a deny where the destination
--- refuses. A send asks one submit where its request was accepted, and makes no step where it was denied. The line of a
--- caller makes none.
-use Rattle.std.specs.Prelude.{ℕ, zero, suc, ◌+◌, if◌then◌else◌, List, [], ◌∷◌, ◌++◌, length}
+-- refuses. A send asks one submit where its request was accepted, and a close one release; where it was denied they
+-- make no step. The line of a caller makes none.
+use Rattle.std.specs.Prelude.{ℕ, zero, suc, ◌+◌, if◌then◌else◌, None, List, [], ◌∷◌, ◌++◌, length}
 use Rattle.std.specs.List.{slice_index_or}
 use Rattle.net_units.specs.declared.numbers.ChanNo.{ChanNo}
 use Rattle.link_steps.specs.Replies.{reply_to}
 use Rattle.link_steps.specs.declared.asks.Ask.{Ask}
-use Rattle.link_steps.specs.declared.asks.Ask.TheVariants.{Submit, Tick}
+use Rattle.link_steps.specs.declared.asks.Ask.TheVariants.{Submit, Release, Tick}
 use Rattle.link_steps.specs.declared.replies.Entry.{Entry}
 use Rattle.link_steps.specs.declared.replies.Reply.{Reply}
 use Rattle.link_steps.specs.declared.replies.Reply.TheVariants.{Offer}
@@ -60,11 +60,19 @@ submit_for send = Submit (channel_at send.request) send.count send.gap send.size
 unfoldable pub sent : LinkShape → Run → Send → Run
 sent shape run send = if is_accepted (verdict_at send.request run.verdicts) then record run { history = asked shape run.history (submit_for send) } else run
 
+-- the release of a close: the link is the channel's first hop, which is told no count
+abbrev pub release_of : ℕ → Ask
+release_of request = Release (channel_at request) None
+
+unfoldable pub closed : LinkShape → Run → ℕ → Run
+closed shape run request = if is_accepted (verdict_at request run.verdicts) then record run { history = asked shape run.history (release_of request) } else run
+
 -- one operation
 abbrev pub after_operation : LinkShape → Run → Operation → Run
 after_operation shape run (operation.Caller name) = run
 after_operation shape run (operation.Open request) = opened shape run request
 after_operation shape run (operation.Send send) = sent shape run send
+after_operation shape run (operation.Close request) = closed shape run request
 
 -- the operations of a script in order
 unfoldable pub after_script : LinkShape → Run → List Operation → Run

@@ -1,6 +1,6 @@
 -- What a player keeps of a run: its link, which stands for the history so far, the number of steps, what the link line
 -- of the report tells, and a tally for each channel, of its sends and of its delays. What a submit plans is kept as a
--- batch, from which the ticks of its packets follow.
+-- batch, from which the ticks of its packets follow. A release cuts the batches of its channel at the link's clock.
 use Rattle.std.specs.Prelude.{◌≡◌, ℕ, zero, suc, ◌+◌, ◌-◌, ◌*◌, ◌^◌, ◌<◌, ◌≤◌, Bool, nat_eq, nat_lt, if◌then◌else◌, Option, Some, None, List, [], ◌∷◌, ◌++◌, length, map, filter}
 use Rattle.net_units.specs.Numbers.{channel_number}
 use Rattle.link_server.specs.State.{Stands}
@@ -100,6 +100,10 @@ is_made clock tick = nat_lt tick clock
 abbrev pub made_in : ℕ → ℕ → List Batch → List ℕ
 made_in clock number batches = filter (is_made clock) (ticks_in number batches)
 
+-- the ticks of a channel that stay planned where this channel, or another, is released at a clock
+abbrev pub ticks_left : ℕ → ℕ → ℕ → List ℕ → List ℕ
+ticks_left released clock number ticks = if nat_eq released number then filter (is_made clock) ticks else ticks
+
 -- a submit's gap is within its limit
 abbrev pub HasGap : Ask → Type 0
 HasGap (Submit chan count gap size) = gap ≤ 1048576
@@ -114,6 +118,7 @@ abbrev pub MayOperate : ℕ → Operation → Type 0
 MayOperate opens (operation.Caller name) = Unit {0}
 MayOperate opens (operation.Open request) = opens < 1024
 MayOperate opens (operation.Send send) = MaySend send
+MayOperate opens (operation.Close request) = request < 1024
 
 -- ---- the whole
 

@@ -3,6 +3,7 @@ ghost use Rattle.std.specs.Prelude.{◌≡◌, Some};
 ghost use Rattle.std.specs.List.{AllByRecursion};
 ghost use Rattle.link_steps.specs.HopGuarantee.{AfterEach, HeldRowsPass, HopGuarantee};
 ghost use Rattle.link_steps.specs.Shape.{IsShapeOf};
+ghost use Rattle.link_steps.specs.SourceGuarantee.{SourceGuarantee};
 ghost use Rattle.link_steps.specs.declared.shape.LinkShape.{LinkShape};
 ghost use Rattle.tenet_app.specs.Establishment.{IsSettled};
 ghost use Rattle.tenet_app.specs.Plans.{Said, IsLink, IsScript};
@@ -32,4 +33,10 @@ pub fn every_step_passes()
 /// that tick.
 pub fn every_packet_leaves_in_time()
     ensures { (shape : LinkShape) (said : Said) → IsScript said.script → HopGuarantee shape (run_of shape said).history }
+{}
+
+/// In every such run a source that keeps its contract loses no packet, and each of its packets leaves the link within
+/// the bound of its level of its arrival.
+pub fn every_source_that_keeps_its_contract_is_served()
+    ensures { (shape : LinkShape) (said : Said) → IsScript said.script → SourceGuarantee shape (run_of shape said).history }
 {}

@@ -45,8 +45,9 @@ impl Player {
         ensures reply { IfOk result (λ reply. (h : List Entry) → IsAt h self.old → reply ≡ reply_to self.old.link.shape h ask.now) }
         ensures at { OnOk result ((h : List Entry) → IsAt h self.old → IsAt (asked self.old.link.shape h ask.now) self.new) }
     {
+        let clock = self.link.clock();
         let reply = self.link.step(ask)?;
-        self.tallies.add(ask, &reply)?;
+        self.tallies.add(clock, ask, &reply)?;
         Ok(reply)
     }
 

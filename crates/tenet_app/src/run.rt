@@ -3,7 +3,7 @@ ghost use Rattle.std.specs.Prelude.{◌≡◌, ℕ, ◌+◌, ◌*◌, ◌<◌, �
 ghost use Rattle.net_units.specs.Numbers.{channel_number};
 ghost use Rattle.tenet_app.specs.Establishment.{channel_at, is_accepted, verdict_of};
 ghost use Rattle.tenet_app.specs.Plans.{IsScript, requests_in};
-ghost use Rattle.tenet_app.specs.Run.{Run, no_steps, after_operation, after_script, after_ticks, verdict_at, asked, submit_for};
+ghost use Rattle.tenet_app.specs.Run.{Run, no_steps, after_operation, after_script, after_ticks, verdict_at, asked, submit_for, release_of};
 ghost use Rattle.tenet_app.specs.Tallies.{IsAt, IsAfter, SameLink, MaySend, MayOperate};
 ghost use Rattle.link_steps.specs.declared.replies.Entry.{Entry};
 
@@ -93,6 +93,12 @@ fn operate(
             }
             Ok(())
         }
+        Operation::Close { request } => {
+            if is_established(verdicts, *request) {
+                release(player, *request)?;
+            }
+            Ok(())
+        }
     }
 }
 
@@ -121,6 +127,23 @@ fn submit(player: &mut Player, send: &Send) -> Result<(), OutOfMemory>
         gap: send.gap,
         size: send.size,
     })?;
+    Ok(())
+}
+
+// Releases the channel of the request at this place.
+fn release(player: &mut Player, request: u32) -> Result<(), OutOfMemory>
+    requires at { (h : List Entry) × IsAt h player.old }
+    requires few { player.old.tallies.steps < 2 ^ 31 }
+    requires opened { request < 1024 }
+    ensures same { OnOk result (SameLink player.old player.new) }
+    ensures steps { OnOk result (player.new.tallies.steps ≡ player.old.tallies.steps + 1) }
+    ensures at { OnOk result ((h : List Entry) → IsAt h player.old → IsAt (asked player.old.link.shape h (release_of request)) player.new) }
+{
+    let release = Ask::Release {
+        chan: channel_at(request),
+        upstream: None,
+    };
+    player.ask(&release)?;
     Ok(())
 }
 

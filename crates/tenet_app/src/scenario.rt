@@ -1,5 +1,6 @@
 //! Reading a scenario: from bytes to a plan.
 pub mod cause;
+mod close_line;
 pub mod draft;
 pub mod fields;
 pub mod form;

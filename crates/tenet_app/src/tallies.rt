@@ -1,10 +1,11 @@
 //! What a run tells of its link and its channels.
 ghost use Rattle.std.specs.Prelude.{◌≡◌, ℕ, ◌+◌, ◌^◌, ◌<◌, ◌≤◌, [], ◌∷◌, ◌++◌, List, filter, map, length, IfOk, OnOk};
 ghost use Rattle.net_units.specs.Numbers.{channel_number};
-ghost use Rattle.link_steps.specs.Rows.{tick_of};
+ghost use Rattle.link_steps.specs.Rows.{SourcePacket, tick_of};
+ghost use Rattle.link_steps.specs.Scan.{clock_of};
 ghost use Rattle.link_steps.specs.declared.replies.Entry.{Entry};
-ghost use Rattle.tenet_app.specs.Channels.{planned_by, sent_by, departures_by, dropped_by};
-ghost use Rattle.tenet_app.specs.Tallies.{Tells, HasGap, AreFew, change_at, with_refusal, with_packet, counted, is_made, made_in, ticks_from, ticks_in};
+ghost use Rattle.tenet_app.specs.Channels.{planned_after, sent_by, departures_by, dropped_by};
+ghost use Rattle.tenet_app.specs.Tallies.{Tells, HasGap, AreFew, change_at, with_refusal, with_packet, counted, is_made, made_in, ticks_from, ticks_in, ticks_left};
 
 use crate::batch::Batch;
 use crate::tally::Tally;
@@ -23,7 +24,7 @@ pub struct Tallies {
     pub dropped: u64,
     /// The tallies of the channels, by their numbers.
     pub channels: Vec<Tally>,
-    /// What the submits have planned, in their order.
+    /// What the submits have planned and no release has cancelled, in their order.
     pub batches: Vec<Batch>,
 }
 
@@ -42,16 +43,17 @@ impl Tallies {
         })
     }
 
-    /// Adds a step: an ask and its reply.
-    pub fn add(&mut self, ask: &Ask, reply: &Reply) -> Result<(), OutOfMemory>
+    /// Adds a step at this clock: an ask and its reply.
+    pub fn add(&mut self, clock: u64, ask: &Ask, reply: &Reply) -> Result<(), OutOfMemory>
         requires tells { (h : List Entry) × Tells h self.old }
         requires few { self.old.steps < 2 ^ 31 }
+        requires early { clock < 2 ^ 63 }
         requires gap { HasGap ask.now }
-        ensures tells { OnOk result ((h : List Entry) → Tells h self.old → Tells (record { ask = ask.now; reply = reply.now } ∷ h) self.new) }
+        ensures tells { OnOk result ((h : List Entry) → Tells h self.old → clock ≡ clock_of h → Tells (record { ask = ask.now; reply = reply.now } ∷ h) self.new) }
         ensures steps { OnOk result (self.new.steps ≡ self.old.steps + 1) }
         ensures channels { OnOk result (length self.new.channels.items ≡ length self.old.channels.items) }
     {
-        plan(&mut self.batches, ask, reply)?;
+        plan(&mut self.batches, clock, ask, reply)?;
         count(&mut self.channels, ask, reply);
         self.steps += 1;
         self.sent += departures(reply);
@@ -74,10 +76,12 @@ impl Tallies {
     }
 }
 
-// Adds what a step plans.
-fn plan(batches: &mut Vec<Batch>, ask: &Ask, reply: &Reply) -> Result<(), OutOfMemory>
-    requires { HasGap ask.now }
-    ensures { OnOk result ((number : ℕ) → ticks_in number batches.new.items ≡ ticks_in number batches.old.items ++ map tick_of (planned_by number ask.now reply.now)) }
+// Adds what a step at this clock plans, and takes out what it cancels.
+fn plan(batches: &mut Vec<Batch>, clock: u64, ask: &Ask, reply: &Reply) -> Result<(), OutOfMemory>
+    requires early { clock < 2 ^ 63 }
+    requires gap { HasGap ask.now }
+    ensures { OnOk result ((number : ℕ) (planned : List SourcePacket) → ticks_in number batches.old.items ≡ map tick_of planned
+        → ticks_in number batches.new.items ≡ map tick_of (planned_after number clock planned ask.now reply.now)) }
 {
     match (ask, reply) {
         (
@@ -87,17 +91,31 @@ fn plan(batches: &mut Vec<Batch>, ask: &Ask, reply: &Reply) -> Result<(), OutOfM
                 gap,
                 ..
             },
-            Reply::Planned { clock },
+            Reply::Planned { clock: tick },
         ) => {
             batches.push(Batch {
                 channel: chan.get(),
-                tick: *clock,
+                tick: *tick,
                 gap: *gap,
                 count: *count,
             })?;
             Ok(())
         }
+        (Ask::Release { chan, .. }, Reply::Closing { .. }) => {
+            cancel(batches, chan.get(), clock);
+            Ok(())
+        }
         _ => Ok(()),
+    }
+}
+
+// Takes out the packets of a channel whose tick isn't below the clock.
+fn cancel(batches: &mut [Batch], channel: u32, clock: u64)
+    requires { clock < 2 ^ 63 }
+    ensures { (number : ℕ) → ticks_in number batches.new ≡ ticks_left channel clock number (ticks_in number batches.old) }
+{
+    for batch in batches.iter_mut() {
+        *batch = batch.released(channel, clock);
     }
 }
 

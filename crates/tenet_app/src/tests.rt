@@ -21,6 +21,7 @@ use std::test::Fail;
 use std::thread::Threads;
 
 mod runs;
+mod voices;
 
 const FIRST: &str = "tenet 1
 link A n1 n2 rate 1 cap 4 prop 2 buffer 100 levels 10 20 40

@@ -3,5 +3,6 @@ pub mod KeepingFacts
 pub mod NewestFirst
 pub mod EligibleFacts
 pub mod WindowFacts
+pub mod LongerWindows
 pub mod AdmissionFacts
 pub mod Worked

@@ -63,6 +63,9 @@ impl Draft {
             Keyword::Caller => Ok(Item::Script(Operation::Caller(self.judge_caller(line)?))),
             Keyword::Open => Ok(Item::Script(Operation::Open(self.judge_open(line)?))),
             Keyword::Send => Ok(Item::Script(Operation::Send(self.judge_send(line)?))),
+            Keyword::Close => Ok(Item::Script(Operation::Close {
+                request: self.judge_close(line)?,
+            })),
             Keyword::Rounds => Ok(Item::Rounds(judge_rounds(line)?)),
             Keyword::Tail => Ok(Item::Tail(self.judge_tail(line)?)),
             _ => Err(Cause::Later),

@@ -57,6 +57,11 @@ pub enum Operation {
     Open(Request),
     /// It sends on a request that it has opened above.
     Send(Send),
+    /// It closes a request that it has opened above.
+    Close {
+        /// The place of the request among all requests, from 0, below 1,024.
+        request: u32,
+    },
 }
 
 /// What a line says, where no rule refuses it.

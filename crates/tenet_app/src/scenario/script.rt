@@ -2,7 +2,7 @@
 ghost use Rattle.std.specs.Prelude.{◌≡◌, ◌+◌, ◌<◌, ◌≤◌, [], ◌∷◌, ◌++◌, OnOk, OnErr, IfOk, length};
 ghost use Rattle.tenet_app.specs.Causes.{Judges};
 ghost use Rattle.tenet_app.specs.Forms.{is_among, used_name_rule};
-ghost use Rattle.tenet_app.specs.Plans.{callers_in, requests_in, load_in, names_of, own_names, own_place, HasRoom};
+ghost use Rattle.tenet_app.specs.Plans.{callers_in, requests_in, load_in, is_closed, names_of, own_names, own_place, HasRoom};
 ghost use Rattle.tenet_app.specs.declared.scenario.plan.Operation.TheVariants as operation;
 
 use crate::scenario::cause::Cause;
@@ -21,6 +21,8 @@ pub struct Script {
     // What follows is kept so that no line goes over all operations.
     callers: Vec<Name>,
     requests: Vec<Request>,
+    // Whether each request was closed.
+    closed: Vec<bool>,
     first_own: usize,
     load: u64,
 }
@@ -34,7 +36,7 @@ impl Model for Script {
 
     ghost view = { λ s. s.operations.items };
 
-    ghost invariant = { λ s. IsKeptOf s.operations.items s.callers.items s.requests.items s.first_own s.load };
+    ghost invariant = { λ s. IsKeptOf s.operations.items s.callers.items s.requests.items s.closed.items s.first_own s.load };
 }
 
 impl Script {
@@ -46,6 +48,7 @@ impl Script {
             operations: Vec::new(alloc),
             callers: Vec::new(alloc),
             requests: Vec::new(alloc),
+            closed: Vec::new(alloc),
             first_own: 0,
             load: 0,
         }
@@ -61,6 +64,7 @@ impl Script {
             Operation::Caller(name) => self.push_caller(name),
             Operation::Open(request) => self.push_request(request),
             Operation::Send(send) => self.push_send(send),
+            Operation::Close { request } => self.push_close(*request),
         }
     }
 
@@ -81,7 +85,9 @@ impl Script {
         ensures err { OnErr result (self.new ≡ self.old) }
     {
         self.operations.reserve(1)?;
+        self.closed.reserve(1)?;
         self.requests.push(*request)?;
+        self.closed.push_reserved(false);
         self.operations.push_reserved(Operation::Open(*request));
         Ok(())
     }
@@ -93,6 +99,16 @@ impl Script {
     {
         self.operations.push(Operation::Send(*send))?;
         self.load += send.count;
+        Ok(())
+    }
+
+    fn push_close(&mut self, request: u32) -> Result<(), OutOfMemory>
+        requires { request < length (requests_in self.old) }
+        ensures ok { OnOk result (self.new ≡ self.old ++ operation.Close request ∷ []) }
+        ensures err { OnErr result (self.new ≡ self.old) }
+    {
+        self.operations.push(Operation::Close { request })?;
+        self.closed[request as usize] = true;
         Ok(())
     }
 
@@ -125,6 +141,16 @@ impl Script {
         self.load
     }
 
+    /// Whether the request at this place was closed.
+    pub fn is_closed(&self, place: u32) -> bool
+        ensures { result ≡ is_closed self.now place }
+    {
+        match self.closed.get(place as usize) {
+            Some(closed) => *closed,
+            None => false,
+        }
+    }
+
     /// Whether a caller has this name.
     pub fn has_caller(&self, name: &[u8]) -> bool
         ensures { result ≡ is_among (callers_in self.now) name.now }
@@ -143,11 +169,10 @@ impl Script {
             .any(|request| request.name.as_bytes() == name)
     }
 
-    /// The place of the request that a field names and the last caller has opened, below 1,024, or the cause `Name` or
-    /// `Unknown`.
+    /// The place of the request that a field names and the last caller has opened, or the cause `Name` or `Unknown`.
     pub fn own_request(&self, field: &[u8]) -> Result<u32, Cause>
         ensures judged { Judges result (used_name_rule (own_names self.now) field.now) (own_place self.now field.now) }
-        ensures range { IfOk result (λ place. place < 1024) }
+        ensures opened { IfOk result (λ place. place < length (requests_in self.now)) }
     {
         let name = name(field)?;
         for place in self.first_own..self.requests.len() {

@@ -43,6 +43,7 @@ impl Draft {
     {
         require(has_form(&SEND_FORM, line), Cause::Shape)?;
         let send = self.judge_send_fields(line)?;
+        require(!self.script.is_closed(send.request), Cause::Closed)?;
         require(self.script.load() + send.count <= 262_144, Cause::Load)?;
         Ok(send)
     }

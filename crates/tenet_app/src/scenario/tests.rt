@@ -19,6 +19,7 @@ open r1 route A contract 5 10 20 2 delay 12 rate
 caller k2
 open r2 route A contract 5 10 20 2 delay 13 rate
 send r2 3 10 2
+close r2
 rounds 7
 tail 5
 ";
@@ -39,6 +40,7 @@ fn a_draft_keeps_the_script_in_the_order_of_its_lines(rt: HostRuntime) -> Result
             Operation::Caller(second),
             Operation::Open(opened),
             Operation::Send(send),
+            Operation::Close { request },
         ] => {
             assert_eq!(rt; (first.as_str(), second.as_str()), ("k1", "k2"));
             assert_eq!(rt; (opened.name.as_str(), opened.delay), ("r2", 13));
@@ -46,6 +48,7 @@ fn a_draft_keeps_the_script_in_the_order_of_its_lines(rt: HostRuntime) -> Result
                 (send.request, send.count, send.gap, send.size),
                 (1, 3, 10, 2)
             );
+            assert_eq!(rt; *request, 1);
         }
         _ => assert!(rt; false, "another script"),
     }

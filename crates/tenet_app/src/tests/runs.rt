@@ -12,7 +12,7 @@ struct Case {
     report: &'static str,
 }
 
-const CASES: [Case; 9] = [
+const CASES: [Case; 12] = [
     // Each packet starts as it comes.
     Case {
         buffer: 100,
@@ -159,6 +159,58 @@ tail 0
 channel r1 offered 2 keeps delivered 1 least 4 worst 4 refused 0
 link A clock 11 sent 1 full 0
 end steps 14
+",
+    },
+    // Neither a send nor a close of a denied request makes a step.
+    Case {
+        buffer: 100,
+        script: "caller k1
+open r1 route A contract 5 10 20 2 delay 11 rate
+send r1 3 10 2
+close r1
+rounds 0
+tail 0
+",
+        report: "deny r1 end delay 12 11
+link A clock 0 sent 0 full 0
+end steps 2
+",
+    },
+    // The close cancels all packets, since the link has made no tick yet.
+    Case {
+        buffer: 100,
+        script: "caller k1
+open r1 route A contract 5 10 20 2 delay 12 rate
+send r1 3 10 2
+close r1
+rounds 30
+tail 0
+",
+        report: "accept r1 delay 12 levels 1
+channel r1 offered 0 keeps delivered 0 least - worst - refused 0
+link A clock 30 sent 0 full 0
+end steps 34
+",
+    },
+    // The closed channel is in the admission test still, so the next one is offered level 2. Its packets are taken.
+    Case {
+        buffer: 100,
+        script: "caller k1
+open r1 route A contract 5 10 20 2 delay 12 rate
+close r1
+open r2 route A contract 5 10 20 2 delay 12 rate
+open r3 route A contract 5 10 20 2 delay 22 rate
+send r3 1 1 2
+rounds 3
+tail 0
+",
+        report: "accept r1 delay 12 levels 1
+deny r2 end delay 22 12
+accept r3 delay 22 levels 2
+channel r1 offered 0 keeps delivered 0 least - worst - refused 0
+channel r3 offered 1 keeps delivered 1 least 4 worst 4 refused 0
+link A clock 3 sent 1 full 0
+end steps 11
 ",
     },
 ];

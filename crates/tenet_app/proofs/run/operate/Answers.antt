@@ -1,5 +1,5 @@
-use Rattle.std.proofs.Common.{◌∙◌, sym, ap}
-use Rattle.tenet_app.proofs.RunFacts.{after-opened, after-sent, after-unsent}
+use Rattle.std.proofs.Common.{◌∙◌, sym}
+use Rattle.tenet_app.proofs.RunFacts.{after-opened, after-sent, after-unsent, after-closed, after-unclosed}
 use Rattle.tenet_app.proofs.run.operate.Goals as goal
 
 pub returns-in_ok-push-in-Open-clause-after : goal.returns-in_ok-push-in-Open-clause-after
@@ -21,4 +21,18 @@ returns-else-is_established-clause-after c = λ run after.
     rw c.in-Send.is
     (after-unsent run c.args.player.now c.in-Send.send c.args.verdicts.now.items
     (sym (rw c.deref.ensures.value at c.is_established.ensures) ∙ c.if-is_established.false)
+    after)
+
+pub returns-in_ok-release-in-Close-clause-after : goal.returns-in_ok-release-in-Close-clause-after
+returns-in_ok-release-in-Close-clause-after c = λ run after.
+    rw c.in-Close.is
+    (after-closed run c.args.player.now c.release.new.player c.in-Close.request c.args.verdicts.now.items
+    (sym (rw c.deref-in-Close.ensures.value at c.is_established-in-Close.ensures) ∙ c.if-is_established-2.true)
+    after (c.in_ok-release-in-Close.ensures.at run.history after.at))
+
+pub returns-else-is_established-2-clause-after : goal.returns-else-is_established-2-clause-after
+returns-else-is_established-2-clause-after c = λ run after.
+    rw c.in-Close.is
+    (after-unclosed run c.args.player.now c.in-Close.request c.args.verdicts.now.items
+    (sym (rw c.deref-in-Close.ensures.value at c.is_established-in-Close.ensures) ∙ c.if-is_established-2.false)
     after)

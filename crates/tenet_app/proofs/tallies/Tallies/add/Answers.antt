@@ -13,7 +13,7 @@ pub overflow_add-self-2 : goal.overflow_add-self-2
 overflow_add-self-2 c = omega (arith, c.departures.ensures.most, c.requires.few, tells-sent c.requires.tells.0 c.args.self.now c.requires.tells.1)
 
 pub returns-clause-tells : goal.returns-clause-tells
-returns-clause-tells c = λ h tells.
+returns-clause-tells c = λ h tells time.
     let new : Tallies = record {
       steps = c.args.self.now.steps + 1;
       sent = c.args.self.now.sent + c.departures.result;
@@ -21,7 +21,7 @@ returns-clause-tells c = λ h tells.
       channels = with_items c.args.self.now.channels c.count.new.channels;
       batches = c.plan.new.batches;
     } in
-    tells-step h c.args.ask.now c.args.reply.now c.args.self.now new tells refl
+    tells-step h c.args.clock c.args.ask.now c.args.reply.now c.args.self.now new tells time refl
     (ap (λ n. c.args.self.now.sent + n) c.departures.ensures.value)
     (ap (λ n. c.args.self.now.dropped + n) c.dropped.ensures.value)
     (rw c.dropped.ensures.value at c.dropped.ensures.few)

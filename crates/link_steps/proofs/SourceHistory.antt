@@ -1,0 +1,258 @@
+-- The sources of a legal history after each of its entries: those that keep their contract have lost nothing. From this
+-- and the hop guarantee, the source guarantee.
+use Rattle.std.proofs.Common.{◌≡◌, ℕ, suc, ◌≤◌, Bool, true, false, not, ◌&&◌, List, [], ◌∷◌, ◌++◌, length, map, Option, Some, None, inl, inr, refl, sym, ap, ◌∙◌, subst, arith}
+use Rattle.std.proofs.lemmas.Bool.{cases_Bool, eq-eqb, eqb-true, and_parts}
+use Rattle.std.specs.Option.{option_map}
+use Rattle.std.specs.Prelude.{filter, find, reverse}
+use Rattle.net_units.specs.Numbers.{level_number}
+use Rattle.net_units.specs.declared.numbers.Level.{Level}
+use Rattle.link_steps.specs.declared.asks.Ask.{Ask}
+use Rattle.link_steps.specs.declared.asks.Ask.TheVariants.{Reserve, Relax, Deny, Submit, Release, Arrive, Tick}
+use Rattle.link_steps.specs.declared.asks.Packet.{Packet}
+use Rattle.link_steps.specs.declared.replies.Entry.{Entry}
+use Rattle.link_steps.specs.declared.replies.Phase.TheVariants.{Closing}
+use Rattle.link_steps.specs.declared.replies.Reply.{Reply}
+use Rattle.link_steps.specs.declared.replies.Reply.TheVariants as Is
+use Rattle.link_steps.specs.declared.shape.LinkShape.{LinkShape}
+use Rattle.link_steps.specs.Buffer.{has_lead, held_packets}
+use Rattle.link_steps.specs.HopGuarantee.{LeavesInTime, HasLeftInTime}
+use Rattle.link_steps.specs.Hold.{hold_ended, expires, stays}
+use Rattle.link_steps.specs.Legal.{AskFits, IsLegal}
+use Rattle.link_steps.specs.Lists.{Each}
+use Rattle.link_steps.specs.Refusals.{first_hop}
+use Rattle.link_steps.specs.Replies.{relax_reply, submit_reply, submit_to, arrive_reply, arrive_to, reply_at, reply_to}
+use Rattle.link_steps.specs.Reservation.{Reservation, is_phase, tentative}
+use Rattle.link_steps.specs.Rows.{Row, row_terms, new_row, is_before, left_at, tick_of}
+use Rattle.link_steps.specs.Scan.{Scan, clock_with, clock_of, is_row_of, is_row_at_hop, names_first_hop, relax_row, plan_row, close_row, arrived_packet, arrived_row, with_arrival, without_expired, with_sources, after_tick, after, scan_of, starts_of}
+use Rattle.link_steps.specs.Service.{Arrival, Start, starts_below, here_at, is_here}
+use Rattle.link_steps.specs.SourceGuarantee.{arrival_of, IsEligibleAtOnce, LeavesPromptly, HasLeftPromptly, KeepingIsServed, SourceGuarantee}
+use Rattle.link_steps.proofs.AdmissionHolds.{find-terms}
+use Rattle.link_steps.proofs.ChangeFacts.{Each-passes}
+use Rattle.link_steps.proofs.FreeSlots.{eligible_of}
+use Rattle.link_steps.proofs.HopHolds.{guaranteed}
+use Rattle.link_steps.proofs.LegalOrder.{ScanInOrder, legal-order, phase-is}
+use Rattle.link_steps.proofs.LegalRowFacts.{IsInOrder, IsMade}
+use Rattle.link_steps.proofs.ListFacts.{Each-append, Each-both, Each-filter, Each-find, Each-from, Each-if, filter-same, filter-filter}
+use Rattle.link_steps.proofs.PlanFacts.{rises-submitted, made-submitted, rises-filter, made-closed}
+use Rattle.link_steps.proofs.RefusalFacts.{kept-rule, unless-none}
+use Rattle.link_steps.proofs.RowPackets.{own_packets, IsHeld, IsBeside, RowsStand, stand-sources}
+use Rattle.link_steps.proofs.RowsStanding.{stand-if, stand-expired, stand-reserved, stand-denied, stand-changed, stand-arrives}
+use Rattle.link_steps.proofs.ServiceFacts.{starts-fact}
+use Rattle.link_steps.proofs.SourcesServed.{HasSource, IsReady, served-same, source-later, ticks-more, source-step}
+use Rattle.link_steps.proofs.WindowWork.{relax-tells}
+
+-- all that is planned for a row is made
+abbrev AllMade : ℕ → Row → Type 0
+AllMade clock row = Each (IsMade clock) row.plan
+
+-- the rows of a scan and their packets, with what their sources have got
+pub record ScanServed (clock : ℕ) (scan : Scan) : Type 0 where
+  pub stand : RowsStand (HasSource clock) (HasSource clock) scan.packets scan.gone scan.rows
+  pub made : Each (AllMade clock) scan.gone
+
+-- ---- a tick
+
+-- the packets of a row that are here
+held-here : (shape : LinkShape) (packets : List Arrival) (t lead : ℕ) → held_packets lead (here_at shape.rate packets t) ≡ length (filter (is_here shape.rate (starts_below shape.rate packets t) t) (filter (has_lead lead) packets))
+unfolding held_packets here_at
+held-here shape packets t lead =
+    ap length (filter-filter (has_lead lead) (is_here shape.rate (starts_below shape.rate packets t) t) packets
+    ∙ filter-same _ _ packets (Each-from _ packets (λ p. and-swap (is_here shape.rate (starts_below shape.rate packets t) t p) (has_lead lead p)))
+    ∙ sym (filter-filter (is_here shape.rate (starts_below shape.rate packets t) t) (has_lead lead) packets)) where
+      and-swap : (a b : Bool) → (a && b) ≡ (b && a)
+      and-swap true true = refl
+      and-swap true false = refl
+      and-swap false true = refl
+      and-swap false false = refl
+
+-- nothing is left of the plan of a row that expires
+expired-made : (shape : LinkShape) (t : ℕ) (row : Row) → IsInOrder shape t row → expires shape.bounds t row ≡ true → AllMade t row
+unfolding hold_ended
+expired-made shape t row order ended = order.cancelled (phase-is row.terms.phase Closing (and_parts (is_phase row.terms.phase Closing) _ ended).0)
+
+served-tick : (shape : LinkShape) (t : ℕ) (scan : Scan) → ScanInOrder shape t scan → Each (HasLeftInTime shape t (starts_below shape.rate scan.packets t)) scan.packets → ScanServed t scan → ScanServed (suc t) (after_tick shape t scan)
+unfolding after_tick with_sources without_expired
+served-tick shape t scan order left served =
+    let starts : List Start = starts_below shape.rate scan.packets t in
+    let here : List Arrival = here_at shape.rate scan.packets t in
+    let out : List Row = filter (expires shape.bounds t) scan.rows in
+    let made : Each (AllMade t) (scan.gone ++ filter (expires shape.bounds t) scan.rows) =
+    Each-append (AllMade t) scan.gone (filter (expires shape.bounds t) scan.rows) served.made
+    (Each-if (λ row. IsInOrder shape t row × (expires shape.bounds t row ≡ true)) (AllMade t) (filter (expires shape.bounds t) scan.rows) (λ row both. expired-made shape t row both.0 both.1)
+    (Each-both (IsInOrder shape t) (λ row. expires shape.bounds t row ≡ true) (filter (expires shape.bounds t) scan.rows) (Each-filter (IsInOrder shape t) (expires shape.bounds t) scan.rows order.held) (Each-passes (expires shape.bounds t) scan.rows))) in
+    let ready = stand-if (HasSource t) (HasSource t) (HasSource (suc t)) (IsReady shape (starts_below shape.rate scan.packets t) (here_at shape.rate scan.packets t) t) (AllMade t) (IsInOrder shape t) scan.packets
+    (scan.gone ++ filter (expires shape.bounds t) scan.rows) (filter (stays shape.bounds t) scan.rows)
+    (λ row all source. source-later t row (own_packets row scan.packets) all source)
+    (λ row own source. record {
+      order = own;
+      source = source;
+      held = held-here shape scan.packets t row.lead;
+      left = Each-filter (HasLeftInTime shape t (starts_below shape.rate scan.packets t)) (has_lead row.lead) scan.packets left;
+    })
+    made (Each-filter (IsInOrder shape t) (stays shape.bounds t) scan.rows order.held)
+    (stand-expired (HasSource t) (expires shape.bounds t) scan.packets scan.gone scan.rows served.stand) in
+    record {
+      stand = stand-sources (HasSource (suc t)) (IsReady shape (starts_below shape.rate scan.packets t) (here_at shape.rate scan.packets t) t) shape.bounds (here_at shape.rate scan.packets t) t
+          (λ row own place is. source-step shape (starts_below shape.rate scan.packets t) (here_at shape.rate scan.packets t) t row own place is)
+          (filter (stays shape.bounds t) scan.rows) (scan.gone ++ filter (expires shape.bounds t) scan.rows) scan.packets (length scan.packets) refl ready;
+      made = Each-if (AllMade t) (AllMade (suc t)) (scan.gone ++ filter (expires shape.bounds t) scan.rows)
+          (λ row all. Each-if (IsMade t) (IsMade (suc t)) row.plan (λ p before. omega (arith, before)) all) made;
+    }
+
+-- ---- the other entries
+
+-- a row without packets
+source-new : (t : ℕ) (terms : Reservation) → HasSource t (new_row terms) []
+source-new t terms = record {
+  eligible = refl;
+  levels = tt;
+  rises = tt;
+  served = λ kept. record { none_dropped = refl; as_offered = refl; at_once = tt };
+}
+
+-- a relax of a row without packets
+source-relaxed : (t up_bound : ℕ) (level : Level) (row : Row) (own : List Arrival) → row.ticks ≡ [] → HasSource t row own → HasSource t (relax_row level up_bound row) own
+source-relaxed t up_bound level row own none source = record {
+  eligible = source.eligible;
+  levels = subst (Each (λ p. p.level ≡ level_number level)) (sym (no-packets own (sym source.eligible ∙ ap reverse none))) tt;
+  rises = source.rises;
+  served = served-same t t row (relax_row level up_bound row) own refl refl refl refl refl source.served;
+} where
+  no-packets : (own : List Arrival) → map eligible_of own ≡ [] → own ≡ []
+  no-packets [] none = refl
+  no-packets (p ∷ own) none = cc
+
+-- a submit where nothing is left
+source-planned : (t count gap size : ℕ) (row : Row) (own : List Arrival) → 1 ≤ gap → length (left_at t row.plan) ≡ 0 → HasSource t row own → HasSource t (plan_row t count gap size row) own
+source-planned t count gap size row own some none source = record {
+  eligible = source.eligible;
+  levels = source.levels;
+  rises = rises-submitted t gap size count row.plan some none source.rises;
+  served = served-same t t row (plan_row t count gap size row) own refl refl refl refl (ap (map tick_of) (made-submitted t gap size count row.plan)) source.served;
+}
+
+-- a release
+source-closed : (t count : ℕ) (row : Row) (own : List Arrival) → HasSource t row own → HasSource t (close_row t count row) own
+source-closed t count row own source = record {
+  eligible = source.eligible;
+  levels = source.levels;
+  rises = rises-filter (is_before t) row.plan source.rises;
+  served = served-same t t row (close_row t count row) own refl refl refl refl (ap (map tick_of) (made-closed t row.plan)) source.served;
+}
+
+-- a packet from the link before, which is none of a source
+source-arrived : (t place : ℕ) (packet : Packet) (row : Row) (own : List Arrival) → row.terms.first ≡ false → HasSource t row own → HasSource t (arrived_row t place packet row) (own ++ arrived_packet t place packet row ∷ [])
+source-arrived t place packet row own later source = record {
+  eligible = ticks-more row own (arrived_packet t place packet row) source.eligible;
+  levels = Each-append _ own _ source.levels (refl, tt);
+  rises = source.rises;
+  served = λ kept. absurd (let h : false ≡ true = sym later ∙ kept.first in cc);
+}
+
+-- a submit that is planned finds a row of which nothing is left
+submit-free : (t size : ℕ) (row : Row) (clock : ℕ) → Is.Planned clock ≡ submit_to t size (Some row) → length (left_at t row.plan) ≡ 0
+unfolding submit_reply
+submit-free t size row clock same =
+    let phase = kept-rule _ _ (Is.Planned clock) tt same in
+    let free = kept-rule _ _ (Is.Planned clock) tt phase.1 in
+    eqb-true (length (left_at t row.plan)) 0 (unless-none _ _ free.0)
+
+-- a packet that is taken finds a row of a later hop
+arrive-later : (shape : LinkShape) (t : ℕ) (packets : List Arrival) (packet : Packet) (row : Row) (clock e : ℕ) → Is.Taken clock e ≡ arrive_to shape t packets packet (Some row) → row.terms.first ≡ false
+unfolding arrive_reply
+arrive-later shape t packets packet row clock e same =
+    let hop = kept-rule (first_hop row.terms) _ (Is.Taken clock e) tt same in
+    not-true row.terms.first (unless-none (not row.terms.first) _ hop.0) where
+      not-true : (b : Bool) → not b ≡ true → b ≡ false
+      not-true true h = cc
+      not-true false h = refl
+
+-- with the row changed, or one row more or fewer
+served-with : (t : ℕ) (scan : Scan) (rows : List Row) → RowsStand (HasSource t) (HasSource t) scan.packets scan.gone rows → ScanServed t scan → ScanServed t (record scan { rows = rows })
+served-with t scan rows stand served = record { stand = stand; made = served.made }
+
+served-arrival : (shape : LinkShape) (t : ℕ) (packet : Packet) (scan : Scan) (found : Option Row) (clock e : ℕ) → find (is_row_of packet.chan) scan.rows ≡ found → Is.Taken clock e ≡ arrive_to shape t scan.packets packet found → ScanServed t scan → ScanServed t (with_arrival t packet scan found)
+unfolding with_arrival
+served-arrival shape t packet scan None clock e is same served = served
+served-arrival shape t packet scan (Some row) clock e is same served =
+    let later = arrive-later shape t scan.packets packet row clock e same in
+    record {
+      stand = stand-arrives (HasSource t) (is_row_of packet.chan) (arrived_row t (suc (length scan.packets)) packet) scan.packets (arrived_packet t (suc (length scan.packets)) packet row) row refl refl
+          (λ source. source-arrived t (suc (length scan.packets)) packet row (own_packets row scan.packets) later source) scan.rows scan.gone is served.stand;
+      made = served.made;
+    }
+
+served-after : (shape : LinkShape) (t : ℕ) (scan : Scan) (ask : Ask) (reply : Reply) → AskFits shape ask → reply ≡ reply_at shape t scan ask → ScanInOrder shape t scan → Each (HasLeftInTime shape t (starts_below shape.rate scan.packets t)) scan.packets → ScanServed t scan → ScanServed (clock_with ask t) (after shape t scan ask reply)
+unfolding after reply_at
+served-after shape t scan (Reserve chan contract kind delay up_reach first next) (Is.Offer level reach) fits same order left served =
+    served-with t scan _ (stand-reserved (HasSource t) scan.packets scan.gone scan.rows (new_row (tentative chan contract kind first next up_reach level reach)) refl (source-new t (tentative chan contract kind first next up_reach level reach)) served.stand) served
+served-after shape t scan (Relax chan level up_bound) (Is.Relaxed clock) fits same order left served =
+    served-with t scan _ (stand-changed (HasSource t) (is_row_of chan) (relax_row level up_bound) scan.packets (λ row. refl) scan.rows scan.gone (λ row found source.
+    let tentative = relax-tells t up_bound level row clock (same ∙ ap (relax_reply t level up_bound) (find-terms chan scan.rows ∙ ap (option_map row_terms) found)) in
+    let own = Each-find (IsInOrder shape t) (is_row_of chan) scan.rows row order.held found in
+    source-relaxed t up_bound level row (own_packets row scan.packets) (own.fresh tentative).0 source) served.stand) served
+served-after shape t scan (Deny chan) Is.Denied fits same order left served =
+    served-with t scan _ (stand-denied (HasSource t) (is_row_of chan) scan.packets scan.gone scan.rows served.stand) served
+served-after shape t scan (Submit chan count gap size) (Is.Planned clock) fits same order left served =
+    served-with t scan _ (stand-changed (HasSource t) (is_row_at_hop chan true) (plan_row t count gap size) scan.packets (λ row. refl) scan.rows scan.gone (λ row found source.
+    source-planned t count gap size row (own_packets row scan.packets) fits.gap_least (submit-free t size row clock (same ∙ ap (submit_to t size) found)) source) served.stand) served
+served-after shape t scan (Release chan upstream) (Is.Closing count cancelled) fits same order left served =
+    served-with t scan _ (stand-changed (HasSource t) (is_row_at_hop chan (names_first_hop upstream)) (close_row t count) scan.packets (λ row. refl) scan.rows scan.gone (λ row found source.
+    source-closed t count row (own_packets row scan.packets) source) served.stand) served
+served-after shape t scan (Arrive packet) (Is.Taken clock eligible) fits same order left served =
+    served-arrival shape t packet scan (find (is_row_of packet.chan) scan.rows) clock eligible refl same served
+served-after shape t scan Tick reply fits same order left served = served-tick shape t scan order left served
+served-after shape t scan _ _ fits same order left served = served
+
+-- after a legal history
+pub legal-served : (shape : LinkShape) (h : List Entry) → IsLegal shape h → ScanServed (clock_of h) (scan_of shape h)
+unfolding IsLegal scan_of clock_of reply_to
+legal-served shape [] legal = record { stand = record { leads = tt; beside = tt; held = tt; apart = tt }; made = tt }
+legal-served shape (e ∷ past) legal =
+    served-after shape (clock_of past) (scan_of shape past) e.ask e.reply legal.1.fits legal.1.answered (legal-order shape past legal.0) (guaranteed shape past legal.0).in_time (legal-served shape past legal.0)
+
+-- ---- the guarantee
+
+-- what is so of those that pass a test is so of each, if it passes
+each-passing : {X : Type 0} (P : X → Type 0) (test : X → Bool) (xs : List X) → Each P (filter test xs) → Each (λ x. test x ≡ true → P x) xs
+each-passing P test [] each = tt
+each-passing P test (x ∷ xs) each =
+    elim (cases_Bool (test x)) [
+      | inl passed ↦ (let both : P x × Each P (filter test xs) = rw passed at each in (λ _. both.0, each-passing P test xs both.1))
+      | inr failed ↦ (let rest : Each P (filter test xs) = rw failed at each in (λ passed. absurd (let h : false ≡ true = sym failed ∙ passed in cc), each-passing P test xs rest))
+    ]
+
+-- two views that agree on each element
+map-same : {X Y : Type 0} (f g : X → Y) (xs : List X) → Each (λ x. f x ≡ g x) xs → map f xs ≡ map g xs
+map-same f g [] same = refl
+map-same f g (x ∷ xs) same = rw same.0 (ap (λ ys. g x ∷ ys) (map-same f g xs same.1))
+
+-- a row whose source keeps the contract is served promptly
+row-served : (shape : LinkShape) (h : List Entry) → IsLegal shape h → (row : Row) → HasSource (clock_of h) row (own_packets row (scan_of shape h).packets) → KeepingIsServed shape h row
+row-served shape h legal row source kept =
+    let prompt = source.served kept in
+    let hop = guaranteed shape h legal in
+    let at_once : Each (IsEligibleAtOnce row) (scan_of shape h).packets =
+    Each-if (λ p. has_lead row.lead p ≡ true → p.eligible ≡ p.at) (IsEligibleAtOnce row) (scan_of shape h).packets (λ p same. record { at_once = λ led. same (eq-eqb p.lead row.lead led) })
+    (each-passing (λ p. p.eligible ≡ p.at) (has_lead row.lead) (scan_of shape h).packets prompt.at_once) in
+    record {
+      none_dropped = prompt.none_dropped;
+      taken = sym (map-same eligible_of arrival_of (own_packets row (scan_of shape h).packets) prompt.at_once) ∙ sym source.eligible ∙ prompt.as_offered;
+      as_offered = prompt.as_offered;
+      at_once = at_once;
+      departed = Each-if (λ start. IsEligibleAtOnce row start.packet × LeavesInTime shape (clock_of h) start) (LeavesPromptly shape (clock_of h) row) (starts_of shape h)
+          (λ start both. record { within = λ led by. (let same = both.0.at_once led in let leaves = both.1.within by in omega (arith, same, leaves)) })
+          (Each-both (λ start. IsEligibleAtOnce row start.packet) (LeavesInTime shape (clock_of h)) (starts_of shape h) (starts-fact (IsEligibleAtOnce row) shape.rate (scan_of shape h).packets (clock_of h) at_once) hop.departed);
+      in_time = Each-if (λ p. IsEligibleAtOnce row p × HasLeftInTime shape (clock_of h) (starts_of shape h) p) (HasLeftPromptly shape (clock_of h) (starts_of shape h) row) (scan_of shape h).packets
+          (λ p both. record { gone = λ led by. both.1.gone (let same = both.0.at_once led in omega (arith, same, by)) })
+          (Each-both (IsEligibleAtOnce row) (HasLeftInTime shape (clock_of h) (starts_of shape h)) (scan_of shape h).packets at_once hop.in_time);
+    }
+
+-- each row of a legal history, held or gone
+pub source-guarantee : (shape : LinkShape) (h : List Entry) → IsLegal shape h → SourceGuarantee shape h
+source-guarantee shape h legal =
+    let stand = (legal-served shape h legal).stand in
+    record {
+      held = Each-if (IsHeld (HasSource (clock_of h)) (scan_of shape h).packets) (KeepingIsServed shape h) (scan_of shape h).rows (λ row held. row-served shape h legal row held.fact) stand.held;
+      gone = Each-if (IsBeside (HasSource (clock_of h)) (scan_of shape h).packets (scan_of shape h).rows) (KeepingIsServed shape h) (scan_of shape h).gone (λ row beside. row-served shape h legal row beside.fact) stand.beside;
+    }
