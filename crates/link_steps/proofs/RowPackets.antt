@@ -114,7 +114,6 @@ lead-other taken lead p row other upto is apart same =
 -- the head of the rows takes a packet, and goes beside the others
 pub stand-takes : (P Q : Row → List Arrival → Type 0) (packets : List Arrival) (others rows : List Row) (row after : Row) (p : Arrival) (place : ℕ) → suc (length packets) ≡ place → after.lead ≡ lead_with row.lead place → p.lead ≡ lead_with row.lead place → P after (own_packets row packets ++ p ∷ []) → RowsStand P Q packets others (row ∷ rows) → RowsStand P Q (packets ++ p ∷ []) (after ∷ others) rows
 stand-takes P Q packets others rows row after p place next lead is fact stand =
-    let taken : ℕ = length packets in
     let lead' : after.lead ≡ lead_with row.lead (suc (length packets)) = lead ∙ ap (lead_with row.lead) (sym next) in
     let is' : p.lead ≡ lead_with row.lead (suc (length packets)) = is ∙ ap (lead_with row.lead) (sym next) in
     let more : length (packets ++ p ∷ []) ≡ length packets + 1 = length_push packets p in

@@ -73,9 +73,6 @@ expired-made shape t row order ended = order.cancelled (phase-is row.terms.phase
 served-tick : (shape : LinkShape) (t : ℕ) (scan : Scan) → ScanInOrder shape t scan → Each (HasLeftInTime shape t (starts_below shape.rate scan.packets t)) scan.packets → ScanServed t scan → ScanServed (suc t) (after_tick shape t scan)
 unfolding after_tick with_sources without_expired
 served-tick shape t scan order left served =
-    let starts : List Start = starts_below shape.rate scan.packets t in
-    let here : List Arrival = here_at shape.rate scan.packets t in
-    let out : List Row = filter (expires shape.bounds t) scan.rows in
     let made : Each (AllMade t) (scan.gone ++ filter (expires shape.bounds t) scan.rows) =
     Each-append (AllMade t) scan.gone (filter (expires shape.bounds t) scan.rows) served.made
     (Each-if (λ row. IsInOrder shape t row × (expires shape.bounds t row ≡ true)) (AllMade t) (filter (expires shape.bounds t) scan.rows) (λ row both. expired-made shape t row both.0 both.1)

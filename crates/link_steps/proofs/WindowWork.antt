@@ -46,7 +46,7 @@ use Rattle.link_steps.proofs.LegalRowFacts.{SizeFits, IsInOrder}
 use Rattle.link_steps.proofs.ListFacts.{Each-find, Each-filter}
 use Rattle.link_steps.proofs.RefusalFacts.{kept-rule, unless-none}
 
--- ---- larger packets take longer
+-- ---- the ticks of a packet
 
 -- a packet of a unit or more takes a tick or more
 pub ceil_quotient-some : (a rate : ℕ) → 1 ≤ rate → 1 ≤ a → 1 ≤ ceil_quotient a rate
