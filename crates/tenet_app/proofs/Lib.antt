@@ -30,6 +30,12 @@ pub mod PlayerFacts
 pub mod ShapeFacts
 pub mod RunLegal
 pub mod RunSettled
+pub mod FilterFacts
+pub mod ChannelRow
+pub mod DelayFacts
+pub mod OfferFacts
+pub mod RunRows
+pub mod RunPromises
 pub mod WorkedRuns
 pub mod ReportFacts
 pub mod RunFacts

@@ -16,6 +16,7 @@ use Rattle.tenet_app.specs.declared.status.Status.TheVariants as status
 use Rattle.tenet_app.proofs.ScriptFacts.{script_requests}
 use Rattle.tenet_app.proofs.TextRead.{read_text}
 use Rattle.tenet_app.proofs.RunLegal.{run-passes, run-guaranteed, run-serves}
+use Rattle.tenet_app.proofs.RunPromises.{run-keeps}
 use Rattle.tenet_app.proofs.RunSettled.{run-settled}
 use Rattle.tenet_app.proofs.ShapeFacts.{shape-some}
 
@@ -70,6 +71,7 @@ plays_plan before after answer said text plan told ended e (AllWritten a w) =
       passes = run-passes (shape-some plan.link plan.plan.sound).0 said plan.plan.script;
       in_time = run-guaranteed (shape-some plan.link plan.plan.sound).0 said plan.plan.script;
       sources = run-serves (shape-some plan.link plan.plan.sound).0 said plan.plan.script;
+      promised = run-keeps (shape-some plan.link plan.plan.sound).0 said plan.plan.script;
     })
 plays_plan before after answer said text plan told ended e (FrontWritten a r w) =
     rw a (record { rises = r; written = front_due before.left said text before.written after.written told e w })

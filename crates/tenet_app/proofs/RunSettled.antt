@@ -70,10 +70,10 @@ reserve-settled shape request held chan contract delay up_reach best new = rw ne
 -- ---- the channels that have rows
 
 -- the channel of a row has a number below n
-abbrev IsBelow : ℕ → Row → Type 0
+abbrev pub IsBelow : ℕ → Row → Type 0
 IsBelow n row = channel_number row.terms.chan < n
 
-abbrev AreBelow : ℕ → LinkShape → List Entry → Type 0
+abbrev pub AreBelow : ℕ → LinkShape → List Entry → Type 0
 AreBelow n shape h = Each (IsBelow n) (scan_of shape h).rows
 
 find-none : (n : ℕ) (chan : ChanNo) (rows : List Row) → channel_number chan ≡ n → Each (IsBelow n) rows → find (is_of chan) (map row_terms rows) ≡ None
@@ -82,7 +82,7 @@ find-none n chan (row ∷ rows) is below =
     rw (ne_eqb (channel_number row.terms.chan) (channel_number chan) (λ e. omega (arith, below.0))) (find-none n chan rows is below.1)
 
 -- the ask is one of a script, and reserves for a channel below n alone
-abbrev AsksBelow : ℕ → Ask → Type 0
+abbrev pub AsksBelow : ℕ → Ask → Type 0
 AsksBelow n (Reserve chan contract kind delay up_reach first next) = channel_number chan < n
 AsksBelow n (Relax chan level up_bound) = Unit {0}
 AsksBelow n (Deny chan) = Unit {0}
@@ -107,12 +107,12 @@ after-below n shape t scan (Release chan upstream) _ setup below = below
 after-below n shape t scan (Arrive packet) reply setup below = absurd setup
 after-below n shape t scan Tick reply setup below = absurd setup
 
-asked-below : (n : ℕ) (shape : LinkShape) (h : List Entry) (ask : Ask) → AsksBelow n ask → AreBelow n shape h → AreBelow n shape (asked shape h ask)
+pub asked-below : (n : ℕ) (shape : LinkShape) (h : List Entry) (ask : Ask) → AsksBelow n ask → AreBelow n shape h → AreBelow n shape (asked shape h ask)
 unfolding scan_of
 asked-below n shape h ask setup below = after-below n shape (clock_of h) (scan_of shape h) ask (reply_to shape h ask) setup below
 
 -- the way back reserves nothing
-back-below : (n : ℕ) (shape : LinkShape) (chan : ChanNo) (request : Request) (level : Level) → AsksBelow n (way_back shape chan request level)
+pub back-below : (n : ℕ) (shape : LinkShape) (chan : ChanNo) (request : Request) (level : Level) → AsksBelow n (way_back shape chan request level)
 unfolding way_back
 back-below n shape chan request level = go (is_late shape request level) where
   go : (b : Bool) → AsksBelow n (if b then Deny chan else Relax chan (level_of (relaxed_to shape request level)) 0)
@@ -124,10 +124,10 @@ replied-below n shape h chan request (Is.Offer level reach) below = asked-below 
 replied-below n shape h chan request _ below = below
 
 -- the number of a channel is its place
-channel-number : (n : ℕ) → n < 1024 → channel_number (channel_at n) ≡ n
+pub channel-number : (n : ℕ) → n < 1024 → channel_number (channel_at n) ≡ n
 channel-number n few = omega arith
 
-below-more : (n : ℕ) (shape : LinkShape) (h : List Entry) → AreBelow n shape h → AreBelow (n + 1) shape h
+pub below-more : (n : ℕ) (shape : LinkShape) (h : List Entry) → AreBelow n shape h → AreBelow (n + 1) shape h
 below-more n shape h below = Each-if (IsBelow n) (IsBelow (n + 1)) (scan_of shape h).rows (λ row less. omega (arith, less)) below
 
 open-below : (n : ℕ) (shape : LinkShape) (h : List Entry) (request : Request) → n < 1024 → AreBelow n shape h → AreBelow (n + 1) shape (after_open shape h (channel_at n) request)
@@ -175,7 +175,7 @@ operation-settled shape run (operation.Close request) few so_far = go (is_accept
   go true = record { settled = so_far.settled; below = asked-below (length run.verdicts) shape run.history (release_of request) tt so_far.below }
   go false = so_far
 
-few-verdicts : (done : List Operation) (next : Operation) (n : ℕ) → MayFollow done next → n ≡ length (requests_in done) → n < 1024 ⊎ (requests_in (next ∷ []) ≡ [])
+pub few-verdicts : (done : List Operation) (next : Operation) (n : ℕ) → MayFollow done next → n ≡ length (requests_in done) → n < 1024 ⊎ (requests_in (next ∷ []) ≡ [])
 few-verdicts done (operation.Caller name) n may count = inr refl
 few-verdicts done (operation.Open request) n may count = inl (omega (arith, may.few, count))
 few-verdicts done (operation.Send send) n may count = inr refl

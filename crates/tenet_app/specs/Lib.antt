@@ -11,6 +11,7 @@ pub mod PlanText
 pub mod Plans
 pub mod Playing
 pub mod ReadSteps
+pub mod Promises
 pub mod Reading
 pub mod Report
 pub mod Run

@@ -16,6 +16,7 @@ use Rattle.tenet_app.specs.Establishment.{IsSettled}
 use Rattle.tenet_app.specs.Fields.{ended_line}
 use Rattle.tenet_app.specs.PlanText.{plan_text}
 use Rattle.tenet_app.specs.Plans.{Said, requests_of, IsPlan}
+use Rattle.tenet_app.specs.Promises.{KeepsPromises}
 use Rattle.tenet_app.specs.Reading.{Reading, IsRead, IsBad, IsOver, reading, LetsPass}
 use Rattle.tenet_app.specs.Report.{report_of}
 use Rattle.tenet_app.specs.Run.{run_of}
@@ -64,8 +65,8 @@ ComesTo left P = IfSome left (λ bytes. P (reading MOST_BYTES bytes))
 
 -- the scenario was read to its end and the report of its plan's run was written; in the run each request is settled;
 -- after every step the rows that the link holds pass the admission test; each packet leaves the link within the bound
--- of its level of its eligible tick; and a source that keeps its contract loses none, and each of its packets leaves
--- within that bound of its arrival
+-- of its level of its eligible tick; a source that keeps its contract loses none, and each of its packets leaves within
+-- that bound of its arrival; and so none of its packets is delayed for longer than the `accept` line of its request tells
 pub record PlaysDone (before after : Ends) : Type 0 where
   pub said : Said
   pub plan : IsPlan said
@@ -79,6 +80,7 @@ pub record PlaysDone (before after : Ends) : Type 0 where
   pub passes : AfterEach (HeldRowsPass shape) (run_of shape said).history
   pub in_time : HopGuarantee shape (run_of shape said).history
   pub sources : SourceGuarantee shape (run_of shape said).history
+  pub promised : KeepsPromises shape said
 
 -- the line is refused, and one line that tells it was written
 pub record PlaysRefused (line : ℕ) (told : Cause) (before after : Ends) : Type 0 where

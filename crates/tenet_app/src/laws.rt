@@ -7,6 +7,7 @@ ghost use Rattle.link_steps.specs.SourceGuarantee.{SourceGuarantee};
 ghost use Rattle.link_steps.specs.declared.shape.LinkShape.{LinkShape};
 ghost use Rattle.tenet_app.specs.Establishment.{IsSettled};
 ghost use Rattle.tenet_app.specs.Plans.{Said, IsLink, IsScript};
+ghost use Rattle.tenet_app.specs.Promises.{KeepsPromises};
 ghost use Rattle.tenet_app.specs.Run.{run_of};
 ghost use Rattle.tenet_app.specs.Shapes.{first_link, shape_of};
 ghost use Rattle.tenet_app.specs.declared.scenario.plan.Link.{Link};
@@ -39,4 +40,10 @@ pub fn every_packet_leaves_in_time()
 /// the bound of its level of its arrival.
 pub fn every_source_that_keeps_its_contract_is_served()
     ensures { (shape : LinkShape) (said : Said) → IsScript said.script → SourceGuarantee shape (run_of shape said).history }
+{}
+
+/// In every such run each request that is accepted with a delay, and whose source keeps its contract, has each packet
+/// that it offers taken at once, and none that is at the destination later than that delay after its arrival.
+pub fn accepted_delays_are_kept()
+    ensures { (shape : LinkShape) (said : Said) → IsScript said.script → KeepsPromises shape said }
 {}
