@@ -30,9 +30,9 @@ filter-change-own p test change (x ∷ xs) own =
     elim (cases_Bool (test x)) [
       | inl passed ↦ (let both = own x passed in rw passed (rw both.0 (rw both.1 (rw passed refl))))
       | inr failed ↦ elim (cases_Bool (p x)) [
-          | inl is ↦ rw failed (rw is (rw failed (ap (λ ys. x ∷ ys) (filter-change-own p test change xs own))))
-          | inr other ↦ rw failed (rw other (filter-change-own p test change xs own))
-        ]
+        | inl is ↦ rw failed (rw is (rw failed (ap (λ ys. x ∷ ys) (filter-change-own p test change xs own))))
+        | inr other ↦ rw failed (rw other (filter-change-own p test change xs own))
+      ]
     ]
 
 pub change-only : {X : Type 0} (test : X → Bool) (change : X → X) (x : X) → test x ≡ true → change_first test change (x ∷ []) ≡ change x ∷ []

@@ -72,12 +72,14 @@ row-promise shape h n request level bound legal kept keeps =
     let taken : taken_in shape n h ≡ offered_in n h = sym (same-ticks (filter (is_packet_in n) (scan_of shape h).packets) at_once) ∙ sym has.is.ticks ∙ served.as_offered ∙ offered in
     let in_time = delays-within shape n bound h legal
     (Each-if (λ start. (is_packet_in n start.packet ≡ true → IsOf has.row start.packet) × LeavesPromptly shape (clock_of h) has.row start) (ArrivesWithin shape n bound (clock_of h)) (starts_of shape h)
-    (λ start both. record { within = λ is left.
-      let of = both.0 is in
-      let by = both.1.within of.led left in
-      let same : bound_at shape.bounds start.packet.level ≡ bound_at shape.bounds level = ap (bound_at shape.bounds) (of.level ∙ has.is.allotted) in
-      let told = kept.1 in
-      omega (arith, by, same, told) })
+    (λ start both. record {
+      within = λ is left.
+          let of = both.0 is in
+          let by = both.1.within of.led left in
+          let same : bound_at shape.bounds start.packet.level ≡ bound_at shape.bounds level = ap (bound_at shape.bounds) (of.level ∙ has.is.allotted) in
+          let told = kept.1 in
+          omega (arith, by, same, told);
+    })
     (Each-both _ _ (starts_of shape h) own served.departed)) in
     record { taken = taken; in_time = in_time }
 
