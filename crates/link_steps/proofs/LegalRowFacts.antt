@@ -85,22 +85,23 @@ order-later shape t row order = record {
   cancelled = λ closes. Each-if (IsMade t) (IsMade (suc t)) row.plan (λ p before. omega arith) (order.cancelled closes);
 }
 
+-- the packet that is found for t is planned for t
+pub find-for : (t : ℕ) (plan : List SourcePacket) (p : SourcePacket) → find (is_for t) plan ≡ Some p → p.tick ≡ t
+find-for t [] p found = cc
+find-for t (q ∷ plan) p found =
+    elim (cases_Bool (is_for t q)) [
+      | inl passed ↦ subst (λ r. r.tick ≡ t) (some-same q p (rw passed at found)) (eqb-true q.tick t passed)
+      | inr failed ↦ find-for t plan p (rw failed at found)
+    ] where
+      some-same : (a b : SourcePacket) → Some a ≡ Some b → a ≡ b
+      some-same a b same = cc
+
 -- nothing made before t is planned for t
 made-none : (t : ℕ) (plan : List SourcePacket) (p : SourcePacket) → Each (IsMade t) plan → find (is_for t) plan ≡ Some p → ⊥
 made-none t plan p made found =
     let before = Each-find (IsMade t) (is_for t) plan p made found in
     let now = find-for t plan p found in
-    omega (arith, before, now) where
-      some-same : (a b : SourcePacket) → Some a ≡ Some b → a ≡ b
-      some-same a b same = cc
-
-      find-for : (t : ℕ) (plan : List SourcePacket) (p : SourcePacket) → find (is_for t) plan ≡ Some p → p.tick ≡ t
-      find-for t [] p found = cc
-      find-for t (q ∷ plan) p found =
-          elim (cases_Bool (is_for t q)) [
-            | inl passed ↦ subst (λ r. r.tick ≡ t) (some-same q p (rw passed at found)) (eqb-true q.tick t passed)
-            | inr failed ↦ find-for t plan p (rw failed at found)
-          ]
+    omega (arith, before, now)
 
 -- a row of which a packet is planned for t is committed, and the packet has a size
 pub source-settled : (shape : LinkShape) (t : ℕ) (row : Row) (p : SourcePacket) → find (is_for t) row.plan ≡ Some p → IsInOrder shape t row → (row.terms.phase ≡ Tentative → ⊥) × (row.terms.phase ≡ Closing → ⊥)

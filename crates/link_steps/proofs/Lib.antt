@@ -3,6 +3,7 @@ pub mod WorkedLink
 pub mod WorkedSetup
 pub mod WorkedPackets
 pub mod WorkedLaterHop
+pub mod WorkedSources
 pub mod LevelFacts
 pub mod ListFacts
 pub mod RefusalFacts

@@ -1,15 +1,15 @@
 -- The plan of a row rises: no two of its packets are planned for one tick, and they are in order of time. So each tick
 -- that is made adds at most itself to what the source has offered, and a submit or a release adds and takes away nothing.
-use Rattle.std.proofs.Common.{◌≡◌, ◌≢◌, ℕ, zero, suc, ◌+◌, ◌<◌, ◌≤◌, Bool, true, false, cond, List, [], ◌∷◌, ◌++◌, length, map, Option, Some, None, inl, inr, refl, sym, ap, ◌∙◌, subst, arith, append-nil}
+use Rattle.std.proofs.Common.{◌≡◌, ◌≢◌, ℕ, zero, suc, ◌+◌, ◌<◌, ◌≤◌, Bool, true, false, List, [], ◌∷◌, ◌++◌, length, map, Some, None, inl, inr, sym, ap, ◌∙◌, arith, append-nil}
 use Rattle.std.proofs.lemmas.Bool.{cases_Bool, cases_lt, eqb-true, eqb-false, lt-ltb, le-ltb, ltb-true, lt-leb, le-leb, cond_both}
 use Rattle.std.proofs.lemmas.List.{nil_from_length}
 use Rattle.std.proofs.lemmas.List.Elements.{filter-append}
-use Rattle.std.specs.Prelude.{filter, find, nat_eq}
+use Rattle.std.specs.Prelude.{filter, find}
 use Rattle.link_steps.specs.Lists.{Each}
-use Rattle.link_steps.specs.Rows.{SourcePacket, planned_from, is_for, is_from, is_before, left_at, made_by, tick_of}
+use Rattle.link_steps.specs.Rows.{SourcePacket, planned_from, is_for, is_before, left_at, made_by, tick_of}
 use Rattle.link_steps.proofs.ChangeFacts.{Each-passes}
-use Rattle.link_steps.proofs.LegalRowFacts.{IsMade}
-use Rattle.link_steps.proofs.ListFacts.{Each-append, Each-filter, Each-find, Each-from, Each-if, filter-all, filter-none, filter-same}
+use Rattle.link_steps.proofs.LegalRowFacts.{IsMade, find-for}
+use Rattle.link_steps.proofs.ListFacts.{Each-append, Each-filter, Each-find, Each-if, filter-all, filter-none, filter-same}
 
 -- a packet is planned for a later tick
 abbrev pub IsAfter : ℕ → SourcePacket → Type 0
@@ -27,16 +27,6 @@ before-made t p made = lt-ltb p.tick t made
 
 before-left : (t : ℕ) (p : SourcePacket) → t ≤ p.tick → is_before t p ≡ false
 before-left t p left = le-ltb p.tick t left
-
-pub find-for : (t : ℕ) (plan : List SourcePacket) (p : SourcePacket) → find (is_for t) plan ≡ Some p → p.tick ≡ t
-find-for t [] p found = cc
-find-for t (q ∷ plan) p found =
-    elim (cases_Bool (is_for t q)) [
-      | inl passed ↦ subst (λ r. r.tick ≡ t) (some-same q p (rw passed at found)) (eqb-true q.tick t passed)
-      | inr failed ↦ find-for t plan p (rw failed at found)
-    ] where
-      some-same : (a b : SourcePacket) → Some a ≡ Some b → a ≡ b
-      some-same a b same = cc
 
 -- nothing found: no packet is planned for t
 find-none : (t : ℕ) (plan : List SourcePacket) → find (is_for t) plan ≡ None → Each (λ p. p.tick ≢ t) plan

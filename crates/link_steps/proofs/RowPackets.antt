@@ -1,16 +1,16 @@
 -- The packets of a row are those with its lead. No two rows have one lead, so a packet that a row takes is one more of
 -- its own, and none of another row.
-use Rattle.std.proofs.Common.{◌≡◌, ◌≢◌, ℕ, suc, ◌+◌, ◌<◌, ◌≤◌, ◌⊎◌, Bool, true, false, not, List, [], ◌∷◌, ◌++◌, length, Some, inl, inr, ⊎_elim, refl, sym, ap, ◌∙◌, subst, arith, append-nil, append_assoc}
-use Rattle.std.proofs.lemmas.Bool.{cases_Bool, eq-eqb, eqb-true, ne_eqb, eqb-false, cond_both}
+use Rattle.std.proofs.Common.{◌≡◌, ◌≢◌, ℕ, suc, ◌+◌, ◌≤◌, ◌⊎◌, false, List, [], ◌∷◌, ◌++◌, length, inl, inr, ⊎_elim, refl, sym, ap, ◌∙◌, subst, arith, append-nil, append_assoc}
+use Rattle.std.proofs.lemmas.Bool.{cases_Bool, eq-eqb, eqb-true, ne_eqb, eqb-false}
 use Rattle.std.proofs.lemmas.List.{length_push}
 use Rattle.std.proofs.lemmas.List.Elements.{filter-append}
-use Rattle.std.specs.Prelude.{filter, find, nat_eq}
+use Rattle.std.specs.Prelude.{filter, nat_eq}
 use Rattle.link_steps.specs.Buffer.{has_lead}
-use Rattle.link_steps.specs.Lists.{Each, change_first, without_first}
+use Rattle.link_steps.specs.Lists.{Each}
 use Rattle.link_steps.specs.Rows.{Row}
 use Rattle.link_steps.specs.Service.{Arrival}
 use Rattle.link_steps.specs.Sources.{SourceStep, Rests, Brings, Loses, arrival_at, lead_with, source_tick, step_of, packet_of, row_after, taken_by, source_packets, rows_after}
-use Rattle.link_steps.proofs.ListFacts.{Each-append, Each-both, Each-filter, Each-if, Each-without_first, filter-none}
+use Rattle.link_steps.proofs.ListFacts.{Each-append, Each-both, Each-if, filter-none}
 
 -- the packets of a row
 abbrev pub own_packets : Row → List Arrival → List Arrival
@@ -114,7 +114,6 @@ lead-other taken lead p row other upto is apart same =
 -- the head of the rows takes a packet, and goes beside the others
 pub stand-takes : (P Q : Row → List Arrival → Type 0) (packets : List Arrival) (others rows : List Row) (row after : Row) (p : Arrival) (place : ℕ) → suc (length packets) ≡ place → after.lead ≡ lead_with row.lead place → p.lead ≡ lead_with row.lead place → P after (own_packets row packets ++ p ∷ []) → RowsStand P Q packets others (row ∷ rows) → RowsStand P Q (packets ++ p ∷ []) (after ∷ others) rows
 stand-takes P Q packets others rows row after p place next lead is fact stand =
-    let taken : ℕ = length packets in
     let lead' : after.lead ≡ lead_with row.lead (suc (length packets)) = lead ∙ ap (lead_with row.lead) (sym next) in
     let is' : p.lead ≡ lead_with row.lead (suc (length packets)) = is ∙ ap (lead_with row.lead) (sym next) in
     let more : length (packets ++ p ∷ []) ≡ length packets + 1 = length_push packets p in
@@ -139,9 +138,9 @@ stand-takes P Q packets others rows row after p place next lead is fact stand =
         }) stand.beside,
       );
       held = Each-if (λ other. IsHeld Q packets other × IsApart row other) (IsHeld Q (packets ++ p ∷ [])) rows (λ other both. record {
-          fact = subst (Q other) (sym (own-same other.lead packets p (lead-other (length packets) row.lead p row other both.0.upto is' (λ some same. (let zeroth = both.1 (sym same) in omega (arith, some, zeroth)))))) both.0.fact;
-          upto = (let under = both.0.upto in omega (arith, under, more));
-        }) (Each-both (IsHeld Q packets) (IsApart row) rows stand.held.1 stand.apart.0);
+        fact = subst (Q other) (sym (own-same other.lead packets p (lead-other (length packets) row.lead p row other both.0.upto is' (λ some same. (let zeroth = both.1 (sym same) in omega (arith, some, zeroth)))))) both.0.fact;
+        upto = (let under = both.0.upto in omega (arith, under, more));
+      }) (Each-both (IsHeld Q packets) (IsApart row) rows stand.held.1 stand.apart.0);
       apart = stand.apart.1;
     } where
       lead-bounds : (lead taken : ℕ) → lead ≤ taken → (1 ≤ lead_with lead (suc taken)) × (lead_with lead (suc taken) ≤ suc taken)

@@ -1,6 +1,6 @@
 -- What stands of the rows and their packets stands through each change of the rows: as they expire, are reserved, denied
 -- and changed, and as one of them takes a packet from elsewhere.
-use Rattle.std.proofs.Common.{◌≡◌, ℕ, suc, ◌+◌, ◌≤◌, Bool, true, false, cond, not, List, [], ◌∷◌, ◌++◌, length, Some, inl, inr, refl, sym, ap, ◌∙◌, subst, arith}
+use Rattle.std.proofs.Common.{◌≡◌, suc, Bool, true, false, cond, not, List, [], ◌∷◌, ◌++◌, length, Some, inl, inr, refl, sym, ap, ◌∙◌, subst, arith}
 use Rattle.std.proofs.lemmas.Bool.{cases_Bool, cond_both}
 use Rattle.std.specs.Prelude.{filter, find}
 use Rattle.link_steps.specs.Buffer.{has_lead}
@@ -8,8 +8,8 @@ use Rattle.link_steps.specs.Lists.{Each, change_first, without_first}
 use Rattle.link_steps.specs.Rows.{Row}
 use Rattle.link_steps.specs.Service.{Arrival}
 use Rattle.link_steps.specs.Sources.{lead_with}
-use Rattle.link_steps.proofs.ListFacts.{Each-append, Each-both, Each-filter, Each-from, Each-if, Each-without_first}
-use Rattle.link_steps.proofs.RowPackets.{own_packets, own-new, IsLedUpTo, IsApart, LeadsApart, IsHeld, IsBeside, RowsStand, stand-takes, takes-apart, stand-rests, rests-apart, stand-back}
+use Rattle.link_steps.proofs.ListFacts.{Each-append, Each-both, Each-filter, Each-if, Each-without_first}
+use Rattle.link_steps.proofs.RowPackets.{own_packets, own-new, IsApart, LeadsApart, IsHeld, IsBeside, RowsStand, stand-takes, takes-apart, stand-rests, rests-apart, stand-back}
 
 -- what follows of each row, beside the others or held
 pub stand-if : (P Q R S : Row → List Arrival → Type 0) (A B : Row → Type 0) (packets : List Arrival) (others rows : List Row) → ((row : Row) → A row → P row (own_packets row packets) → R row (own_packets row packets)) → ((row : Row) → B row → Q row (own_packets row packets) → S row (own_packets row packets)) → Each A others → Each B rows → RowsStand P Q packets others rows → RowsStand R S packets others rows

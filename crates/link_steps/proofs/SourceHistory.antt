@@ -1,18 +1,16 @@
 -- The sources of a legal history after each of its entries: those that keep their contract have lost nothing. From this
 -- and the hop guarantee, the source guarantee.
-use Rattle.std.proofs.Common.{◌≡◌, ℕ, suc, ◌+◌, ◌<◌, ◌≤◌, Bool, true, false, not, ◌&&◌, List, [], ◌∷◌, ◌++◌, length, map, Option, Some, None, inl, inr, refl, sym, ap, ◌∙◌, subst, arith}
+use Rattle.std.proofs.Common.{◌≡◌, ℕ, suc, ◌≤◌, Bool, true, false, not, ◌&&◌, List, [], ◌∷◌, ◌++◌, length, map, Option, Some, None, inl, inr, refl, sym, ap, ◌∙◌, subst, arith}
 use Rattle.std.proofs.lemmas.Bool.{cases_Bool, eq-eqb, eqb-true, and_parts}
 use Rattle.std.specs.Option.{option_map}
-use Rattle.std.specs.Prelude.{filter, find, reverse, nat_eq}
+use Rattle.std.specs.Prelude.{filter, find, reverse}
 use Rattle.net_units.specs.Numbers.{level_number}
-use Rattle.net_units.specs.Steps.{bound_at}
-use Rattle.net_units.specs.declared.numbers.ChanNo.{ChanNo}
 use Rattle.net_units.specs.declared.numbers.Level.{Level}
 use Rattle.link_steps.specs.declared.asks.Ask.{Ask}
 use Rattle.link_steps.specs.declared.asks.Ask.TheVariants.{Reserve, Relax, Deny, Submit, Release, Arrive, Tick}
 use Rattle.link_steps.specs.declared.asks.Packet.{Packet}
 use Rattle.link_steps.specs.declared.replies.Entry.{Entry}
-use Rattle.link_steps.specs.declared.replies.Phase.TheVariants.{Tentative, Committed, Closing}
+use Rattle.link_steps.specs.declared.replies.Phase.TheVariants.{Closing}
 use Rattle.link_steps.specs.declared.replies.Reply.{Reply}
 use Rattle.link_steps.specs.declared.replies.Reply.TheVariants as Is
 use Rattle.link_steps.specs.declared.shape.LinkShape.{LinkShape}
@@ -20,14 +18,14 @@ use Rattle.link_steps.specs.Buffer.{has_lead, held_packets}
 use Rattle.link_steps.specs.HopGuarantee.{LeavesInTime, HasLeftInTime}
 use Rattle.link_steps.specs.Hold.{hold_ended, expires, stays}
 use Rattle.link_steps.specs.Legal.{AskFits, IsLegal}
-use Rattle.link_steps.specs.Lists.{Each, change_first}
-use Rattle.link_steps.specs.Refusals.{not_in_phase, busy, first_hop}
+use Rattle.link_steps.specs.Lists.{Each}
+use Rattle.link_steps.specs.Refusals.{first_hop}
 use Rattle.link_steps.specs.Replies.{relax_reply, submit_reply, submit_to, arrive_reply, arrive_to, reply_at, reply_to}
-use Rattle.link_steps.specs.Reservation.{Reservation, is_phase, is_of, tentative}
-use Rattle.link_steps.specs.Rows.{Row, SourcePacket, row_terms, new_row, is_before, left_at, made_by, tick_of}
+use Rattle.link_steps.specs.Reservation.{Reservation, is_phase, tentative}
+use Rattle.link_steps.specs.Rows.{Row, row_terms, new_row, is_before, left_at, tick_of}
 use Rattle.link_steps.specs.Scan.{Scan, clock_with, clock_of, is_row_of, is_row_at_hop, names_first_hop, relax_row, plan_row, close_row, arrived_packet, arrived_row, with_arrival, without_expired, with_sources, after_tick, after, scan_of, starts_of}
-use Rattle.link_steps.specs.Service.{Arrival, Start, starts_below, here_at, is_here, leaves_at}
-use Rattle.link_steps.specs.SourceGuarantee.{SourceKeeps, IsEligibleAtOnce, LeavesPromptly, HasLeftPromptly, IsServedPromptly, KeepingIsServed, SourceGuarantee}
+use Rattle.link_steps.specs.Service.{Arrival, Start, starts_below, here_at, is_here}
+use Rattle.link_steps.specs.SourceGuarantee.{arrival_of, IsEligibleAtOnce, LeavesPromptly, HasLeftPromptly, KeepingIsServed, SourceGuarantee}
 use Rattle.link_steps.proofs.AdmissionHolds.{find-terms}
 use Rattle.link_steps.proofs.ChangeFacts.{Each-passes}
 use Rattle.link_steps.proofs.FreeSlots.{eligible_of}
@@ -75,9 +73,6 @@ expired-made shape t row order ended = order.cancelled (phase-is row.terms.phase
 served-tick : (shape : LinkShape) (t : ℕ) (scan : Scan) → ScanInOrder shape t scan → Each (HasLeftInTime shape t (starts_below shape.rate scan.packets t)) scan.packets → ScanServed t scan → ScanServed (suc t) (after_tick shape t scan)
 unfolding after_tick with_sources without_expired
 served-tick shape t scan order left served =
-    let starts : List Start = starts_below shape.rate scan.packets t in
-    let here : List Arrival = here_at shape.rate scan.packets t in
-    let out : List Row = filter (expires shape.bounds t) scan.rows in
     let made : Each (AllMade t) (scan.gone ++ filter (expires shape.bounds t) scan.rows) =
     Each-append (AllMade t) scan.gone (filter (expires shape.bounds t) scan.rows) served.made
     (Each-if (λ row. IsInOrder shape t row × (expires shape.bounds t row ≡ true)) (AllMade t) (filter (expires shape.bounds t) scan.rows) (λ row both. expired-made shape t row both.0 both.1)
@@ -86,11 +81,11 @@ served-tick shape t scan order left served =
     (scan.gone ++ filter (expires shape.bounds t) scan.rows) (filter (stays shape.bounds t) scan.rows)
     (λ row all source. source-later t row (own_packets row scan.packets) all source)
     (λ row own source. record {
-        order = own;
-        source = source;
-        held = held-here shape scan.packets t row.lead;
-        left = Each-filter (HasLeftInTime shape t (starts_below shape.rate scan.packets t)) (has_lead row.lead) scan.packets left;
-      })
+      order = own;
+      source = source;
+      held = held-here shape scan.packets t row.lead;
+      left = Each-filter (HasLeftInTime shape t (starts_below shape.rate scan.packets t)) (has_lead row.lead) scan.packets left;
+    })
     made (Each-filter (IsInOrder shape t) (stays shape.bounds t) scan.rows order.held)
     (stand-expired (HasSource t) (expires shape.bounds t) scan.packets scan.gone scan.rows served.stand) in
     record {
@@ -224,6 +219,11 @@ each-passing P test (x ∷ xs) each =
       | inr failed ↦ (let rest : Each P (filter test xs) = rw failed at each in (λ passed. absurd (let h : false ≡ true = sym failed ∙ passed in cc), each-passing P test xs rest))
     ]
 
+-- two views that agree on each element
+map-same : {X Y : Type 0} (f g : X → Y) (xs : List X) → Each (λ x. f x ≡ g x) xs → map f xs ≡ map g xs
+map-same f g [] same = refl
+map-same f g (x ∷ xs) same = rw same.0 (ap (λ ys. g x ∷ ys) (map-same f g xs same.1))
+
 -- a row whose source keeps the contract is served promptly
 row-served : (shape : LinkShape) (h : List Entry) → IsLegal shape h → (row : Row) → HasSource (clock_of h) row (own_packets row (scan_of shape h).packets) → KeepingIsServed shape h row
 row-served shape h legal row source kept =
@@ -234,6 +234,7 @@ row-served shape h legal row source kept =
     (each-passing (λ p. p.eligible ≡ p.at) (has_lead row.lead) (scan_of shape h).packets prompt.at_once) in
     record {
       none_dropped = prompt.none_dropped;
+      taken = sym (map-same eligible_of arrival_of (own_packets row (scan_of shape h).packets) prompt.at_once) ∙ sym source.eligible ∙ prompt.as_offered;
       as_offered = prompt.as_offered;
       at_once = at_once;
       departed = Each-if (λ start. IsEligibleAtOnce row start.packet × LeavesInTime shape (clock_of h) start) (LeavesPromptly shape (clock_of h) row) (starts_of shape h)

@@ -11,6 +11,7 @@ use Rattle.net_units.specs.Steps.{bound_at, are_bounds, rises_above, last_bound}
 use Rattle.traffic_contract.specs.Admission.{total, load}
 use Rattle.traffic_contract.specs.Window.{count_in}
 use Rattle.traffic_contract.proofs.AdmissionFacts.{total-append}
+use Rattle.traffic_contract.proofs.LongerWindows.{ceil_quotient-mono}
 use Rattle.link_steps.specs.declared.asks.Ask.{Ask}
 use Rattle.link_steps.specs.declared.asks.Ask.TheVariants.{Reserve, Relax, Deny, Submit, Release, Arrive, Tick}
 use Rattle.link_steps.specs.declared.asks.Packet.{Packet}
@@ -34,7 +35,7 @@ use Rattle.link_steps.proofs.LegalOrder.{IsCarried, HasExpired, legal-order}
 use Rattle.link_steps.proofs.LegalRowFacts.{IsInOrder}
 use Rattle.link_steps.proofs.ListFacts.{Each-if}
 use Rattle.link_steps.proofs.ServiceFacts.{IsFrom}
-use Rattle.link_steps.proofs.WindowWork.{row_work, row_work-admitted, legal-work, ceil_quotient-mono, ceil_quotient-some}
+use Rattle.link_steps.proofs.WindowWork.{row_work, row_work-admitted, legal-work, ceil_quotient-some}
 
 -- ---- each packet has work
 

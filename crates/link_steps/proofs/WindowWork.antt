@@ -17,6 +17,7 @@ use Rattle.traffic_contract.specs.Contract.{most_in}
 use Rattle.traffic_contract.specs.Window.{is_in_window as is_tick_in, count_in}
 use Rattle.traffic_contract.proofs.AdmissionFacts.{total-append}
 use Rattle.traffic_contract.proofs.ContractFacts.{burst-least}
+use Rattle.traffic_contract.proofs.LongerWindows.{ceil_quotient-mono}
 use Rattle.traffic_contract.proofs.NewestFirst.{Decides-keeps_newest_first}
 use Rattle.traffic_contract.proofs.WindowFacts.{count_in-le}
 use Rattle.link_steps.specs.declared.asks.Ask.{Ask}
@@ -45,19 +46,7 @@ use Rattle.link_steps.proofs.LegalRowFacts.{SizeFits, IsInOrder}
 use Rattle.link_steps.proofs.ListFacts.{Each-find, Each-filter}
 use Rattle.link_steps.proofs.RefusalFacts.{kept-rule, unless-none}
 
--- ---- larger packets take longer
-
--- of two packets the larger takes no fewer ticks
-pub ceil_quotient-mono : (a b rate : ℕ) → 1 ≤ rate → a ≤ b → ceil_quotient a rate ≤ ceil_quotient b rate
-ceil_quotient-mono a b rate some le =
-    let first = div_ceil_times a rate some in
-    let second = div_ceil_times b rate some in
-    ⊎_elim
-    (λ (more : ceil_quotient b rate < ceil_quotient a rate).
-    let times : (ceil_quotient b rate + 1) * rate ≤ ceil_quotient a rate * rate = mul-le-mul_right rate (omega arith) in
-    absurd (omega (arith, first.1, second.0, times)))
-    (λ (upto : ceil_quotient a rate ≤ ceil_quotient b rate). upto)
-    (cases_lt (ceil_quotient b rate) (ceil_quotient a rate))
+-- ---- the ticks of a packet
 
 -- a packet of a unit or more takes a tick or more
 pub ceil_quotient-some : (a rate : ℕ) → 1 ≤ rate → 1 ≤ a → 1 ≤ ceil_quotient a rate

@@ -1,13 +1,14 @@
 -- The source guarantee says what a source gets that keeps its contract, at the first hop of its channel. It finds
--- buffer: none of its packets is dropped. Each of its packets is eligible in the very tick in which it arrives, so the
--- regulator never holds it back. And so each packet leaves within the bound of its level of its arrival, whatever all
--- other sources do. What counts is what the source has offered: the packets whose tick was made, in order of time,
--- with any that were dropped. It is the same for the channels held and for those that are gone.
-use Rattle.std.specs.Prelude.{◌≡◌, ℕ, ◌+◌, ◌≤◌, true, IsTrue, List, [], reverse}
+-- buffer: each of its packets is taken in the tick for which it was planned, and none is dropped. Each is eligible in
+-- that very tick, so the regulator never holds it back. And so each leaves within the bound of its level of its arrival,
+-- whatever all other sources do. What counts is what the source has offered: the packets whose tick was made, in order
+-- of time, with any that were dropped. It is the same for the channels held and for those that are gone.
+use Rattle.std.specs.Prelude.{◌≡◌, ℕ, ◌+◌, ◌≤◌, true, IsTrue, List, [], map, filter, reverse}
 use Rattle.net_units.specs.Steps.{bound_at}
 use Rattle.traffic_contract.specs.Keeping.{Keeps}
 use Rattle.link_steps.specs.declared.replies.Entry.{Entry}
 use Rattle.link_steps.specs.declared.shape.LinkShape.{LinkShape}
+use Rattle.link_steps.specs.Buffer.{has_lead}
 use Rattle.link_steps.specs.Lists.{Each}
 use Rattle.link_steps.specs.Rows.{Row, offered_by}
 use Rattle.link_steps.specs.Scan.{clock_of, scan_of, starts_of}
@@ -17,6 +18,10 @@ use Rattle.link_steps.specs.Service.{Arrival, Start, leaves_at, has_departed}
 pub record SourceKeeps (clock : ℕ) (row : Row) : Type 0 where
   pub first : row.terms.first ≡ true
   pub keeps : Keeps row.terms.contract (offered_by clock row)
+
+-- the tick in which a packet arrived
+abbrev pub arrival_of : Arrival → ℕ
+arrival_of p = p.at
 
 -- a packet of the row is eligible in the tick in which it arrives
 pub record IsEligibleAtOnce (row : Row) (p : Arrival) : Type 0 where
@@ -34,9 +39,11 @@ pub record LeavesPromptly (shape : LinkShape) (clock : ℕ) (row : Row) (start :
 pub record HasLeftPromptly (shape : LinkShape) (clock : ℕ) (starts : List Start) (row : Row) (p : Arrival) : Type 0 where
   pub gone : p.lead ≡ row.lead → arrival_deadline shape p ≤ clock → IsTrue (has_departed shape.rate starts clock p)
 
--- what the source of a row has got after a history
+-- what the source of a row has got after a history: none of its packets was dropped, those that arrived are those
+-- offered, and so are the eligible ticks, in order of time
 pub record IsServedPromptly (shape : LinkShape) (h : List Entry) (row : Row) : Type 0 where
   pub none_dropped : row.dropped ≡ []
+  pub taken : map arrival_of (filter (has_lead row.lead) (scan_of shape h).packets) ≡ offered_by (clock_of h) row
   pub as_offered : reverse row.ticks ≡ offered_by (clock_of h) row
   pub at_once : Each (IsEligibleAtOnce row) (scan_of shape h).packets
   pub departed : Each (LeavesPromptly shape (clock_of h) row) (starts_of shape h)

@@ -8,6 +8,7 @@ use Rattle.traffic_contract.specs.Contract.{Terms, IsContract, burst_of, most_in
 
 -- ---- quotients
 
+-- a larger number has no smaller quotient
 div-mono : (v w n : ℕ) → 1 ≤ n → v ≤ w → v / n ≤ w / n
 div-mono v w n some more = le-div (v / n) w n some (omega (arith, div-mul-le_self v n))
 
@@ -17,6 +18,7 @@ mod-mono v w n more same =
     let e : v / n * n ≡ w / n * n = ap (λ q. q * n) same in
     omega (arith, e, div-add-mod' v n, div-add-mod' w n)
 
+-- nor a smaller quotient rounded up
 pub ceil_quotient-mono : (v w n : ℕ) → 1 ≤ n → v ≤ w → ceil_quotient v n ≤ ceil_quotient w n
 ceil_quotient-mono v w n some more =
     ⊎_elim (λ (less : v / n < w / n). omega arith)
