@@ -32,7 +32,6 @@ use Rattle.tenet_app.specs.Run.{Run, no_steps, asked, replied, after_open, opene
 use Rattle.tenet_app.specs.declared.scenario.plan.Operation.{Operation}
 use Rattle.tenet_app.specs.declared.scenario.plan.Operation.TheVariants as operation
 use Rattle.tenet_app.specs.declared.scenario.plan.Request.{Request}
-use Rattle.tenet_app.specs.declared.scenario.plan.Send.{Send}
 use Rattle.tenet_app.proofs.RunFacts.{opened-verdicts}
 use Rattle.tenet_app.proofs.ScriptFacts.{requests_in-append}
 
