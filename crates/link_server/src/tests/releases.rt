@@ -1,6 +1,6 @@
 //! Worked releases and arrivals at one link.
-use super::{arrive, deny, offer, open, relax, release, reserve, submit, tick, voice};
-use link_steps::{Ask, LinkStep, Phase, Refusal, Reply, Why};
+use super::{arrive, deny, offer, open, relax, release, reserve, step, submit, tick, voice};
+use link_steps::{Ask, Phase, Refusal, Reply, Why};
 use net_units::{ChanNo, Kind, Level, LinkNo};
 use std::test::Fail;
 
@@ -95,16 +95,18 @@ fn a_released_channel_holds_its_share(rt: HostRuntime) -> Result<(), Fail> {
 fn a_packet_that_arrives_waits_until_it_is_due(rt: HostRuntime) -> Result<(), Fail> {
     let mut link = open(rt.alloc(), 100)?;
     let chan = ChanNo::new(1).ok_or("channel")?;
-    let reply = link.step(&Ask::Reserve {
+    let contract = voice()?;
+    let _smax = contract.smax();
+    let ask = Ask::Reserve {
         chan,
-        contract: voice()?,
+        contract,
         kind: Kind::Jitter,
         delay: 50,
         up_reach: 20,
         first: false,
         next: LinkNo::new(3),
-    })?;
-    assert_eq!(rt; reply, offer(1, 3)?);
+    };
+    assert_eq!(rt; step(&mut link, &ask)?, offer(1, 3)?);
     assert_eq!(rt;
         arrive(&mut link, 1, 22)?,
         Reply::Refused(Refusal::Stray {
