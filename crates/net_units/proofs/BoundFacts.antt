@@ -20,6 +20,17 @@ all_at p [] j r h = absurd (omega arith)
 all_at p (b ∷ bs) zero r h = (and_parts _ _ r).0
 all_at p (b ∷ bs) (suc j) r h = all_at p bs j (and_parts _ _ r).1 (omega arith)
 
+-- an item of rising bounds is no larger than one further on
+get_or-rising : (low : ℕ) (bs : List ℕ) (i j : ℕ) → rises_above low bs ≡ true → i ≤ j → j < length bs → get_or bs i 0 ≤ get_or bs j 0
+get_or-rising low [] i j r order h = absurd (omega arith)
+get_or-rising low (b ∷ bs) zero zero r order h = omega arith
+get_or-rising low (b ∷ bs) (suc i) zero r order h = absurd (omega arith)
+get_or-rising low (b ∷ bs) zero (suc j) r order h =
+    let later : b < get_or bs j 0 = above_low b bs j (and_parts (ltb low b) (rises_above b bs) r).1 (omega arith) in
+    omega arith
+get_or-rising low (b ∷ bs) (suc i) (suc j) r order h =
+    get_or-rising b bs i j (and_parts (ltb low b) (rises_above b bs) r).1 (omega arith) (omega arith)
+
 -- no more levels are within x than there are
 pub within_count : (bs : List ℕ) (x : ℕ) → levels_within bs x ≤ length bs
 within_count [] x = omega arith
@@ -85,6 +96,11 @@ bound_least bs level h one within =
 pub bound_most : (bs : List ℕ) (level : ℕ) → are_bounds bs ≡ true → 1 ≤ level → level ≤ length bs → bound_at bs level ≤ 1048576
 bound_most bs level h one within =
     leb-true (get_or bs (level - 1) 0) 1048576 (all_at (λ b. leb b most_bound) bs (level - 1) (bounds_parts bs h).small (omega arith))
+
+-- a higher level has no smaller bound
+pub bound_at-rising : (bs : List ℕ) (level higher : ℕ) → are_bounds bs ≡ true → 1 ≤ level → level ≤ higher → higher ≤ length bs → bound_at bs level ≤ bound_at bs higher
+bound_at-rising bs level higher h one order within =
+    get_or-rising 0 bs (level - 1) (higher - 1) (bounds_parts bs h).rising (omega arith) (omega arith)
 
 -- the count of levels within x is at most the number of levels
 pub within_most : (bs : List ℕ) (x : ℕ) → are_bounds bs ≡ true → levels_within bs x ≤ 8

@@ -72,6 +72,7 @@ impl Bounds {
         ensures value { result ≡ bound_at self.now (level_number level) }
         ensures least { 1 ≤ result }
         ensures most { result ≤ 1048576 }
+        ensures valid { IsTrue (are_bounds self.now) }
     {
         self.as_slice()[level.get() as usize - 1]
     }
