@@ -1,0 +1,3 @@
+mod HopFacts
+mod ShareFacts
+mod LawFacts

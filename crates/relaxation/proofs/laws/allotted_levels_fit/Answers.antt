@@ -1,0 +1,5 @@
+use Rattle.relaxation.proofs.LawFacts.{allotted-fit}
+use Rattle.relaxation.proofs.laws.allotted_levels_fit.Goals as goal
+
+pub returns : goal.returns
+returns c = allotted-fit

@@ -1,0 +1,148 @@
+//! The destination's tests of a request, and the levels that its hops are allotted.
+//!
+//! A channel is established in one round trip (after the Tenet suite, Banerjea, Ferrari et al. 1996). Behind the last
+//! hop's offer the destination tests what was offered, and then each hop gets its level on the way back. Nothing here takes
+//! memory. Times are in ticks.
+#![tactic(auto)]
+
+ghost use Rattle.std.specs.Prelude.{◌≡◌, ◌+◌, ◌^◌, ◌<◌, ◌≤◌, Some, None, IsTrue, MatchResult, OnOk, OnErr, length, map};
+ghost use Rattle.net_units.specs.Allotted.{levels_of};
+ghost use Rattle.net_units.specs.Numbers.{level_number};
+ghost use Rattle.net_units.specs.Steps.{are_bounds, bound_at};
+ghost use Rattle.hop_reservation.specs.Offers.{delay_over, IsLevelOf};
+ghost use Rattle.relaxation.specs.Allotment.{allotted, allotment, denial_of, last_bound, relaxed, up_to, IsWithin};
+
+pub mod laws;
+
+use hop_reservation::{Itinerary, Offer};
+use net_units::limits::MOST_HOPS;
+use net_units::{Level, Levels};
+
+/// Why the destination denies a request.
+#[derive(Clone, Copy, Debug, PartialEq, Eq)]
+pub enum EndDenial {
+    /// The delay that the hops have offered is over the request's bound.
+    Delay {
+        /// The sum of the offered bounds and the propagations, in ticks.
+        sum: u64,
+        /// The request's bound, in ticks.
+        bound: u64,
+    },
+    /// The bound that the last hop has offered is over the request's jitter bound.
+    Jitter {
+        /// The last hop's bound, in ticks.
+        last: u64,
+        /// The request's jitter bound, in ticks.
+        bound: u64,
+    },
+}
+
+/// Puts the levels of all hops, in route order, in place of those in `out`: for a request with this delay bound and, under
+/// delay-jitter control, this jitter bound, both in ticks. Where the destination denies the request, `out` stays as it
+/// was.
+pub fn allot(
+    it: &Itinerary,
+    delay: u64,
+    jitter: Option<u64>,
+    out: &mut Levels,
+) -> Result<(), EndDenial>
+    requires { length it.now.levels ≡ length it.now.route }
+    ensures denial { MatchResult result
+        (λ _. denial_of it.now.route it.now.levels delay jitter ≡ None)
+        (λ denial. denial_of it.now.route it.now.levels delay jitter ≡ Some denial) }
+    ensures levels { OnOk result (levels_of out.new ≡ allotted it.now.route it.now.levels delay jitter) }
+    ensures unchanged { OnErr result (out.new ≡ out.old) }
+{
+    let sum = it.delay_sum();
+    if sum > delay {
+        return Err(EndDenial::Delay { sum, bound: delay });
+    }
+    if let Some(bound) = jitter {
+        let last = last_offered(it);
+        if last > bound {
+            return Err(EndDenial::Jitter { last, bound });
+        }
+    }
+    share_out(it, delay - sum, jitter, out);
+    Ok(())
+}
+
+// The bound that the last hop has offered.
+fn last_offered(it: &Itinerary) -> u64
+    ensures { result ≡ last_bound it.now.route it.now.levels }
+{
+    match it.offers() {
+        0 => 0,
+        place => bound_of(&it.offer(place)),
+    }
+}
+
+fn bound_of(offer: &Offer) -> u64
+    requires { IsLevelOf offer.now.hop (level_number offer.now.level) }
+    ensures value { result ≡ bound_at offer.now.hop.bounds (level_number offer.now.level) }
+    ensures valid { IsTrue (are_bounds offer.now.hop.bounds) }
+{
+    u64::from(offer.hop.bounds.at(offer.level))
+}
+
+// Shares the slack out, from the last hop to the first.
+fn share_out(it: &Itinerary, slack: u64, jitter: Option<u64>, out: &mut Levels)
+    requires fits { slack + delay_over it.now.route it.now.levels < 2 ^ 64 }
+    requires jitter { IsWithin jitter (last_bound it.now.route it.now.levels) }
+    ensures { levels_of out.new ≡ (allotment jitter slack 0 it.now.route it.now.levels).levels }
+{
+    let mut levels = [Level::LEAST; MOST_HOPS as usize];
+    let mut left = slack;
+    let mut limit = jitter;
+    let mut place = it.offers();
+    while place > 0 {
+        let offer = it.offer(place);
+        let level = within_share(&offer, limit, left / u64::from(place));
+        left -= u64::from(offer.hop.bounds.at(level)) - bound_of(&offer);
+        limit = None;
+        place -= 1;
+        levels[place as usize] = level;
+    }
+    put(&levels[..it.offers() as usize], out);
+}
+
+// The largest level of the hop whose bound is within its offered one and a share of the slack, and within the limit.
+fn within_share(offer: &Offer, limit: Option<u64>, share: u64) -> Level
+    requires level { IsLevelOf offer.now.hop (level_number offer.now.level) }
+    requires fits { bound_at offer.now.hop.bounds (level_number offer.now.level) + share < 2 ^ 64 }
+    requires limit { IsWithin limit (bound_at offer.now.hop.bounds (level_number offer.now.level)) }
+    ensures value { level_number result ≡ relaxed limit offer.now.hop (level_number offer.now.level) share }
+    ensures level { IsLevelOf offer.now.hop (level_number result) }
+    ensures least { bound_at offer.now.hop.bounds (level_number offer.now.level) ≤ bound_at offer.now.hop.bounds (level_number result) }
+    ensures most { bound_at offer.now.hop.bounds (level_number result) ≤ bound_at offer.now.hop.bounds (level_number offer.now.level) + share }
+{
+    let within = cut(limit, bound_of(offer) + share);
+    match offer.hop.bounds.within(within) {
+        Some(level) => level,
+        None => offer.level,
+    }
+}
+
+// These ticks, but no more than the limit.
+fn cut(limit: Option<u64>, ticks: u64) -> u64
+    ensures { result ≡ up_to limit ticks }
+{
+    match limit {
+        Some(limit) => limit.min(ticks),
+        None => ticks,
+    }
+}
+
+// Puts these levels in place of those in `out`.
+fn put(levels: &[Level], out: &mut Levels)
+    requires { length levels.now ≤ 16 }
+    ensures { levels_of out.new ≡ map level_number levels.now }
+{
+    out.clear();
+    for level in levels {
+        out.push(*level);
+    }
+}
+
+#[cfg(test)]
+mod tests;
