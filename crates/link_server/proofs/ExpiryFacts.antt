@@ -101,9 +101,3 @@ pub each-at : (P : KeptRow → Type 0) (rows : List HeldRow) (i : ℕ) (d : Held
 each-at P [] i d inside each = absurd (omega arith)
 each-at P (row ∷ rows) zero d inside each = each.0
 each-at P (row ∷ rows) (suc i) d inside each = each-at P rows i d (omega arith) each.1
-
--- one row fewer
-pub fewer : (rows : List HeldRow) (i : ℕ) → i < length rows → suc (length (remove rows i)) ≡ length rows
-fewer [] i inside = absurd (omega arith)
-fewer (row ∷ rows) zero inside = refl
-fewer (row ∷ rows) (suc i) inside = ap suc (fewer rows i (omega arith))

@@ -1,4 +1,4 @@
-use Rattle.std.proofs.Common.{◌≡◌, ◌+◌, ◌≤◌, length}
+use Rattle.std.proofs.Common.{◌≡◌, ◌+◌, length}
 use Rattle.link_server.proofs.tests.releases.a_released_channel_holds_its_share.Given as goal
 
 -- each loop counts the link's ticks
