@@ -26,6 +26,7 @@ fn reserve(link: &mut LinkState, chan: u32, contract: &Contract, delay: u64) -> 
     ensures clock { link.new.clock ≡ link.old.clock }
     ensures shape { link.new.shape ≡ link.old.shape }
 {
+    // `smax` tells that the four numbers are a contract's, as the ask wants.
     let _smax = contract.smax();
     let chan = ChanNo::new(chan).ok_or("channel")?;
     let reply = link.step(&Ask::Reserve {
