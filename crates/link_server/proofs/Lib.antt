@@ -1,6 +1,5 @@
 pub mod PlaceFacts
 pub mod SumsFacts
-pub mod LevelFacts
 pub mod AnswerFacts
 pub mod CloseFacts
 pub mod ArriveFacts
@@ -16,7 +15,6 @@ pub mod SourceFacts
 pub mod SourceRows
 pub mod LineFacts
 pub mod ServingFacts
-pub mod SlotFacts
 pub mod SoundRows
 pub mod SoundPackets
 pub mod SoundSetup

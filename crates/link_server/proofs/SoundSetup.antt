@@ -3,7 +3,7 @@ use Rattle.std.proofs.Common.{◌≡◌, ℕ, ◌+◌, ◌≤◌, Bool, true, �
 use Rattle.std.proofs.lemmas.Bool.{leb-true, eqb-true, and_parts}
 use Rattle.std.specs.Prelude.{find, nat_eq, nat_le}
 use Rattle.std.specs.Option.{option_map}
-use Rattle.net_units.proofs.BoundFacts.{within_count, bounds_parts}
+use Rattle.net_units.proofs.BoundFacts.{within_count, bounds_parts, bound_at-rising}
 use Rattle.net_units.specs.Numbers.{level_number}
 use Rattle.net_units.specs.Steps.{bound_at}
 use Rattle.net_units.specs.declared.Kind.{Kind}
@@ -37,7 +37,6 @@ use Rattle.link_steps.proofs.ListFacts.{Each-append, Each-find, Each-without_fir
 use Rattle.link_steps.proofs.RefusalFacts.{kept-rule, unless-none}
 use Rattle.link_server.specs.Asks.{IsOffer}
 use Rattle.link_server.specs.Sound.{places_of, all_places_of, places, most_places, AreAhead, AreApart, IsSoundRow, IsSound}
-use Rattle.link_server.proofs.SlotFacts.{bound_at-mono}
 use Rattle.link_server.proofs.SoundRows.{AreApart-without_first, AreApart-push, AreApart-changed, planned-ahead}
 
 -- ---- nothing, and more room
@@ -138,7 +137,7 @@ relax-tells t terms level up_bound clock same =
 relax-slots : (shape : LinkShape) (terms : Reservation) (level : Level) (up_bound : ℕ) → IsContract terms.contract → level_number terms.reach ≤ length shape.bounds → FitsReach terms level up_bound → slots_of shape.bounds (committed level up_bound terms) ≤ slots_of shape.bounds terms
 unfolding slots_of
 relax-slots shape terms level up_bound valid within fits =
-    let bound = bound_at-mono shape.bounds (level_number level) (level_number terms.reach) shape.bounds_rise level.least fits.level_most within in
+    let bound = bound_at-rising shape.bounds (level_number level) (level_number terms.reach) shape.bounds_rise level.least fits.level_most within in
     let stay : stay_in terms.phase shape.bounds terms ≡ terms.up_reach + bound_at shape.bounds (level_number terms.reach) = ap (λ phase. stay_in phase shape.bounds terms) fits.phase in
     rw stay (most_in-mono terms.contract (up_bound + bound_at shape.bounds (level_number level)) (terms.up_reach + bound_at shape.bounds (level_number terms.reach)) valid (omega (arith, bound, fits.bound_most)))
 

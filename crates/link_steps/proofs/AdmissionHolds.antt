@@ -1,13 +1,12 @@
 -- In every legal history the held rows pass the admission test after every entry.
-use Rattle.std.proofs.Common.{◌≡◌, ℕ, zero, suc, ◌+◌, ◌-◌, ◌<◌, ◌≤◌, Bool, true, List, [], ◌∷◌, ◌++◌, length, map, Option, Some, None, refl, sym, ap, ◌∙◌, subst, arith}
-use Rattle.std.proofs.lemmas.Bool.{and_parts}
+use Rattle.std.proofs.Common.{◌≡◌, ℕ, suc, ◌+◌, ◌-◌, ◌≤◌, Bool, true, List, [], ◌∷◌, ◌++◌, map, Option, Some, None, refl, sym, ap, ◌∙◌, subst, arith}
 use Rattle.std.proofs.lemmas.List.{map-append}
-use Rattle.std.specs.Prelude.{filter, find, nat_lt, unwrap_or}
+use Rattle.std.specs.Prelude.{filter, find, unwrap_or}
 use Rattle.std.specs.Option.{option_map}
-use Rattle.net_units.proofs.BoundFacts.{bounds_parts, above_low}
+use Rattle.net_units.proofs.BoundFacts.{bounds_parts, bound_at-rising}
 use Rattle.net_units.specs.Numbers.{level_number}
 use Rattle.net_units.specs.Quotient.{ceil_quotient}
-use Rattle.net_units.specs.Steps.{bound_at, are_bounds, rises_above}
+use Rattle.net_units.specs.Steps.{bound_at}
 use Rattle.net_units.specs.declared.Kind.{Kind}
 use Rattle.net_units.specs.declared.numbers.ChanNo.{ChanNo}
 use Rattle.net_units.specs.declared.numbers.Level.{Level}
@@ -69,23 +68,11 @@ Pass-same shape rows others same pass = subst (λ all. Passes (server_of shape) 
 
 -- ---- no rows
 
--- the first bound is the least
-bound_at-first : (bs : List ℕ) (m : ℕ) → are_bounds bs ≡ true → 1 ≤ m → m ≤ length bs → bound_at bs 1 ≤ bound_at bs m
-bound_at-first [] m rise from upto = absurd (omega arith)
-bound_at-first (b ∷ bs) zero rise from upto = absurd (omega arith)
-bound_at-first (b ∷ bs) (suc zero) rise from upto = omega arith
-bound_at-first (b ∷ bs) (suc (suc k)) rise from upto =
-    let rising : rises_above b bs ≡ true = (and_parts (nat_lt 0 b) (rises_above b bs) (bounds_parts (b ∷ bs) rise).rising).1 in
-    let inside : k < length bs = omega arith in
-    let above = above_low b bs k rising inside in
-    let e : suc (suc k) - 1 ≡ suc k = omega arith in
-    rw e (omega (arith, above))
-
 -- the blocking is at most the first bound, and so at most each
 Pass-none : (shape : LinkShape) → Pass shape []
 Pass-none shape =
     Passes-nil (server_of shape) (λ m from upto.
-    let least = bound_at-first shape.bounds m shape.bounds_rise from upto in
+    let least = bound_at-rising shape.bounds 1 m shape.bounds_rise (omega arith) from upto in
     let first : ceil_quotient shape.cap shape.rate ≤ bound_at shape.bounds 1 = shape.blocking_fits in
     omega (arith, least, first))
 

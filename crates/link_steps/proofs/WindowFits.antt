@@ -1,13 +1,13 @@
 -- In a legal history the packets of the levels up to m that are eligible in a window as long as the bound of m leave
 -- room for the blocking. For the rows with such a packet stand together in one list that passes the admission test: a
 -- row expires only when its last packet has been eligible for as long as the largest bound.
-use Rattle.std.proofs.Common.{◌≡◌, ℕ, zero, suc, ◌+◌, ◌-◌, ◌*◌, ◌<◌, ◌≤◌, Bool, true, false, cond, ◌&&◌, List, [], ◌∷◌, length, get_or, Option, Some, None, ⊎_elim, refl, arith}
-use Rattle.std.proofs.lemmas.Bool.{cases_lt, lt-leb, le-ltb, and_parts}
-use Rattle.std.specs.Prelude.{filter, find, nat_le, nat_lt}
-use Rattle.net_units.proofs.BoundFacts.{bounds_parts, above_low, bound_least}
+use Rattle.std.proofs.Common.{◌≡◌, ℕ, suc, ◌+◌, ◌-◌, ◌*◌, ◌<◌, ◌≤◌, Bool, true, false, cond, ◌&&◌, List, [], ◌∷◌, length, Option, Some, None, ⊎_elim, refl, arith}
+use Rattle.std.proofs.lemmas.Bool.{cases_lt, lt-leb, le-ltb}
+use Rattle.std.specs.Prelude.{filter, find, nat_le}
+use Rattle.net_units.proofs.BoundFacts.{bound_at-rising, bound_least}
 use Rattle.net_units.specs.Numbers.{level_number}
 use Rattle.net_units.specs.Quotient.{ceil_quotient}
-use Rattle.net_units.specs.Steps.{bound_at, are_bounds, rises_above, last_bound}
+use Rattle.net_units.specs.Steps.{bound_at, are_bounds, last_bound}
 use Rattle.traffic_contract.specs.Admission.{total, load}
 use Rattle.traffic_contract.specs.Window.{count_in}
 use Rattle.traffic_contract.proofs.AdmissionFacts.{total-append}
@@ -52,20 +52,9 @@ packets-have_work shape h legal = Each-if (IsCarried shape) (HasWork shape.rate 
 
 -- ---- the last bound is the largest
 
--- bounds that rise are in order
-bounds-order : (low : ℕ) (bs : List ℕ) (i j : ℕ) → rises_above low bs ≡ true → i ≤ j → j < length bs → get_or bs i 0 ≤ get_or bs j 0
-bounds-order low [] i j rise le inside = absurd (omega arith)
-bounds-order low (b ∷ bs) zero zero rise le inside = omega arith
-bounds-order low (b ∷ bs) (suc i) zero rise le inside = absurd (omega arith)
-bounds-order low (b ∷ bs) zero (suc j) rise le inside =
-    let above : b < get_or bs j 0 = above_low b bs j (and_parts (nat_lt low b) (rises_above b bs) rise).1 (omega arith) in
-    omega arith
-bounds-order low (b ∷ bs) (suc i) (suc j) rise le inside =
-    bounds-order b bs i j (and_parts (nat_lt low b) (rises_above b bs) rise).1 (omega arith) (omega arith)
-
 -- no bound is larger than the last
 pub bound-last : (bs : List ℕ) (m : ℕ) → are_bounds bs ≡ true → 1 ≤ m → m ≤ length bs → bound_at bs m ≤ last_bound bs
-bound-last bs m rise from upto = bounds-order 0 bs (m - 1) (length bs - 1) (bounds_parts bs rise).rising (omega arith) (omega arith)
+bound-last bs m rise from upto = bound_at-rising bs m (length bs) rise from upto (omega arith)
 
 -- ---- rows that are gone bring nothing
 
