@@ -1,5 +1,5 @@
 -- What is kept of a row is all that the rules need of it.
-use Rattle.std.proofs.Common.{◌≡◌, ℕ, zero, suc, ◌+◌, ◌-◌, ◌<◌, ◌≤◌, Bool, true, false, ◌&&◌, List, [], ◌∷◌, ◌++◌, length, take, map, refl, ap, ◌∙◌, ⊎_elim, arith, length-append}
+use Rattle.std.proofs.Common.{◌≡◌, ℕ, zero, suc, ◌+◌, ◌-◌, ◌<◌, ◌≤◌, Bool, true, false, ◌&&◌, List, [], ◌∷◌, ◌++◌, length, map, refl, ap, ◌∙◌, ⊎_elim, arith, length-append}
 use Rattle.std.proofs.lemmas.Bool.{le-leb, lt-leb, eqb-true, cases_lt, le-ltb}
 use Rattle.std.proofs.lemmas.List.Elements.{filter-append}
 use Rattle.std.specs.Prelude.{filter}
@@ -9,7 +9,7 @@ use Rattle.traffic_contract.specs.Contract.{Terms, IsContract, burst_of}
 use Rattle.traffic_contract.specs.Eligible.{eligible, newest}
 use Rattle.traffic_contract.specs.Keeping.{may_follow}
 use Rattle.traffic_contract.proofs.ContractFacts.{burst-least}
-use Rattle.traffic_contract.proofs.EligibleFacts.{eligible-take, first_from-reached}
+use Rattle.traffic_contract.proofs.EligibleFacts.{eligible-take, first_from-reached, newest-take, take-cons-take}
 use Rattle.link_steps.specs.Buffer.{has_slot}
 use Rattle.link_steps.specs.Hold.{stays}
 use Rattle.link_steps.specs.Kept.{recent_of, kept_row, kept_stays, kept_step, kept_tick, kept_packet, kept_with, past_tick, kept_after_step, kept_packets, kept_rows_after, kept_lost}
@@ -31,11 +31,7 @@ RowHasContract row = IsContract row.terms.contract
 
 -- the newest tick is kept
 newest-recent : (contract : Terms) (ticks : List ℕ) → IsContract contract → newest (recent_of contract ticks) ≡ newest ticks
-newest-recent contract ticks is = newest-take (burst_of contract) ticks (burst-least contract is) where
-  newest-take : (n : ℕ) (ticks : List ℕ) → 1 ≤ n → newest (take n ticks) ≡ newest ticks
-  newest-take zero ticks some = absurd (omega arith)
-  newest-take (suc n) [] some = refl
-  newest-take (suc n) (t ∷ ticks) some = refl
+newest-recent contract ticks is = newest-take (burst_of contract) ticks (burst-least contract is)
 
 -- the next eligible tick needs no more than the kept ones
 pub eligible-recent : (terms : Reservation) (ticks : List ℕ) (t due : ℕ) → IsContract terms.contract → eligible_next terms (recent_of terms.contract ticks) t due ≡ eligible_next terms ticks t due
@@ -44,15 +40,7 @@ eligible-recent terms ticks t due is = eligible-take terms.contract ticks (waits
 
 -- one more tick in front
 pub recent-more : (contract : Terms) (e : ℕ) (ticks : List ℕ) → recent_of contract (e ∷ recent_of contract ticks) ≡ recent_of contract (e ∷ ticks)
-recent-more contract e ticks = take-more (burst_of contract) e ticks where
-  take-take : (n : ℕ) (ticks : List ℕ) → take n (take (suc n) ticks) ≡ take n ticks
-  take-take zero ticks = refl
-  take-take (suc n) [] = refl
-  take-take (suc n) (t ∷ ticks) = ap (λ all. t ∷ all) (take-take n ticks)
-
-  take-more : (n : ℕ) (e : ℕ) (ticks : List ℕ) → take n (e ∷ take n ticks) ≡ take n (e ∷ ticks)
-  take-more zero e ticks = refl
-  take-more (suc n) e ticks = ap (λ all. e ∷ all) (take-take n ticks)
+recent-more contract e ticks = take-cons-take (burst_of contract) e ticks
 
 -- no packet is eligible before it arrives
 pub eligible-from : (terms : Reservation) (ticks : List ℕ) (t due : ℕ) → t ≤ eligible_next terms ticks t due
