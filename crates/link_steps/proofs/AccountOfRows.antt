@@ -1,8 +1,7 @@
 -- What is kept of a row is all that the rules need of it.
-use Rattle.std.proofs.Common.{◌≡◌, ℕ, zero, suc, ◌+◌, ◌-◌, ◌<◌, ◌≤◌, Bool, true, false, ◌&&◌, List, [], ◌∷◌, ◌++◌, length, take, map, refl, ap, ◌∙◌, ⊎_elim, arith, length-append}
+use Rattle.std.proofs.Common.{◌≡◌, ℕ, zero, suc, ◌+◌, ◌-◌, ◌<◌, ◌≤◌, Bool, true, false, ◌&&◌, List, [], ◌∷◌, ◌++◌, length, map, refl, ap, ◌∙◌, ⊎_elim, arith, length-append}
 use Rattle.std.proofs.Math.Bool.{and-false}
 use Rattle.std.proofs.lemmas.Bool.{le-leb, lt-leb, eqb-true, cases_lt, le-ltb}
-use Rattle.std.proofs.lemmas.List.{take-take}
 use Rattle.std.proofs.lemmas.List.Elements.{filter-append}
 use Rattle.std.specs.Prelude.{filter}
 use Rattle.net_units.specs.declared.Kind.{Kind}
@@ -11,7 +10,7 @@ use Rattle.traffic_contract.specs.Contract.{Terms, IsContract, burst_of}
 use Rattle.traffic_contract.specs.Eligible.{eligible, newest}
 use Rattle.traffic_contract.specs.Keeping.{may_follow}
 use Rattle.traffic_contract.proofs.ContractFacts.{burst-least}
-use Rattle.traffic_contract.proofs.EligibleFacts.{eligible-take, first_from-reached}
+use Rattle.traffic_contract.proofs.EligibleFacts.{eligible-take, first_from-reached, newest-take, take-cons-take}
 use Rattle.link_steps.specs.Buffer.{has_slot}
 use Rattle.link_steps.specs.Hold.{stays}
 use Rattle.link_steps.specs.Kept.{recent_of, kept_row, kept_stays, kept_step, kept_tick, kept_packet, kept_with, past_tick, kept_after_step, kept_packets, kept_rows_after, kept_lost}
@@ -33,11 +32,7 @@ RowHasContract row = IsContract row.terms.contract
 
 -- the newest tick is kept
 newest-recent : (contract : Terms) (ticks : List ℕ) → IsContract contract → newest (recent_of contract ticks) ≡ newest ticks
-newest-recent contract ticks is = newest-take (burst_of contract) ticks (burst-least contract is) where
-  newest-take : (n : ℕ) (ticks : List ℕ) → 1 ≤ n → newest (take n ticks) ≡ newest ticks
-  newest-take zero ticks some = absurd (omega arith)
-  newest-take (suc n) [] some = refl
-  newest-take (suc n) (t ∷ ticks) some = refl
+newest-recent contract ticks is = newest-take (burst_of contract) ticks (burst-least contract is)
 
 -- the next eligible tick needs no more than the kept ones
 pub eligible-recent : (terms : Reservation) (ticks : List ℕ) (t due : ℕ) → IsContract terms.contract → eligible_next terms (recent_of terms.contract ticks) t due ≡ eligible_next terms ticks t due
@@ -46,10 +41,7 @@ eligible-recent terms ticks t due is = eligible-take terms.contract ticks (waits
 
 -- one more tick in front
 recent-more : (contract : Terms) (e : ℕ) (ticks : List ℕ) → recent_of contract (e ∷ recent_of contract ticks) ≡ recent_of contract (e ∷ ticks)
-recent-more contract e ticks = take-more (burst_of contract) where
-  take-more : (n : ℕ) → take n (e ∷ take n ticks) ≡ take n (e ∷ ticks)
-  take-more zero = refl
-  take-more (suc n) = ap (λ all. e ∷ all) (take-take n (suc n) ticks (omega arith))
+recent-more contract e ticks = take-cons-take (burst_of contract) e ticks
 
 -- no packet is eligible before it arrives
 pub eligible-from : (terms : Reservation) (ticks : List ℕ) (t due : ℕ) → t ≤ eligible_next terms ticks t due
