@@ -77,7 +77,7 @@ impl Budget {
         Ok(())
     }
 
-    /// Makes a row that holds `from` units hold `to` of them, and gives back the rest.
+    /// Makes a row that holds `from` units hold `to` of them, at most as many, and gives back the rest.
     pub fn cut(&mut self, from: u64, to: u64)
         requires smaller { to ≤ from }
         requires held { from ≤ self.old.held }
@@ -87,7 +87,7 @@ impl Budget {
         self.give_back(from - to);
     }
 
-    /// Gives back so many of the units that are held.
+    /// Gives back so many units, at most as many as are held.
     pub fn give_back(&mut self, units: u64)
         requires { units ≤ self.old.held }
         ensures freed { self.new ≡ with_freed self.old units }

@@ -2,11 +2,10 @@
 use Rattle.std.proofs.Common.{◌≡◌, ℕ, ◌≤◌, List, [], ◌∷◌, ◌++◌, Option, Some, None, Result, Ok, Err, append-nil, append_assoc, length-append, sym, ap, refl, ◌∙◌, arith}
 use Rattle.std.specs.Io.KnownBytes.{Consumes, IsAtEnd}
 use Rattle.std.proofs.KnownBytes.{Consumes-nil, Consumes-trans}
-use Rattle.byte_ends.specs.Faults.{Rises}
 use Rattle.byte_ends.specs.WholeLines.{feed}
 use Rattle.byte_ends.specs.Cutting.{Cutting, IsOpen, ahead, let_go}
 use Rattle.byte_ends.specs.Answers.{Moves, GivesNone, Answers}
-use Rattle.byte_ends.specs.Steps.{StaysOpen, Settles}
+use Rattle.byte_ends.specs.Steps.{Settles}
 use Rattle.byte_ends.specs.declared.lines.Cut.{Cut}
 use Rattle.byte_ends.specs.declared.lines.Cut.TheVariants.{Line, End}
 use Rattle.byte_ends.specs.declared.lines.LineRefusal.{LineRefusal}
@@ -50,36 +49,10 @@ Moves-trans s m t a b c out p q =
       same_source = λ of. q.same_source (p.same_source of);
     }
 
--- before the first block
-pub Reached-none : (s : Cutting) (left : Option (List ℕ)) (faults : ℕ) → IsOpen s → Reached s s left left faults faults
-Reached-none s left faults undecided =
-    record {
-      moves = Moves-settled s s left [] refl refl refl refl;
-      same_number = refl;
-      undecided = undecided;
-      counts = omega arith;
-    }
-
 -- what was reached, and then more bytes taken
 pub GivesNone-after : (s m t : Cutting) (a b c : Option (List ℕ)) (f g : ℕ) → Reached s m a b f g → GivesNone m t b c → GivesNone s t a c
 GivesNone-after s m t a b c f g p q =
     record { moves = Moves-trans s m t a b c [] p.moves q.moves; same_number = q.same_number ∙ p.same_number; none_in_hand = q.none_in_hand }
-
--- a count that rose after it had not fallen rose
-pub Rises-after : (f g h : ℕ) → f ≤ g → Rises g h → Rises f h
-Rises-after f g h p q = record { keeps = omega (arith, p, q.keeps); more = omega (arith, p, q.more) }
-
--- the bytes taken decide nothing, so one more block is read
-pub Reached-more : (s m t : Cutting) (left left' : Option (List ℕ)) (f g : ℕ) → GivesNone s m left left' → f ≤ g → StaysOpen m t
-    → Reached s t left left' f g
-Reached-more s m t left left' f g stays counts opened =
-    let last : Moves m t left' left' [] = rw opened.same (Moves-settled m (let_go m) left' [] refl refl refl refl) in
-    record {
-      moves = Moves-trans s m t left left' left' [] stays.moves last;
-      same_number = ap (λ (x : Cutting). x.number) opened.same ∙ stays.same_number;
-      undecided = opened.undecided;
-      counts = counts;
-    }
 
 -- where the bytes pending are none and the source is at its end, nothing is ahead
 pub IsAtEnd-ahead : (t : Cutting) (left : Option (List ℕ)) → t.pending ≡ [] → IsAtEnd left → IsAtEnd (ahead t left)

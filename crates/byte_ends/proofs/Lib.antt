@@ -1,6 +1,6 @@
-pub mod Again
 pub mod Blocks
 pub mod Fetching
 pub mod Outlooks
 pub mod Putting
+pub mod Settling
 pub mod Supplying

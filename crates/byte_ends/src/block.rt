@@ -51,7 +51,7 @@ impl Block {
         &self.bytes[self.from..self.upto]
     }
 
-    /// Whether there are none.
+    /// Whether all were passed on.
     pub fn is_empty(&self) -> bool
         ensures { result ≡ (length self.now == 0) }
     {
@@ -66,7 +66,7 @@ impl Block {
         self.from += count;
     }
 
-    /// Reads at most `want` bytes into the empty block.
+    /// Reads at most `want` bytes, from 1 to [`BLOCK`], into the empty block.
     pub fn refill<S: Source>(&mut self, source: &mut S, want: usize) -> Took
         requires empty { self.old ≡ [] }
         requires some { 0 < want }

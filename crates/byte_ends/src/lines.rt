@@ -76,6 +76,7 @@ impl Model for Lines {
 
 impl Lines {
     /// The lines of a source of which nothing was read yet. They may have `most` bytes together, line feeds included.
+    /// `most` is below 2^63. An `Err` comes only for want of memory.
     pub fn new(alloc: Global, most: u64) -> Result<Lines, OutOfMemory>
         requires { most < 2 ^ 63 }
         ensures made { IfOk result (λ t. t

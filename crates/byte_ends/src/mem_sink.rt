@@ -33,8 +33,8 @@ impl Model for MemSink {
 }
 
 impl MemSink {
-    /// A sink with room for `room` bytes, which it reserves, that takes at most `most` of them in one write, and fails
-    /// at the writes whose numbers, from 1, are in `fails`.
+    /// A sink with room for `room` bytes, which it reserves, that takes at most `most` of them, at least 1, in one
+    /// write, and fails at the writes whose numbers, from 1, are in `fails`.
     pub fn new(
         alloc: Global,
         room: usize,

@@ -24,8 +24,8 @@ impl Model for MemSource {
 }
 
 impl MemSource {
-    /// A source that has these bytes left, gives at most `most` of them in one read, and fails at the reads whose
-    /// numbers, from 1, are in `fails`.
+    /// A source that has these bytes left, gives at most `most` of them, at least 1, in one read, and fails at the
+    /// reads whose numbers, from 1, are in `fails`.
     pub fn new(bytes: Vec<u8>, most: usize, fails: Vec<u64>) -> MemSource
         requires { 1 ≤ most }
         ensures supply { result.supply ≡ record { left = bytes.items; most = most } }

@@ -26,7 +26,7 @@ impl Model for SureSource {
 }
 
 impl SureSource {
-    /// A source that has these bytes left, and gives at most `most` of them in one read.
+    /// A source that has these bytes left, and gives at most `most` of them, at least 1, in one read.
     pub fn new(bytes: Vec<u8>, most: usize) -> SureSource
         requires { 1 ≤ most }
         ensures { result ≡ record { left = bytes.items; most = most } }

@@ -1,10 +1,8 @@
 -- The answers to an arrive, case by case.
-use Rattle.std.proofs.Common.{◌≡◌, Option, ℕ, suc, ◌+◌, ◌<◌, [], ◌∷◌, ◌++◌, List, Some, None, length, map, get_or, set, refl, sym, ap, ◌∙◌, subst, arith}
+use Rattle.std.proofs.Common.{◌≡◌, ℕ, suc, ◌+◌, ◌<◌, [], ◌∷◌, ◌++◌, List, Some, None, length, map, get_or, set, refl, sym, ap, ◌∙◌, subst, arith}
 use Rattle.std.proofs.lemmas.Bool.{eqb-true}
 use Rattle.std.proofs.lemmas.List.{map_push, length-map, length-append}
 use Rattle.std.specs.Prelude.{nat_eq, find}
-use Rattle.net_units.specs.Numbers.{channel_number, level_number}
-use Rattle.rcsp_admission.specs.Sums.{held_at}
 use Rattle.link_steps.specs.declared.asks.Ask.TheVariants.{Arrive}
 use Rattle.link_steps.specs.declared.asks.Packet.{Packet}
 use Rattle.link_steps.specs.declared.replies.Refusal.{Refusal}
@@ -14,18 +12,18 @@ use Rattle.link_steps.specs.declared.replies.Reply.TheVariants.{Taken, Refused}
 use Rattle.link_steps.specs.declared.replies.Why.TheVariants.{NoRow, WrongNumber}
 use Rattle.link_steps.specs.declared.shape.LinkShape.{LinkShape}
 use Rattle.link_steps.specs.Buffer.{held_packets, slots_of}
-use Rattle.link_steps.specs.Kept.{Kept, KeptRow, kept_reply, kept_after, kept_arrive, kept_with, kept_with_arrival, kept_arrived_row, kept_arrived, is_kept_of}
+use Rattle.link_steps.specs.Kept.{Kept, kept_reply, kept_after, kept_arrive, kept_with, kept_with_arrival, kept_arrived_row, kept_arrived, is_kept_of}
 use Rattle.link_steps.specs.Lists.{change_first}
 use Rattle.link_steps.specs.Refusals.{Rule, first_refusal, first_hop, uncommitted, wrong_number, past_count, big, full}
 use Rattle.link_steps.specs.Regulator.{eligible_next}
 use Rattle.link_steps.specs.Replies.{arrive_reply}
 use Rattle.link_steps.specs.Reservation.{Reservation}
-use Rattle.link_steps.specs.Service.{Arrival, Start}
 use Rattle.link_steps.specs.Sources.{arrival_at}
+use Rattle.link_steps.proofs.Account.{same-kept}
 use Rattle.link_steps.proofs.RefusalFacts.{unless-none}
 use Rattle.link_server.specs.Account.{account}
 use Rattle.link_server.specs.Packets.{arrival_in, here_in, on_in}
-use Rattle.link_server.specs.Rows.{terms_in, row_in, is_row_of, summed, IsAbsent, IsPlaceOf, IsWithin}
+use Rattle.link_server.specs.Rows.{terms_in, row_in, is_row_of, IsAbsent, IsPlaceOf}
 use Rattle.link_server.specs.Sound.{IsSound}
 use Rattle.link_server.specs.Strays.{first_rule, stray_rules, stray}
 use Rattle.link_server.specs.declared.held_row.HeldRow.{HeldRow}
@@ -65,6 +63,7 @@ arrive-found : (shape : LinkShape) (t : ℕ) (packets : Packets) (packet : Packe
 unfolding kept_reply arrive_reply
 arrive-found shape t packets packet rows i d place = ap (kept_arrive shape t (here_in packets.here.items) packet) (kept-found (is_row_of packet.chan) (is_kept_of packet.chan) (λ row. refl) rows i d place)
 
+-- a packet without a place, one that finds each slot taken, and one that is taken
 pub arrive-stray : (shape : LinkShape) (t : ℕ) (packets : Packets) (packet : Packet) (rows : List HeldRow) (i : ℕ) (d : HeldRow) (refusal : Refusal) → IsPlaceOf packet.chan rows i → Some refusal ≡ stray packet (terms_in (get_or rows i d)) (get_or rows i d).taken → Refused refusal ≡ kept_reply shape (account t packets rows) (Arrive packet)
 arrive-stray shape t packets packet rows i d refusal place first = rule-applies (stray_rules packet (terms_in (get_or rows i d)) (get_or rows i d).taken) (slots-rule shape packets.here.items (get_or rows i d) ∷ []) (taken-reply t packet (get_or rows i d)) refusal first ∙ sym (arrive-found shape t packets packet rows i d place)
 
@@ -105,12 +104,6 @@ next-number packet terms taken none =
     eqb-true packet.number (suc taken) (unless-none (nat_eq packet.number (suc taken)) (Stray (WrongNumber (suc taken))) kept)
 
 -- what is kept with the packet
-abbrev parts : ℕ → ℕ → List KeptRow → List Arrival → Option Start → Kept
-parts t taken rows here on = record { clock = t; taken = taken; rows = rows; here = here; on = on }
-
-same-parts : (t taken taken' : ℕ) (rows rows' : List KeptRow) (here here' : List Arrival) (on on' : Option Start) → taken ≡ taken' → rows ≡ rows' → here ≡ here' → on ≡ on' → parts t taken rows here on ≡ parts t taken' rows' here' on'
-same-parts t taken taken' rows rows' here here' on on' a b c d = rw (a, b, c, d) refl
-
 pub arrive-kept : (shape : LinkShape) (t e : ℕ) (old new : Packets) (packet : Packet) (rows : List HeldRow) (i : ℕ) (d row : HeldRow) (taken : HeldPacket) → IsPlaceOf packet.chan rows i
     → packet.number ≡ suc (get_or rows i d).taken
     → row_in row ≡ kept_with (old.taken + 1) (eligible_next (terms_in (get_or rows i d)) (row_in (get_or rows i d)).recent t packet.due) (row_in (get_or rows i d))
@@ -129,7 +122,7 @@ arrive-kept shape t e old new packet rows i d row taken place number same arrive
     arrived ∙ ap (λ n. arrival_at (terms_in was) was.lead n (suc was.taken) packet.size t tick) next ∙ ap (λ n. arrival_at (terms_in was) was.lead (suc old.taken) n packet.size t tick) (sym number) in
     let here : here_in new.here.items ≡ here_in old.here.items ++ kept_arrived t (suc old.taken) packet (row_in was) ∷ [] =
     ap here_in pushed ∙ map_push arrival_in old.here.items taken ∙ ap (λ p. here_in old.here.items ++ p ∷ []) put in
-    same-parts t new.taken (suc old.taken) (map row_in (set rows i row)) _ (here_in new.here.items) _ (on_in new.on) (on_in old.on) (count ∙ next) changed here (ap on_in on)
+    same-kept (account t new (set rows i row)) (kept_with_arrival packet (account t old rows) (Some (row_in was))) refl (count ∙ next) changed here (ap on_in on)
     ∙ ap (kept_with_arrival packet (account t old rows)) (sym found)
 
 -- so where the account with the packet is sound, there was a place for it
@@ -141,15 +134,3 @@ arrive-room shape room t e packets packet rows i d place sound =
     let more = length-append (here_in packets.here.items) (kept_arrived t (suc packets.taken) packet (row_in (get_or rows i d)) ∷ []) in
     let long = length-map packets.here.items arrival_in in
     omega (arith, upto, more, long)
-
--- the row with it stays as the sums have it, and at its levels
-pub summed-arrived : (new old : HeldRow) (place e : ℕ) → row_in new ≡ kept_with place e (row_in old) → summed new ≡ summed old
-summed-arrived new old place e same = ap (λ row. held_at (channel_number row.terms.chan) row.terms.contract (level_number row.terms.level)) same
-
-pub within-arrived : (levels : ℕ) (new old : HeldRow) (place e : ℕ) → row_in new ≡ kept_with place e (row_in old) → IsWithin levels old → IsWithin levels new
-within-arrived levels new old place e same within =
-    let at : level_number new.level ≡ level_number old.level = ap (λ row. level_number row.terms.level) same in
-    let far : level_number new.reach ≡ level_number old.reach = ap (λ row. level_number row.terms.reach) same in
-    let near = within.level in
-    let most = within.reach in
-    record { level = omega (arith, at, near); reach = omega (arith, far, most) }

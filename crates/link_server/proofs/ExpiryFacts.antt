@@ -1,7 +1,7 @@
 -- Rows expire one after another: those before a place stay, and those from it on are still to be judged.
-use Rattle.std.proofs.Common.{◌≡◌, ℕ, zero, suc, ◌+◌, ◌<◌, ◌≤◌, Bool, true, false, not, List, [], ◌∷◌, ◌++◌, length, map, get_or, take, drop, refl, sym, ap, ◌∙◌, arith}
+use Rattle.std.proofs.Common.{◌≡◌, ℕ, zero, suc, ◌+◌, ◌<◌, Bool, false, not, List, [], ◌∷◌, ◌++◌, length, map, get_or, take, drop, refl, sym, ap, ◌∙◌, arith}
 use Rattle.std.proofs.lemmas.Bool.{eq-eqb, ne_eqb}
-use Rattle.std.proofs.lemmas.List.{drop_more, take_more, map_push, append_assoc, append-nil, length-map, get_or-map, drop_all, take_all}
+use Rattle.std.proofs.lemmas.List.{drop_more, length-map, get_or-map}
 use Rattle.std.specs.List.{remove}
 use Rattle.std.specs.Prelude.{filter}
 use Rattle.net_units.specs.Numbers.{channel_number}
@@ -57,23 +57,10 @@ stays-is bounds t row ended same = ap (λ last. not (hold_ended bounds (terms_in
 abbrev pub staying : List ℕ → ℕ → ℕ → List HeldRow → List KeptRow
 staying bounds t i rows = map row_in (take i rows) ++ filter (kept_stays bounds t) (map row_in (drop i rows))
 
-filter-yes : (test : KeptRow → Bool) (row : KeptRow) (rows : List KeptRow) → test row ≡ true → filter test (row ∷ rows) ≡ row ∷ filter test rows
-filter-yes test row rows is = rw is refl
-
 filter-no : (test : KeptRow → Bool) (row : KeptRow) (rows : List KeptRow) → test row ≡ false → filter test (row ∷ rows) ≡ filter test rows
 filter-no test row rows is = rw is refl
 
--- where the next one stays, it is one more of these
-pub staying-more : (bounds : List ℕ) (t i : ℕ) (rows : List HeldRow) (d : HeldRow) → i < length rows → kept_stays bounds t (row_in (get_or rows i d)) ≡ true → staying bounds t (i + 1) rows ≡ staying bounds t i rows
-staying-more bounds t i rows d inside stays =
-    let row = get_or rows i d in
-    ap (λ all. map row_in all ++ filter (kept_stays bounds t) (map row_in (drop (i + 1) rows))) (take_more rows i d inside)
-    ∙ ap (λ all. all ++ filter (kept_stays bounds t) (map row_in (drop (i + 1) rows))) (map_push row_in (take i rows) row)
-    ∙ append_assoc (map row_in (take i rows)) (row_in row ∷ []) (filter (kept_stays bounds t) (map row_in (drop (i + 1) rows)))
-    ∙ ap (λ all. map row_in (take i rows) ++ all) (sym (filter-yes (kept_stays bounds t) (row_in row) (map row_in (drop (i + 1) rows)) stays))
-    ∙ ap (λ all. map row_in (take i rows) ++ filter (kept_stays bounds t) (map row_in all)) (sym (drop_more rows i d inside))
-
--- and where it doesn't, it is taken out
+-- where the next one doesn't stay, it is taken out
 pub staying-without : (bounds : List ℕ) (t i : ℕ) (rows : List HeldRow) (d : HeldRow) → i < length rows → kept_stays bounds t (row_in (get_or rows i d)) ≡ false → staying bounds t i (remove rows i) ≡ staying bounds t i rows
 staying-without bounds t i rows d inside stays =
     let row = get_or rows i d in
@@ -82,13 +69,6 @@ staying-without bounds t i rows d inside stays =
     ∙ ap (λ all. map row_in (take i rows) ++ filter (kept_stays bounds t) (map row_in all)) (drop-remove rows i ∙ ap (λ n. drop n rows) next)
     ∙ ap (λ all. map row_in (take i rows) ++ all) (sym (filter-no (kept_stays bounds t) (row_in row) (map row_in (drop (i + 1) rows)) stays))
     ∙ ap (λ all. map row_in (take i rows) ++ filter (kept_stays bounds t) (map row_in all)) (sym (drop_more rows i d inside))
-
--- past the last row all were judged
-pub staying-all : (bounds : List ℕ) (t i : ℕ) (rows : List HeldRow) → length rows ≤ i → staying bounds t i rows ≡ map row_in rows
-staying-all bounds t i rows past =
-    ap (λ all. map row_in all ++ filter (kept_stays bounds t) (map row_in (drop i rows))) (take_all i rows past)
-    ∙ ap (λ all. map row_in rows ++ filter (kept_stays bounds t) (map row_in all)) (drop_all i rows past)
-    ∙ append-nil (map row_in rows)
 
 -- a fact of each row stays where one is taken out, and is one of the row at a place
 pub each-without : (P : KeptRow → Type 0) (rows : List HeldRow) (i : ℕ) → Each P (map row_in rows) → Each P (map row_in (remove rows i))
@@ -101,9 +81,3 @@ pub each-at : (P : KeptRow → Type 0) (rows : List HeldRow) (i : ℕ) (d : Held
 each-at P [] i d inside each = absurd (omega arith)
 each-at P (row ∷ rows) zero d inside each = each.0
 each-at P (row ∷ rows) (suc i) d inside each = each-at P rows i d (omega arith) each.1
-
--- one row fewer
-pub fewer : (rows : List HeldRow) (i : ℕ) → i < length rows → suc (length (remove rows i)) ≡ length rows
-fewer [] i inside = absurd (omega arith)
-fewer (row ∷ rows) zero inside = refl
-fewer (row ∷ rows) (suc i) inside = ap suc (fewer rows i (omega arith))

@@ -14,6 +14,7 @@ open-phase : (phase : Phase) → (phase ≡ Tentative) ⊎ (phase ≡ Committed)
 open-phase phase (inl is) = rw is refl
 open-phase phase (inr is) = rw is refl
 
+-- so its hold runs on
 pub hold-open : (bounds : List ℕ) (terms : Reservation) (taken last t : ℕ) → (terms.phase ≡ Tentative) ⊎ (terms.phase ≡ Committed) → false ≡ hold_ended bounds terms taken last t
 unfolding hold_ended
 hold-open bounds terms taken last t phase = rw (open-phase terms.phase phase) refl

@@ -1,6 +1,5 @@
 pub mod PlaceFacts
 pub mod SumsFacts
-pub mod LevelFacts
 pub mod AnswerFacts
 pub mod CloseFacts
 pub mod ArriveFacts
@@ -8,6 +7,7 @@ pub mod StepFacts
 pub mod PlanFacts
 pub mod TakeFacts
 pub mod HoldFacts
+pub mod AccountFacts
 pub mod RoomFacts
 pub mod TickFacts
 pub mod HoldingFacts
@@ -16,7 +16,6 @@ pub mod SourceFacts
 pub mod SourceRows
 pub mod LineFacts
 pub mod ServingFacts
-pub mod SlotFacts
 pub mod SoundRows
 pub mod SoundPackets
 pub mod SoundSetup

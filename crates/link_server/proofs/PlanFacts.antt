@@ -1,14 +1,16 @@
 -- Planned packets are as many as their count, and fall one each gap.
 use Rattle.std.proofs.Common.{◌≡◌, ℕ, zero, suc, ◌+◌, ◌-◌, ◌<◌, ◌≤◌, ◌++◌, List, [], ◌∷◌, length, Some, None, refl, sym, ap, arith}
-use Rattle.std.proofs.lemmas.Bool.{eqb-true, eq-eqb, ne_eqb, le-leb, lt-leb}
+use Rattle.std.proofs.lemmas.Bool.{eqb-true, eq-eqb, ne_eqb, lt-leb}
 use Rattle.std.specs.Prelude.{nat_eq, find}
 use Rattle.link_steps.specs.Lists.{Each}
 use Rattle.link_steps.specs.declared.replies.Refusal.TheVariants.{Busy}
 use Rattle.link_steps.specs.Refusals.{busy}
+use Rattle.link_steps.proofs.AccountOfRows.{left_at-planned}
 use Rattle.link_steps.proofs.RefusalFacts.{unless-none}
 use Rattle.link_steps.specs.Rows.{SourcePacket, planned_from, is_for, left_at}
 use Rattle.link_server.specs.Planned.{IsFrom, size_of}
 
+-- as many packets are planned as are counted
 pub planned-length : (u gap size count : ℕ) → length (planned_from u gap size count) ≡ count
 unfolding planned_from
 planned-length u gap size zero = refl
@@ -23,13 +25,7 @@ behind-none (p ∷ left) more none = absurd (omega arith)
 pub none-left : (left : ℕ) → None ≡ busy left → left ≡ 0
 none-left left none = eqb-true left 0 (unless-none (nat_eq left 0) (Busy left) (sym none))
 
--- packets from a tick u on are all left at each clock up to u
-pub left-all : (t u gap size count : ℕ) → t ≤ u → left_at t (planned_from u gap size count) ≡ planned_from u gap size count
-unfolding planned_from
-left-all t u gap size zero up = refl
-left-all t u gap size (suc count) up = rw (le-leb t u up) (ap (λ rest. record { tick = u; size = size } ∷ rest) (left-all t (u + gap) gap size count (omega (arith, up))))
-
--- and none of them is for an earlier tick
+-- packets from a tick u on are for no earlier tick
 for-none : (t u gap size count : ℕ) → t < u → find (is_for t) (planned_from u gap size count) ≡ None
 unfolding planned_from
 for-none t u gap size zero later = refl
@@ -44,7 +40,7 @@ none-due t u gap size (suc count) ahead other = for-none t u gap size (suc count
 all-behind : (t u gap size count : ℕ) → Each (IsFrom t) (planned_from u gap size count) → (u ≡ t → ⊥) → left_at (t + 1) (planned_from u gap size count) ≡ planned_from u gap size count
 unfolding planned_from
 all-behind t u gap size zero ahead other = refl
-all-behind t u gap size (suc count) ahead other = left-all (t + 1) u gap size (suc count) (omega (arith, ahead.0, other))
+all-behind t u gap size (suc count) ahead other = left_at-planned (t + 1) u gap size (suc count) (omega (arith, ahead.0, other))
 
 pub none-due-size : (t u gap size count : ℕ) → Each (IsFrom t) (planned_from u gap size count) → (u ≡ t → ⊥) → None ≡ size_of (find (is_for t) (planned_from u gap size count))
 none-due-size t u gap size count ahead other = sym (ap size_of (none-due t u gap size count ahead other))
@@ -74,4 +70,4 @@ unfolding planned_from
 due-left t u gap size zero apart some now = absurd (some refl)
 due-left t u gap size (suc count) apart some now =
     let e : suc count - 1 ≡ count = omega arith in
-    rw (now, e, lt-leb (t + 1) t (omega arith)) (sym (left-all (t + 1) (t + gap) gap size count (omega (arith, apart))))
+    rw (now, e, lt-leb (t + 1) t (omega arith)) (sym (left_at-planned (t + 1) (t + gap) gap size count (omega (arith, apart))))

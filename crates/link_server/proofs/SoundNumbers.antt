@@ -1,25 +1,24 @@
 -- What the numbers of a sound account leave to count on while a tick is made: there is a place for each packet that the
 -- sources bring, and no count and no eligible tick passes 2^63.
-use Rattle.std.proofs.Common.{◌≡◌, ℕ, suc, ◌+◌, ◌^◌, ◌<◌, ◌≤◌, Bool, List, [], ◌∷◌, ◌++◌, length, sym, ap, ◌∙◌, subst, arith, append-nil, length-append}
-use Rattle.std.proofs.lemmas.Bool.{cond_both}
+use Rattle.std.proofs.Common.{◌≡◌, ℕ, suc, ◌+◌, ◌^◌, ◌<◌, ◌≤◌, List, [], ◌∷◌, ◌++◌, length, sym, ap, ◌∙◌, subst, arith, append-nil, length-append}
 use Rattle.std.proofs.lemmas.Nat.{mul-le}
-use Rattle.std.specs.Prelude.{filter}
 use Rattle.traffic_contract.proofs.AdmissionFacts.{total-append, total-filter-le}
 use Rattle.traffic_contract.specs.Admission.{total}
 use Rattle.traffic_contract.specs.Eligible.{newest}
 use Rattle.link_steps.specs.declared.shape.LinkShape.{LinkShape}
 use Rattle.link_steps.specs.Buffer.{slots_of}
-use Rattle.link_steps.specs.Kept.{Kept, KeptRow, kept_stays, kept_step, kept_packet, kept_packets, kept_lost, held_rows, brought}
+use Rattle.link_steps.specs.Kept.{Kept, KeptRow, kept_stays, kept_step, kept_packet, kept_packets, held_rows, brought}
 use Rattle.link_steps.specs.Lists.{Each}
 use Rattle.link_steps.specs.Rows.{SourcePacket}
 use Rattle.link_steps.specs.Service.{Arrival}
-use Rattle.link_steps.specs.Sources.{SourceStep, Rests, Brings, Loses, taken_by, lost_by}
-use Rattle.link_steps.proofs.ListFacts.{Each-filter, Each-if}
+use Rattle.link_steps.specs.Sources.{SourceStep, Rests, Brings, Loses, taken_by}
+use Rattle.link_steps.proofs.ListFacts.{Each-if}
 use Rattle.link_server.specs.Planned.{IsFrom}
 use Rattle.link_server.specs.Sources.{IsReady}
 use Rattle.link_server.specs.Sound.{places_of, all_places_of, places, most_places, AreAhead, late_packets, IsSoundRow, IsSound}
 use Rattle.link_server.proofs.SoundPackets.{late-upto}
-use Rattle.link_server.proofs.SoundSources.{IsStep, AreSteps, packet-length, kept_steps-are, held-sound}
+use Rattle.link_server.proofs.SourceFacts.{packet-length}
+use Rattle.link_server.proofs.SoundSources.{IsStep, AreSteps, kept_steps-are, held-sound}
 
 -- ---- places
 
@@ -32,25 +31,6 @@ rows-places bounds here (row ∷ rows) = omega (arith, rows-places bounds here r
 pub rows-upto : (shape : LinkShape) (room : ℕ) (k : Kept) → IsSound shape room k → length k.here + length k.rows ≤ room
 unfolding places
 rows-upto shape room k sound = omega (arith, sound.fits, rows-places shape.bounds k.here k.rows)
-
-filter-upto : {X : Type 0} (test : X → Bool) (xs : List X) → length (filter test xs) ≤ length xs
-filter-upto test [] = omega arith
-filter-upto test (x ∷ xs) =
-    let rest = filter-upto test xs in
-    cond_both (test x) (x ∷ filter test xs) (filter test xs) (λ ys. length ys ≤ suc (length xs)) (λ _. omega arith) (λ _. omega arith)
-
-pub held_rows-upto : (shape : LinkShape) (room : ℕ) (k : Kept) → IsSound shape room k → length (held_rows shape k) ≤ room
-held_rows-upto shape room k sound = omega (arith, filter-upto (kept_stays shape.bounds k.clock) k.rows, rows-upto shape room k sound)
-
--- no more packets are lost than there are rows
-pub lost-upto : (bounds : List ℕ) (here : List Arrival) (t : ℕ) (rows : List KeptRow) → kept_lost bounds here t rows ≤ length rows
-unfolding kept_lost
-lost-upto bounds here t [] = omega arith
-lost-upto bounds here t (row ∷ rows) = omega (arith, lost-upto bounds here t rows, lost-one (kept_step bounds here t row)) where
-  lost-one : (step : SourceStep) → lost_by step ≤ 1
-  lost-one Loses = omega arith
-  lost-one Rests = omega arith
-  lost-one (Brings size) = omega arith
 
 -- what a source brings is one of the row's places, and one more is left
 step-upto : (bounds : List ℕ) (here : List Arrival) (row : KeptRow) (step : SourceStep) → IsStep bounds here row step → suc (taken_by step) ≤ places_of bounds here row
@@ -72,7 +52,7 @@ Each-front P [] ys each = tt
 Each-front P (x ∷ xs) ys each = (each.0, Each-front P xs ys each.1)
 
 -- when the first of the rows have brought their packets, a place is left for each of the others
-pub front-room : (shape : LinkShape) (room : ℕ) (k : Kept) (front back : List KeptRow) → IsSound shape room k → held_rows shape k ≡ front ++ back → length k.here + length (kept_packets shape.bounds k.here k.clock k.taken front) + length back ≤ room
+front-room : (shape : LinkShape) (room : ℕ) (k : Kept) (front back : List KeptRow) → IsSound shape room k → held_rows shape k ≡ front ++ back → length k.here + length (kept_packets shape.bounds k.here k.clock k.taken front) + length back ≤ room
 unfolding places
 front-room shape room k front back sound same =
     let steps = kept_steps-are shape.bounds k.here (length shape.bounds) k.clock k.taken (held_rows shape k) (held-sound shape room k sound) in
@@ -87,7 +67,7 @@ brought-room shape room k sound = omega (arith, front-room shape room k (held_ro
 -- ---- counts
 
 -- the packets taken are fewer than 2^62
-pub taken-small : (shape : LinkShape) (room : ℕ) (k : Kept) → k.clock < 2 ^ 61 → room < 2 ^ 32 → IsSound shape room k → k.taken < 2 ^ 62
+taken-small : (shape : LinkShape) (room : ℕ) (k : Kept) → k.clock < 2 ^ 61 → room < 2 ^ 32 → IsSound shape room k → k.taken < 2 ^ 62
 taken-small shape room k early few sound = omega (arith, sound.taken_most, rows-upto shape room k sound)
 
 -- and still so with those that the sources bring
@@ -97,12 +77,12 @@ brought-small shape room k early few sound = omega (arith, sound.taken_most, bro
 -- ---- a row in a tick
 
 -- nothing is planned for an earlier tick
-pub ahead-from : (t u : ℕ) (plan : List SourcePacket) → t ≤ u → AreAhead u plan → Each (IsFrom t) plan
+ahead-from : (t u : ℕ) (plan : List SourcePacket) → t ≤ u → AreAhead u plan → Each (IsFrom t) plan
 ahead-from t u [] from ahead = tt
 ahead-from t u (p ∷ plan) from ahead = (omega (arith, ahead.0), ahead-from t (suc p.tick) plan (omega (arith, ahead.0)) ahead.2)
 
 -- its newest eligible tick is below 2^63
-pub newest-small : (levels clock taken : ℕ) (here : List Arrival) (row : KeptRow) → length here < 2 ^ 32 → IsSoundRow levels clock taken here row → newest row.recent < 2 ^ 63
+newest-small : (levels clock taken : ℕ) (here : List Arrival) (row : KeptRow) → length here < 2 ^ 32 → IsSoundRow levels clock taken here row → newest row.recent < 2 ^ 63
 newest-small levels clock taken here row few sound =
     let times = mul-le row.terms.contract.interval (late_packets row.lead (2 ^ 62) here) 16777216 (2 ^ 32) sound.contract.interval_most (omega (arith, late-upto row.lead (2 ^ 62) here)) in
     omega (arith, times, sound.paced (2 ^ 62) (omega arith))
@@ -119,10 +99,6 @@ rows-ready shape room k early few sound =
       few = omega (arith, each.taken_most, taken);
     })
     sound.rows
-
--- and so can those that stay held
-pub held-ready : (shape : LinkShape) (room : ℕ) (k : Kept) → k.clock < 2 ^ 61 → room < 2 ^ 32 → IsSound shape room k → Each (IsReady k.clock) (held_rows shape k)
-held-ready shape room k early few sound = Each-filter (IsReady k.clock) (kept_stays shape.bounds k.clock) k.rows (rows-ready shape room k early few sound)
 
 -- ---- a reserve
 

@@ -13,11 +13,7 @@ use Rattle.link_server.proofs.SoundRows.{lead_with-later}
 
 -- ---- arrival numbers
 
-pub numbered-le : (low : ℕ) (ps : List Arrival) (high : ℕ) → AreNumbered low ps high → low ≤ high
-numbered-le low [] high numbered = numbered
-numbered-le low (p ∷ ps) high numbered = (let rest = numbered-le p.place ps high numbered.1 in omega (arith, numbered.0, rest))
-
-pub numbered-lower : (low lower : ℕ) (ps : List Arrival) (high : ℕ) → lower ≤ low → AreNumbered low ps high → AreNumbered lower ps high
+numbered-lower : (low lower : ℕ) (ps : List Arrival) (high : ℕ) → lower ≤ low → AreNumbered low ps high → AreNumbered lower ps high
 numbered-lower low lower [] high less numbered = omega (arith, numbered)
 numbered-lower low lower (p ∷ ps) high less numbered = (omega (arith, numbered.0), numbered.1)
 
@@ -34,15 +30,11 @@ numbered-filter test low (p ∷ ps) high numbered =
     (λ _. (numbered.0, rest))
     (λ _. numbered-lower p.place low (filter test ps) high (omega (arith, numbered.0)) rest)
 
--- each is above the least and at most the largest
+-- each is above the least
 pub numbered-above : (low : ℕ) (ps : List Arrival) (high : ℕ) → AreNumbered low ps high → Each (λ p. low < p.place) ps
 numbered-above low [] high numbered = tt
 numbered-above low (p ∷ ps) high numbered =
     (numbered.0, Each-if (λ q. p.place < q.place) (λ q. low < q.place) ps (λ q above. omega (arith, numbered.0, above)) (numbered-above p.place ps high numbered.1))
-
-pub numbered-upto : (low : ℕ) (ps : List Arrival) (high : ℕ) → AreNumbered low ps high → Each (λ p. p.place ≤ high) ps
-numbered-upto low [] high numbered = tt
-numbered-upto low (p ∷ ps) high numbered = (numbered-le p.place ps high numbered.1, numbered-upto p.place ps high numbered.1)
 
 -- ---- counts
 
@@ -86,7 +78,7 @@ packets-lead levels taken here each = Each-if (IsSoundPacket levels taken) HasLe
 lead-other : (p : Arrival) → HasLead p → has_lead 0 p ≡ false
 lead-other p some = ne_eqb p.lead 0 (λ same. absurd (omega (arith, same, some)))
 
-pub held-none : (here : List Arrival) → Each HasLead here → held_packets 0 here ≡ 0
+held-none : (here : List Arrival) → Each HasLead here → held_packets 0 here ≡ 0
 unfolding held_packets
 held-none here each = ap length (filter-none (has_lead 0) here (Each-if HasLead (λ p. has_lead 0 p ≡ false) here lead-other each))
 

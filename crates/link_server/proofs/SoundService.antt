@@ -1,6 +1,7 @@
 -- The service of a tick keeps an account sound: at most one packet leaves, and it was eligible by then.
 use Rattle.std.proofs.Common.{◌≡◌, ℕ, suc, ◌+◌, ◌*◌, ◌^◌, ◌<◌, ◌≤◌, Bool, true, false, cond, not, List, [], ◌∷◌, length, Option, Some, None, inl, inr, refl, sym, ap, ◌∙◌, subst, arith}
 use Rattle.std.proofs.lemmas.Bool.{cases_Bool, eqb-true, eq-eqb, ne_eqb, leb-true, leb-false, le-ltb, and_right}
+use Rattle.std.proofs.lemmas.Option.{same_Some}
 use Rattle.std.specs.Prelude.{filter, find, nat_eq, nat_lt}
 use Rattle.std.specs.Option.{ForSome}
 use Rattle.traffic_contract.specs.Admission.{total}
@@ -15,9 +16,6 @@ use Rattle.link_steps.proofs.ServiceFacts.{first_in_line-fact}
 use Rattle.link_steps.proofs.WindowWork.{ceil_quotient-some}
 use Rattle.link_server.specs.Sound.{places_of, places, AreNumbered, IsApartFrom, AreApart, IsSoundPacket, is_at, IsRunning, is_late, late_packets, IsSoundRow, IsSound}
 use Rattle.link_server.proofs.SoundPackets.{HasLead, packets-lead, numbered-above, numbered-filter}
-
-some-same : {X : Type 0} (a b : X) → Some a ≡ Some b → a ≡ b
-some-same a b same = cc
 
 -- ---- the packet that occupies the link
 
@@ -52,7 +50,7 @@ can-start levels taken t here numbered each =
 starts-running : (shape : LinkShape) (t : ℕ) (here : List Arrival) (best : Option Arrival) → ((p : Arrival) → best ≡ Some p → CanStart t here p) → ForSome (start_at t best) (IsRunning shape.rate t here)
 starts-running shape t here None can = λ start some. cc
 starts-running shape t here (Some p) can = λ start some.
-    let first : record { packet = p; tick = t } ≡ start = some-same _ start some in
+    let first : record { packet = p; tick = t } ≡ start = same_Some _ start some in
     let starts = can p refl in
     let work = ceil_quotient-some p.size shape.rate shape.rate_least starts.size in
     subst (IsRunning shape.rate t here) first (record { is_here = starts.is_here; eligible = starts.eligible; begun = omega arith; leaves_later = omega (arith, work) })
@@ -165,7 +163,7 @@ early-at : (rate clock taken t : ℕ) (here : List Arrival) (start : Start) → 
 early-at rate clock taken t here start numbered running early =
     Each-if (IsFound here) (IsEarly start t) here
     (λ p found same.
-    let e : start.packet ≡ p = some-same start.packet p (sym running.is_here ∙ ap (λ place. find (is_at place) here) same ∙ found) in
+    let e : start.packet ≡ p = same_Some start.packet p (sym running.is_here ∙ ap (λ place. find (is_at place) here) same ∙ found) in
     subst (λ (q : Arrival). q.eligible ≤ t) e early)
     (numbered-found 0 here taken numbered)
 
@@ -203,7 +201,7 @@ left-row levels clock taken here start row early sound = record {
 -- ---- the account
 
 -- the account with another clock, other packets here, and another that occupies the link
-abbrev pub with_service : Kept → ℕ → List Arrival → Option Start → Kept
+abbrev with_service : Kept → ℕ → List Arrival → Option Start → Kept
 with_service k clock here on = record k { clock = clock; here = here; on = on }
 
 -- no packet occupies the link
@@ -227,7 +225,7 @@ serves-on shape room k start sound later running goes = record {
   apart = sound.apart;
   rows = later;
   fits = sound.fits;
-  running = λ other same. subst (IsRunning shape.rate (suc k.clock) k.here) (some-same start other same) (record { is_here = running.is_here; eligible = running.eligible; begun = omega (arith, running.begun); leaves_later = goes });
+  running = λ other same. subst (IsRunning shape.rate (suc k.clock) k.here) (same_Some start other same) (record { is_here = running.is_here; eligible = running.eligible; begun = omega (arith, running.begun); leaves_later = goes });
 }
 
 -- or it leaves

@@ -1,43 +1,36 @@
 -- A sound account stays sound through a reserve, a relax, a deny, a submit and a release.
-use Rattle.std.proofs.Common.{◌≡◌, ℕ, ◌+◌, ◌≤◌, Bool, true, ◌&&◌, List, [], ◌∷◌, ◌++◌, length, map, Option, Some, None, refl, sym, ap, ◌∙◌, subst, arith, max, unwrap_or}
-use Rattle.std.proofs.lemmas.Bool.{leb-true, eqb-true, and_parts}
-use Rattle.std.specs.Prelude.{find, nat_eq, nat_le}
+use Rattle.std.proofs.Common.{◌≡◌, ℕ, ◌+◌, ◌≤◌, Bool, true, List, [], ◌∷◌, ◌++◌, length, map, Option, Some, refl, sym, ap, ◌∙◌, arith}
+use Rattle.std.specs.Prelude.{find}
 use Rattle.std.specs.Option.{option_map}
-use Rattle.net_units.proofs.BoundFacts.{within_count, bounds_parts}
+use Rattle.net_units.proofs.BoundFacts.{bound_at-rising}
 use Rattle.net_units.specs.Numbers.{level_number}
 use Rattle.net_units.specs.Steps.{bound_at}
 use Rattle.net_units.specs.declared.Kind.{Kind}
 use Rattle.net_units.specs.declared.numbers.ChanNo.{ChanNo}
 use Rattle.net_units.specs.declared.numbers.Level.{Level}
 use Rattle.net_units.specs.declared.numbers.LinkNo.{LinkNo}
-use Rattle.traffic_contract.proofs.AdmissionFacts.{best_level-is}
+use Rattle.traffic_contract.proofs.AdmissionFacts.{total-le}
 use Rattle.traffic_contract.proofs.LongerWindows.{most_in-mono}
-use Rattle.traffic_contract.specs.Admission.{best_level}
 use Rattle.traffic_contract.specs.Contract.{Terms, IsContract, most_in}
 use Rattle.link_steps.specs.declared.asks.Ask.TheVariants.{Reserve, Relax, Deny, Submit, Release}
-use Rattle.link_steps.specs.declared.replies.Phase.TheVariants.{Tentative, Committed}
+use Rattle.link_steps.specs.declared.replies.Phase.TheVariants.{Committed}
 use Rattle.link_steps.specs.declared.replies.Reply.{Reply}
 use Rattle.link_steps.specs.declared.replies.Reply.TheVariants as Is
 use Rattle.link_steps.specs.declared.shape.LinkShape.{LinkShape}
-use Rattle.link_steps.specs.Buffer.{slots_of, stay_in, need_of, free_units, held_packets}
+use Rattle.link_steps.specs.Buffer.{slots_of, stay_in, held_packets}
 use Rattle.link_steps.specs.Kept.{Kept, KeptRow, nothing_kept, with_kept_rows, kept_terms, is_kept_of, is_kept_at_hop, kept_relaxed, kept_planned, kept_closed, new_kept, kept_submit, kept_release, kept_reply, kept_after}
 use Rattle.link_steps.specs.Legal.{ReserveFits, RelaxFits, SubmitFits}
-use Rattle.link_steps.specs.Levels.{level_of}
 use Rattle.link_steps.specs.Lists.{change_first, without_first, Each}
-use Rattle.link_steps.specs.Refusals.{too_wide, twice, no_level, no_buffer, not_in_phase, unfit, busy}
-use Rattle.link_steps.specs.Replies.{reach_of, reserve_reply_at, reserve_reply, relax_reply, submit_reply, release_reply}
-use Rattle.link_steps.specs.Reservation.{Reservation, admitted, tentative, committed, closing, is_of}
+use Rattle.link_steps.specs.Replies.{relax_reply, submit_reply, release_reply}
+use Rattle.link_steps.specs.Reservation.{Reservation, tentative, committed, closing, is_of}
 use Rattle.link_steps.specs.Rows.{SourcePacket, planned_from}
 use Rattle.link_steps.specs.Scan.{names_first_hop}
 use Rattle.link_steps.specs.Service.{Arrival}
-use Rattle.link_steps.specs.Shape.{server_of}
 use Rattle.link_steps.proofs.ChangeFacts.{Each-change_found}
-use Rattle.link_steps.proofs.LegalOrder.{phase-is}
-use Rattle.link_steps.proofs.ListFacts.{Each-append, Each-find, Each-without_first, find-map, total-change_first-le, total-without_first-le, total-less}
-use Rattle.link_steps.proofs.RefusalFacts.{kept-rule, unless-none}
+use Rattle.link_steps.proofs.ListFacts.{Each-append, Each-find, Each-without_first, find-map, total-change_first-le, total-without_first-le}
+use Rattle.link_steps.proofs.ReplyFacts.{offer-tells, FitsOffer, relax-tells, submit-tells, release-tells}
 use Rattle.link_server.specs.Asks.{IsOffer}
 use Rattle.link_server.specs.Sound.{places_of, all_places_of, places, most_places, AreAhead, AreApart, IsSoundRow, IsSound}
-use Rattle.link_server.proofs.SlotFacts.{bound_at-mono}
 use Rattle.link_server.proofs.SoundRows.{AreApart-without_first, AreApart-push, AreApart-changed, planned-ahead}
 
 -- ---- nothing, and more room
@@ -114,31 +107,11 @@ unfolding kept_reply
 relax-found shape k chan level up_bound row found =
     ap (relax_reply k.clock level up_bound) (find-map kept_terms (is_kept_of chan) (is_of chan) (λ r. refl) k.rows ∙ ap (option_map kept_terms) found)
 
--- a relax that holds finds a tentative reservation, and a level and a bound before that are within its reach
-pub record FitsReach (terms : Reservation) (level : Level) (up_bound : ℕ) : Type 0 where
-  pub phase : terms.phase ≡ Tentative
-  pub level_most : level_number level ≤ level_number terms.reach
-  pub bound_most : up_bound ≤ terms.up_reach
-
-relax-tells : (t : ℕ) (terms : Reservation) (level : Level) (up_bound clock : ℕ) → Is.Relaxed clock ≡ relax_reply t level up_bound (Some terms) → FitsReach terms level up_bound
-unfolding relax_reply
-relax-tells t terms level up_bound clock same =
-    let phase = kept-rule (not_in_phase Tentative terms) _ (Is.Relaxed clock) tt same in
-    let fit = kept-rule (unfit terms level up_bound) _ (Is.Relaxed clock) tt phase.1 in
-    let all = unless-none _ _ fit.0 in
-    let both = and_parts (nat_le (level_number terms.level) (level_number level) && nat_le (level_number level) (level_number terms.reach)) (nat_le up_bound terms.up_reach) all in
-    let levels = and_parts (nat_le (level_number terms.level) (level_number level)) (nat_le (level_number level) (level_number terms.reach)) both.0 in
-    record {
-      phase = phase-is terms.phase Tentative (unless-none _ _ phase.0);
-      level_most = leb-true (level_number level) (level_number terms.reach) levels.1;
-      bound_most = leb-true up_bound terms.up_reach both.1;
-    }
-
--- it has no more slots than before
-relax-slots : (shape : LinkShape) (terms : Reservation) (level : Level) (up_bound : ℕ) → IsContract terms.contract → level_number terms.reach ≤ length shape.bounds → FitsReach terms level up_bound → slots_of shape.bounds (committed level up_bound terms) ≤ slots_of shape.bounds terms
+-- a row that is relaxed has no more slots than before
+relax-slots : (shape : LinkShape) (terms : Reservation) (level : Level) (up_bound : ℕ) → IsContract terms.contract → level_number terms.reach ≤ length shape.bounds → FitsOffer terms level up_bound → slots_of shape.bounds (committed level up_bound terms) ≤ slots_of shape.bounds terms
 unfolding slots_of
 relax-slots shape terms level up_bound valid within fits =
-    let bound = bound_at-mono shape.bounds (level_number level) (level_number terms.reach) shape.bounds_rise level.least fits.level_most within in
+    let bound = bound_at-rising shape.bounds (level_number level) (level_number terms.reach) shape.bounds_rise level.least fits.level_most within in
     let stay : stay_in terms.phase shape.bounds terms ≡ terms.up_reach + bound_at shape.bounds (level_number terms.reach) = ap (λ phase. stay_in phase shape.bounds terms) fits.phase in
     rw stay (most_in-mono terms.contract (up_bound + bound_at shape.bounds (level_number level)) (terms.up_reach + bound_at shape.bounds (level_number terms.reach)) valid (omega (arith, bound, fits.bound_most)))
 
@@ -168,15 +141,7 @@ submit-found : (shape : LinkShape) (k : Kept) (chan : ChanNo) (count gap size : 
 unfolding kept_reply
 submit-found shape k chan count gap size row found = ap (kept_submit k.clock size) found
 
--- a submit that is planned finds no planned packet left
-submit-tells : (t size left clock : ℕ) (terms : Reservation) → Is.Planned clock ≡ submit_reply t size terms left → left ≡ 0
-unfolding submit_reply
-submit-tells t size left clock terms same =
-    let phase = kept-rule (not_in_phase Committed terms) _ (Is.Planned clock) tt same in
-    let free = kept-rule (busy left) _ (Is.Planned clock) tt phase.1 in
-    eqb-true left 0 (unless-none (nat_eq left 0) _ free.0)
-
--- so what the row plans then lies ahead
+-- what a row plans of which nothing is left lies ahead
 submit-ahead : (t count gap size : ℕ) (left : List SourcePacket) → SubmitFits count gap size → length left ≡ 0 → AreAhead t (left ++ planned_from t gap size count)
 submit-ahead t count gap size [] fits none = planned-ahead t t gap size count (omega arith) fits.gap_least fits.size_least fits.size_most
 submit-ahead t count gap size (p ∷ left) fits none = absurd (omega arith)
@@ -194,7 +159,7 @@ sound-submit shape room k chan count gap size (Is.Planned clock) fits sound same
       taken_most = each.taken_most;
       lead_most = each.lead_most;
       paced = each.paced;
-      ahead = submit-ahead k.clock count gap size row.left fits (submit-tells k.clock size (length row.left) clock row.terms (same ∙ submit-found shape k chan count gap size row found));
+      ahead = submit-ahead k.clock count gap size row.left fits (submit-tells k.clock size row.terms (length row.left) clock (same ∙ submit-found shape k chan count gap size row found)).1;
     })
     (λ row found. omega arith)
 sound-submit shape room k chan count gap size _ fits sound same = sound
@@ -204,13 +169,6 @@ sound-submit shape room k chan count gap size _ fits sound same = sound
 release-found : (shape : LinkShape) (k : Kept) (chan : ChanNo) (upstream : Option ℕ) (row : KeptRow) → find (is_kept_at_hop chan (names_first_hop upstream)) k.rows ≡ Some row → kept_reply shape k (Release chan upstream) ≡ release_reply upstream row.terms row.taken (length row.left)
 unfolding kept_reply
 release-found shape k chan upstream row found = ap (kept_release upstream) found
-
--- a release that holds finds a committed reservation
-release-tells : (upstream : Option ℕ) (terms : Reservation) (taken left count cancelled : ℕ) → Is.Closing count cancelled ≡ release_reply upstream terms taken left → terms.phase ≡ Committed
-unfolding release_reply
-release-tells upstream terms taken left count cancelled same =
-    let phase = kept-rule (not_in_phase Committed terms) _ (Is.Closing count cancelled) tt same in
-    phase-is terms.phase Committed (unless-none _ _ phase.0)
 
 -- a closing reservation has the slots of the committed one
 release-slots : (bounds : List ℕ) (count : ℕ) (terms : Reservation) → terms.phase ≡ Committed → slots_of bounds (closing count terms) ≡ slots_of bounds terms
@@ -233,48 +191,16 @@ sound-release shape room k chan upstream (Is.Closing count cancelled) sound same
       ahead = tt;
     })
     (λ row found.
-    let e = release-slots shape.bounds count row.terms (release-tells upstream row.terms row.taken (length row.left) count cancelled (same ∙ release-found shape k chan upstream row found)) in
+    let e = release-slots shape.bounds count row.terms (release-tells upstream row.terms row.taken (length row.left) count cancelled (same ∙ release-found shape k chan upstream row found)).0 in
     omega (arith, e))
 sound-release shape room k chan upstream _ sound same = sound
 
 -- ---- a reserve
 
--- what an offer offers
-offer-is : (shape : LinkShape) (held : List Reservation) (chan : ChanNo) (contract : Terms) (delay up_reach : ℕ) (best : Option ℕ) (level reach : Level) → Is.Offer level reach ≡ reserve_reply_at shape held chan contract delay up_reach best → (level ≡ level_of (unwrap_or best 0)) × (reach ≡ level_of (reach_of shape.bounds delay (unwrap_or best 0)))
-offer-is shape held chan contract delay up_reach best level reach same =
-    let wide = kept-rule (too_wide contract shape.cap) _ (Is.Offer level reach) tt same in
-    let new = kept-rule (twice (find (is_of chan) held)) _ (Is.Offer level reach) tt wide.1 in
-    let some = kept-rule (no_level (server_of shape) (map admitted held) contract best) _ (Is.Offer level reach) tt new.1 in
-    let room = kept-rule (no_buffer (need_of shape.bounds contract up_reach (reach_of shape.bounds delay (unwrap_or best 0))) (free_units shape held)) _ (Is.Offer level reach) tt some.1 in
-    (offered level (level_of (unwrap_or best 0)) reach _ room.1, reached level _ reach (level_of (reach_of shape.bounds delay (unwrap_or best 0))) room.1) where
-      offered : (a b c d : Level) → Is.Offer a c ≡ Is.Offer b d → a ≡ b
-      offered a b c d same = cc
-
-      reached : (a b c d : Level) → Is.Offer a c ≡ Is.Offer b d → c ≡ d
-      reached a b c d same = cc
-
--- a best level is one of the link's
-best-most : (shape : LinkShape) (held : List Reservation) (contract : Terms) (best : Option ℕ) → best_level (server_of shape) (map admitted held) contract ≡ best → unwrap_or best 0 ≤ length shape.bounds
-best-most shape held contract None is = omega arith
-best-most shape held contract (Some m) is = (best_level-is (server_of shape) (map admitted held) contract m is).upto
-
--- so is the level of a number up to their count
-level_of-most : (shape : LinkShape) (n : ℕ) → n ≤ length shape.bounds → level_number (level_of n) ≤ length shape.bounds
-level_of-most shape n upto = (let least = (bounds_parts shape.bounds shape.bounds_rise).least in omega (arith, least))
-
--- an offer's level and reach are levels of the link
-offer-levels : (shape : LinkShape) (held : List Reservation) (chan : ChanNo) (contract : Terms) (delay up_reach : ℕ) (level reach : Level) → Is.Offer level reach ≡ reserve_reply shape held chan contract delay up_reach → (level_number level ≤ length shape.bounds) × (level_number reach ≤ length shape.bounds)
-unfolding reserve_reply
-offer-levels shape held chan contract delay up_reach level reach same =
-    let is = offer-is shape held chan contract delay up_reach (best_level (server_of shape) (map admitted held) contract) level reach same in
-    let most = best-most shape held contract (best_level (server_of shape) (map admitted held) contract) refl in
-    let within = within_count shape.bounds (max delay (bound_at shape.bounds (unwrap_or (best_level (server_of shape) (map admitted held) contract) 0))) in
-    (subst (λ l. level_number l ≤ length shape.bounds) (sym is.0) (level_of-most shape _ most), subst (λ l. level_number l ≤ length shape.bounds) (sym is.1) (level_of-most shape _ within))
-
 -- all slots are at least the free ones
 places-most : (bounds : List ℕ) (here : List Arrival) (rows : List KeptRow) → places bounds here rows ≤ most_places bounds here rows
 unfolding places most_places
-places-most bounds here rows = omega (arith, total-less (all_places_of bounds) (places_of bounds here) rows (λ row. omega arith))
+places-most bounds here rows = omega (arith, total-le (places_of bounds here) (all_places_of bounds) rows (λ k d inside. omega arith))
 
 -- a new row is sound
 new-sound : (levels clock taken : ℕ) (here : List Arrival) (chan : ChanNo) (contract : Terms) (kind : Kind) (first : Bool) (next : Option LinkNo) (up_reach : ℕ) (level reach : Level) → ReserveFits contract up_reach first → level_number level ≤ levels → level_number reach ≤ levels → IsSoundRow levels clock taken here (new_kept (tentative chan contract kind first next up_reach level reach))
@@ -293,10 +219,10 @@ new-sound levels clock taken here chan contract kind first next up_reach level r
 pub sound-reserve : (shape : LinkShape) (room larger : ℕ) (k : Kept) (chan : ChanNo) (contract : Terms) (kind : Kind) (delay up_reach : ℕ) (first : Bool) (next : Option LinkNo) (reply : Reply) → ReserveFits contract up_reach first → IsSound shape room k → reply ≡ kept_reply shape k (Reserve chan contract kind delay up_reach first next) → room ≤ larger → (IsOffer reply → most_places shape.bounds (kept_after shape k (Reserve chan contract kind delay up_reach first next) reply).here (kept_after shape k (Reserve chan contract kind delay up_reach first next) reply).rows ≤ larger) → IsSound shape larger (kept_after shape k (Reserve chan contract kind delay up_reach first next) reply)
 unfolding kept_after kept_reply
 sound-reserve shape room larger k chan contract kind delay up_reach first next (Is.Offer level reach) fits sound same more enough =
-    let levels = offer-levels shape (map kept_terms k.rows) chan contract delay up_reach level reach same in
+    let tells = offer-tells shape (map kept_terms k.rows) chan contract delay up_reach level reach same in
     let row : KeptRow = new_kept (tentative chan contract kind first next up_reach level reach) in
     sound-rows shape room larger k (k.rows ++ row ∷ []) sound
     (AreApart-push k.rows row refl sound.apart)
-    (Each-append (IsSoundRow (length shape.bounds) k.clock k.taken k.here) k.rows (row ∷ []) sound.rows (new-sound (length shape.bounds) k.clock k.taken k.here chan contract kind first next up_reach level reach fits levels.0 levels.1, tt))
+    (Each-append (IsSoundRow (length shape.bounds) k.clock k.taken k.here) k.rows (row ∷ []) sound.rows (new-sound (length shape.bounds) k.clock k.taken k.here chan contract kind first next up_reach level reach fits tells.1 tells.2, tt))
     (omega (arith, places-most shape.bounds k.here (k.rows ++ row ∷ []), enough tt))
 sound-reserve shape room larger k chan contract kind delay up_reach first next _ fits sound same more enough = sound-larger shape room larger k more sound

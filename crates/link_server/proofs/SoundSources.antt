@@ -15,6 +15,7 @@ use Rattle.link_steps.proofs.ListFacts.{Each-append, Each-filter, Each-find, Eac
 use Rattle.link_server.specs.Sound.{places_of, places, AreNumbered, HasSize, AreAhead, IsApartFrom, AreApart, IsSoundPacket, IsSoundRow, IsSound, with_brought}
 use Rattle.link_server.proofs.SoundPackets.{HasLead, packets-lead, numbered-append, held-more, held-taken, late-taken}
 use Rattle.link_server.proofs.SoundRows.{AreApart-filter, apart-lead_with, lead_with-first, lead_with-later, ahead-earlier, ahead-sizes, left-ahead}
+use Rattle.link_server.proofs.SourceFacts.{packet-length}
 use Rattle.link_server.proofs.SoundTaking.{lead_with-most, taken-sound, more-sound, packets-more, packet-sound, places-taken, running-more}
 
 -- ---- one row
@@ -36,12 +37,7 @@ kept_step-is bounds here t u row ahead = by-found (has_slot bounds row.terms row
       let size = Each-find HasSize (is_for t) row.left p (ahead-sizes u row.left ahead) is in
       (ltb-true (held_packets row.lead here) (slots_of bounds row.terms) free, size.least, size.most)
 
--- the packet, if there is one, is counted
-pub packet-length : (step : SourceStep) (t place : ℕ) (row : KeptRow) → length (kept_packet step t place row) ≡ taken_by step
-packet-length (Brings size) t place row = refl
-packet-length Rests t place row = refl
-packet-length Loses t place row = refl
-
+-- the packet, if there is one, has the next arrival number
 packet-numbered : (step : SourceStep) (t taken : ℕ) (row : KeptRow) → AreNumbered taken (kept_packet step t (suc taken) row) (taken + taken_by step)
 packet-numbered (Brings size) t taken row = (omega arith, omega arith)
 packet-numbered Rests t taken row = omega arith
@@ -121,6 +117,7 @@ sources-places bounds here before t taken (row ∷ rows) leads steps =
     let rest = rw (append_assoc before packet behind) at (sources-places bounds here (before ++ packet) t (taken + taken_by (kept_step bounds here t row)) rows leads steps.1) in
     omega (arith, first, rest, length-append packet behind, packet-length step t (suc taken) row)
 
+-- they have the next arrival numbers
 pub sources-numbered : (bounds : List ℕ) (here : List Arrival) (t taken : ℕ) (rows : List KeptRow) → AreNumbered taken (kept_packets bounds here t taken rows) (taken + length (kept_packets bounds here t taken rows))
 unfolding kept_packets
 sources-numbered bounds here t taken [] = omega arith
@@ -132,6 +129,7 @@ sources-numbered bounds here t taken (row ∷ rows) =
     subst (AreNumbered taken (packet ++ behind)) (sym e)
     (numbered-append taken (taken + taken_by step) (taken + taken_by step + length behind) packet behind (packet-numbered step t taken row) (sources-numbered bounds here t (taken + taken_by step) rows))
 
+-- and are sound
 pub sources-packets : (levels t before_all taken more : ℕ) (bounds : List ℕ) (here : List Arrival) (rows : List KeptRow) → before_all ≤ taken → taken + length (kept_packets bounds here t taken rows) ≤ more → AreSteps bounds here t rows → Each (IsSoundRow levels t before_all here) rows → Each (IsSoundPacket levels more) (kept_packets bounds here t taken rows)
 unfolding kept_packets
 sources-packets levels t before_all taken more bounds here [] less upto steps each = tt
@@ -145,6 +143,7 @@ sources-packets levels t before_all taken more bounds here (row ∷ rows) less u
     (step-packet levels t before_all taken more bounds here row step less (omega (arith, upto, n, m)) steps.0 each.0)
     (sources-packets levels t before_all (taken + taken_by step) more bounds here rows (omega (arith, less)) (omega (arith, upto, n, m)) steps.1 each.1)
 
+-- the rows are sound a tick later, with them here
 pub sources-rows : (levels t before_all taken more : ℕ) (bounds : List ℕ) (here before : List Arrival) (rows : List KeptRow) → t < 2 ^ 61 → before_all ≤ taken → taken + length (kept_packets bounds here t taken rows) ≤ more → Each HasLead here → Each (IsSoundRow levels t before_all here) rows → Each (IsSoundRow levels (suc t) more (here ++ (before ++ kept_packets bounds here t taken rows))) (kept_rows_after bounds here t taken rows)
 unfolding kept_packets kept_rows_after
 sources-rows levels t before_all taken more bounds here before [] early less upto leads each = tt
@@ -171,6 +170,7 @@ leads-after P bounds here t taken (row ∷ rows) new each = (
   leads-after P bounds here t (taken + taken_by (kept_step bounds here t row)) rows (λ n above. new n (omega arith)) each.1,
 )
 
+-- and their leads are apart
 pub sources-apart : (bounds : List ℕ) (here : List Arrival) (t taken : ℕ) (rows : List KeptRow) → Each (λ row. row.lead ≤ taken) rows → AreApart rows → AreApart (kept_rows_after bounds here t taken rows)
 unfolding kept_rows_after
 sources-apart bounds here t taken [] most apart = tt

@@ -1,12 +1,16 @@
 -- A sound account stays sound when a row takes a packet; and so through an arrive.
-use Rattle.std.proofs.Common.{◌≡◌, ℕ, zero, suc, ◌+◌, ◌-◌, ◌*◌, ◌^◌, ◌<◌, ◌≤◌, Bool, true, false, List, [], ◌∷◌, ◌++◌, length, take, max, Option, Some, None, inl, inr, ⊎_elim, refl, sym, ◌∙◌, subst, arith}
+use Rattle.std.proofs.Common.{◌≡◌, ℕ, zero, suc, ◌+◌, ◌-◌, ◌*◌, ◌^◌, ◌<◌, ◌≤◌, Bool, true, false, List, [], ◌∷◌, ◌++◌, length, take, get_or, max, Option, Some, None, inl, inr, ⊎_elim, refl, sym, ap, ◌∙◌, subst, arith}
 use Rattle.std.proofs.Math.Nat.{mul-le-mul_left}
-use Rattle.std.proofs.lemmas.Bool.{cases_Bool, cases_eq, cases_lt, cond_both, ltb-true}
+use Rattle.std.proofs.lemmas.Bool.{cases_Bool, cases_eq, cases_lt, cond_both}
 use Rattle.std.proofs.lemmas.List.{length_push}
-use Rattle.std.specs.Prelude.{find, nat_lt}
+use Rattle.std.proofs.lemmas.List.Folds.{find-append}
+use Rattle.std.proofs.lemmas.Option.{same_Some}
+use Rattle.std.specs.Option.{option_or}
+use Rattle.std.specs.Prelude.{find}
 use Rattle.net_units.specs.declared.Kind.{Kind}
 use Rattle.net_units.specs.declared.Kind.TheVariants.{Rate, Jitter}
 use Rattle.traffic_contract.specs.Admission.{total}
+use Rattle.traffic_contract.proofs.AdmissionFacts.{total-le}
 use Rattle.traffic_contract.specs.Contract.{burst_of}
 use Rattle.traffic_contract.specs.Eligible.{first_from, newest, eligible}
 use Rattle.traffic_contract.specs.Keeping.{may_follow}
@@ -19,14 +23,12 @@ use Rattle.link_steps.specs.Buffer.{slots_of, held_packets}
 use Rattle.link_steps.specs.Kept.{Kept, KeptRow, recent_of, kept_with, is_kept_of, kept_arrive, kept_arrived_tick, kept_arrived_row, kept_arrived, kept_with_arrival, kept_reply, kept_after}
 use Rattle.link_steps.specs.Legal.{PacketFits}
 use Rattle.link_steps.specs.Lists.{change_first, Each}
-use Rattle.link_steps.specs.Refusals.{first_hop, uncommitted, wrong_number, past_count, big, full}
 use Rattle.link_steps.specs.Regulator.{waits_until, eligible_next}
-use Rattle.link_steps.specs.Replies.{arrive_reply}
 use Rattle.link_steps.specs.Reservation.{Reservation}
 use Rattle.link_steps.specs.Service.{Arrival, Start}
 use Rattle.link_steps.specs.Sources.{lead_with, arrival_at}
-use Rattle.link_steps.proofs.ListFacts.{Each-append, Each-find, Each-if, total-less}
-use Rattle.link_steps.proofs.RefusalFacts.{kept-rule, unless-none}
+use Rattle.link_steps.proofs.ListFacts.{Each-append, Each-find, Each-if}
+use Rattle.link_steps.proofs.ReplyFacts.{arrive-tells}
 use Rattle.link_server.specs.Sound.{places_of, places, IsSoundPacket, is_at, IsRunning, late_packets, IsSoundRow, IsSound}
 use Rattle.link_server.proofs.SoundPackets.{packets-lead, numbered-append, held-more, late-more, held-taken, late-taken}
 use Rattle.link_server.proofs.SoundRows.{AreApart-taken, lead_with-first, lead_with-later}
@@ -47,7 +49,7 @@ waits-most Jitter true t due = omega arith
 waits-most Rate first t due = omega arith
 
 -- a packet is eligible at most an interval after the row's newest, or where it may go
-pub eligible-most : (terms : Reservation) (recent : List ℕ) (t due : ℕ) → eligible_next terms recent t due ≤ max (max t due) (newest recent + terms.contract.interval)
+eligible-most : (terms : Reservation) (recent : List ℕ) (t due : ℕ) → eligible_next terms recent t due ≤ max (max t due) (newest recent + terms.contract.interval)
 unfolding eligible_next eligible
 eligible-most terms recent t due =
     let low = waits-most terms.kind terms.first t due in
@@ -67,7 +69,7 @@ lead_with-most lead place most before new =
     (λ (later : lead ≡ 0 → ⊥). (rw (lead_with-later lead place (omega arith)) before))
     (cases_eq lead 0)
 
-pub lead_with-least : (lead place : ℕ) → 1 ≤ place → 1 ≤ lead_with lead place
+lead_with-least : (lead place : ℕ) → 1 ≤ place → 1 ≤ lead_with lead place
 lead_with-least lead place some =
     ⊎_elim (λ (first : lead ≡ 0). (rw (lead_with-first lead place first) some))
     (λ (later : lead ≡ 0 → ⊥). (rw (lead_with-later lead place (omega arith)) (omega arith)))
@@ -144,26 +146,15 @@ pub places-taken : (bounds : List ℕ) (here all : List Arrival) (place e : ℕ)
 places-taken bounds here all place e row slot one = omega arith
 
 -- other rows have no more free slots than before
-pub places-more : (bounds : List ℕ) (here new : List Arrival) (row : KeptRow) → places_of bounds (here ++ new) row ≤ places_of bounds here row
+places-more : (bounds : List ℕ) (here new : List Arrival) (row : KeptRow) → places_of bounds (here ++ new) row ≤ places_of bounds here row
 places-more bounds here new row = omega (arith, held-more row.lead here new)
 
 -- ---- the packet that occupies the link
 
-some-same : {X : Type 0} (a b : X) → Some a ≡ Some b → a ≡ b
-some-same a b same = cc
-
--- what is found is found among more
-pub find-front : {X : Type 0} (test : X → Bool) (x : X) (xs more : List X) → find test xs ≡ Some x → find test (xs ++ more) ≡ Some x
-find-front test x [] more found = cc
-find-front test x (y ∷ xs) more found =
-    elim (cases_Bool (test y)) [
-      | inl passed ↦ rw passed (rw passed at found)
-      | inr failed ↦ rw failed (find-front test x xs more (rw failed at found))
-    ]
-
+-- it is found among more packets too
 pub running-more : (rate clock : ℕ) (here new : List Arrival) (start : Start) → IsRunning rate clock here start → IsRunning rate clock (here ++ new) start
 running-more rate clock here new start running = record {
-  is_here = find-front (is_at start.packet.place) start.packet here new running.is_here;
+  is_here = find-append (is_at start.packet.place) here new ∙ ap (λ first. option_or first (find (is_at start.packet.place) new)) running.is_here;
   eligible = running.eligible;
   begun = running.begun;
   leaves_later = running.leaves_later;
@@ -188,9 +179,9 @@ total-change_drop f g test change x [] less found drop = cc
 total-change_drop f g test change x (y ∷ xs) less found drop =
     elim (cases_Bool (test y)) [
       | inl passed ↦ (
-          let same = some-same y x (rw passed at found) in
+          let same = same_Some y x (rw passed at found) in
           let d : suc (g (change y)) ≤ f y = subst (λ z. suc (g (change z)) ≤ f z) (sym same) drop in
-          let rest = total-less f g xs less in
+          let rest = total-le g f xs (λ k d inside. less (get_or xs k d)) in
           rw passed (omega (arith, d, rest)))
       | inr failed ↦ (
           let rest = total-change_drop f g test change x xs less (rw failed at found) drop in
@@ -198,18 +189,6 @@ total-change_drop f g test change x (y ∷ xs) less found drop =
     ]
 
 -- ---- an arrive
-
--- a packet that is taken finds a slot
-arrive-tells : (bounds : List ℕ) (t : ℕ) (packet : Packet) (terms : Reservation) (taken held e clock eligible : ℕ) → Is.Taken clock eligible ≡ arrive_reply bounds t packet terms taken held e → held < slots_of bounds terms
-unfolding arrive_reply
-arrive-tells bounds t packet terms taken held e clock eligible same =
-    let hop = kept-rule (first_hop terms) _ (Is.Taken clock eligible) tt same in
-    let ready = kept-rule (uncommitted terms) _ (Is.Taken clock eligible) tt hop.1 in
-    let number = kept-rule (wrong_number packet.number (suc taken)) _ (Is.Taken clock eligible) tt ready.1 in
-    let past = kept-rule (past_count terms taken) _ (Is.Taken clock eligible) tt number.1 in
-    let wide = kept-rule (big terms packet.size) _ (Is.Taken clock eligible) tt past.1 in
-    let slot = kept-rule (full held (slots_of bounds terms)) _ (Is.Taken clock eligible) tt wide.1 in
-    ltb-true held (slots_of bounds terms) (unless-none (nat_lt held (slots_of bounds terms)) _ slot.0)
 
 -- the account with the packet taken
 arrival-sound : (shape : LinkShape) (room : ℕ) (k : Kept) (packet : Packet) (clock eligible : ℕ) (found : Option KeptRow) → k.clock < 2 ^ 61 → PacketFits packet → IsSound shape room k → find (is_kept_of packet.chan) k.rows ≡ found → Is.Taken clock eligible ≡ kept_arrive shape k.clock k.here packet found → IsSound shape room (kept_with_arrival packet k found)
@@ -223,7 +202,7 @@ arrival-sound shape room k packet clock eligible (Some row) early fits sound fou
     let longer = length_push k.here new in
     let leads = packets-lead levels k.taken k.here sound.packets in
     let one = Each-find (IsSoundRow levels k.clock k.taken k.here) (is_kept_of packet.chan) k.rows row sound.rows found in
-    let slot = arrive-tells shape.bounds k.clock packet row.terms row.taken (held_packets row.lead k.here) (kept_arrived_tick k.clock packet row) clock eligible same in
+    let tells = arrive-tells shape.bounds k.clock packet row.terms row.taken (held_packets row.lead k.here) (kept_arrived_tick k.clock packet row) clock eligible same in
     let held = held-taken row.lead place k.here [] new [] leads refl in
     record {
       taken_most = omega (arith, sound.taken_most, longer);
@@ -234,12 +213,12 @@ arrival-sound shape room k packet clock eligible (Some row) early fits sound fou
       rows = Each-change_both (IsSoundRow levels k.clock k.taken k.here) (IsSoundRow levels k.clock place all) (is_kept_of packet.chan) (kept_arrived_row k.clock place packet) k.rows
           (λ r each. more-sound levels k.clock k.taken place k.here (new ∷ []) r (omega arith) each)
           (λ r is each.
-          let same_row = some-same row r (sym found ∙ is) in
+          let same_row = same_Some row r (sym found ∙ is) in
           taken-sound levels k.clock k.taken place k.here all k.clock packet.due place r (omega arith) (omega (arith, fits.due_most)) (omega arith) (omega arith) (omega (arith, each.taken_most))
           (λ x past. subst (λ q. suc (late_packets q.lead x k.here) ≤ late_packets (lead_with q.lead place) x all) same_row (late-taken row.lead place x k.here [] new [] leads refl (subst (λ q. x < eligible_next q.terms q.recent k.clock packet.due) (sym same_row) past)))
           each)
           sound.rows;
-      fits = (let drop = total-change_drop (places_of shape.bounds k.here) (places_of shape.bounds all) (is_kept_of packet.chan) (kept_arrived_row k.clock place packet) row k.rows (places-more shape.bounds k.here (new ∷ [])) found (places-taken shape.bounds k.here all place (kept_arrived_tick k.clock packet row) row slot held) in
+      fits = (let drop = total-change_drop (places_of shape.bounds k.here) (places_of shape.bounds all) (is_kept_of packet.chan) (kept_arrived_row k.clock place packet) row k.rows (places-more shape.bounds k.here (new ∷ [])) found (places-taken shape.bounds k.here all place (kept_arrived_tick k.clock packet row) row tells.free held) in
           omega (arith, drop, longer, sound.fits));
       running = λ start on. running-more shape.rate k.clock k.here (new ∷ []) start (sound.running start on);
     }

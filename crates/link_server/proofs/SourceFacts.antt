@@ -1,5 +1,5 @@
 -- A row's step in a tick, by the packet that is planned for it and by whether a slot is free.
-use Rattle.std.proofs.Common.{◌≡◌, ℕ, suc, ◌+◌, Bool, true, false, List, [], ◌∷◌, ◌++◌, Option, Some, None, take, refl, sym, ap, ◌∙◌, arith}
+use Rattle.std.proofs.Common.{◌≡◌, ℕ, suc, ◌+◌, ◌≤◌, Bool, true, false, List, [], ◌∷◌, ◌++◌, length, Option, Some, None, take, refl, sym, ap, ◌∙◌, arith}
 use Rattle.std.proofs.lemmas.Option.{none-some}
 use Rattle.std.proofs.lemmas.List.{take-map, map_push}
 use Rattle.std.specs.Prelude.{find, unwrap_or}
@@ -7,8 +7,7 @@ use Rattle.link_steps.specs.Buffer.{has_slot}
 use Rattle.link_steps.specs.Kept.{KeptRow, kept_step, kept_tick, kept_with, kept_packet, kept_after_step, past_tick}
 use Rattle.link_steps.specs.Rows.{SourcePacket, is_for}
 use Rattle.link_steps.specs.Service.{Arrival}
-use Rattle.link_steps.specs.Sources.{source_step, arrival_at}
-use Rattle.link_steps.specs.Sources.SourceStep.{Rests, Brings, Loses}
+use Rattle.link_steps.specs.Sources.{SourceStep, Rests, Brings, Loses, source_step, arrival_at, taken_by, lost_by}
 use Rattle.link_server.specs.Planned.{size_of}
 use Rattle.link_server.specs.Packets.{arrival_in, here_in}
 use Rattle.link_server.specs.Rows.{terms_in, row_in}
@@ -42,6 +41,17 @@ step-loses bounds here t size row some full = ap (λ slot. source_step slot (fin
 pub step-brings : (bounds : List ℕ) (here : List Arrival) (t size : ℕ) (row : KeptRow) → Some size ≡ size_of (find (is_for t) row.left) → has_slot bounds row.terms row.lead here ≡ true → kept_step bounds here t row ≡ Brings size
 unfolding kept_step
 step-brings bounds here t size row some free = ap (λ slot. source_step slot (find (is_for t) row.left)) free ∙ brings-where-free (find (is_for t) row.left) size some
+
+-- a step takes as many packets as it brings, and loses one at most
+pub packet-length : (step : SourceStep) (t place : ℕ) (row : KeptRow) → length (kept_packet step t place row) ≡ taken_by step
+packet-length (Brings size) t place row = refl
+packet-length Rests t place row = refl
+packet-length Loses t place row = refl
+
+pub lost_by-most : (step : SourceStep) → lost_by step ≤ 1
+lost_by-most (Brings size) = omega arith
+lost_by-most Rests = omega arith
+lost_by-most Loses = omega arith
 
 -- the slots of a row whose packet for the tick is no longer left are those that it had
 pub slot-same : (bounds : List ℕ) (t before : ℕ) (shown items : List HeldPacket) (new old : HeldRow) → shown ≡ items → row_in new ≡ past_tick t (row_in old)

@@ -2,19 +2,17 @@
 -- is together what all do.
 use Rattle.std.proofs.Common.{◌≡◌, ℕ, zero, suc, ◌+◌, ◌<◌, ◌≤◌, Bool, true, false, List, [], ◌∷◌, ◌++◌, length, map, take, drop, get_or, set, refl, sym, ap, ◌∙◌, subst, arith}
 use Rattle.std.specs.Prelude.{if◌then◌else◌}
-use Rattle.std.proofs.lemmas.List.{drop_more, drop-set-lt, take_more_set, map_push, append_assoc, length-append, append-nil, length-map, take-append-le, drop_all, take_all}
-use Rattle.net_units.specs.Numbers.{channel_number, level_number}
-use Rattle.rcsp_admission.specs.Sums.{held_at}
+use Rattle.std.proofs.lemmas.List.{drop_more, drop-drop, drop-set-lt, take_more_set, map_push, append_assoc, length-append, append-nil, length-map, take-append-le, drop_all, take_all}
 use Rattle.link_steps.specs.Kept.{KeptRow, kept_packet, kept_after_step, kept_packets, kept_rows_after, kept_lost}
 use Rattle.link_steps.specs.Lists.{Each}
 use Rattle.link_steps.specs.Service.{Arrival}
-use Rattle.link_steps.specs.Sources.{SourceStep, taken_by, lost_by}
-use Rattle.link_steps.specs.Sources.SourceStep.{Rests, Brings, Loses}
-use Rattle.link_server.specs.Rows.{terms_in, row_in, summed, IsWithin}
+use Rattle.link_steps.specs.Sources.{SourceStep, Rests, Brings, Loses, taken_by, lost_by}
+use Rattle.link_server.specs.Rows.{terms_in, row_in}
 use Rattle.link_server.specs.Sources.{step_in, brought_by, rows_by, lost_by_rows, IsReady, AreReady}
 use Rattle.link_server.specs.Packets.{arrival_in, here_in}
 use Rattle.link_server.specs.declared.held_row.HeldRow.{HeldRow}
 use Rattle.link_server.specs.declared.packets.HeldPacket.{HeldPacket}
+use Rattle.link_server.proofs.SourceFacts.{packet-length, lost_by-most}
 
 -- the first i of the rows have made their step
 pub record HaveStepped (bounds : List ℕ) (was : List Arrival) (t before : ℕ) (old : List HeldRow) (i : ℕ) (rows : List HeldRow) (now : List Arrival) (count dropped : ℕ) : Type 0 where
@@ -29,34 +27,9 @@ pub record HaveStepped (bounds : List ℕ) (was : List Arrival) (t before : ℕ)
 pub none-stepped : (bounds : List ℕ) (was : List Arrival) (t before : ℕ) (old : List HeldRow) → HaveStepped bounds was t before old 0 old was before 0
 none-stepped bounds was t before old = record { behind = refl; front = refl; here = refl; taken = refl; lost = omega arith; few = omega arith }
 
--- a row's step takes as many packets as it brings
-taken-brought : (step : SourceStep) (t place : ℕ) (row : KeptRow) → length (kept_packet step t place row) ≡ taken_by step
-taken-brought Rests t place row = refl
-taken-brought (Brings size) t place row = refl
-taken-brought Loses t place row = refl
-
-lost-few : (step : SourceStep) → lost_by step ≤ 1
-lost-few Rests = omega arith
-lost-few (Brings size) = omega arith
-lost-few Loses = omega arith
-
--- the rows from one on are that one and those behind it
-from-row : (rows : List HeldRow) (i : ℕ) (d : HeldRow) → i < length rows → drop i rows ≡ get_or rows i d ∷ drop (i + 1) rows
-from-row rows i d inside = drop_more rows i d inside
-
-drop-suc : {A : Type 0} (xs : List A) (i : ℕ) → drop 1 (drop i xs) ≡ drop (suc i) xs
-drop-suc [] zero = refl
-drop-suc [] (suc i) = refl
-drop-suc (x ∷ xs) zero = refl
-drop-suc (x ∷ xs) (suc i) = drop-suc xs i
-
-drop-next : {A : Type 0} (xs : List A) (i : ℕ) → drop 1 (drop i xs) ≡ drop (i + 1) xs
-drop-next xs i =
-    let next : suc i ≡ i + 1 = omega arith in
-    drop-suc xs i ∙ ap (λ n. drop n xs) next
-
+-- rows that are the same from one on are the same behind it
 behind-next : (old rows : List HeldRow) (i : ℕ) → drop i rows ≡ drop i old → drop (i + 1) old ≡ drop (i + 1) rows
-behind-next old rows i behind = sym (drop-next old i) ∙ ap (drop 1) (sym behind) ∙ drop-next rows i
+behind-next old rows i behind = sym (drop-drop 1 i old) ∙ ap (drop 1) (sym behind) ∙ drop-drop 1 i rows
 
 -- the packets that they take are those of that one, and then those of the rows behind it
 brought-from : (bounds : List ℕ) (was : List Arrival) (t taken : ℕ) (old : List HeldRow) (i : ℕ) (rows : List HeldRow) (d : HeldRow) → drop i rows ≡ drop i old → i < length rows
@@ -64,9 +37,9 @@ brought-from : (bounds : List ℕ) (was : List Arrival) (t taken : ℕ) (old : L
 unfolding kept_packets
 brought-from bounds was t taken old i rows d behind inside =
     let step = step_in bounds was t (get_or rows i d) in
-    ap (λ all. length (brought_by bounds was t taken all)) (sym behind ∙ from-row rows i d inside)
+    ap (λ all. length (brought_by bounds was t taken all)) (sym behind ∙ drop_more rows i d inside)
     ∙ length-append (kept_packet step t (suc taken) (row_in (get_or rows i d))) (brought_by bounds was t (taken + taken_by step) (drop (i + 1) rows))
-    ∙ ap (λ n. n + length (brought_by bounds was t (taken + taken_by step) (drop (i + 1) rows))) (taken-brought step t (suc taken) (row_in (get_or rows i d)))
+    ∙ ap (λ n. n + length (brought_by bounds was t (taken + taken_by step) (drop (i + 1) rows))) (packet-length step t (suc taken) (row_in (get_or rows i d)))
     ∙ ap (λ all. taken_by step + length (brought_by bounds was t (taken + taken_by step) all)) (sym (behind-next old rows i behind))
 
 -- so before its step there is room for its packet, where there is room for all
@@ -74,16 +47,17 @@ pub packets-now : (bounds : List ℕ) (was : List Arrival) (t taken : ℕ) (old 
     → taken_by (step_in bounds was t (get_or rows i d)) ≤ length (brought_by bounds was t taken (drop i old))
 packets-now bounds was t taken old i rows d behind inside = let split = brought-from bounds was t taken old i rows d behind inside in omega (arith, split)
 
--- and it is ready
+-- what is so of each row is so of those from one on
 each-behind : (P : KeptRow → Type 0) (rows : List HeldRow) (i : ℕ) → Each P (map row_in rows) → Each P (map row_in (drop i rows))
 each-behind P [] zero each = each
 each-behind P [] (suc i) each = each
 each-behind P (row ∷ rows) zero each = each
 each-behind P (row ∷ rows) (suc i) each = each-behind P rows i each.1
 
+-- so it is ready for its step
 pub ready-now : (t : ℕ) (old : List HeldRow) (i : ℕ) (rows : List HeldRow) (d : HeldRow) → drop i rows ≡ drop i old → AreReady t old → i < length rows → IsReady t (row_in (get_or rows i d))
 ready-now t old i rows d behind ready inside =
-    (subst (λ all. Each (IsReady t) (map row_in all)) (sym behind ∙ from-row rows i d inside) (each-behind (IsReady t) old i ready)).0
+    (subst (λ all. Each (IsReady t) (map row_in all)) (sym behind ∙ drop_more rows i d inside) (each-behind (IsReady t) old i ready)).0
 
 -- one row more has made its step
 pub one-stepped : (bounds : List ℕ) (was : List Arrival) (t before : ℕ) (old : List HeldRow) (i : ℕ) (rows : List HeldRow) (here : List Arrival) (taken lost : ℕ) (d new : HeldRow) (now : List Arrival) (taken' lost' : ℕ)
@@ -98,7 +72,7 @@ unfolding kept_packets kept_rows_after kept_lost
 one-stepped bounds was t before old i rows here taken lost d new now taken' lost' so inside stepped brought more dropped =
     let row = get_or rows i d in
     let step = step_in bounds was t row in
-    let rest : drop i old ≡ row ∷ drop (i + 1) rows = sym so.behind ∙ from-row rows i d inside in
+    let rest : drop i old ≡ row ∷ drop (i + 1) rows = sym so.behind ∙ drop_more rows i d inside in
     let front = behind-next old rows i so.behind in
     let packets = brought-from bounds was t taken old i rows d so.behind inside in
     let same : length (brought_by bounds was t taken' (drop (i + 1) old)) ≡ length (brought_by bounds was t (taken + taken_by step) (drop (i + 1) old)) = ap (λ n. length (brought_by bounds was t n (drop (i + 1) old))) more in
@@ -124,7 +98,7 @@ one-stepped bounds was t before old i rows here taken lost d new now taken' lost
           ∙ so.here;
       taken = let all = so.taken in omega (arith, all, packets, same, more);
       lost = let all = so.lost in omega (arith, all, losses, dropped);
-      few = let few = so.few in let one = lost-few step in omega (arith, few, one, dropped);
+      few = let few = so.few in let one = lost_by-most step in omega (arith, few, one, dropped);
     }
 
 -- at the end all have
@@ -178,22 +152,9 @@ front-within before items new more within brought =
     omega (arith, long, longer, both, within)
 
 -- a step changes no reservation
-same-terms : (step : SourceStep) (t place : ℕ) (row : KeptRow) → (kept_after_step step t place row).terms ≡ row.terms
-same-terms Rests t place row = refl
-same-terms (Brings size) t place row = refl
-same-terms Loses t place row = refl
-
--- so the row stays as the sums have it, and at its levels
-pub summed-stepped : (step : SourceStep) (t place : ℕ) (new old : HeldRow) → row_in new ≡ kept_after_step step t place (row_in old) → summed new ≡ summed old
-summed-stepped step t place new old same =
-    let terms : terms_in new ≡ terms_in old = ap (λ row. row.terms) same ∙ same-terms step t place (row_in old) in
-    ap (λ terms. held_at (channel_number terms.chan) terms.contract (level_number terms.level)) terms
-
-pub within-stepped : (step : SourceStep) (levels t place : ℕ) (new old : HeldRow) → row_in new ≡ kept_after_step step t place (row_in old) → IsWithin levels old → IsWithin levels new
-within-stepped step levels t place new old same within =
-    let terms : terms_in new ≡ terms_in old = ap (λ row. row.terms) same ∙ same-terms step t place (row_in old) in
-    let at : level_number new.level ≡ level_number old.level = ap (λ terms. level_number terms.level) terms in
-    let far : level_number new.reach ≡ level_number old.reach = ap (λ terms. level_number terms.reach) terms in
-    let near = within.level in
-    let most = within.reach in
-    record { level = omega (arith, at, near); reach = omega (arith, far, most) }
+pub terms-stepped : (step : SourceStep) (t place : ℕ) (new old : HeldRow) → row_in new ≡ kept_after_step step t place (row_in old) → terms_in new ≡ terms_in old
+terms-stepped step t place new old same = ap (λ row. row.terms) same ∙ same-terms step where
+  same-terms : (step : SourceStep) → (kept_after_step step t place (row_in old)).terms ≡ terms_in old
+  same-terms Rests = refl
+  same-terms (Brings size) = refl
+  same-terms Loses = refl

@@ -8,7 +8,7 @@ use Rattle.net_units.specs.declared.numbers.Level.{Level}
 use Rattle.traffic_contract.specs.Admission.{Server, Row as Admitted}
 use Rattle.rcsp_admission.specs.Sums.{Sums, Held, held_at, key_of, rows_of, has_key, Holds, HoldsUpTo, put_at, moved, without, IsDistinct}
 use Rattle.link_steps.specs.declared.shape.LinkShape.{LinkShape}
-use Rattle.link_steps.specs.Kept.{kept_terms, new_kept, kept_relaxed, kept_planned}
+use Rattle.link_steps.specs.Kept.{kept_terms, new_kept, kept_relaxed}
 use Rattle.link_steps.specs.Lists.{Each}
 use Rattle.link_steps.specs.Reservation.{Reservation, admitted}
 use Rattle.link_steps.specs.Shape.{server_of}
@@ -17,7 +17,7 @@ use Rattle.link_server.specs.Rows.{terms_in, row_in, is_row_of, summed, IsAbsent
 use Rattle.link_server.proofs.PlaceFacts.{place-later, terms-kept}
 
 -- the admission test sees the reservations
-pub summed-rows : (rows : List HeldRow) → rows_of (map summed rows) ≡ map admitted (map terms_in rows)
+summed-rows : (rows : List HeldRow) → rows_of (map summed rows) ≡ map admitted (map terms_in rows)
 summed-rows [] = refl
 summed-rows (row ∷ rows) = ap (λ all. admitted (terms_in row) ∷ all) (summed-rows rows)
 
@@ -95,17 +95,17 @@ within-committed levels new old level up_bound same upto within =
     let most = within.reach in
     record { level = omega arith; reach = omega (arith, most) }
 
--- a row whose packets are planned stays as the sums have it
-pub summed-planned : (new old : HeldRow) (t count gap size : ℕ) → row_in new ≡ kept_planned t count gap size (row_in old) → summed new ≡ summed old
-summed-planned new old t count gap size same = ap (λ row. held_at (channel_number row.terms.chan) row.terms.contract (level_number row.terms.level)) same
+-- a row whose reservation is the same stays as the sums have it, and at its levels
+pub summed-same : (new old : HeldRow) → terms_in new ≡ terms_in old → summed new ≡ summed old
+summed-same new old same = ap (λ terms. held_at (channel_number terms.chan) terms.contract (level_number terms.level)) same
 
-pub within-planned : (levels : ℕ) (new old : HeldRow) (t count gap size : ℕ) → row_in new ≡ kept_planned t count gap size (row_in old) → IsWithin levels old → IsWithin levels new
-within-planned levels new old t count gap size same within =
-    let at : level_number new.level ≡ level_number old.level = ap (λ row. level_number row.terms.level) same in
-    let far : level_number new.reach ≡ level_number old.reach = ap (λ row. level_number row.terms.reach) same in
+pub within-same : (levels : ℕ) (new old : HeldRow) → terms_in new ≡ terms_in old → IsWithin levels old → IsWithin levels new
+within-same levels new old same within =
+    let at : level_number new.level ≡ level_number old.level = ap (λ terms. level_number terms.level) same in
+    let far : level_number new.reach ≡ level_number old.reach = ap (λ terms. level_number terms.reach) same in
     let near = within.level in
     let most = within.reach in
-    record { level = omega (arith, near); reach = omega (arith, most) }
+    record { level = omega (arith, at, near); reach = omega (arith, far, most) }
 
 -- a row that is reserved has the levels of its offer
 pub within-reserved : (levels : ℕ) (new : HeldRow) (terms : Reservation) → row_in new ≡ new_kept terms → level_number terms.level ≤ levels → level_number terms.reach ≤ levels → IsWithin levels new

@@ -7,8 +7,8 @@ use Rattle.link_steps.specs.declared.replies.Reply.TheVariants.{Ticked}
 use Rattle.link_steps.specs.declared.replies.Reply.{Reply}
 use Rattle.link_steps.specs.declared.replies.Sent.{Sent}
 use Rattle.link_steps.specs.declared.shape.LinkShape.{LinkShape}
-use Rattle.link_steps.specs.Kept.{Kept, KeptRow, kept_reply, kept_after, kept_tick_reply, kept_after_tick, kept_lost, kept_packets, kept_rows_after, held_rows, brought, present, occupies, served, departs, still_here, still_on}
-use Rattle.link_steps.specs.Service.{Arrival, Start}
+use Rattle.link_steps.specs.Kept.{Kept, kept_reply, kept_after, kept_tick_reply, kept_after_tick, kept_lost, kept_packets, kept_rows_after, held_rows, brought, present, occupies, served, departs, still_here, still_on}
+use Rattle.link_steps.proofs.Account.{same-kept}
 use Rattle.link_server.specs.Account.{account}
 use Rattle.link_server.specs.Packets.{here_in, on_in}
 use Rattle.link_server.specs.Rows.{row_in}
@@ -44,10 +44,6 @@ tick-replied shape k rows mid full sent stay lost occupant left =
     ap (λ n. Ticked k.clock n sent) (lost ∙ ap (kept_lost shape.bounds k.here k.clock) stay)
     ∙ ap (Ticked k.clock (kept_lost shape.bounds k.here k.clock (held_rows shape k))) (left ∙ ap (departs shape k.clock) occupant)
 
--- the account of the parts that a tick has changed
-abbrev parts : ℕ → ℕ → List KeptRow → List Arrival → Option Start → Kept
-parts clock taken rows here on = record { clock = clock; taken = taken; rows = rows; here = here; on = on }
-
 -- the account after it
 pub tick-kept : (shape : LinkShape) (k : Kept) (rows last : List HeldRow) (mid new : Packets) (clock : ℕ) (reply : Reply)
     → clock ≡ k.clock + 1
@@ -65,8 +61,4 @@ tick-kept shape k rows last mid new clock reply next stay stepped here taken occ
     let taken_same = kept_taken ∙ taken ∙ ap (λ more. k.taken + length more) (brought-is shape k rows stay) in
     let here_same = left ∙ ap (λ start. still_here shape.rate k.clock start (here_in mid.here.items)) occupant ∙ ap (still_here shape.rate k.clock (occupies shape k)) here in
     let on_same = on ∙ ap (still_on shape.rate k.clock) occupant in
-    ap (λ t. parts t new.taken (map row_in last) (here_in new.here.items) (on_in new.on)) one
-    ∙ ap (λ n. parts (suc k.clock) n (map row_in last) (here_in new.here.items) (on_in new.on)) taken_same
-    ∙ ap (λ all. parts (suc k.clock) (k.taken + length (brought shape k)) all (here_in new.here.items) (on_in new.on)) rows_same
-    ∙ ap (λ all. parts (suc k.clock) (k.taken + length (brought shape k)) (kept_rows_after shape.bounds k.here k.clock k.taken (held_rows shape k)) all (on_in new.on)) here_same
-    ∙ ap (parts (suc k.clock) (k.taken + length (brought shape k)) (kept_rows_after shape.bounds k.here k.clock k.taken (held_rows shape k)) (still_here shape.rate k.clock (occupies shape k) (present shape k))) on_same
+    same-kept (account clock new last) (kept_after shape k Tick reply) one taken_same rows_same here_same on_same

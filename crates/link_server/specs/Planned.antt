@@ -13,6 +13,7 @@ left_in planned = planned_from planned.tick planned.gap planned.size planned.cou
 abbrev pub IsFrom : ℕ → SourcePacket → Type 0
 IsFrom clock p = clock ≤ p.tick
 
+-- all of them lie ahead
 abbrev pub IsAhead : ℕ → Planned → Type 0
 IsAhead clock planned = Each (IsFrom clock) (left_in planned)
 

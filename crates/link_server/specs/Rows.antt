@@ -66,5 +66,6 @@ pub record IsWithin (levels : ℕ) (row : HeldRow) : Type 0 where
   pub level : level_number row.level ≤ levels
   pub reach : level_number row.reach ≤ levels
 
+-- and so for each row
 abbrev pub AreWithin : ℕ → List HeldRow → Type 0
 AreWithin levels rows = All (IsWithin levels) rows

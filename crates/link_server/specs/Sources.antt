@@ -34,5 +34,6 @@ pub record IsReady (clock : ℕ) (row : KeptRow) : Type 0 where
   pub last : newest row.recent < 2 ^ 63
   pub few : row.taken < 2 ^ 63
 
+-- and so for each row
 abbrev pub AreReady : ℕ → List HeldRow → Type 0
 AreReady clock rows = Each (IsReady clock) (map row_in rows)

@@ -9,7 +9,7 @@ use crate::held_row::HeldRow;
 use net_units::Bounds;
 use rcsp_admission::LevelSums;
 
-// Takes out the rows whose hold has ended by this tick, of the rows and of the admission sums.
+// Takes the rows whose hold has ended by this tick out of the rows and out of the admission sums.
 pub(crate) fn expire(rows: &mut Vec<HeldRow>, sums: &mut LevelSums, bounds: &Bounds, clock: u64)
     requires ready { AreReady clock rows.old.items }
     requires within { AreWithin (length bounds.now) rows.old.items }

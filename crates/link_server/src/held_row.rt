@@ -68,7 +68,6 @@ impl HeldRow {
     ghost use Rattle.link_steps.specs.Buffer.{stay_of, slots_of, kept_units, has_slot, held_packets};
     ghost use Rattle.link_steps.specs.declared.replies.Phase.TheVariants.{Tentative, Committed};
     ghost use Rattle.link_steps.specs.Refusals.{not_in_phase, unfit, too_big, full};
-    ghost use Rattle.link_server.specs.Strays.{stray};
     ghost use Rattle.link_steps.specs.Kept.{new_kept, kept_relaxed, kept_planned, kept_closed, past_tick, kept_with};
     ghost use Rattle.link_steps.specs.Regulator.{eligible_next};
     ghost use Rattle.link_steps.specs.Replies.{count_at_release, cancelled_at_release};
@@ -79,6 +78,7 @@ impl HeldRow {
     ghost use Rattle.link_server.specs.Packets.{arrival_in, here_in};
     ghost use Rattle.link_server.specs.Planned.{left_in, size_of, IsAhead};
     ghost use Rattle.link_server.specs.Rows.{terms_in, row_in, is_row_at_hop, IsWithin};
+    ghost use Rattle.link_server.specs.Strays.{stray};
 
     // A tentative reservation at the offered level. It takes all memory that it will ever need.
     pub(crate) fn new(
@@ -194,8 +194,7 @@ impl HeldRow {
         self.planned = planned;
     }
 
-    // The count of its packets, where it is told one from upstream or none, and how many planned ones are cancelled, as
-    // it is released.
+    // The count of its packets as it is released: those taken, or the count that upstream tells, where that is larger.
     pub(crate) fn count_at_release(&self, upstream: Option<u64>) -> u64
         ensures { result ≡ count_at_release upstream self.now.taken }
     {
@@ -205,6 +204,7 @@ impl HeldRow {
         }
     }
 
+    // How many planned packets its release cancels: those left at its first hop, which is told no count.
     pub(crate) fn cancelled_at_release(&self, upstream: Option<u64>) -> u64
         ensures { result ≡ cancelled_at_release upstream (length (left_in self.now.planned)) }
     {
@@ -288,8 +288,8 @@ impl HeldRow {
         self.contract.bound(self.stay(bounds))
     }
 
-    // Takes its next packet in this tick, with the next arrival number of the link. It is due at the tick `due`, or 0 at
-    // a first hop. It takes no memory.
+    // Takes its next packet in this tick, with `place`, the next arrival number of the link. The packet is due at the
+    // tick `due`, which is 0 at a first hop. It takes no memory.
     pub(crate) fn take(&mut self, size: u32, due: u64, place: u64, clock: u64) -> HeldPacket
         requires size { 1 ≤ size }
         requires early { clock < 2 ^ 61 }

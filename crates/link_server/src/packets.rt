@@ -17,10 +17,13 @@ pub(crate) struct HeldPacket {
     pub(crate) chan: ChanNo,
     // Its number among the packets of its reservation.
     pub(crate) number: u64,
+    // In units.
     pub(crate) size: u32,
+    // The ticks at which it arrived and is eligible.
     pub(crate) at: u64,
     pub(crate) eligible: u64,
     pub(crate) level: Level,
+    // The link behind this one, where there is one.
     pub(crate) next: Option<LinkNo>,
     ghost has_size: { 1 ≤ size },
 }
@@ -40,6 +43,7 @@ pub(crate) struct Packets {
     pub(crate) taken: u64,
     // In the order of their arrival.
     pub(crate) here: Vec<HeldPacket>,
+    // The one that occupies the link: it is one of those here.
     pub(crate) on: Option<Running>,
 }
 

@@ -1,6 +1,6 @@
-//! The rows of a link together: where a channel's stands, and what buffer they leave free.
-ghost use Rattle.std.specs.Prelude.{◌≡◌, ◌≤◌, ◌^◌, ◌<◌, false, IfNone, IfSome, length, map};
-ghost use Rattle.std.specs.List.{All};
+//! The rows of a link together: where a channel's stands, what buffer they leave free, and how many packets they may
+//! bring; and the need and the reach of a new one.
+ghost use Rattle.std.specs.Prelude.{◌≡◌, ◌≤◌, ◌^◌, ◌<◌, IfNone, IfSome, length, map};
 ghost use Rattle.net_units.specs.Numbers.{level_number};
 ghost use Rattle.link_steps.specs.Buffer.{free_units, need_of};
 ghost use Rattle.link_steps.specs.Replies.{reach_of};

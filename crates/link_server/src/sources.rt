@@ -11,7 +11,8 @@ use crate::held_row::HeldRow;
 use crate::packets::Packets;
 use net_units::Bounds;
 
-// The rows take the packets that are planned for this tick, in their order. It answers how many found no slot free.
+// The rows, in their order, take the packets that are planned for this tick. It answers how many packets found no slot
+// free, and so were dropped.
 pub(crate) fn take_source_packets(
     rows: &mut [HeldRow],
     packets: &mut Packets,
@@ -43,8 +44,8 @@ pub(crate) fn take_source_packets(
     lost
 }
 
-// The row takes the packet that is planned for this tick, if there is one. It answers whether that found no slot free
-// among the packets that were here as the tick began, so many.
+// The row takes the packet that is planned for this tick, if there is one. It answers whether that found no slot free,
+// and so was dropped. Only the first `before` packets, those that were here as the tick began, hold slots.
 fn take_source_packet(
     row: &mut HeldRow,
     packets: &mut Packets,

@@ -1,5 +1,6 @@
 -- The account of a link gives the legal reply to each ask, and goes on with each entry.
-use Rattle.std.proofs.Common.{◌≡◌, ℕ, zero, suc, ◌+◌, ◌≤◌, Bool, true, List, [], ◌∷◌, ◌++◌, length, map, Option, Some, None, refl, sym, ap, ◌∙◌, subst, take, arith, add-one, length-append}
+use Rattle.std.proofs.Common.{◌≡◌, ℕ, suc, ◌+◌, ◌≤◌, Bool, true, List, [], ◌∷◌, ◌++◌, length, map, Option, Some, None, refl, sym, ap, ◌∙◌, subst, arith, add-one, length-append}
+use Rattle.std.proofs.Math.Seq.{take-nil}
 use Rattle.std.proofs.lemmas.List.{map-append, length_push}
 use Rattle.std.specs.Prelude.{filter, find}
 use Rattle.std.specs.Option.{option_map}
@@ -55,13 +56,15 @@ numbered-after shape t scan Tick reply before =
     numbered-append scan.packets _ before (source_packets-upto shape.bounds (here_at shape.rate scan.packets t) t (length scan.packets) _)
 numbered-after shape t scan _ _ before = before
 
-pub scan-numbered : (shape : LinkShape) (h : List Entry) → IsNumbered (scan_of shape h)
+-- the packets of every history are numbered so
+scan-numbered : (shape : LinkShape) (h : List Entry) → IsNumbered (scan_of shape h)
 unfolding scan_of
 scan-numbered shape [] = tt
 scan-numbered shape (e ∷ past) = numbered-after shape (clock_of past) (scan_of shape past) e.ask e.reply (scan-numbered shape past)
 
 -- ---- a tick
 
+-- the rows of a scan have contracts
 abbrev HaveContracts : Scan → Type 0
 HaveContracts scan = Each RowHasContract scan.rows
 
@@ -72,16 +75,13 @@ held_in shape t scan = filter (stays shape.bounds t) scan.rows
 abbrev new_in : LinkShape → ℕ → Scan → List Arrival
 new_in shape t scan = source_packets shape.bounds (here_at shape.rate scan.packets t) t (length scan.packets) (held_in shape t scan)
 
-held-tick : (shape : LinkShape) (t : ℕ) (scan : Scan) → HaveContracts scan → held_rows shape (kept_at shape t scan) ≡ map (kept_row t) (held_in shape t scan)
-unfolding kept_at
-held-tick shape t scan each = held-kept shape.bounds t scan.rows each
-
 brought-tick : (shape : LinkShape) (t : ℕ) (scan : Scan) → HaveContracts scan → brought shape (kept_at shape t scan) ≡ new_in shape t scan
 unfolding kept_at
 brought-tick shape t scan each =
     rw (held-kept shape.bounds t scan.rows each)
     (packets-kept shape.bounds (here_at shape.rate scan.packets t) t (length scan.packets) (held_in shape t scan) (Each-filter RowHasContract (stays shape.bounds t) scan.rows each))
 
+-- the starts after the tick show what the account says of it
 shows-after : (shape : LinkShape) (t : ℕ) (scan : Scan) → HaveContracts scan → IsNumbered scan → ShowsTick shape t (after_tick shape t scan).packets (present shape (kept_at shape t scan)) (occupies shape (kept_at shape t scan)) (starts_below shape.rate (after_tick shape t scan).packets (suc t))
 shows-after shape t scan each numbered =
     rw (brought-tick shape t scan each)
@@ -95,6 +95,7 @@ unfolding kept_at without_expired
 lost-tick shape t scan each =
     rw (held-kept shape.bounds t scan.rows each) (sym (lost-kept shape.bounds (here_at shape.rate scan.packets t) t (held_in shape t scan)))
 
+-- the parts of the account after the tick, and the reply
 taken-tick : (shape : LinkShape) (t : ℕ) (scan : Scan) → HaveContracts scan → (kept_at shape (suc t) (after_tick shape t scan)).taken ≡ (kept_at shape t scan).taken + length (brought shape (kept_at shape t scan))
 unfolding kept_at after_tick with_sources without_expired
 taken-tick shape t scan each = length-append scan.packets (new_in shape t scan) ∙ ap (λ all. length scan.packets + length all) (sym (brought-tick shape t scan each))
@@ -112,9 +113,10 @@ reply-tick shape t scan each numbered =
     ∙ ap (λ lost. Is.Ticked t lost (departs shape t (occupies shape (kept_at shape t scan)))) (lost-tick shape t scan each)
 
 -- accounts with the same parts
-same-kept : (k other : Kept) → k.clock ≡ other.clock → k.taken ≡ other.taken → k.rows ≡ other.rows → k.here ≡ other.here → k.on ≡ other.on → k ≡ other
+pub same-kept : (k other : Kept) → k.clock ≡ other.clock → k.taken ≡ other.taken → k.rows ≡ other.rows → k.here ≡ other.here → k.on ≡ other.on → k ≡ other
 same-kept k other clock taken rows here on = λ i. record { clock = clock i; taken = taken i; rows = rows i; here = here i; on = on i }
 
+-- so the account of the scan after the tick is the one that the account goes on to
 after-tick : (shape : LinkShape) (t : ℕ) (scan : Scan) → HaveContracts scan → IsNumbered scan → kept_at shape (suc t) (after_tick shape t scan) ≡ kept_after_tick shape (kept_at shape t scan)
 unfolding kept_at kept_after_tick here_at after_tick
 after-tick shape t scan each numbered =
@@ -124,6 +126,7 @@ after-tick shape t scan each numbered =
 
 -- ---- the other asks
 
+-- what the other asks find in the account is what they find in the scan
 terms-kept : (t : ℕ) (rows : List Row) → map kept_terms (map (kept_row t) rows) ≡ map row_terms rows
 terms-kept t [] = refl
 terms-kept t (row ∷ rows) = ap (λ all. row.terms ∷ all) (terms-kept t rows)
@@ -148,6 +151,7 @@ arrive-kept shape t packets packet (Some row) each =
     ap (λ e. arrive_reply shape.bounds t packet row.terms (length row.ticks) (held_packets row.lead (here_at shape.rate packets t)) e)
     (sym (eligible-recent row.terms row.ticks t packet.due (each row refl)))
 
+-- the reply of the scan is that of the account
 reply-at : (shape : LinkShape) (t : ℕ) (scan : Scan) (ask : Ask) → HaveContracts scan → IsNumbered scan → reply_at shape t scan ask ≡ kept_reply shape (kept_at shape t scan) ask
 unfolding reply_at kept_reply kept_at
 reply-at shape t scan (Reserve chan contract kind delay up_reach first next) each numbered = rw (terms-kept t scan.rows) refl
@@ -168,6 +172,7 @@ arrived-kept : (t place : ℕ) (packet : Packet) (row : Row) → RowHasContract 
 arrived-kept t place packet row is =
     rw (eligible-recent row.terms row.ticks t packet.due is) (kept-packet t place (arrived_tick t packet row) row)
 
+-- the account with a packet that arrives
 arrival-kept : (shape : LinkShape) (t : ℕ) (packet : Packet) (scan : Scan) (found : Option Row) → ((row : Row) → found ≡ Some row → RowHasContract row) → HaveContracts scan → IsNumbered scan → kept_at shape t (with_arrival t packet scan found) ≡ kept_with_arrival packet (kept_at shape t scan) (option_map (kept_row t) found)
 unfolding with_arrival kept_with_arrival kept_at
 arrival-kept shape t packet scan None one each numbered = refl
@@ -190,10 +195,7 @@ unfolding kept_at
 rows-kept-at shape t scan rows kept same = ap (λ all. with_kept_rows (kept_at shape t scan) all) same
 
 new-kept : (t : ℕ) (terms : Reservation) → kept_row t (new_row terms) ≡ new_kept terms
-new-kept t terms = rw (take-none (burst_of terms.contract)) refl where
-  take-none : (n : ℕ) → take {A = ℕ} n [] ≡ []
-  take-none zero = refl
-  take-none (suc n) = refl
+new-kept t terms = rw (take-nil {A = ℕ} (burst_of terms.contract)) refl
 
 planned-kept : (t count gap size : ℕ) (row : Row) → RowHasContract row → kept_planned t count gap size (kept_row t row) ≡ kept_row t (plan_row t count gap size row)
 planned-kept t count gap size row is = rw (left-planned t count gap size row.plan) refl
@@ -201,6 +203,7 @@ planned-kept t count gap size row is = rw (left-planned t count gap size row.pla
 closed-kept : (t count : ℕ) (row : Row) → RowHasContract row → kept_closed count (kept_row t row) ≡ kept_row t (close_row t count row)
 closed-kept t count row is = rw (left-cancelled t row.plan) refl
 
+-- the account after an entry, from the account before
 after-at : (shape : LinkShape) (t : ℕ) (scan : Scan) (ask : Ask) (reply : Reply) → HaveContracts scan → IsNumbered scan → kept_at shape (clock_with ask t) (after shape t scan ask reply) ≡ kept_after shape (kept_at shape t scan) ask reply
 unfolding after kept_after kept_at
 after-at shape t scan (Reserve chan contract kind delay up_reach first next) (Is.Offer level reach) each numbered =
@@ -235,16 +238,19 @@ contracts-scan : (shape : LinkShape) (h : List Entry) → HasContracts (kept_of 
 unfolding kept_at
 contracts-scan shape h each = Each-mapped HasContract (kept_row (clock_of h)) (scan_of shape h).rows each
 
+-- the legal reply after a history is that of its account
 pub reply_to-account : (shape : LinkShape) (h : List Entry) (ask : Ask) → HasContracts (kept_of shape h) → reply_to shape h ask ≡ kept_reply shape (kept_of shape h) ask
 unfolding reply_to
 reply_to-account shape h ask each = reply-at shape (clock_of h) (scan_of shape h) ask (contracts-scan shape h each) (scan-numbered shape h)
 
+-- and the account with one more entry is the next of the account before
 pub kept_of-entry : (shape : LinkShape) (h : List Entry) (e : Entry) → HasContracts (kept_of shape h) → kept_of shape (e ∷ h) ≡ kept_after shape (kept_of shape h) e.ask e.reply
 unfolding clock_of scan_of
 kept_of-entry shape h e each = after-at shape (clock_of h) (scan_of shape h) e.ask e.reply (contracts-scan shape h each) (scan-numbered shape h)
 
 -- ---- what stands for a history
 
+-- a link that keeps nothing stands for no history
 pub nothing-stands : (shape : LinkShape) → StandsFor shape nothing_kept []
 unfolding kept_at clock_of scan_of here_at starts_below
 nothing-stands shape = refl

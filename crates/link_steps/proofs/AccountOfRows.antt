@@ -1,5 +1,6 @@
 -- What is kept of a row is all that the rules need of it.
-use Rattle.std.proofs.Common.{◌≡◌, ℕ, zero, suc, ◌+◌, ◌-◌, ◌<◌, ◌≤◌, Bool, true, false, ◌&&◌, List, [], ◌∷◌, ◌++◌, length, take, map, refl, ap, ◌∙◌, ⊎_elim, arith, length-append}
+use Rattle.std.proofs.Common.{◌≡◌, ℕ, zero, suc, ◌+◌, ◌-◌, ◌<◌, ◌≤◌, Bool, true, false, ◌&&◌, List, [], ◌∷◌, ◌++◌, length, map, refl, ap, ◌∙◌, ⊎_elim, arith, length-append}
+use Rattle.std.proofs.Math.Bool.{and-false}
 use Rattle.std.proofs.lemmas.Bool.{le-leb, lt-leb, eqb-true, cases_lt, le-ltb}
 use Rattle.std.proofs.lemmas.List.Elements.{filter-append}
 use Rattle.std.specs.Prelude.{filter}
@@ -9,7 +10,7 @@ use Rattle.traffic_contract.specs.Contract.{Terms, IsContract, burst_of}
 use Rattle.traffic_contract.specs.Eligible.{eligible, newest}
 use Rattle.traffic_contract.specs.Keeping.{may_follow}
 use Rattle.traffic_contract.proofs.ContractFacts.{burst-least}
-use Rattle.traffic_contract.proofs.EligibleFacts.{eligible-take, first_from-reached}
+use Rattle.traffic_contract.proofs.EligibleFacts.{eligible-take, first_from-reached, newest-take, take-cons-take}
 use Rattle.link_steps.specs.Buffer.{has_slot}
 use Rattle.link_steps.specs.Hold.{stays}
 use Rattle.link_steps.specs.Kept.{recent_of, kept_row, kept_stays, kept_step, kept_tick, kept_packet, kept_with, past_tick, kept_after_step, kept_packets, kept_rows_after, kept_lost}
@@ -31,11 +32,7 @@ RowHasContract row = IsContract row.terms.contract
 
 -- the newest tick is kept
 newest-recent : (contract : Terms) (ticks : List ℕ) → IsContract contract → newest (recent_of contract ticks) ≡ newest ticks
-newest-recent contract ticks is = newest-take (burst_of contract) ticks (burst-least contract is) where
-  newest-take : (n : ℕ) (ticks : List ℕ) → 1 ≤ n → newest (take n ticks) ≡ newest ticks
-  newest-take zero ticks some = absurd (omega arith)
-  newest-take (suc n) [] some = refl
-  newest-take (suc n) (t ∷ ticks) some = refl
+newest-recent contract ticks is = newest-take (burst_of contract) ticks (burst-least contract is)
 
 -- the next eligible tick needs no more than the kept ones
 pub eligible-recent : (terms : Reservation) (ticks : List ℕ) (t due : ℕ) → IsContract terms.contract → eligible_next terms (recent_of terms.contract ticks) t due ≡ eligible_next terms ticks t due
@@ -43,16 +40,8 @@ unfolding eligible_next
 eligible-recent terms ticks t due is = eligible-take terms.contract ticks (waits_until terms.kind terms.first t due) (burst-least terms.contract is)
 
 -- one more tick in front
-pub recent-more : (contract : Terms) (e : ℕ) (ticks : List ℕ) → recent_of contract (e ∷ recent_of contract ticks) ≡ recent_of contract (e ∷ ticks)
-recent-more contract e ticks = take-more (burst_of contract) e ticks where
-  take-take : (n : ℕ) (ticks : List ℕ) → take n (take (suc n) ticks) ≡ take n ticks
-  take-take zero ticks = refl
-  take-take (suc n) [] = refl
-  take-take (suc n) (t ∷ ticks) = ap (λ all. t ∷ all) (take-take n ticks)
-
-  take-more : (n : ℕ) (e : ℕ) (ticks : List ℕ) → take n (e ∷ take n ticks) ≡ take n (e ∷ ticks)
-  take-more zero e ticks = refl
-  take-more (suc n) e ticks = ap (λ all. e ∷ all) (take-take n ticks)
+recent-more : (contract : Terms) (e : ℕ) (ticks : List ℕ) → recent_of contract (e ∷ recent_of contract ticks) ≡ recent_of contract (e ∷ ticks)
+recent-more contract e ticks = take-cons-take (burst_of contract) e ticks
 
 -- no packet is eligible before it arrives
 pub eligible-from : (terms : Reservation) (ticks : List ℕ) (t due : ℕ) → t ≤ eligible_next terms ticks t due
@@ -69,7 +58,7 @@ eligible-from terms ticks t due =
 -- ---- planned packets
 
 -- what is left later is left of what is left
-pub left-left : (t u : ℕ) (plan : List SourcePacket) → t ≤ u → left_at u (left_at t plan) ≡ left_at u plan
+left-left : (t u : ℕ) (plan : List SourcePacket) → t ≤ u → left_at u (left_at t plan) ≡ left_at u plan
 left-left t u plan later =
     filter-filter (is_from u) (is_from t) plan ∙ filter-same (λ p. is_from t p && is_from u p) (is_from u) plan (Each-from _ plan both) where
       both : (p : SourcePacket) → (is_from t p && is_from u p) ≡ is_from u p
@@ -77,21 +66,21 @@ left-left t u plan later =
           ⊎_elim (λ (early : p.tick < u). (rw (lt-leb u p.tick early) (and-false (is_from t p))))
           (λ (late : u ≤ p.tick). (rw (le-leb t p.tick (omega arith)) refl))
           (cases_lt p.tick u)
-        where
-          and-false : (b : Bool) → (b && false) ≡ false
-          and-false true = refl
-          and-false false = refl
 
 planned-later : (t u gap size count : ℕ) → t ≤ u → Each (λ p. is_from t p ≡ true) (planned_from u gap size count)
 unfolding planned_from
 planned-later t u gap size zero later = tt
 planned-later t u gap size (suc count) later = (le-leb t u later, planned-later t (u + gap) gap size count (omega arith))
 
--- a plan from t on is left whole at t
+-- packets from a tick u on are all left at each clock up to u
+pub left_at-planned : (t u gap size count : ℕ) → t ≤ u → left_at t (planned_from u gap size count) ≡ planned_from u gap size count
+left_at-planned t u gap size count later = filter-all (is_from t) (planned_from u gap size count) (planned-later t u gap size count later)
+
+-- so a plan that goes on from t is left whole there
 pub left-planned : (t count gap size : ℕ) (plan : List SourcePacket) → left_at t (plan ++ planned_from t gap size count) ≡ left_at t plan ++ planned_from t gap size count
 left-planned t count gap size plan =
     filter-append (is_from t) plan (planned_from t gap size count)
-    ∙ ap (λ all. left_at t plan ++ all) (filter-all (is_from t) (planned_from t gap size count) (planned-later t t gap size count (omega arith)))
+    ∙ ap (λ all. left_at t plan ++ all) (left_at-planned t t gap size count (omega arith))
 
 -- a cancelled plan is not left
 pub left-cancelled : (t : ℕ) (plan : List SourcePacket) → left_at t (made_by t plan) ≡ []
@@ -102,16 +91,13 @@ left-cancelled t plan =
           ⊎_elim (λ (early : p.tick < t). (rw (lt-leb t p.tick early) (and-false (is_before t p))))
           (λ (late : t ≤ p.tick). (rw (le-ltb p.tick t late) refl))
           (cases_lt p.tick t)
-        where
-          and-false : (b : Bool) → (b && false) ≡ false
-          and-false true = refl
-          and-false false = refl
 
 -- ---- one row in tick t
 
 stays-kept : (bounds : List ℕ) (t : ℕ) (row : Row) → RowHasContract row → kept_stays bounds t (kept_row t row) ≡ stays bounds t row
 stays-kept bounds t row is = rw (newest-recent row.terms.contract row.ticks is) refl
 
+-- the rows that stay held are the same ones
 pub held-kept : (bounds : List ℕ) (t : ℕ) (rows : List Row) → Each RowHasContract rows → filter (kept_stays bounds t) (map (kept_row t) rows) ≡ map (kept_row t) (filter (stays bounds t) rows)
 held-kept bounds t rows each =
     filter-map (kept_row t) (stays bounds t) (kept_stays bounds t) rows (Each-if RowHasContract _ rows (stays-kept bounds t) each)
@@ -145,6 +131,7 @@ after-kept Loses t place row is = past-kept t row
 
 -- ---- all rows in tick t
 
+-- the account tells the packets that all sources bring, the rows afterwards, and the packets dropped
 pub packets-kept : (bounds : List ℕ) (here : List Arrival) (t taken : ℕ) (rows : List Row) → Each RowHasContract rows → kept_packets bounds here t taken (map (kept_row t) rows) ≡ source_packets bounds here t taken rows
 unfolding kept_packets source_packets
 packets-kept bounds here t taken [] each = refl

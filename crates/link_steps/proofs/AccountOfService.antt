@@ -1,5 +1,6 @@
 -- The packets here and the one that occupies the link are all that service needs of the past.
 use Rattle.std.proofs.Common.{◌≡◌, ℕ, suc, ◌<◌, ◌≤◌, Bool, true, false, not, cond, ◌&&◌, ◌||◌, List, [], ◌∷◌, ◌++◌, Option, Some, None, refl, sym, ap, ◌∙◌, ⊎_elim, arith}
+use Rattle.std.proofs.Math.Bool.{and_comm, and-true}
 use Rattle.std.proofs.lemmas.Bool.{le-leb, lt-leb, ltb-true, lt-ltb, le-ltb, ne_eqb, cases_lt}
 use Rattle.std.proofs.lemmas.List.Elements.{filter-append}
 use Rattle.std.specs.Prelude.{filter, nat_le, nat_lt}
@@ -17,10 +18,7 @@ use Rattle.link_steps.proofs.ServiceFacts.{IsFrom, HasLeft, FollowEachOther, Has
 departed-started : (rate t : ℕ) (starts : List Start) (p : Arrival) → Each (HasLeft rate t) starts → has_departed rate starts t p ≡ has_started starts p
 departed-started rate t [] p left = refl
 departed-started rate t (start ∷ earlier) p left =
-    rw (le-leb (leaves_at rate start) t left.0, departed-started rate t earlier p left.1) (and-true (is_start_of p start) (has_started earlier p)) where
-      and-true : (a b : Bool) → ((a && true) || b) ≡ (a || b)
-      and-true true b = refl
-      and-true false b = refl
+    rw (le-leb (leaves_at rate start) t left.0, departed-started rate t earlier p left.1) (ap (λ b. b || has_started earlier p) (and-true (is_start_of p start)))
 
 -- so nobody departs in the tick after
 departed-later : (rate t : ℕ) (starts : List Start) (p : Arrival) → Each (HasLeft rate t) starts → has_departed rate starts (suc t) p ≡ has_departed rate starts t p
@@ -33,13 +31,8 @@ waits-here : (rate t : ℕ) (starts : List Start) (packets : List Arrival) → E
 unfolding is_waiting
 waits-here rate t starts packets left =
     filter-same (is_waiting starts t) (λ p. is_here rate starts t p && is_eligible_by t p) packets
-    (Each-from _ packets (λ p. rw (departed-started rate t starts p left) (and-swap (nat_le p.eligible t) (not (has_started starts p)))))
-    ∙ sym (filter-filter (is_eligible_by t) (is_here rate starts t) packets) where
-      and-swap : (a b : Bool) → (a && b) ≡ (b && a)
-      and-swap true true = refl
-      and-swap true false = refl
-      and-swap false true = refl
-      and-swap false false = refl
+    (Each-from _ packets (λ p. rw (departed-started rate t starts p left) (and_comm (nat_le p.eligible t) (not (has_started starts p)))))
+    ∙ sym (filter-filter (is_eligible_by t) (is_here rate starts t) packets)
 
 -- ---- one tick of service
 
@@ -64,10 +57,7 @@ next-here : (rate t : ℕ) (packets : List Arrival) (start : Start) (earlier : L
 next-here rate t packets start earlier true same left =
     filter-same (is_here rate (start ∷ earlier) (suc t)) (λ p. is_here rate earlier t p && is_other start p) packets
     (Each-from _ packets (λ p. newest-here rate t start earlier p true same left ∙ ap (λ b. is_here rate earlier t p && not b) (and-true (is_start_of p start))))
-    ∙ sym (filter-filter (is_other start) (is_here rate earlier t) packets) where
-      and-true : (a : Bool) → (a && true) ≡ a
-      and-true true = refl
-      and-true false = refl
+    ∙ sym (filter-filter (is_other start) (is_here rate earlier t) packets)
 next-here rate t packets start earlier false same left =
     filter-same (is_here rate (start ∷ earlier) (suc t)) (is_here rate earlier t) packets
     (Each-from _ packets (λ p. newest-here rate t start earlier p false same left ∙ and-false (is_here rate earlier t p) (is_start_of p start))) where
@@ -162,6 +152,7 @@ here-append rate t n packets new upto above =
     (filter-all (is_here rate (starts_below rate packets t) t) new
     (Each-if (IsAbove n) _ new (λ p higher. not-departed rate t n (starts_below rate packets t) p (starts-fact (IsUpTo n) rate packets t upto) higher) above))
 
+-- and so at clock t, where the new ones are eligible from t on
 pub here_at-append : (rate t n : ℕ) (packets new : List Arrival) → Each (IsUpTo n) packets → Each (IsAbove n) new → Each (IsFrom t) new → here_at rate (packets ++ new) t ≡ here_at rate packets t ++ new
 here_at-append rate t n packets new upto above later =
     unfold here_at in

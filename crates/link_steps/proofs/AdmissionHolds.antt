@@ -1,13 +1,12 @@
 -- In every legal history the held rows pass the admission test after every entry.
-use Rattle.std.proofs.Common.{◌≡◌, ℕ, zero, suc, ◌+◌, ◌-◌, ◌<◌, ◌≤◌, Bool, true, List, [], ◌∷◌, ◌++◌, length, map, Option, Some, None, refl, sym, ap, ◌∙◌, subst, arith}
-use Rattle.std.proofs.lemmas.Bool.{and_parts}
+use Rattle.std.proofs.Common.{◌≡◌, ℕ, suc, ◌+◌, ◌≤◌, Bool, true, List, [], ◌∷◌, ◌++◌, map, Option, Some, None, refl, sym, ap, ◌∙◌, subst, arith}
 use Rattle.std.proofs.lemmas.List.{map-append}
-use Rattle.std.specs.Prelude.{filter, find, nat_lt, unwrap_or}
+use Rattle.std.specs.Prelude.{filter, find}
 use Rattle.std.specs.Option.{option_map}
-use Rattle.net_units.proofs.BoundFacts.{bounds_parts, above_low}
+use Rattle.net_units.proofs.BoundFacts.{bounds_parts, bound_at-rising}
 use Rattle.net_units.specs.Numbers.{level_number}
 use Rattle.net_units.specs.Quotient.{ceil_quotient}
-use Rattle.net_units.specs.Steps.{bound_at, are_bounds, rises_above}
+use Rattle.net_units.specs.Steps.{bound_at}
 use Rattle.net_units.specs.declared.Kind.{Kind}
 use Rattle.net_units.specs.declared.numbers.ChanNo.{ChanNo}
 use Rattle.net_units.specs.declared.numbers.Level.{Level}
@@ -24,10 +23,9 @@ use Rattle.link_steps.specs.declared.replies.Reply.TheVariants as Is
 use Rattle.link_steps.specs.declared.shape.LinkShape.{LinkShape}
 use Rattle.link_steps.specs.HopGuarantee.{AfterEach, HeldRowsPass}
 use Rattle.link_steps.specs.Legal.{IsLegal}
-use Rattle.link_steps.specs.Levels.{level_of}
 use Rattle.link_steps.specs.Lists.{change_first}
-use Rattle.link_steps.specs.Replies.{reserve_reply, reserve_reply_at, relax_reply, reply_at, reply_to}
-use Rattle.link_steps.specs.Reservation.{Reservation, tentative, admitted, is_of}
+use Rattle.link_steps.specs.Replies.{reserve_reply, relax_reply, reply_at, reply_to}
+use Rattle.link_steps.specs.Reservation.{tentative, admitted, is_of}
 use Rattle.link_steps.specs.Scan.{Scan, is_row_of, is_row_at_hop, names_first_hop, relax_row, plan_row, close_row, with_arrival, without_expired, with_sources, after_tick, after, scan_of}
 use Rattle.link_steps.specs.Service.{Arrival}
 use Rattle.link_steps.specs.Shape.{server_of}
@@ -35,7 +33,7 @@ use Rattle.link_steps.specs.Rows.{Row, row_terms, new_row}
 use Rattle.link_steps.specs.Sources.{SourceStep, Rests, Brings, Loses, step_of, row_after, rows_after, taken_by}
 use Rattle.link_steps.proofs.LevelFacts.{level_of-number}
 use Rattle.link_steps.proofs.ListFacts.{find-map, map-change_first-same, total-change_first-le, total-without_first-le}
-use Rattle.link_steps.proofs.RefusalFacts.{kept-rule, no_level-some, unfit-least}
+use Rattle.link_steps.proofs.ReplyFacts.{offer-best, relax-tells}
 
 -- what a row adds to the load of the levels up to m in a window of w ticks
 abbrev pub row_load : ℕ → ℕ → ℕ → Row → ℕ
@@ -48,6 +46,7 @@ as_admitted rows = map admitted (map row_terms rows)
 abbrev Pass : LinkShape → List Row → Type 0
 Pass shape rows = Passes (server_of shape) (as_admitted rows)
 
+-- the load of rows is the sum of what each adds
 pub total-as_admitted : (rate m w : ℕ) (rows : List Row) → total (work_up_to rate m w) (as_admitted rows) ≡ total (row_load rate m w) rows
 total-as_admitted rate m w rows =
     total-map (work_up_to rate m w) admitted (map row_terms rows) ∙ total-map (λ terms. work_up_to rate m w (admitted terms)) row_terms rows
@@ -69,40 +68,15 @@ Pass-same shape rows others same pass = subst (λ all. Passes (server_of shape) 
 
 -- ---- no rows
 
--- the first bound is the least
-bound_at-first : (bs : List ℕ) (m : ℕ) → are_bounds bs ≡ true → 1 ≤ m → m ≤ length bs → bound_at bs 1 ≤ bound_at bs m
-bound_at-first [] m rise from upto = absurd (omega arith)
-bound_at-first (b ∷ bs) zero rise from upto = absurd (omega arith)
-bound_at-first (b ∷ bs) (suc zero) rise from upto = omega arith
-bound_at-first (b ∷ bs) (suc (suc k)) rise from upto =
-    let rising : rises_above b bs ≡ true = (and_parts (nat_lt 0 b) (rises_above b bs) (bounds_parts (b ∷ bs) rise).rising).1 in
-    let inside : k < length bs = omega arith in
-    let above = above_low b bs k rising inside in
-    let e : suc (suc k) - 1 ≡ suc k = omega arith in
-    rw e (omega (arith, above))
-
 -- the blocking is at most the first bound, and so at most each
 Pass-none : (shape : LinkShape) → Pass shape []
 Pass-none shape =
     Passes-nil (server_of shape) (λ m from upto.
-    let least = bound_at-first shape.bounds m shape.bounds_rise from upto in
+    let least = bound_at-rising shape.bounds 1 m shape.bounds_rise (omega arith) from upto in
     let first : ceil_quotient shape.cap shape.rate ≤ bound_at shape.bounds 1 = shape.blocking_fits in
     omega (arith, least, first))
 
 -- ---- a reserve
-
-offer-level : (level other reach far : Level) → Is.Offer level reach ≡ Is.Offer other far → level ≡ other
-offer-level level other reach far same = cc
-
--- an offer is the best level of its contract
-pub offer-best : (shape : LinkShape) (held : List Reservation) (chan : ChanNo) (contract : Terms) (delay up_reach : ℕ) (best : Option ℕ) (level reach : Level) → Is.Offer level reach ≡ reserve_reply_at shape held chan contract delay up_reach best → (m : ℕ) × (best ≡ Some m) × (level ≡ level_of m)
-offer-best shape held chan contract delay up_reach best level reach same =
-    let wide = kept-rule _ _ (Is.Offer level reach) tt same in
-    let new = kept-rule _ _ (Is.Offer level reach) tt wide.1 in
-    let some = kept-rule _ _ (Is.Offer level reach) tt new.1 in
-    let found = no_level-some _ _ _ best some.0 in
-    let room = kept-rule _ _ (Is.Offer level reach) tt some.1 in
-    (found.0, found.1, offer-level level _ reach _ room.1 ∙ ap (λ o. level_of (unwrap_or o 0)) found.1)
 
 -- the rows with the one reserved pass
 Pass-reserved : (shape : LinkShape) (rows : List Row) (chan : ChanNo) (contract : Terms) (kind : Kind) (first : Bool) (next : Option LinkNo) (delay up_reach : ℕ) (level reach : Level) → Is.Offer level reach ≡ reserve_reply shape (map row_terms rows) chan contract delay up_reach → Pass shape (rows ++ new_row (tentative chan contract kind first next up_reach level reach) ∷ [])
@@ -119,13 +93,7 @@ Pass-reserved shape rows chan contract kind first next delay up_reach level reac
 
 -- ---- a relax moves a row to a level that is no smaller
 
-relax-level : (t up_bound : ℕ) (level : Level) (terms : Reservation) (clock : ℕ) → Is.Relaxed clock ≡ relax_reply t level up_bound (Some terms) → level_number terms.level ≤ level_number level
-unfolding relax_reply
-relax-level t up_bound level terms clock same =
-    let phase = kept-rule _ _ (Is.Relaxed clock) tt same in
-    let fits = kept-rule _ _ (Is.Relaxed clock) tt phase.1 in
-    unfit-least terms level up_bound fits.0
-
+-- the reservation of a channel is that of its row
 pub find-terms : (chan : ChanNo) (rows : List Row) → find (is_of chan) (map row_terms rows) ≡ option_map row_terms (find (is_row_of chan) rows)
 find-terms chan rows = find-map row_terms (is_row_of chan) (is_of chan) (λ row. refl) rows
 
@@ -134,10 +102,11 @@ Pass-relaxed shape t rows chan level up_bound clock same =
     Pass-lighter shape rows (change_first (is_row_of chan) (relax_row level up_bound) rows) (λ m w.
     total-change_first-le (row_load shape.rate m w) (is_row_of chan) (relax_row level up_bound) rows (λ row found.
     work_up_to-le shape.rate m w (admitted row.terms) (admitted (relax_row level up_bound row).terms) refl
-    (relax-level t up_bound level row.terms clock (same ∙ ap (relax_reply t level up_bound) (find-terms chan rows ∙ ap (option_map row_terms) found)))))
+    (relax-tells t row.terms level up_bound clock (same ∙ ap (relax_reply t level up_bound) (find-terms chan rows ∙ ap (option_map row_terms) found))).level_least))
 
 -- ---- the other changes don't touch what the test sees
 
+-- the sources of a tick change no reservation
 pub rows_after-terms : (bounds : List ℕ) (here : List Arrival) (t taken : ℕ) (rows : List Row) → map row_terms (rows_after bounds here t taken rows) ≡ map row_terms rows
 unfolding rows_after
 rows_after-terms bounds here t taken [] = refl
@@ -187,12 +156,15 @@ Pass-after shape t scan _ _ same pass = pass
 
 -- ---- every entry
 
+-- what holds after each entry holds after the last
+pub last-pass : (shape : LinkShape) (h : List Entry) → AfterEach (HeldRowsPass shape) h → HeldRowsPass shape h
+last-pass shape [] each = each
+last-pass shape (e ∷ past) each = each.1
+
+-- so in a legal history the rows held pass after every entry
 pub held_rows-pass : (shape : LinkShape) (h : List Entry) → IsLegal shape h → AfterEach (HeldRowsPass shape) h
 unfolding IsLegal scan_of reply_to
 held_rows-pass shape [] legal = Pass-none shape
 held_rows-pass shape (e ∷ past) legal =
     let before = held_rows-pass shape past legal.0 in
-    (before, Pass-after shape _ (scan_of shape past) e.ask e.reply legal.1.answered (last-of shape past before)) where
-      last-of : (shape : LinkShape) (h : List Entry) → AfterEach (HeldRowsPass shape) h → HeldRowsPass shape h
-      last-of shape [] each = each
-      last-of shape (e ∷ past) each = each.1
+    (before, Pass-after shape _ (scan_of shape past) e.ask e.reply legal.1.answered (last-pass shape past before))

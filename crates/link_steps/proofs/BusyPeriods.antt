@@ -1,12 +1,14 @@
 -- A busy period ends within a window that its work and the blocking fit.
-use Rattle.std.proofs.Common.{◌≡◌, ℕ, zero, suc, ◌+◌, ◌<◌, ◌≤◌, ◌⊎◌, Bool, true, false, cond, ◌&&◌, ◌||◌, List, [], ◌∷◌, Option, Some, None, refl, sym, ap, ◌∙◌, inl, inr, ⊎_elim, arith}
+use Rattle.std.proofs.Common.{◌≡◌, ℕ, zero, suc, ◌+◌, ◌<◌, ◌≤◌, ◌⊎◌, Bool, true, false, cond, ◌&&◌, ◌||◌, List, [], ◌∷◌, get_or, Option, Some, None, refl, sym, ap, ◌∙◌, inl, inr, ⊎_elim, arith}
 use Rattle.std.proofs.lemmas.Bool.{cases_Bool, leb-true, le-leb, ltb-true, ltb-false, lt-ltb, eq-eqb, eqb-true, cases_lt, and_parts, and_from, or_cases, or_left, or_right, or_parts, true≢false, not-true, cond_both}
+use Rattle.std.proofs.lemmas.Option.{same_Some}
 use Rattle.std.specs.Prelude.{filter, nat_lt, nat_eq, if◌then◌else◌}
 use Rattle.traffic_contract.specs.Admission.{total}
+use Rattle.traffic_contract.proofs.AdmissionFacts.{total-le}
 use Rattle.link_steps.specs.BusyPeriod.{IsGone, IsClear, HasWork, is_in_window, window_work, EndsWithin, FitsWindow}
 use Rattle.link_steps.specs.Lists.{Each}
 use Rattle.link_steps.specs.Service.{Arrival, Start, work_of, leaves_at, goes_before, sooner, first_in_line, is_start_of, has_started, is_waiting, is_busy, add_start, serve_tick, starts_below, is_departure_by, has_departed}
-use Rattle.link_steps.proofs.ListFacts.{Each-if, Among, Each-among, Among-filter, total-less, total-drop}
+use Rattle.link_steps.proofs.ListFacts.{Each-if, Among, Each-among, Among-filter, total-drop}
 use Rattle.link_steps.proofs.ServiceFacts.{HasLeft, HasBegun, left-idle, starts-follow, starts-begun, starts-fact}
 
 -- ---- started and departed
@@ -48,9 +50,6 @@ started-later rate packets t (suc k) p started =
 
 -- ---- who starts
 
-some-same : (a b : Arrival) → Some a ≡ Some b → a ≡ b
-some-same a b same = cc
-
 -- the sooner of p and the best of others is p or that best one
 sooner-either : (p : Arrival) (best : Option Arrival) → (sooner p best ≡ p) ⊎ (best ≡ Some (sooner p best))
 sooner-either p None = inl refl
@@ -61,7 +60,7 @@ first_in_line-among : (ps : List Arrival) (q : Arrival) → first_in_line ps ≡
 unfolding first_in_line
 first_in_line-among [] q found = cc
 first_in_line-among (p ∷ ps) q found =
-    let same = some-same (sooner p (first_in_line ps)) q found in
+    let same = same_Some (sooner p (first_in_line ps)) q found in
     ⊎_elim (λ (own : sooner p (first_in_line ps) ≡ p). inl (sym same ∙ own))
     (λ (other : first_in_line ps ≡ Some (sooner p (first_in_line ps))). inr (first_in_line-among ps q (other ∙ ap Some same)))
     (sooner-either p (first_in_line ps))
@@ -170,7 +169,7 @@ work_left-start rate m t0 w t packets starts q among waits inside =
 -- what is left is at most what the window brings
 work_left-most : (rate m t0 w : ℕ) (packets : List Arrival) (starts : List Start) → work_left rate m t0 w packets starts ≤ total (window_work rate m t0 w) packets
 work_left-most rate m t0 w packets starts =
-    total-less (window_work rate m t0 w) (waiting_work rate m t0 w starts) packets (λ p. less (has_started starts p) (window_work rate m t0 w p)) where
+    total-le (waiting_work rate m t0 w starts) (window_work rate m t0 w) packets (λ k d inside. less (has_started starts (get_or packets k d)) (window_work rate m t0 w (get_or packets k d))) where
       less : (b : Bool) (work : ℕ) → cond b 0 work ≤ work
       less true work = omega arith
       less false work = omega arith
@@ -271,6 +270,7 @@ comes-or-works rate blocking packets m t0 w (suc k) some works clear fits within
     (goes-on rate blocking packets m t0 w k works clear (omega arith) on))
     (comes-or-works rate blocking packets m t0 w k some works clear fits (omega arith))
 
+-- within w ticks the link comes to be clear: else it would work on for longer than the work fits
 pub busy_period-ends : (rate blocking : ℕ) (packets : List Arrival) (m t w : ℕ) → Each (HasWork rate blocking) packets → IsClear rate packets m t → FitsWindow rate blocking packets m t w → EndsWithin rate packets m t w
 busy_period-ends rate blocking [] m t w works clear fits = record { end = suc t; after = omega arith; within = omega (arith, fits.some); clear = tt }
 busy_period-ends rate blocking (p ∷ ps) m t w works clear fits =

@@ -1,6 +1,8 @@
--- Facts on lists of which the first element that passes a test is changed or taken out, told of the one found.
-use Rattle.std.proofs.Common.{◌≡◌, ℕ, ◌+◌, ◌≤◌, Bool, true, false, not, cond, List, [], ◌∷◌, Some, inl, inr, refl, ap, arith}
+-- Facts on lists, told of the elements that they hold of: of those that stand in the list, of those that pass a test, and
+-- of the first of these, which is changed or taken out.
+use Rattle.std.proofs.Common.{◌≡◌, ℕ, ◌+◌, ◌≤◌, Bool, true, false, not, cond, List, [], ◌∷◌, Some, inl, inr, refl, sym, ap, ◌∙◌, arith}
 use Rattle.std.proofs.lemmas.Bool.{cases_Bool, cond_both}
+use Rattle.std.proofs.lemmas.Option.{same_Some}
 use Rattle.std.specs.Prelude.{filter, find}
 use Rattle.traffic_contract.specs.Admission.{total}
 use Rattle.link_steps.specs.Lists.{change_first, without_first, Each}
@@ -27,17 +29,24 @@ Each-passes test [] = tt
 Each-passes test (x ∷ xs) =
     cond_both (test x) (x ∷ filter test xs) (filter test xs) (Each (λ y. test y ≡ true)) (λ passed. (passed, Each-passes test xs)) (λ _. Each-passes test xs)
 
+-- and what is so of those that pass is so of each, if it passes
+pub Each-if_passes : {X : Type 0} (P : X → Type 0) (test : X → Bool) (xs : List X) → Each P (filter test xs) → Each (λ x. test x ≡ true → P x) xs
+Each-if_passes P test [] each = tt
+Each-if_passes P test (x ∷ xs) each =
+    elim (cases_Bool (test x)) [
+      | inl passed ↦ (let both : P x × Each P (filter test xs) = rw passed at each in (λ _. both.0, Each-if_passes P test xs both.1))
+      | inr failed ↦ (let rest : Each P (filter test xs) = rw failed at each in (λ passed. absurd (let h : false ≡ true = sym failed ∙ passed in cc), Each-if_passes P test xs rest))
+    ]
+
 -- a sum to which the change of the one found adds at least d
 pub total-change_first-more : {X : Type 0} (f : X → ℕ) (test : X → Bool) (change : X → X) (d : ℕ) (x : X) (xs : List X) → find test xs ≡ Some x → f x + d ≤ f (change x) → total f xs + d ≤ total f (change_first test change xs)
 unfolding change_first
 total-change_first-more f test change d x [] found more = cc
 total-change_first-more f test change d x (y ∷ xs) found more =
     elim (cases_Bool (test y)) [
-      | inl passed ↦ (let same = some-same y x (rw passed at found) in let e : f y ≡ f x = ap f same in let g : f (change y) ≡ f (change x) = ap (λ z. f (change z)) same in rw passed (omega (arith, more, e, g)))
+      | inl passed ↦ (let same = same_Some y x (rw passed at found) in let e : f y ≡ f x = ap f same in let g : f (change y) ≡ f (change x) = ap (λ z. f (change z)) same in rw passed (omega (arith, more, e, g)))
       | inr failed ↦ (let rest = total-change_first-more f test change d x xs (rw failed at found) more in rw failed (omega (arith, rest)))
-    ] where
-      some-same : {X : Type 0} (a b : X) → Some a ≡ Some b → a ≡ b
-      some-same a b same = cc
+    ]
 
 -- a sum that the change of the one found doesn't lower
 pub total-change_first-ge : {X : Type 0} (f : X → ℕ) (test : X → Bool) (change : X → X) (xs : List X) → ((x : X) → find test xs ≡ Some x → f x ≤ f (change x)) → total f xs ≤ total f (change_first test change xs)

@@ -16,14 +16,14 @@ use Rattle.link_steps.specs.Rows.{Row}
 use Rattle.link_steps.specs.Scan.{clock_of, scan_of, starts_of}
 use Rattle.link_steps.specs.Service.{Arrival, Start, starts_below}
 use Rattle.link_steps.specs.Shape.{blocking_of}
-use Rattle.link_steps.proofs.AdmissionHolds.{held_rows-pass}
+use Rattle.link_steps.proofs.AdmissionHolds.{last-pass, held_rows-pass}
 use Rattle.link_steps.proofs.ChangeFacts.{Each-from_among}
 use Rattle.link_steps.proofs.Departures.{DepartsWithin, departs-within, departed-at, starts-once, IsEligibleStart, starts-eligible, leaves-once}
 use Rattle.link_steps.proofs.LegalOrder.{IsCarried, legal-order}
 use Rattle.link_steps.proofs.LegalRowFacts.{IsInOrder}
 use Rattle.link_steps.proofs.ListFacts.{Among, Each-among, Each-if}
 use Rattle.link_steps.proofs.ServiceFacts.{starts-fact}
-use Rattle.link_steps.proofs.WindowFits.{last-pass, packets-have_work, window-fits}
+use Rattle.link_steps.proofs.WindowFits.{packets-have_work, window-fits}
 
 -- a packet departs within the bound of its level
 abbrev DepartsInTime : LinkShape → List Arrival → Arrival → Type 0

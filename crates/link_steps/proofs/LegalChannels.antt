@@ -1,7 +1,8 @@
--- In a legal history no two held rows are of one channel.
+-- In a legal history no two held rows are of one channel: the row that a rule finds first is the only one.
 use Rattle.std.proofs.Common.{◌≡◌, ℕ, suc, ◌≢◌, Bool, true, List, [], ◌∷◌, ◌++◌, length, map, Option, Some, None, refl, sym, ap, ◌∙◌, subst, inl, inr}
 use Rattle.std.proofs.lemmas.Bool.{cases_Bool, eqb-false, cond_both}
 use Rattle.std.proofs.lemmas.List.{map-append}
+use Rattle.std.proofs.lemmas.Option.{none-some}
 use Rattle.std.specs.Prelude.{filter, find}
 use Rattle.net_units.specs.Numbers.{channel_number}
 use Rattle.net_units.specs.declared.numbers.ChanNo.{ChanNo}
@@ -84,11 +85,9 @@ others-found : (chan : ChanNo) (rows : List Row) → find (is_of chan) (map row_
 others-found chan [] none = tt
 others-found chan (row ∷ rows) none =
     elim (cases_Bool (is_row_of chan row)) [
-      | inl passed ↦ absurd (found-none row.terms (rw passed at none))
+      | inl passed ↦ absurd (none-some row.terms (sym (rw passed at none)))
       | inr failed ↦ (eqb-false (channel_of row) (channel_number chan) failed, others-found chan rows (rw failed at none))
-    ] where
-      found-none : (terms : Reservation) → Some terms ≡ None → ⊥
-      found-none terms same = cc
+    ]
 
 not-twice : (found : Option Reservation) → twice found ≡ None → found ≡ None
 not-twice None none = refl
@@ -120,6 +119,7 @@ differ-after shape t scan Tick reply same differ =
     differ-same (filter (stays shape.bounds t) scan.rows) _ (rows_after-terms shape.bounds _ t (length scan.packets) (filter (stays shape.bounds t) scan.rows)) (differ-filter (stays shape.bounds t) scan.rows differ)
 differ-after shape t scan _ _ same differ = differ
 
+-- the rows held after a legal history are of different channels
 pub legal-channels : (shape : LinkShape) (h : List Entry) → IsLegal shape h → DifferInChannel (scan_of shape h).rows
 unfolding IsLegal scan_of reply_to
 legal-channels shape [] legal = tt

@@ -1,48 +1,39 @@
 -- After every entry of a legal history its rows, held or gone, are in order, its packets are ones that the link
 -- carries, and the hold of the rows that are gone has ended.
-use Rattle.std.proofs.Common.{◌≡◌, ℕ, suc, ◌+◌, ◌<◌, ◌≤◌, Bool, true, false, not, ◌&&◌, List, [], ◌∷◌, length, map, get_or, Option, Some, None, ⊎_elim, refl, sym, ap, ◌∙◌, arith}
-use Rattle.std.proofs.lemmas.Bool.{cases_lt, leb-true, le-leb, eqb-true, and_parts, or_cases}
+use Rattle.std.proofs.Common.{◌≡◌, ℕ, suc, ◌+◌, ◌<◌, ◌≤◌, Bool, true, false, ◌&&◌, List, [], ◌∷◌, length, map, get_or, Option, Some, None, ⊎_elim, refl, sym, ap, ◌∙◌, arith}
+use Rattle.std.proofs.lemmas.Bool.{leb-true, eqb-true, and_parts, or_cases}
 use Rattle.std.specs.Prelude.{filter, find, nat_eq, nat_le}
-use Rattle.net_units.proofs.BoundFacts.{bounds_parts}
-use Rattle.net_units.specs.Numbers.{level_number}
 use Rattle.net_units.specs.Steps.{last_bound}
 use Rattle.net_units.specs.declared.Kind.{Kind}
 use Rattle.net_units.specs.declared.numbers.ChanNo.{ChanNo}
 use Rattle.net_units.specs.declared.numbers.Level.{Level}
 use Rattle.net_units.specs.declared.numbers.LinkNo.{LinkNo}
-use Rattle.traffic_contract.specs.Admission.{best_level}
 use Rattle.traffic_contract.specs.Contract.{Terms, IsContract}
 use Rattle.traffic_contract.specs.Eligible.{newest}
 use Rattle.traffic_contract.specs.Keeping.{keeps_newest_first}
-use Rattle.traffic_contract.proofs.AdmissionFacts.{best_level-is}
 use Rattle.traffic_contract.proofs.EligibleFacts.{get_or-le-newest}
 use Rattle.link_steps.specs.declared.asks.Ask.{Ask}
 use Rattle.link_steps.specs.declared.asks.Ask.TheVariants.{Reserve, Relax, Deny, Submit, Release, Arrive, Tick}
 use Rattle.link_steps.specs.declared.asks.Packet.{Packet}
 use Rattle.link_steps.specs.declared.replies.Entry.{Entry}
-use Rattle.link_steps.specs.declared.replies.Phase.{Phase}
-use Rattle.link_steps.specs.declared.replies.Phase.TheVariants.{Tentative, Committed, Closing}
+use Rattle.link_steps.specs.declared.replies.Phase.TheVariants.{Closing}
 use Rattle.link_steps.specs.declared.replies.Reply.{Reply}
 use Rattle.link_steps.specs.declared.replies.Reply.TheVariants as Is
 use Rattle.link_steps.specs.declared.shape.LinkShape.{LinkShape}
 use Rattle.link_steps.specs.Hold.{hold_ended, expires, stays}
 use Rattle.link_steps.specs.Legal.{AskFits, PacketFits, IsLegal}
 use Rattle.link_steps.specs.Lists.{Each}
-use Rattle.link_steps.specs.Refusals.{not_in_phase, first_hop, uncommitted, wrong_number, past_count, big}
-use Rattle.link_steps.specs.Replies.{reserve_reply, submit_reply, release_reply, count_at_release, cancelled_at_release, arrive_reply, submit_to, release_to, arrive_to, reply_at, reply_to}
-use Rattle.link_steps.specs.Reservation.{Reservation, is_phase, admitted, tentative}
+use Rattle.link_steps.specs.Replies.{reserve_reply, submit_to, release_to, arrive_to, reply_at, reply_to}
+use Rattle.link_steps.specs.Reservation.{is_phase, tentative}
 use Rattle.link_steps.specs.Rows.{Row, SourcePacket, row_terms, new_row, is_for, left_at}
 use Rattle.link_steps.specs.Scan.{Scan, clock_with, clock_of, is_row_of, is_row_at_hop, names_first_hop, relax_row, plan_row, close_row, arrived_row, with_arrival, without_expired, with_sources, after_tick, after, scan_of}
 use Rattle.link_steps.specs.Service.{Arrival, here_at}
-use Rattle.link_steps.specs.Shape.{server_of}
 use Rattle.link_steps.specs.Sources.{source_step, step_of, packet_of, source_packets, taken_by}
 use Rattle.link_steps.specs.Buffer.{has_slot}
-use Rattle.link_steps.proofs.AdmissionHolds.{offer-best}
 use Rattle.link_steps.proofs.ChangeFacts.{Each-change_found, Each-passes}
 use Rattle.link_steps.proofs.LegalRowFacts.{SizeFits, IsInOrder, order-packet, order-later, order-rows_after, order-relaxed, order-planned, order-closed}
-use Rattle.link_steps.proofs.LevelFacts.{level_of-number}
 use Rattle.link_steps.proofs.ListFacts.{Each-append, Each-both, Each-filter, Each-find, Each-if, Each-without_first}
-use Rattle.link_steps.proofs.RefusalFacts.{kept-rule, unless-none}
+use Rattle.link_steps.proofs.ReplyFacts.{phase-is, offer-tells, submit-tells, release-tells, arrive-tells}
 
 -- a packet that the link carries, at one of its levels
 pub record IsCarried (shape : LinkShape) (p : Arrival) : Type 0 where
@@ -61,88 +52,6 @@ pub record ScanInOrder (shape : LinkShape) (clock : ℕ) (scan : Scan) : Type 0 
   pub gone : Each (IsInOrder shape clock) scan.gone
   pub expired : Each (HasExpired shape clock) scan.gone
   pub carried : Each (IsCarried shape) scan.packets
-
--- ---- what the rules say
-
--- what the test of two phases says
-pub phase-is : (a b : Phase) → is_phase a b ≡ true → a ≡ b
-phase-is Tentative Tentative same = refl
-phase-is Committed Committed same = refl
-phase-is Closing Closing same = refl
-phase-is Tentative Committed same = cc
-phase-is Tentative Closing same = cc
-phase-is Committed Tentative same = cc
-phase-is Committed Closing same = cc
-phase-is Closing Tentative same = cc
-phase-is Closing Committed same = cc
-
--- a submit that is planned names a committed row, and packets of its sizes
-submit-tells : (t size : ℕ) (row : Row) (clock : ℕ) → Is.Planned clock ≡ submit_to t size (Some row) → (row.terms.phase ≡ Committed) × (size ≤ row.terms.contract.smax)
-unfolding submit_reply
-submit-tells t size row clock same =
-    let phase = kept-rule _ _ (Is.Planned clock) tt same in
-    let free = kept-rule _ _ (Is.Planned clock) tt phase.1 in
-    let big = kept-rule _ _ (Is.Planned clock) tt free.1 in
-    (phase-is row.terms.phase Committed (unless-none _ _ phase.0), leb-true size row.terms.contract.smax (unless-none _ _ big.0))
-
--- a release counts at least the packets taken
-release-tells : (t : ℕ) (upstream : Option ℕ) (row : Row) (count cancelled : ℕ) → Is.Closing count cancelled ≡ release_to t upstream (Some row) → length row.ticks ≤ count
-unfolding release_reply
-release-tells t upstream row count cancelled same =
-    let phase = kept-rule (not_in_phase Committed row.terms) (Is.Closing (count_at_release upstream (length row.ticks)) (cancelled_at_release upstream (length (left_at t row.plan)))) (Is.Closing count cancelled) tt same in
-    let counts : count ≡ count_at_release upstream (length row.ticks) = closing-count count cancelled (count_at_release upstream (length row.ticks)) (cancelled_at_release upstream (length (left_at t row.plan))) phase.1 in
-    let most = most-at-release upstream (length row.ticks) in
-    omega (arith, counts, most) where
-      closing-count : (a b c d : ℕ) → Is.Closing a b ≡ Is.Closing c d → a ≡ c
-      closing-count a b c d same = cc
-
-      most-at-release : (upstream : Option ℕ) (taken : ℕ) → taken ≤ count_at_release upstream taken
-      most-at-release None taken = omega arith
-      most-at-release (Some told) taken = omega arith
-
--- a packet that is taken finds a row that isn't tentative, that may take one more, and whose packets are as large
-pub record TakesPacket (row : Row) (packet : Packet) : Type 0 where
-  pub settled : row.terms.phase ≡ Tentative → ⊥
-  pub counts : row.terms.phase ≡ Closing → length row.ticks < row.terms.count
-  pub fits : packet.size ≤ row.terms.contract.smax
-
--- the rules of an arrive say so of the row found
-pub arrive-tells : (shape : LinkShape) (t : ℕ) (packets : List Arrival) (packet : Packet) (row : Row) (clock e : ℕ) → Is.Taken clock e ≡ arrive_to shape t packets packet (Some row) → TakesPacket row packet
-unfolding arrive_reply
-arrive-tells shape t packets packet row clock e same =
-    let hop = kept-rule (first_hop row.terms) _ (Is.Taken clock e) tt same in
-    let ready = kept-rule (uncommitted row.terms) _ (Is.Taken clock e) tt hop.1 in
-    let number = kept-rule (wrong_number packet.number (suc (length row.ticks))) _ (Is.Taken clock e) tt ready.1 in
-    let past = kept-rule (past_count row.terms (length row.ticks)) _ (Is.Taken clock e) tt number.1 in
-    let wide = kept-rule (big row.terms packet.size) _ (Is.Taken clock e) tt past.1 in
-    let unset = unless-none (not (is_phase row.terms.phase Tentative)) _ ready.0 in
-    let open_yet = unless-none (not (is_phase row.terms.phase Closing && nat_le row.terms.count (length row.ticks))) _ past.0 in
-    let small = unless-none (nat_le packet.size row.terms.contract.smax) _ wide.0 in
-    record {
-      settled = λ is. settles row.terms.phase is unset;
-      counts = λ is. counts row.terms.phase row.terms.count (length row.ticks) is open_yet;
-      fits = leb-true packet.size row.terms.contract.smax small;
-    } where
-      settles : (phase : Phase) → phase ≡ Tentative → not (is_phase phase Tentative) ≡ true → ⊥
-      settles phase is passed = (let h : false ≡ true = rw is at passed in cc)
-
-      counts : (phase : Phase) (count taken : ℕ) → phase ≡ Closing → not (is_phase phase Closing && nat_le count taken) ≡ true → taken < count
-      counts phase count taken is passed =
-          let h : not (nat_le count taken) ≡ true = rw is at passed in
-          ⊎_elim (λ (less : taken < count). less) (λ (more : count ≤ taken). absurd (let f : false ≡ true = rw (le-leb count taken more) at h in cc)) (cases_lt taken count)
-
--- an offer's contract is no wider than the link, and its level is one of the link's
-offer-tells : (shape : LinkShape) (held : List Reservation) (chan : ChanNo) (contract : Terms) (delay up_reach : ℕ) (level reach : Level) → Is.Offer level reach ≡ reserve_reply shape held chan contract delay up_reach → (contract.smax ≤ shape.cap) × (1 ≤ level_number level) × (level_number level ≤ length shape.bounds)
-unfolding reserve_reply
-offer-tells shape held chan contract delay up_reach level reach same =
-    let found = offer-best shape held chan contract delay up_reach (best_level (server_of shape) (map admitted held) contract) level reach same in
-    let best = best_level-is (server_of shape) (map admitted held) contract found.0 found.1 in
-    let most = (bounds_parts shape.bounds shape.bounds_rise).most in
-    let n : level_number level ≡ found.0 = ap level_number found.2 ∙ level_of-number found.0 best.from (omega (arith, best.upto)) in
-    let from = best.from in
-    let upto = best.upto in
-    let wide = kept-rule _ _ (Is.Offer level reach) tt same in
-    (leb-true contract.smax shape.cap (unless-none _ _ wide.0), rw n from, rw n upto)
 
 -- ---- expiry
 
@@ -218,12 +127,12 @@ unfolding with_arrival
 order-arrival shape t packet scan None clock e is fits same order = order
 order-arrival shape t packet scan (Some row) clock e is fits same order =
     let own = Each-find (IsInOrder shape t) (is_row_of packet.chan) scan.rows row order.held is in
-    let takes = arrive-tells shape t scan.packets packet row clock e same in
+    let takes = arrive-tells shape.bounds t packet row.terms _ _ _ clock e same in
     let narrow = own.narrow in
     let most = takes.fits in
     record {
       held = Each-change_found (IsInOrder shape t) (is_row_of packet.chan) (arrived_row t (suc (length scan.packets)) packet) scan.rows (λ r found r-order.
-          let taken = arrive-tells shape t scan.packets packet r clock e (same ∙ ap (arrive_to shape t scan.packets packet) (sym is ∙ found)) in
+          let taken = arrive-tells shape.bounds t packet r.terms _ _ _ clock e (same ∙ ap (arrive_to shape t scan.packets packet) (sym is ∙ found)) in
           order-packet shape t t (suc (length scan.packets)) packet.due r taken.settled taken.counts r-order) order.held;
       gone = order.gone;
       expired = order.expired;
@@ -238,8 +147,8 @@ order-reserved shape t rows chan contract kind first next delay up_reach level r
     record {
       contract = is;
       narrow = tells.0;
-      level_least = tells.1;
-      level_most = tells.2;
+      level_least = level.least;
+      level_most = tells.1;
       keeps = refl;
       planned = tt;
       fresh = λ _. (refl, refl);
@@ -258,11 +167,11 @@ order-after shape t scan (Deny chan) Is.Denied fits same order =
     order-with shape t scan _ (Each-without_first (IsInOrder shape t) (is_row_of chan) scan.rows order.held) order
 order-after shape t scan (Submit chan count gap size) (Is.Planned clock) fits same order =
     order-with shape t scan _ (Each-change_found (IsInOrder shape t) (is_row_at_hop chan true) (plan_row t count gap size) scan.rows (λ row found row-order.
-    let tells = submit-tells t size row clock (same ∙ ap (submit_to t size) found) in
-    order-planned shape t count gap size row tells.0 fits.size_least tells.1 row-order) order.held) order
+    let tells = submit-tells t size row.terms (length (left_at t row.plan)) clock (same ∙ ap (submit_to t size) found) in
+    order-planned shape t count gap size row tells.0 fits.size_least tells.2 row-order) order.held) order
 order-after shape t scan (Release chan upstream) (Is.Closing count cancelled) fits same order =
     order-with shape t scan _ (Each-change_found (IsInOrder shape t) (is_row_at_hop chan (names_first_hop upstream)) (close_row t count) scan.rows (λ row found row-order.
-    order-closed shape t count row (release-tells t upstream row count cancelled (same ∙ ap (release_to t upstream) found)) row-order) order.held) order
+    order-closed shape t count row (release-tells upstream row.terms (length row.ticks) (length (left_at t row.plan)) count cancelled (same ∙ ap (release_to t upstream) found)).1 row-order) order.held) order
 order-after shape t scan (Arrive packet) (Is.Taken clock eligible) fits same order =
     order-arrival shape t packet scan (find (is_row_of packet.chan) scan.rows) clock eligible refl fits same order
 order-after shape t scan Tick reply fits same order = order-tick shape t scan order

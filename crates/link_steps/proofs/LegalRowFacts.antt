@@ -3,6 +3,7 @@
 -- is closing has taken no more than its count, and nothing is planned for it any more.
 use Rattle.std.proofs.Common.{◌≡◌, ℕ, zero, suc, ◌+◌, ◌-◌, ◌<◌, ◌≤◌, Bool, true, false, List, [], ◌∷◌, length, max, Option, Some, None, inl, inr, refl, sym, ap, ◌∙◌, subst, arith}
 use Rattle.std.proofs.lemmas.Bool.{cases_Bool, ltb-true, eqb-true, and_from}
+use Rattle.std.proofs.lemmas.Option.{same_Some}
 use Rattle.std.specs.Prelude.{find}
 use Rattle.net_units.specs.Numbers.{level_number}
 use Rattle.net_units.specs.declared.numbers.Level.{Level}
@@ -90,11 +91,9 @@ pub find-for : (t : ℕ) (plan : List SourcePacket) (p : SourcePacket) → find 
 find-for t [] p found = cc
 find-for t (q ∷ plan) p found =
     elim (cases_Bool (is_for t q)) [
-      | inl passed ↦ subst (λ r. r.tick ≡ t) (some-same q p (rw passed at found)) (eqb-true q.tick t passed)
+      | inl passed ↦ subst (λ r. r.tick ≡ t) (same_Some q p (rw passed at found)) (eqb-true q.tick t passed)
       | inr failed ↦ find-for t plan p (rw failed at found)
-    ] where
-      some-same : (a b : SourcePacket) → Some a ≡ Some b → a ≡ b
-      some-same a b same = cc
+    ]
 
 -- nothing made before t is planned for t
 made-none : (t : ℕ) (plan : List SourcePacket) (p : SourcePacket) → Each (IsMade t) plan → find (is_for t) plan ≡ Some p → ⊥

@@ -48,11 +48,13 @@ after-contracts shape t scan Tick reply fits each =
     rows_after-contracts shape.bounds _ t (length scan.packets) (filter (stays shape.bounds t) scan.rows) (Each-filter RowHasContract (stays shape.bounds t) scan.rows each)
 after-contracts shape t scan _ _ fits each = each
 
+-- the rows held after a legal history have contracts
 pub legal-contracts : (shape : LinkShape) (h : List Entry) → IsLegal shape h → Each RowHasContract (scan_of shape h).rows
 unfolding IsLegal scan_of
 legal-contracts shape [] legal = tt
 legal-contracts shape (e ∷ past) legal = after-contracts shape (clock_of past) (scan_of shape past) e.ask e.reply legal.1.fits (legal-contracts shape past legal.0)
 
+-- and so has its account
 pub account-contracts : (shape : LinkShape) (h : List Entry) → IsLegal shape h → HasContracts (kept_of shape h)
 unfolding kept_at
 account-contracts shape h legal = Each-map HasContract (kept_row (clock_of h)) (scan_of shape h).rows (legal-contracts shape h legal)

@@ -7,6 +7,7 @@ pub mod WorkedSources
 pub mod LevelFacts
 pub mod ListFacts
 pub mod RefusalFacts
+pub mod ReplyFacts
 pub mod AdmissionHolds
 pub mod ServiceFacts
 pub mod AccountOfService

@@ -1,13 +1,16 @@
 -- Facts on lists: the first element that passes a test found, changed and taken out, filters, and sums.
-use Rattle.std.proofs.Common.{◌≡◌, ℕ, ◌+◌, ◌≤◌, Bool, true, false, cond, ◌&&◌, List, [], ◌∷◌, ◌++◌, map, Some, inl, inr, ◌⊎◌, refl, sym, ap, ◌∙◌, subst, arith}
+use Rattle.std.proofs.Common.{◌≡◌, ℕ, ◌+◌, ◌≤◌, Bool, true, false, cond, ◌&&◌, List, [], ◌∷◌, ◌++◌, map, get_or, Some, inl, inr, ◌⊎◌, refl, sym, ap, ◌∙◌, subst, arith}
 use Rattle.std.proofs.lemmas.Bool.{cases_Bool, cond_both}
+use Rattle.std.proofs.lemmas.Option.{same_Some}
 use Rattle.std.specs.Prelude.{filter, find}
 use Rattle.std.specs.Option.{option_map}
 use Rattle.traffic_contract.specs.Admission.{total}
+use Rattle.traffic_contract.proofs.AdmissionFacts.{total-le}
 use Rattle.link_steps.specs.Lists.{change_first, without_first, Each}
 
 -- ---- a fact of each element
 
+-- of two lists put together, of what a filter passes, and of each element whatever it is
 pub Each-append : {X : Type 0} (P : X → Type 0) (xs ys : List X) → Each P xs → Each P ys → Each P (xs ++ ys)
 Each-append P [] ys first rest = rest
 Each-append P (x ∷ xs) ys first rest = (first.0, Each-append P xs ys first.1 rest)
@@ -21,6 +24,7 @@ pub Each-from : {X : Type 0} (P : X → Type 0) (xs : List X) → ((x : X) → P
 Each-from P [] all = tt
 Each-from P (x ∷ xs) all = (all x, Each-from P xs all)
 
+-- a fact that follows, two facts at once, and a fact seen through a map
 pub Each-if : {X : Type 0} (P Q : X → Type 0) (xs : List X) → ((x : X) → P x → Q x) → Each P xs → Each Q xs
 Each-if P Q [] change each = tt
 Each-if P Q (x ∷ xs) change each = (change x each.0, Each-if P Q xs change each.1)
@@ -37,6 +41,7 @@ pub Each-mapped : {X Y : Type 0} (P : Y → Type 0) (g : X → Y) (xs : List X) 
 Each-mapped P g [] each = tt
 Each-mapped P g (x ∷ xs) each = (each.0, Each-mapped P g xs each.1)
 
+-- a fact stays where the first element that passes a test is changed or taken out
 pub Each-change_first : {X : Type 0} (P : X → Type 0) (test : X → Bool) (change : X → X) (xs : List X) → ((x : X) → P x → P (change x)) → Each P xs → Each P (change_first test change xs)
 unfolding change_first
 Each-change_first P test change [] keeps each = tt
@@ -49,13 +54,20 @@ Each-without_first P test [] each = tt
 Each-without_first P test (x ∷ xs) each =
     cond_both (test x) xs (x ∷ without_first test xs) (Each P) (λ _. each.1) (λ _. (each.0, Each-without_first P test xs each.1))
 
+-- two views that agree on each element
+pub map-same : {X Y : Type 0} (f g : X → Y) (xs : List X) → Each (λ x. f x ≡ g x) xs → map f xs ≡ map g xs
+map-same f g [] same = refl
+map-same f g (x ∷ xs) same = rw same.0 (ap (λ ys. g x ∷ ys) (map-same f g xs same.1))
+
 -- ---- the first element that passes a test, seen through a map
 
+-- the first of the images is the image of the first
 pub find-map : {X Y : Type 0} (g : X → Y) (test : X → Bool) (seen : Y → Bool) → ((x : X) → seen (g x) ≡ test x) → (xs : List X) → find seen (map g xs) ≡ option_map g (find test xs)
 find-map g test seen same [] = refl
 find-map g test seen same (x ∷ xs) =
     rw (same x) (elim (test x) as (λ b. cond b (Some (g x)) (find seen (map g xs)) ≡ option_map g (cond b (Some x) (find test xs))) [ true ↦ refl | false ↦ find-map g test seen same xs ])
 
+-- a change of the images that agrees with the change, and an image taken out
 pub map-change_first : {X Y : Type 0} (P : X → Type 0) (g : X → Y) (test : X → Bool) (seen : Y → Bool) (change : X → X) (changed : Y → Y) → ((x : X) → seen (g x) ≡ test x) → ((x : X) → P x → changed (g x) ≡ g (change x)) → (xs : List X) → Each P xs → map g (change_first test change xs) ≡ change_first seen changed (map g xs)
 unfolding change_first
 map-change_first P g test seen change changed same alike [] each = refl
@@ -80,6 +92,7 @@ map-without_first g test seen same (x ∷ xs) =
 
 -- ---- filters
 
+-- tests that agree pass the same, of the elements and of their images
 pub filter-same : {X : Type 0} (p q : X → Bool) (xs : List X) → Each (λ x. p x ≡ q x) xs → filter p xs ≡ filter q xs
 filter-same p q [] same = refl
 filter-same p q (x ∷ xs) same =
@@ -91,6 +104,7 @@ filter-map g p seen (x ∷ xs) same =
     rw same.0 (elim (p x) as (λ b. cond b (g x ∷ filter seen (map g xs)) (filter seen (map g xs)) ≡ map g (cond b (x ∷ filter p xs) (filter p xs)))
     [ true ↦ ap (λ ys. g x ∷ ys) (filter-map g p seen xs same.1) | false ↦ filter-map g p seen xs same.1 ])
 
+-- where all pass, and where none does
 pub filter-all : {X : Type 0} (p : X → Bool) (xs : List X) → Each (λ x. p x ≡ true) xs → filter p xs ≡ xs
 filter-all p [] each = refl
 filter-all p (x ∷ xs) each = rw each.0 (ap (λ ys. x ∷ ys) (filter-all p xs each.1))
@@ -117,6 +131,7 @@ find-filter p q passes (x ∷ xs) =
 
 -- ---- sums
 
+-- a sum of which one part is changed to no more, or taken out
 pub total-change_first-le : {X : Type 0} (f : X → ℕ) (test : X → Bool) (change : X → X) (xs : List X) → ((x : X) → find test xs ≡ Some x → f (change x) ≤ f x) → total f (change_first test change xs) ≤ total f xs
 unfolding change_first
 total-change_first-le f test change [] less = omega arith
@@ -135,15 +150,12 @@ total-without_first-le f test (x ∷ xs) =
 
 -- ---- what is found
 
-some-same : {X : Type 0} (a b : X) → Some a ≡ Some b → a ≡ b
-some-same a b same = cc
-
 -- a fact of each element is one of what is found
 pub Each-find : {X : Type 0} (P : X → Type 0) (test : X → Bool) (xs : List X) (x : X) → Each P xs → find test xs ≡ Some x → P x
 Each-find P test [] x each found = cc
 Each-find P test (y ∷ xs) x each found =
     elim (cases_Bool (test y)) [
-      | inl passed ↦ subst P (some-same y x (rw passed at found)) each.0
+      | inl passed ↦ subst P (same_Some y x (rw passed at found)) each.0
       | inr failed ↦ Each-find P test xs x each.1 (rw failed at found)
     ]
 
@@ -168,16 +180,11 @@ Among-filter test x (y ∷ ys) among = by-test (test y) refl among (Among-filter
   by-test true passed (inr among) rest = (inr (rest among).0, (rest among).1)
   by-test false failed among rest = (inr (rest among).0, (rest among).1)
 
--- a sum whose parts are no larger
-pub total-less : {X : Type 0} (f g : X → ℕ) (xs : List X) → ((y : X) → g y ≤ f y) → total g xs ≤ total f xs
-total-less f g [] less = omega arith
-total-less f g (y ∷ ys) less = omega (arith, less y, total-less f g ys less)
-
 -- a sum whose parts are no larger, and of which one part is smaller by d
 pub total-drop : {X : Type 0} (f g : X → ℕ) (d : ℕ) (x : X) (xs : List X) → ((y : X) → g y ≤ f y) → Among x xs → g x + d ≤ f x → total g xs + d ≤ total f xs
 total-drop f g d x [] less among drop = absurd among
 total-drop f g d x (y ∷ ys) less (inl same) drop =
-    let rest = total-less f g ys less in
+    let rest = total-le g f ys (λ k d inside. less (get_or ys k d)) in
     let e : g x ≡ g y = ap g same in
     let h : f x ≡ f y = ap f same in
     omega (arith, rest, e, h)

@@ -3,6 +3,7 @@
 use Rattle.std.proofs.Common.{◌≡◌, ◌≢◌, ℕ, zero, suc, ◌+◌, ◌<◌, ◌≤◌, Bool, true, false, List, [], ◌∷◌, ◌++◌, length, map, Some, None, inl, inr, sym, ap, ◌∙◌, arith, append-nil}
 use Rattle.std.proofs.lemmas.Bool.{cases_Bool, cases_lt, eqb-true, eqb-false, lt-ltb, le-ltb, ltb-true, lt-leb, le-leb, cond_both}
 use Rattle.std.proofs.lemmas.List.{nil_from_length}
+use Rattle.std.proofs.lemmas.Option.{none-some}
 use Rattle.std.proofs.lemmas.List.Elements.{filter-append}
 use Rattle.std.specs.Prelude.{filter, find}
 use Rattle.link_steps.specs.Lists.{Each}
@@ -33,11 +34,9 @@ find-none : (t : ℕ) (plan : List SourcePacket) → find (is_for t) plan ≡ No
 find-none t [] none = tt
 find-none t (q ∷ plan) none =
     elim (cases_Bool (is_for t q)) [
-      | inl passed ↦ absurd (some-none q (rw passed at none))
+      | inl passed ↦ absurd (none-some q (sym (rw passed at none)))
       | inr failed ↦ (eqb-false q.tick t failed, find-none t plan (rw failed at none))
-    ] where
-      some-none : (p : SourcePacket) → Some p ≡ None → ⊥
-      some-none p same = cc
+    ]
 
 -- ---- one tick more
 

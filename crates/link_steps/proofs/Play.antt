@@ -33,6 +33,7 @@ replies_from shape t scan [] = []
 replies_from shape t scan (ask ∷ asks) =
     reply_at shape t scan ask ∷ replies_from shape (clock_with ask t) (after shape t scan ask (reply_at shape t scan ask)) asks
 
+-- they are the legal ones
 replies_from-scan : (shape : LinkShape) (past : List Entry) (asks : List Ask) → legal_replies shape past asks ≡ replies_from shape (clock_of past) (scan_of shape past) asks
 unfolding legal_replies replies_from reply_to clock_of scan_of
 replies_from-scan shape past [] = refl
@@ -44,6 +45,7 @@ unfoldable pub replied : LinkShape → List Ask → List Reply
 unfolding replies_from reply_at reserve_reply relax_reply deny_reply submit_reply release_reply arrive_reply sent_at clock_of scan_of after with_arrival after_tick change_first without_first without_expired with_sources hold_ended here_at starts_below serve_tick is_waiting first_in_line goes_before held_packets slots_of need_of kept_units free_units planned_from eligible_next step_of source_packets rows_after lost_in work_in work_up_to load passes_up_to passes admits first_level best_level most_in first_from eligible may_follow
 replied shape asks = replies_from shape (clock_of []) (scan_of shape []) asks
 
+-- so the legal replies are computed in one scan
 pub replied-legal : (shape : LinkShape) (asks : List Ask) → legal_replies shape [] asks ≡ replied shape asks
 unfolding replied
 replied-legal shape asks = replies_from-scan shape [] asks

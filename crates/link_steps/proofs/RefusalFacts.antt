@@ -1,6 +1,7 @@
 -- What a reply that is no refusal says of the rules that were tried.
-use Rattle.std.proofs.Common.{◌≡◌, ℕ, ◌≤◌, Bool, true, false, List, Option, Some, None, refl, subst}
+use Rattle.std.proofs.Common.{◌≡◌, ℕ, ◌≤◌, Bool, true, false, ◌&&◌, List, Option, Some, None, refl, subst}
 use Rattle.std.proofs.lemmas.Bool.{leb-true, and_parts}
+use Rattle.std.specs.Prelude.{nat_le}
 use Rattle.net_units.specs.Numbers.{level_number}
 use Rattle.net_units.specs.declared.numbers.Level.{Level}
 use Rattle.traffic_contract.specs.Admission.{Server, Row as Admitted}
@@ -31,9 +32,9 @@ pub no_level-some : (server : Server) (rows : List Admitted) (contract : Terms) 
 no_level-some server rows contract None none = cc
 no_level-some server rows contract (Some level) none = (level, refl)
 
--- a level that fits the offer is no smaller
-pub unfit-least : (terms : Reservation) (level : Level) (up_bound : ℕ) → unfit terms level up_bound ≡ None → level_number terms.level ≤ level_number level
-unfit-least terms level up_bound none =
-    let all = unless-none _ _ none in
-    let both = and_parts _ _ (and_parts _ _ all).0 in
-    leb-true (level_number terms.level) (level_number level) both.0
+-- a relax that fits has a level from the offer to the reach, and a bound before within the reach before
+pub unfit-none : (terms : Reservation) (level : Level) (up_bound : ℕ) → unfit terms level up_bound ≡ None → (level_number terms.level ≤ level_number level) × (level_number level ≤ level_number terms.reach) × (up_bound ≤ terms.up_reach)
+unfit-none terms level up_bound none =
+    let both = and_parts (nat_le (level_number terms.level) (level_number level) && nat_le (level_number level) (level_number terms.reach)) (nat_le up_bound terms.up_reach) (unless-none _ _ none) in
+    let levels = and_parts (nat_le (level_number terms.level) (level_number level)) (nat_le (level_number level) (level_number terms.reach)) both.0 in
+    (leb-true (level_number terms.level) (level_number level) levels.0, leb-true (level_number level) (level_number terms.reach) levels.1, leb-true up_bound terms.up_reach both.1)

@@ -173,6 +173,7 @@ stand-rests P Q packets others rows row after lead fact stand =
       apart = stand.apart.1;
     }
 
+-- those beside are apart from it then
 pub rests-apart : (P Q : Row → List Arrival → Type 0) (packets : List Arrival) (others rows : List Row) (row after : Row) → after.lead ≡ row.lead → RowsStand P Q packets others (row ∷ rows) → Each (λ other. IsApart other after) others
 rests-apart P Q packets others rows row after lead stand =
     Each-if (IsBeside P packets (row ∷ rows)) (λ other. IsApart other after) others (λ other beside same. beside.apart.0 (sym lead ∙ same)) stand.beside

@@ -2,6 +2,7 @@
 -- and changed, and as one of them takes a packet from elsewhere.
 use Rattle.std.proofs.Common.{◌≡◌, suc, Bool, true, false, cond, not, List, [], ◌∷◌, ◌++◌, length, Some, inl, inr, refl, sym, ap, ◌∙◌, subst, arith}
 use Rattle.std.proofs.lemmas.Bool.{cases_Bool, cond_both}
+use Rattle.std.proofs.lemmas.Option.{same_Some}
 use Rattle.std.specs.Prelude.{filter, find}
 use Rattle.link_steps.specs.Buffer.{has_lead}
 use Rattle.link_steps.specs.Lists.{Each, change_first, without_first}
@@ -101,16 +102,13 @@ stand-changed P test change packets lead (row ∷ rows) others keeps stand =
           rw failed (stand-back P packets others (change_first test change rows) row (rests-apart P P packets others rows row row refl stand) rest))
     ]
 
-some-same : (a b : Row) → Some a ≡ Some b → a ≡ b
-some-same a b same = cc
-
 -- the row found takes a packet
 pub stand-arrives : (P : Row → List Arrival → Type 0) (test : Row → Bool) (change : Row → Row) (packets : List Arrival) (p : Arrival) (row : Row) → (change row).lead ≡ lead_with row.lead (suc (length packets)) → p.lead ≡ lead_with row.lead (suc (length packets)) → (P row (own_packets row packets) → P (change row) (own_packets row packets ++ p ∷ [])) → (rows others : List Row) → find test rows ≡ Some row → RowsStand P P packets others rows → RowsStand P P (packets ++ p ∷ []) others (change_first test change rows)
 unfolding change_first
 stand-arrives P test change packets p row lead is keeps [] others found stand = cc
 stand-arrives P test change packets p row lead is keeps (r ∷ rows) others found stand =
     elim (cases_Bool (test r)) [
-      | inl passed ↦ (let same = some-same r row (rw passed at found) in
+      | inl passed ↦ (let same = same_Some r row (rw passed at found) in
           let own = subst (λ x. RowsStand P P packets others (x ∷ rows)) same stand in
           rw passed (subst (λ x. RowsStand P P (packets ++ p ∷ []) others (change x ∷ rows)) (sym same)
           (stand-back P (packets ++ p ∷ []) others rows (change row) (takes-apart P P packets others rows row (change row) (suc (length packets)) refl lead own)

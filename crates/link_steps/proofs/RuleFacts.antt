@@ -1,5 +1,6 @@
 -- That the rules say what they are meant to, where a definition takes a short way.
-use Rattle.std.proofs.Common.{◌≡◌, ℕ, suc, ◌+◌, ◌≤◌, Bool, true, false, ◌||◌, List, [], ◌∷◌, length, map, Option, Some, None, refl, sym, ap, ◌∙◌, arith}
+use Rattle.std.proofs.Common.{◌≡◌, ℕ, suc, ◌+◌, ◌≤◌, Bool, false, List, [], ◌∷◌, length, map, Option, Some, None, refl, sym, ap, ◌∙◌, arith}
+use Rattle.std.proofs.Math.Bool.{or-false}
 use Rattle.std.proofs.lemmas.Bool.{le-ltb}
 use Rattle.std.specs.Prelude.{find, nat_lt}
 use Rattle.std.specs.List.{list_any}
@@ -46,14 +47,12 @@ none-on : (rate t : ℕ) (starts : List Start) → Each (HasLeft rate t) starts 
 none-on rate t [] left = refl
 none-on rate t (start ∷ earlier) left = rw (le-ltb t (leaves_at rate start) left.0, none-on rate t earlier left.1) refl
 
+-- so whether any packet occupies the link is whether the newest one does
 pub busy-any : (rate t : ℕ) (starts : List Start) → FollowEachOther rate starts → Each (HasBegun t) starts → list_any (is_on rate t) starts ≡ is_busy rate starts t
 busy-any rate t [] follow begun = refl
 busy-any rate t (start ∷ earlier) follow begun =
     let left = Each-if (HasLeft rate start.tick) (HasLeft rate t) earlier (λ other h. omega (arith, begun.0)) follow.0 in
-    rw (none-on rate t earlier left) (or-false (nat_lt t (leaves_at rate start))) where
-      or-false : (b : Bool) → (b || false) ≡ b
-      or-false true = refl
-      or-false false = refl
+    rw (none-on rate t earlier left) (or-false (nat_lt t (leaves_at rate start)))
 
 -- ---- no packet is eligible before it arrives
 
@@ -86,6 +85,7 @@ after-patient shape t scan (Arrive packet) (Is.Taken clock eligible) before = ar
 after-patient shape t scan Tick reply before = Each-append IsPatient scan.packets _ before (source_packets-patient shape.bounds (here_at shape.rate scan.packets t) t (length scan.packets) _)
 after-patient shape t scan _ _ before = before
 
+-- so it is for every packet of a history
 pub scan-patient : (shape : LinkShape) (h : List Entry) → Each IsPatient (scan_of shape h).packets
 unfolding scan_of
 scan-patient shape [] = tt

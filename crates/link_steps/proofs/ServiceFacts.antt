@@ -2,6 +2,7 @@
 use Rattle.std.proofs.Common.{◌≡◌, ℕ, zero, suc, ◌<◌, ◌≤◌, false, List, [], ◌∷◌, ◌++◌, Option, Some, None, refl, ap, ◌∙◌, subst, arith, append-nil}
 use Rattle.std.proofs.lemmas.Bool.{lt-leb, ltb-false, cond_both}
 use Rattle.std.proofs.lemmas.List.Elements.{filter-append}
+use Rattle.std.proofs.lemmas.Option.{same_Some}
 use Rattle.std.specs.Prelude.{filter}
 use Rattle.link_steps.specs.Lists.{Each}
 use Rattle.link_steps.specs.Service.{Arrival, Start, leaves_at, first_in_line, sooner, goes_before, is_waiting, is_busy, add_start, serve_tick, starts_below}
@@ -63,6 +64,7 @@ follow-tick rate packets t starts follow =
       follow-add None left = follow
       follow-add (Some p) left = (left, follow)
 
+-- so it is for the starts of every list of packets
 pub starts-follow : (rate : ℕ) (packets : List Arrival) (t : ℕ) → FollowEachOther rate (starts_below rate packets t)
 unfolding starts_below
 starts-follow rate packets zero = tt
@@ -72,6 +74,7 @@ starts-follow rate packets (suc t) = follow-tick rate packets t (starts_below ra
 abbrev pub HasBegun : ℕ → Start → Type 0
 HasBegun t start = start.tick < t
 
+-- the starts below t were made before t
 pub starts-begun : (rate : ℕ) (packets : List Arrival) (t : ℕ) → Each (HasBegun t) (starts_below rate packets t)
 unfolding starts_below serve_tick
 starts-begun rate packets zero = tt
@@ -89,14 +92,12 @@ starts-begun rate packets (suc t) =
 pub first_in_line-fact : (P : Arrival → Type 0) (ps : List Arrival) (p : Arrival) → Each P ps → first_in_line ps ≡ Some p → P p
 unfolding first_in_line
 first_in_line-fact P [] p each found = cc
-first_in_line-fact P (q ∷ ps) p each found = subst P (some-same _ _ found) (sooner-fact q (first_in_line ps) each.0 (λ r first. first_in_line-fact P ps r each.1 first)) where
-  some-same : (a b : Arrival) → Some a ≡ Some b → a ≡ b
-  some-same a b same = cc
-
+first_in_line-fact P (q ∷ ps) p each found = subst P (same_Some _ _ found) (sooner-fact q (first_in_line ps) each.0 (λ r first. first_in_line-fact P ps r each.1 first)) where
   sooner-fact : (q : Arrival) (best : Option Arrival) → P q → ((r : Arrival) → best ≡ Some r → P r) → P (sooner q best)
   sooner-fact q None here best = here
   sooner-fact q (Some r) here best = cond_both (goes_before r q) r q P (λ _. best r refl) (λ _. here)
 
+-- and so of each that has started
 pub starts-fact : (P : Arrival → Type 0) (rate : ℕ) (packets : List Arrival) (t : ℕ) → Each P packets → Each (λ start. P start.packet) (starts_below rate packets t)
 unfolding starts_below serve_tick
 starts-fact P rate packets zero each = tt

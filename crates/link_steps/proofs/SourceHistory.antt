@@ -1,7 +1,8 @@
 -- The sources of a legal history after each of its entries: those that keep their contract have lost nothing. From this
 -- and the hop guarantee, the source guarantee.
-use Rattle.std.proofs.Common.{◌≡◌, ℕ, suc, ◌≤◌, Bool, true, false, not, ◌&&◌, List, [], ◌∷◌, ◌++◌, length, map, Option, Some, None, inl, inr, refl, sym, ap, ◌∙◌, subst, arith}
-use Rattle.std.proofs.lemmas.Bool.{cases_Bool, eq-eqb, eqb-true, and_parts}
+use Rattle.std.proofs.Common.{◌≡◌, ℕ, suc, ◌≤◌, true, false, List, [], ◌∷◌, ◌++◌, length, map, Option, Some, None, refl, sym, ap, ◌∙◌, subst, arith}
+use Rattle.std.proofs.Math.Bool.{and_comm}
+use Rattle.std.proofs.lemmas.Bool.{eq-eqb, and_parts}
 use Rattle.std.specs.Option.{option_map}
 use Rattle.std.specs.Prelude.{filter, find, reverse}
 use Rattle.net_units.specs.Numbers.{level_number}
@@ -19,27 +20,25 @@ use Rattle.link_steps.specs.HopGuarantee.{LeavesInTime, HasLeftInTime}
 use Rattle.link_steps.specs.Hold.{hold_ended, expires, stays}
 use Rattle.link_steps.specs.Legal.{AskFits, IsLegal}
 use Rattle.link_steps.specs.Lists.{Each}
-use Rattle.link_steps.specs.Refusals.{first_hop}
-use Rattle.link_steps.specs.Replies.{relax_reply, submit_reply, submit_to, arrive_reply, arrive_to, reply_at, reply_to}
+use Rattle.link_steps.specs.Replies.{relax_reply, submit_to, arrive_to, reply_at, reply_to}
 use Rattle.link_steps.specs.Reservation.{Reservation, is_phase, tentative}
 use Rattle.link_steps.specs.Rows.{Row, row_terms, new_row, is_before, left_at, tick_of}
 use Rattle.link_steps.specs.Scan.{Scan, clock_with, clock_of, is_row_of, is_row_at_hop, names_first_hop, relax_row, plan_row, close_row, arrived_packet, arrived_row, with_arrival, without_expired, with_sources, after_tick, after, scan_of, starts_of}
-use Rattle.link_steps.specs.Service.{Arrival, Start, starts_below, here_at, is_here}
+use Rattle.link_steps.specs.Service.{Arrival, starts_below, here_at, is_here}
 use Rattle.link_steps.specs.SourceGuarantee.{arrival_of, IsEligibleAtOnce, LeavesPromptly, HasLeftPromptly, KeepingIsServed, SourceGuarantee}
 use Rattle.link_steps.proofs.AdmissionHolds.{find-terms}
-use Rattle.link_steps.proofs.ChangeFacts.{Each-passes}
+use Rattle.link_steps.proofs.ChangeFacts.{Each-passes, Each-if_passes}
 use Rattle.link_steps.proofs.FreeSlots.{eligible_of}
 use Rattle.link_steps.proofs.HopHolds.{guaranteed}
-use Rattle.link_steps.proofs.LegalOrder.{ScanInOrder, legal-order, phase-is}
+use Rattle.link_steps.proofs.LegalOrder.{ScanInOrder, legal-order}
 use Rattle.link_steps.proofs.LegalRowFacts.{IsInOrder, IsMade}
-use Rattle.link_steps.proofs.ListFacts.{Each-append, Each-both, Each-filter, Each-find, Each-from, Each-if, filter-same, filter-filter}
+use Rattle.link_steps.proofs.ListFacts.{Each-append, Each-both, Each-filter, Each-find, Each-from, Each-if, map-same, filter-same, filter-filter}
 use Rattle.link_steps.proofs.PlanFacts.{rises-submitted, made-submitted, rises-filter, made-closed}
-use Rattle.link_steps.proofs.RefusalFacts.{kept-rule, unless-none}
+use Rattle.link_steps.proofs.ReplyFacts.{phase-is, relax-tells, submit-tells, arrive-tells}
 use Rattle.link_steps.proofs.RowPackets.{own_packets, IsHeld, IsBeside, RowsStand, stand-sources}
 use Rattle.link_steps.proofs.RowsStanding.{stand-if, stand-expired, stand-reserved, stand-denied, stand-changed, stand-arrives}
 use Rattle.link_steps.proofs.ServiceFacts.{starts-fact}
 use Rattle.link_steps.proofs.SourcesServed.{HasSource, IsReady, served-same, source-later, ticks-more, source-step}
-use Rattle.link_steps.proofs.WindowWork.{relax-tells}
 
 -- all that is planned for a row is made
 abbrev AllMade : ℕ → Row → Type 0
@@ -57,13 +56,8 @@ held-here : (shape : LinkShape) (packets : List Arrival) (t lead : ℕ) → held
 unfolding held_packets here_at
 held-here shape packets t lead =
     ap length (filter-filter (has_lead lead) (is_here shape.rate (starts_below shape.rate packets t) t) packets
-    ∙ filter-same _ _ packets (Each-from _ packets (λ p. and-swap (is_here shape.rate (starts_below shape.rate packets t) t p) (has_lead lead p)))
-    ∙ sym (filter-filter (is_here shape.rate (starts_below shape.rate packets t) t) (has_lead lead) packets)) where
-      and-swap : (a b : Bool) → (a && b) ≡ (b && a)
-      and-swap true true = refl
-      and-swap true false = refl
-      and-swap false true = refl
-      and-swap false false = refl
+    ∙ filter-same _ _ packets (Each-from _ packets (λ p. and_comm (is_here shape.rate (starts_below shape.rate packets t) t p) (has_lead lead p)))
+    ∙ sym (filter-filter (is_here shape.rate (starts_below shape.rate packets t) t) (has_lead lead) packets))
 
 -- nothing is left of the plan of a row that expires
 expired-made : (shape : LinkShape) (t : ℕ) (row : Row) → IsInOrder shape t row → expires shape.bounds t row ≡ true → AllMade t row
@@ -146,24 +140,6 @@ source-arrived t place packet row own later source = record {
   served = λ kept. absurd (let h : false ≡ true = sym later ∙ kept.first in cc);
 }
 
--- a submit that is planned finds a row of which nothing is left
-submit-free : (t size : ℕ) (row : Row) (clock : ℕ) → Is.Planned clock ≡ submit_to t size (Some row) → length (left_at t row.plan) ≡ 0
-unfolding submit_reply
-submit-free t size row clock same =
-    let phase = kept-rule _ _ (Is.Planned clock) tt same in
-    let free = kept-rule _ _ (Is.Planned clock) tt phase.1 in
-    eqb-true (length (left_at t row.plan)) 0 (unless-none _ _ free.0)
-
--- a packet that is taken finds a row of a later hop
-arrive-later : (shape : LinkShape) (t : ℕ) (packets : List Arrival) (packet : Packet) (row : Row) (clock e : ℕ) → Is.Taken clock e ≡ arrive_to shape t packets packet (Some row) → row.terms.first ≡ false
-unfolding arrive_reply
-arrive-later shape t packets packet row clock e same =
-    let hop = kept-rule (first_hop row.terms) _ (Is.Taken clock e) tt same in
-    not-true row.terms.first (unless-none (not row.terms.first) _ hop.0) where
-      not-true : (b : Bool) → not b ≡ true → b ≡ false
-      not-true true h = cc
-      not-true false h = refl
-
 -- with the row changed, or one row more or fewer
 served-with : (t : ℕ) (scan : Scan) (rows : List Row) → RowsStand (HasSource t) (HasSource t) scan.packets scan.gone rows → ScanServed t scan → ScanServed t (record scan { rows = rows })
 served-with t scan rows stand served = record { stand = stand; made = served.made }
@@ -172,7 +148,7 @@ served-arrival : (shape : LinkShape) (t : ℕ) (packet : Packet) (scan : Scan) (
 unfolding with_arrival
 served-arrival shape t packet scan None clock e is same served = served
 served-arrival shape t packet scan (Some row) clock e is same served =
-    let later = arrive-later shape t scan.packets packet row clock e same in
+    let later = (arrive-tells shape.bounds t packet row.terms _ _ _ clock e same).later in
     record {
       stand = stand-arrives (HasSource t) (is_row_of packet.chan) (arrived_row t (suc (length scan.packets)) packet) scan.packets (arrived_packet t (suc (length scan.packets)) packet row) row refl refl
           (λ source. source-arrived t (suc (length scan.packets)) packet row (own_packets row scan.packets) later source) scan.rows scan.gone is served.stand;
@@ -185,14 +161,14 @@ served-after shape t scan (Reserve chan contract kind delay up_reach first next)
     served-with t scan _ (stand-reserved (HasSource t) scan.packets scan.gone scan.rows (new_row (tentative chan contract kind first next up_reach level reach)) refl (source-new t (tentative chan contract kind first next up_reach level reach)) served.stand) served
 served-after shape t scan (Relax chan level up_bound) (Is.Relaxed clock) fits same order left served =
     served-with t scan _ (stand-changed (HasSource t) (is_row_of chan) (relax_row level up_bound) scan.packets (λ row. refl) scan.rows scan.gone (λ row found source.
-    let tentative = relax-tells t up_bound level row clock (same ∙ ap (relax_reply t level up_bound) (find-terms chan scan.rows ∙ ap (option_map row_terms) found)) in
+    let tells = relax-tells t row.terms level up_bound clock (same ∙ ap (relax_reply t level up_bound) (find-terms chan scan.rows ∙ ap (option_map row_terms) found)) in
     let own = Each-find (IsInOrder shape t) (is_row_of chan) scan.rows row order.held found in
-    source-relaxed t up_bound level row (own_packets row scan.packets) (own.fresh tentative).0 source) served.stand) served
+    source-relaxed t up_bound level row (own_packets row scan.packets) (own.fresh tells.phase).0 source) served.stand) served
 served-after shape t scan (Deny chan) Is.Denied fits same order left served =
     served-with t scan _ (stand-denied (HasSource t) (is_row_of chan) scan.packets scan.gone scan.rows served.stand) served
 served-after shape t scan (Submit chan count gap size) (Is.Planned clock) fits same order left served =
     served-with t scan _ (stand-changed (HasSource t) (is_row_at_hop chan true) (plan_row t count gap size) scan.packets (λ row. refl) scan.rows scan.gone (λ row found source.
-    source-planned t count gap size row (own_packets row scan.packets) fits.gap_least (submit-free t size row clock (same ∙ ap (submit_to t size) found)) source) served.stand) served
+    source-planned t count gap size row (own_packets row scan.packets) fits.gap_least (submit-tells t size row.terms (length (left_at t row.plan)) clock (same ∙ ap (submit_to t size) found)).1 source) served.stand) served
 served-after shape t scan (Release chan upstream) (Is.Closing count cancelled) fits same order left served =
     served-with t scan _ (stand-changed (HasSource t) (is_row_at_hop chan (names_first_hop upstream)) (close_row t count) scan.packets (λ row. refl) scan.rows scan.gone (λ row found source.
     source-closed t count row (own_packets row scan.packets) source) served.stand) served
@@ -210,20 +186,6 @@ legal-served shape (e ∷ past) legal =
 
 -- ---- the guarantee
 
--- what is so of those that pass a test is so of each, if it passes
-each-passing : {X : Type 0} (P : X → Type 0) (test : X → Bool) (xs : List X) → Each P (filter test xs) → Each (λ x. test x ≡ true → P x) xs
-each-passing P test [] each = tt
-each-passing P test (x ∷ xs) each =
-    elim (cases_Bool (test x)) [
-      | inl passed ↦ (let both : P x × Each P (filter test xs) = rw passed at each in (λ _. both.0, each-passing P test xs both.1))
-      | inr failed ↦ (let rest : Each P (filter test xs) = rw failed at each in (λ passed. absurd (let h : false ≡ true = sym failed ∙ passed in cc), each-passing P test xs rest))
-    ]
-
--- two views that agree on each element
-map-same : {X Y : Type 0} (f g : X → Y) (xs : List X) → Each (λ x. f x ≡ g x) xs → map f xs ≡ map g xs
-map-same f g [] same = refl
-map-same f g (x ∷ xs) same = rw same.0 (ap (λ ys. g x ∷ ys) (map-same f g xs same.1))
-
 -- a row whose source keeps the contract is served promptly
 row-served : (shape : LinkShape) (h : List Entry) → IsLegal shape h → (row : Row) → HasSource (clock_of h) row (own_packets row (scan_of shape h).packets) → KeepingIsServed shape h row
 row-served shape h legal row source kept =
@@ -231,7 +193,7 @@ row-served shape h legal row source kept =
     let hop = guaranteed shape h legal in
     let at_once : Each (IsEligibleAtOnce row) (scan_of shape h).packets =
     Each-if (λ p. has_lead row.lead p ≡ true → p.eligible ≡ p.at) (IsEligibleAtOnce row) (scan_of shape h).packets (λ p same. record { at_once = λ led. same (eq-eqb p.lead row.lead led) })
-    (each-passing (λ p. p.eligible ≡ p.at) (has_lead row.lead) (scan_of shape h).packets prompt.at_once) in
+    (Each-if_passes (λ p. p.eligible ≡ p.at) (has_lead row.lead) (scan_of shape h).packets prompt.at_once) in
     record {
       none_dropped = prompt.none_dropped;
       taken = sym (map-same eligible_of arrival_of (own_packets row (scan_of shape h).packets) prompt.at_once) ∙ sym source.eligible ∙ prompt.as_offered;

@@ -1,13 +1,11 @@
 -- In a legal history the packets of the levels up to m that are eligible in a window as long as the bound of m leave
 -- room for the blocking. For the rows with such a packet stand together in one list that passes the admission test: a
 -- row expires only when its last packet has been eligible for as long as the largest bound.
-use Rattle.std.proofs.Common.{◌≡◌, ℕ, zero, suc, ◌+◌, ◌-◌, ◌*◌, ◌<◌, ◌≤◌, Bool, true, false, cond, ◌&&◌, List, [], ◌∷◌, length, get_or, Option, Some, None, ⊎_elim, refl, arith}
-use Rattle.std.proofs.lemmas.Bool.{cases_lt, lt-leb, le-ltb, and_parts}
-use Rattle.std.specs.Prelude.{filter, find, nat_le, nat_lt}
-use Rattle.net_units.proofs.BoundFacts.{bounds_parts, above_low, bound_least}
-use Rattle.net_units.specs.Numbers.{level_number}
-use Rattle.net_units.specs.Quotient.{ceil_quotient}
-use Rattle.net_units.specs.Steps.{bound_at, are_bounds, rises_above, last_bound}
+use Rattle.std.proofs.Common.{◌≡◌, ℕ, suc, ◌+◌, ◌<◌, ◌≤◌, Bool, true, false, cond, ◌&&◌, List, [], ◌∷◌, length, Option, Some, None, ⊎_elim, refl, arith}
+use Rattle.std.proofs.lemmas.Bool.{cases_lt, lt-leb, le-ltb}
+use Rattle.std.specs.Prelude.{filter, find, nat_le}
+use Rattle.net_units.proofs.BoundFacts.{bound_least, bound_at-rising}
+use Rattle.net_units.specs.Steps.{bound_at, last_bound}
 use Rattle.traffic_contract.specs.Admission.{total, load}
 use Rattle.traffic_contract.specs.Window.{count_in}
 use Rattle.traffic_contract.proofs.AdmissionFacts.{total-append}
@@ -20,7 +18,6 @@ use Rattle.link_steps.specs.declared.replies.Reply.{Reply}
 use Rattle.link_steps.specs.declared.replies.Reply.TheVariants as Is
 use Rattle.link_steps.specs.declared.shape.LinkShape.{LinkShape}
 use Rattle.link_steps.specs.BusyPeriod.{window_work, HasWork, FitsWindow}
-use Rattle.link_steps.specs.HopGuarantee.{AfterEach, HeldRowsPass}
 use Rattle.link_steps.specs.Hold.{stays}
 use Rattle.link_steps.specs.Legal.{IsLegal}
 use Rattle.link_steps.specs.Lists.{Each}
@@ -30,12 +27,12 @@ use Rattle.link_steps.specs.Service.{Arrival, work_of, here_at}
 use Rattle.link_steps.specs.Shape.{blocking_of}
 use Rattle.link_steps.specs.Sources.{source_packets}
 use Rattle.link_steps.proofs.AccountOfRows.{eligible-from, source_packets-from}
-use Rattle.link_steps.proofs.AdmissionHolds.{held_rows-pass, row_load, total-as_admitted}
+use Rattle.link_steps.proofs.AdmissionHolds.{row_load, total-as_admitted, last-pass, held_rows-pass}
 use Rattle.link_steps.proofs.LegalOrder.{IsCarried, HasExpired, legal-order}
 use Rattle.link_steps.proofs.LegalRowFacts.{IsInOrder}
 use Rattle.link_steps.proofs.ListFacts.{Each-if}
 use Rattle.link_steps.proofs.ServiceFacts.{IsFrom}
-use Rattle.link_steps.proofs.WindowWork.{row_work, row_work-admitted, legal-work, ceil_quotient-some}
+use Rattle.link_steps.proofs.WindowWork.{ceil_quotient-some, row_work, row_work-none, row_work-admitted, legal-work}
 
 -- ---- each packet has work
 
@@ -49,23 +46,6 @@ work-carried shape p carried = record {
 -- each packet of a legal history occupies the link for 1 to the blocking's ticks
 pub packets-have_work : (shape : LinkShape) (h : List Entry) → IsLegal shape h → Each (HasWork shape.rate (blocking_of shape)) (scan_of shape h).packets
 packets-have_work shape h legal = Each-if (IsCarried shape) (HasWork shape.rate (blocking_of shape)) (scan_of shape h).packets (work-carried shape) (legal-order shape h legal).carried
-
--- ---- the last bound is the largest
-
--- bounds that rise are in order
-bounds-order : (low : ℕ) (bs : List ℕ) (i j : ℕ) → rises_above low bs ≡ true → i ≤ j → j < length bs → get_or bs i 0 ≤ get_or bs j 0
-bounds-order low [] i j rise le inside = absurd (omega arith)
-bounds-order low (b ∷ bs) zero zero rise le inside = omega arith
-bounds-order low (b ∷ bs) (suc i) zero rise le inside = absurd (omega arith)
-bounds-order low (b ∷ bs) zero (suc j) rise le inside =
-    let above : b < get_or bs j 0 = above_low b bs j (and_parts (nat_lt low b) (rises_above b bs) rise).1 (omega arith) in
-    omega arith
-bounds-order low (b ∷ bs) (suc i) (suc j) rise le inside =
-    bounds-order b bs i j (and_parts (nat_lt low b) (rises_above b bs) rise).1 (omega arith) (omega arith)
-
--- no bound is larger than the last
-pub bound-last : (bs : List ℕ) (m : ℕ) → are_bounds bs ≡ true → 1 ≤ m → m ≤ length bs → bound_at bs m ≤ last_bound bs
-bound-last bs m rise from upto = bounds-order 0 bs (m - 1) (length bs - 1) (bounds_parts bs rise).rising (omega arith) (omega arith)
 
 -- ---- rows that are gone bring nothing
 
@@ -82,10 +62,7 @@ gone-none shape clock m u w (row ∷ rows) near expired =
     let early = Each-if (λ e. e + last_bound shape.bounds < clock) (λ e. e < u) row.ticks (λ e before. omega arith) expired.0 in
     let none = count-early row.ticks u w early in
     let rest = gone-none shape clock m u w rows near expired.1 in
-    rw none (omega (arith, rest, zero-or (nat_le (level_number row.terms.level) m) (ceil_quotient row.terms.contract.smax shape.rate))) where
-      zero-or : (b : Bool) (work : ℕ) → cond b (0 * work) 0 ≡ 0
-      zero-or true work = omega arith
-      zero-or false work = refl
+    omega (arith, rest, row_work-none shape.rate m u w row none)
 
 -- ---- the held rows bring no more than admission reckons
 
@@ -96,11 +73,6 @@ held-most shape clock m u w (row ∷ rows) order =
     let first = row_work-admitted shape clock m u w row order.0 in
     let rest = held-most shape clock m u w rows order.1 in
     omega (arith, first, rest)
-
--- what holds after each entry holds after the last
-pub last-pass : (shape : LinkShape) (h : List Entry) → AfterEach (HeldRowsPass shape) h → HeldRowsPass shape h
-last-pass shape [] each = each
-last-pass shape (e ∷ past) each = each.1
 
 -- ---- a window that the clock hasn't passed, and one that it has
 
@@ -113,7 +85,7 @@ room-now : (shape : LinkShape) (h : List Entry) (m u : ℕ) → IsLegal shape h 
 unfolding load
 room-now shape h m u legal from upto near =
     let order = legal-order shape h legal in
-    let last = bound-last shape.bounds m shape.bounds_rise from upto in
+    let last = bound_at-rising shape.bounds m (length shape.bounds) shape.bounds_rise from upto (omega arith) in
     let counts = (legal-work shape h m u (bound_at shape.bounds m) legal).most in
     let gone = gone-none shape (clock_of h) m u (bound_at shape.bounds m) (scan_of shape h).gone (omega (arith, near, last)) order.expired in
     let held = held-most shape (clock_of h) m u (bound_at shape.bounds m) (scan_of shape h).rows order.held in
@@ -162,9 +134,9 @@ same-after shape m u w t scan Tick reply past =
 same-after shape m u w t scan _ _ past = refl
 
 -- an entry makes a tick at most
-clock-most : (ask : Ask) (t : ℕ) → clock_with ask t ≤ suc t
-clock-most Tick t = omega arith
-clock-most _ t = omega arith
+pub clock_with-most : (ask : Ask) (t : ℕ) → clock_with ask t ≤ suc t
+clock_with-most Tick t = omega arith
+clock_with-most _ t = omega arith
 
 -- a window that the clock has passed has the work that it had before
 legal-room : (shape : LinkShape) (h : List Entry) (m u : ℕ) → IsLegal shape h → 1 ≤ m → m ≤ length shape.bounds → LeavesRoom shape m u (scan_of shape h).packets
@@ -173,7 +145,7 @@ legal-room shape [] m u legal from upto = room-now shape [] m u legal from upto 
 legal-room shape (e ∷ past) m u legal from upto =
     ⊎_elim
     (λ (behind : u + bound_at shape.bounds m < clock_with e.ask (clock_of past)).
-    let most = clock-most e.ask (clock_of past) in
+    let most = clock_with-most e.ask (clock_of past) in
     let same = same-after shape m u (bound_at shape.bounds m) (clock_of past) (scan_of shape past) e.ask e.reply (omega (arith, behind, most)) in
     let before = legal-room shape past m u legal.0 from upto in
     omega (arith, same, before))

@@ -24,7 +24,6 @@ use Rattle.link_steps.specs.declared.asks.Ask.{Ask}
 use Rattle.link_steps.specs.declared.asks.Ask.TheVariants.{Reserve, Relax, Deny, Submit, Release, Arrive, Tick}
 use Rattle.link_steps.specs.declared.asks.Packet.{Packet}
 use Rattle.link_steps.specs.declared.replies.Entry.{Entry}
-use Rattle.link_steps.specs.declared.replies.Phase.TheVariants.{Tentative}
 use Rattle.link_steps.specs.declared.replies.Reply.{Reply}
 use Rattle.link_steps.specs.declared.replies.Reply.TheVariants as Is
 use Rattle.link_steps.specs.declared.shape.LinkShape.{LinkShape}
@@ -41,10 +40,10 @@ use Rattle.link_steps.specs.Service.{Arrival, here_at}
 use Rattle.link_steps.specs.Sources.{arrival_at, with_packet, source_step, source_tick, step_of, packet_of, row_after, source_packets, rows_after, taken_by}
 use Rattle.link_steps.proofs.AdmissionHolds.{find-terms}
 use Rattle.link_steps.proofs.ChangeFacts.{total-change_first-more, total-change_first-ge, total-without_first-ge, total-filter-both}
-use Rattle.link_steps.proofs.LegalOrder.{ScanInOrder, legal-order, arrive-tells, phase-is}
+use Rattle.link_steps.proofs.LegalOrder.{ScanInOrder, legal-order}
 use Rattle.link_steps.proofs.LegalRowFacts.{SizeFits, IsInOrder}
 use Rattle.link_steps.proofs.ListFacts.{Each-find, Each-filter}
-use Rattle.link_steps.proofs.RefusalFacts.{kept-rule, unless-none}
+use Rattle.link_steps.proofs.ReplyFacts.{relax-tells, deny-tells, arrive-tells}
 
 -- ---- the ticks of a packet
 
@@ -66,13 +65,17 @@ ceil_quotient-some a rate some least =
 abbrev pub row_work : ℕ → ℕ → ℕ → ℕ → Row → ℕ
 row_work rate m u w row = cond (nat_le (level_number row.terms.level) m) (count_in row.ticks u w * ceil_quotient row.terms.contract.smax rate) 0
 
--- a row with no ticks brings nothing
-row_work-none : (rate m u w : ℕ) (row : Row) → row.ticks ≡ [] → row_work rate m u w row ≡ 0
-unfolding count_in
+-- a row with no tick in the window brings nothing
+pub row_work-none : (rate m u w : ℕ) (row : Row) → count_in row.ticks u w ≡ 0 → row_work rate m u w row ≡ 0
 row_work-none rate m u w row none = rw none (zero-or (nat_le (level_number row.terms.level) m) (ceil_quotient row.terms.contract.smax rate)) where
   zero-or : (b : Bool) (work : ℕ) → cond b (0 * work) 0 ≡ 0
   zero-or true work = omega arith
   zero-or false work = refl
+
+-- nor does a row that has no ticks at all
+row_work-fresh : (rate m u w : ℕ) (row : Row) → row.ticks ≡ [] → row_work rate m u w row ≡ 0
+unfolding count_in
+row_work-fresh rate m u w row none = row_work-none rate m u w row (rw none refl)
 
 -- one more packet brings no more than its tick
 row_work-packet : (shape : LinkShape) (m u w place number size t e place' : ℕ) (row : Row) → size ≤ row.terms.contract.smax → row_work shape.rate m u w row + window_work shape.rate m u w (arrival_at row.terms row.lead place number size t e) ≤ row_work shape.rate m u w (with_packet place' e row)
@@ -133,7 +136,7 @@ work-arrival : (shape : LinkShape) (m u w t : ℕ) (packet : Packet) (scan : Sca
 unfolding with_arrival
 work-arrival shape m u w t packet scan None clock e is same counts = counts
 work-arrival shape m u w t packet scan (Some row) clock e is same counts =
-    let takes = arrive-tells shape t scan.packets packet row clock e same in
+    let takes = arrive-tells shape.bounds t packet row.terms _ _ _ clock e same in
     let place : ℕ = suc (length scan.packets) in
     let own = row_work-packet shape m u w (suc (length scan.packets)) packet.number packet.size t (arrived_tick t packet row) (suc (length scan.packets)) row takes.fits in
     let more = total-change_first-more (row_work shape.rate m u w) (is_row_of packet.chan) (arrived_row t (suc (length scan.packets)) packet) (window_work shape.rate m u w (arrived_packet t (suc (length scan.packets)) packet row)) row scan.rows is own in
@@ -141,36 +144,22 @@ work-arrival shape m u w t packet scan (Some row) clock e is same counts =
     let before = counts.most in
     record { most = omega (arith, more, packets, before) }
 
--- a relax and a deny find a tentative row, which has no ticks
-pub relax-tells : (t up_bound : ℕ) (level : Level) (row : Row) (clock : ℕ) → Is.Relaxed clock ≡ relax_reply t level up_bound (Some row.terms) → row.terms.phase ≡ Tentative
-unfolding relax_reply
-relax-tells t up_bound level row clock same =
-    let phase = kept-rule _ _ (Is.Relaxed clock) tt same in
-    phase-is row.terms.phase Tentative (unless-none _ _ phase.0)
-
--- a deny finds a tentative row too
-deny-tells : (row : Row) → Is.Denied ≡ deny_reply (Some row.terms) → row.terms.phase ≡ Tentative
-unfolding deny_reply
-deny-tells row same =
-    let phase = kept-rule _ _ Is.Denied tt same in
-    phase-is row.terms.phase Tentative (unless-none _ _ phase.0)
-
 -- a relax changes the level of a row that has no ticks, and so takes nothing away
 work-relaxed : (shape : LinkShape) (m u w t up_bound clock : ℕ) (level : Level) (chan : ChanNo) (rows : List Row) → Is.Relaxed clock ≡ relax_reply t level up_bound (find (is_of chan) (map row_terms rows)) → Each (IsInOrder shape t) rows → total (row_work shape.rate m u w) rows ≤ total (row_work shape.rate m u w) (change_first (is_row_of chan) (relax_row level up_bound) rows)
 work-relaxed shape m u w t up_bound clock level chan rows same order =
     total-change_first-ge (row_work shape.rate m u w) (is_row_of chan) (relax_row level up_bound) rows (λ row found.
-    let tentative = relax-tells t up_bound level row clock (same ∙ ap (relax_reply t level up_bound) (find-terms chan rows ∙ ap (option_map row_terms) found)) in
+    let tells = relax-tells t row.terms level up_bound clock (same ∙ ap (relax_reply t level up_bound) (find-terms chan rows ∙ ap (option_map row_terms) found)) in
     let own = Each-find (IsInOrder shape t) (is_row_of chan) rows row order found in
-    let none = row_work-none shape.rate m u w row (own.fresh tentative).0 in
+    let none = row_work-fresh shape.rate m u w row (own.fresh tells.phase).0 in
     omega (arith, none))
 
 -- a deny takes out a row that has no ticks
 work-denied : (shape : LinkShape) (m u w t : ℕ) (chan : ChanNo) (rows : List Row) → Is.Denied ≡ deny_reply (find (is_of chan) (map row_terms rows)) → Each (IsInOrder shape t) rows → total (row_work shape.rate m u w) rows ≤ total (row_work shape.rate m u w) (without_first (is_row_of chan) rows)
 work-denied shape m u w t chan rows same order =
     total-without_first-ge (row_work shape.rate m u w) (is_row_of chan) rows (λ row found.
-    let tentative = deny-tells row (same ∙ ap deny_reply (find-terms chan rows ∙ ap (option_map row_terms) found)) in
+    let tentative = deny-tells row.terms (same ∙ ap deny_reply (find-terms chan rows ∙ ap (option_map row_terms) found)) in
     let own = Each-find (IsInOrder shape t) (is_row_of chan) rows row order found in
-    row_work-none shape.rate m u w row (own.fresh tentative).0)
+    row_work-fresh shape.rate m u w row (own.fresh tentative).0)
 
 -- each kind of entry
 work-after : (shape : LinkShape) (m u w t : ℕ) (scan : Scan) (ask : Ask) (reply : Reply) → reply ≡ reply_at shape t scan ask → ScanInOrder shape t scan → CountsWork shape m u w scan → CountsWork shape m u w (after shape t scan ask reply)

@@ -36,9 +36,11 @@ with_buffer units fits = record {
   blocking_fits = lit≤ tt;
 }
 
+-- the link
 abbrev pub shape_a : LinkShape
 shape_a = with_buffer 100 (lit≤ tt)
 
+-- the contract
 abbrev pub voice : Terms
 voice = terms_of 5 10 20 2
 
@@ -72,6 +74,7 @@ reserve chan contract delay = Reserve chan contract Rate delay 0 true None
 abbrev pub relax : ChanNo → ℕ → Ask
 relax chan level = Relax chan (level_of level) 0
 
+-- an offer of the level and the reach of these numbers
 abbrev pub offer : ℕ → ℕ → Reply
 offer level reach = Offer (level_of level) (level_of reach)
 

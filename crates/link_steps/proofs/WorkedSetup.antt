@@ -87,9 +87,9 @@ submits : legal_replies shape_a []
 unfolding replied ticks quiet
 submits = replied-legal shape_a _ ∙ refl
 
--- a link of 10 units. A tentative reservation with a reach of 40 ticks keeps 8 of them, and is refused where only 7
--- are there. Relaxed to the first level it keeps 4, so that a second one with a reach of 20 ticks finds 4 free, and
--- a third one doesn't
+-- a link of 10 units. A tentative reservation with a reach of 40 ticks keeps 8 of them. Relaxed to the first level it
+-- keeps 4, so that a second one with a reach of 20 ticks finds the 4 that it needs, and a third one finds 2 and is
+-- refused
 buffer-is-cut-by-the-relax : legal_replies (with_buffer 10 (lit≤ tt)) []
     (reserve chan1 voice 50
     ∷ relax chan1 1

@@ -51,6 +51,7 @@ pub record Kept : Type 0 where
 abbrev pub recent_of : Terms → List ℕ → List ℕ
 recent_of contract ticks = take (burst_of contract) ticks
 
+-- a row as it is kept at clock t
 abbrev pub kept_row : ℕ → Row → KeptRow
 kept_row t row = record {
   terms = row.terms;
@@ -75,6 +76,7 @@ kept_at shape t scan = record {
   on = start_on shape.rate (starts_below shape.rate scan.packets t) t;
 }
 
+-- what is kept of a history, at its clock
 abbrev pub kept_of : LinkShape → List Entry → Kept
 kept_of shape h = kept_at shape (clock_of h) (scan_of shape h)
 
@@ -95,6 +97,7 @@ HasContracts k = Each HasContract k.rows
 
 -- ---- the rows through a tick
 
+-- its reservation
 abbrev pub kept_terms : KeptRow → Reservation
 kept_terms row = row.terms
 
@@ -106,6 +109,7 @@ kept_stays bounds t row = not (hold_ended bounds row.terms row.taken (newest row
 unfoldable pub kept_step : List ℕ → List Arrival → ℕ → KeptRow → SourceStep
 kept_step bounds here t row = source_step (has_slot bounds row.terms row.lead here) (find (is_for t) row.left)
 
+-- the eligible tick of a source packet that the row takes in tick t
 abbrev pub kept_tick : KeptRow → ℕ → ℕ
 kept_tick row t = eligible_next row.terms row.recent t 0
 
@@ -126,22 +130,26 @@ kept_with place e row = record row {
 abbrev pub past_tick : ℕ → KeptRow → KeptRow
 past_tick t row = record row { left = left_at (suc t) row.left }
 
+-- the row after its source's step, where a packet that is taken has this arrival number
 abbrev pub kept_after_step : SourceStep → ℕ → ℕ → KeptRow → KeptRow
 kept_after_step (Brings size) t place row = kept_with place (kept_tick row t) (past_tick t row)
 kept_after_step _ t place row = past_tick t row
 
+-- the packets that all sources bring in tick t, after `taken` packets in all
 unfoldable pub kept_packets : List ℕ → List Arrival → ℕ → ℕ → List KeptRow → List Arrival
 kept_packets bounds here t taken [] = []
 kept_packets bounds here t taken (row ∷ rows) =
     kept_packet (kept_step bounds here t row) t (suc taken) row
     ++ kept_packets bounds here t (taken + taken_by (kept_step bounds here t row)) rows
 
+-- the rows afterwards
 unfoldable pub kept_rows_after : List ℕ → List Arrival → ℕ → ℕ → List KeptRow → List KeptRow
 kept_rows_after bounds here t taken [] = []
 kept_rows_after bounds here t taken (row ∷ rows) =
     kept_after_step (kept_step bounds here t row) t (suc taken) row
     ∷ kept_rows_after bounds here t (taken + taken_by (kept_step bounds here t row)) rows
 
+-- how many packets are dropped
 unfoldable pub kept_lost : List ℕ → List Arrival → ℕ → List KeptRow → ℕ
 kept_lost bounds here t [] = 0
 kept_lost bounds here t (row ∷ rows) = lost_by (kept_step bounds here t row) + kept_lost bounds here t rows
@@ -162,10 +170,11 @@ abbrev pub served : ℕ → List Arrival → Option Start → Option Start
 served t here (Some start) = Some start
 served t here None = start_at t (first_in_line (filter (is_eligible_by t) here))
 
--- whether it leaves by the end of tick t, and the one that still occupies the link then
+-- whether it leaves by the end of tick t
 abbrev pub leaves_by : ℕ → ℕ → Start → Bool
 leaves_by rate t start = nat_le (leaves_at rate start) (suc t)
 
+-- the one that still occupies the link then
 abbrev pub still_on : ℕ → ℕ → Option Start → Option Start
 still_on rate t None = None
 still_on rate t (Some start) = if leaves_by rate t start then None else Some start
@@ -175,30 +184,34 @@ abbrev pub departs : LinkShape → ℕ → Option Start → Option Sent
 departs shape t None = None
 departs shape t (Some start) = if nat_eq (leaves_at shape.rate start) (suc t) then Some (sent_of shape start) else None
 
--- the packets that are still here then
+-- whether a packet is another than the one that started
 abbrev pub is_other : Start → Arrival → Bool
 is_other start p = not (nat_eq start.packet.place p.place)
 
+-- the packets that are still here then
 abbrev pub still_here : ℕ → ℕ → Option Start → List Arrival → List Arrival
 still_here rate t None here = here
 still_here rate t (Some start) here = if leaves_by rate t start then filter (is_other start) here else here
 
 -- ---- the account through a tick
 
--- the rows that stay held in the tick at hand, the packets here once the sources have brought theirs, and the packet
--- that then occupies the link
+-- the rows that stay held in the tick at hand
 abbrev pub held_rows : LinkShape → Kept → List KeptRow
 held_rows shape k = filter (kept_stays shape.bounds k.clock) k.rows
 
+-- the packets that their sources bring
 abbrev pub brought : LinkShape → Kept → List Arrival
 brought shape k = kept_packets shape.bounds k.here k.clock k.taken (held_rows shape k)
 
+-- those here then
 abbrev pub present : LinkShape → Kept → List Arrival
 present shape k = k.here ++ brought shape k
 
+-- the packet that occupies the link
 abbrev pub occupies : LinkShape → Kept → Option Start
 occupies shape k = served k.clock (present shape k) k.on
 
+-- the account after the tick
 unfoldable pub kept_after_tick : LinkShape → Kept → Kept
 kept_after_tick shape k = record {
   clock = suc k.clock;
@@ -208,6 +221,7 @@ kept_after_tick shape k = record {
   on = still_on shape.rate k.clock (occupies shape k);
 }
 
+-- and the reply to it
 unfoldable pub kept_tick_reply : LinkShape → Kept → Reply
 kept_tick_reply shape k =
     Is.Ticked k.clock
@@ -216,12 +230,14 @@ kept_tick_reply shape k =
 
 -- ---- the reply to an ask
 
+-- whether a row is this channel's; and whether it is so at its first hop, or at a later one
 abbrev pub is_kept_of : ChanNo → KeptRow → Bool
 is_kept_of chan row = is_of chan row.terms
 
 abbrev pub is_kept_at_hop : ChanNo → Bool → KeptRow → Bool
 is_kept_at_hop chan first row = is_at_hop chan first row.terms
 
+-- what a row, if there is one, replies to a submit, a release and a packet that arrives
 abbrev pub kept_submit : ℕ → ℕ → Option KeptRow → Reply
 kept_submit t size None = Is.Refused NoSuch
 kept_submit t size (Some row) = submit_reply t size row.terms (length row.left)
@@ -235,6 +251,7 @@ kept_arrive shape t here packet None = Is.Refused (Stray NoRow)
 kept_arrive shape t here packet (Some row) =
     arrive_reply shape.bounds t packet row.terms row.taken (held_packets row.lead here) (eligible_next row.terms row.recent t packet.due)
 
+-- the reply of the account to an ask
 unfoldable pub kept_reply : LinkShape → Kept → Ask → Reply
 kept_reply shape k (Reserve chan contract kind delay up_reach first next) = reserve_reply shape (map kept_terms k.rows) chan contract delay up_reach
 kept_reply shape k (Relax chan level up_bound) = relax_reply k.clock level up_bound (find (is_of chan) (map kept_terms k.rows))
@@ -246,9 +263,11 @@ kept_reply shape k Tick = kept_tick_reply shape k
 
 -- ---- the account after an ask and its reply
 
+-- a row without packets yet
 abbrev pub new_kept : Reservation → KeptRow
 new_kept terms = record { terms = terms; lead = 0; taken = 0; recent = []; left = [] }
 
+-- the changes of a row by a relax, by a submit at clock t, and by a release
 abbrev pub kept_relaxed : Level → ℕ → KeptRow → KeptRow
 kept_relaxed level up_bound row = record row { terms = committed level up_bound row.terms }
 
@@ -258,6 +277,7 @@ kept_planned t count gap size row = record row { left = row.left ++ planned_from
 abbrev pub kept_closed : ℕ → KeptRow → KeptRow
 kept_closed count row = record row { terms = closing count row.terms; left = [] }
 
+-- a packet from the link before that a row takes at clock t: its eligible tick, the row with it, and the packet
 abbrev pub kept_arrived_tick : ℕ → Packet → KeptRow → ℕ
 kept_arrived_tick t packet row = eligible_next row.terms row.recent t packet.due
 
@@ -267,9 +287,11 @@ kept_arrived_row t place packet row = kept_with place (kept_arrived_tick t packe
 abbrev pub kept_arrived : ℕ → ℕ → Packet → KeptRow → Arrival
 kept_arrived t place packet row = arrival_at row.terms row.lead place packet.number packet.size t (kept_arrived_tick t packet row)
 
+-- the account with other rows
 abbrev pub with_kept_rows : Kept → List KeptRow → Kept
 with_kept_rows k rows = record k { rows = rows }
 
+-- the account with the packet taken, where there is a row for it
 unfoldable pub kept_with_arrival : Packet → Kept → Option KeptRow → Kept
 kept_with_arrival packet k None = k
 kept_with_arrival packet k (Some row) = record k {
@@ -278,6 +300,7 @@ kept_with_arrival packet k (Some row) = record k {
   here = k.here ++ kept_arrived k.clock (suc k.taken) packet row ∷ [];
 }
 
+-- the account after an ask and its reply; a refusal changes nothing
 unfoldable pub kept_after : LinkShape → Kept → Ask → Reply → Kept
 kept_after shape k (Reserve chan contract kind delay up_reach first next) (Is.Offer level reach) =
     with_kept_rows k (k.rows ++ new_kept (tentative chan contract kind first next up_reach level reach) ∷ [])

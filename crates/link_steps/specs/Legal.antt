@@ -13,15 +13,18 @@ use Rattle.link_steps.specs.declared.replies.Entry.{Entry}
 use Rattle.link_steps.specs.declared.shape.LinkShape.{LinkShape}
 use Rattle.link_steps.specs.Replies.{reply_to}
 
+-- the conditions on a reserve, with this contract and this reach before it
 pub record ReserveFits (contract : Terms) (up_reach : ℕ) (first : Bool) : Type 0 where
   pub is_contract : IsContract contract
   pub reach_most : up_reach ≤ 1048576
   pub nothing_before : first ≡ true → up_reach ≡ 0
 
+-- on a relax to this level, of so many, with this bound before it
 pub record RelaxFits (levels level up_bound : ℕ) : Type 0 where
   pub level_most : level ≤ levels
   pub bound_most : up_bound ≤ 1048576
 
+-- on a submit of so many packets, one each gap, of this size
 pub record SubmitFits (count gap size : ℕ) : Type 0 where
   pub count_least : 1 ≤ count
   pub count_most : count ≤ 262144
@@ -30,6 +33,7 @@ pub record SubmitFits (count gap size : ℕ) : Type 0 where
   pub size_least : 1 ≤ size
   pub size_most : size ≤ 65536
 
+-- and on a packet that arrives
 pub record PacketFits (packet : Packet) : Type 0 where
   pub size_least : 1 ≤ packet.size
   pub size_most : packet.size ≤ 65536

@@ -20,6 +20,7 @@ use Rattle.link_steps.specs.Regulator.{eligible_next}
 use Rattle.link_steps.specs.Rows.{Row, new_row, planned_from, made_by}
 use Rattle.link_steps.specs.Sources.{arrival_at, with_packet, rows_after, source_packets}
 
+-- the rows held, the rows gone, and the packets taken
 pub record Scan : Type 0 where
   pub rows : List Row
   pub gone : List Row

@@ -1,8 +1,12 @@
 //! What a link is asked.
+//!
+//! The numbers of an ask have limits (`AskFits` in `specs/Legal.antt`), which each variant names. Whoever asks has to see
+//! that they are kept.
 use net_units::{ChanNo, Kind, Level, LinkNo};
 use traffic_contract::Contract;
 
-/// A packet as a link passes it on to the next one.
+/// A packet as a link passes it on to the next one. An arrive wants its size from 1 to 65,536 units, and its due tick
+/// below 2^62.
 #[derive(Clone, Copy, Debug, PartialEq, Eq)]
 pub struct Packet {
     /// Its channel.
@@ -19,8 +23,8 @@ pub struct Packet {
 #[derive(Clone, Copy, Debug, PartialEq, Eq)]
 pub enum Ask {
     /// Reserve for a channel, with this contract and jitter control, and an end-to-end bound of `delay` ticks.
-    /// `up_reach` is the bound of the reach at the hop before, or 0 at the first hop, in ticks. `first` says
-    /// that this link is the channel's first hop, and `next` is the link behind it, where there is one.
+    /// `up_reach` is the bound of the reach at the hop before, up to 1,048,576 ticks, or 0 at the first hop. `first`
+    /// says that this link is the channel's first hop, and `next` is the link behind it, where there is one.
     Reserve {
         chan: ChanNo,
         contract: Contract,
@@ -30,8 +34,8 @@ pub enum Ask {
         first: bool,
         next: Option<LinkNo>,
     },
-    /// Commit a tentative reservation at this level. `up_bound` is the bound allotted at the hop before, or 0,
-    /// in ticks.
+    /// Commit a tentative reservation at this level, one of the link's. `up_bound` is the bound allotted at the hop
+    /// before, up to 1,048,576 ticks, or 0 at the first hop.
     Relax {
         chan: ChanNo,
         level: Level,
@@ -41,8 +45,8 @@ pub enum Ask {
     Deny {
         chan: ChanNo,
     },
-    /// Plan `count` packets of `size` units at the first hop, the first at the link's clock and then one each
-    /// `gap` ticks.
+    /// Plan `count` packets of `size` units at the first hop, the first at the link's clock and then one each `gap`
+    /// ticks. The count is from 1 to 262,144, the gap from 1 to 1,048,576 ticks, and the size from 1 to 65,536 units.
     Submit {
         chan: ChanNo,
         count: u64,

@@ -35,7 +35,8 @@ pub trait LinkStep: Drop {
     fn clock(&self) -> u64
         ensures { result ≡ clock_at self.now };
 
-    /// Makes one step. A refusal among the replies leaves the link as it was, and so does want of memory.
+    /// Makes one step. The ask has to keep the limits of its numbers (`fits`), and the clock has to be below 2^61
+    /// (`early`). A refusal among the replies leaves the link as it was, and so does want of memory.
     fn step(&mut self, ask: &Ask) -> Result<Reply, OutOfMemory>
         requires fits { AskFits (shape_of self.old) ask.now }
         requires early { clock_at self.old < 2 ^ 61 }

@@ -1,6 +1,7 @@
--- What rising bounds give: each is at least 1, and those within x ticks are the first ones.
-use Rattle.std.proofs.Common.{◌≡◌, ℕ, zero, suc, ◌-◌, ◌<◌, ◌≤◌, Bool, true, false, cond, List, [], ◌∷◌, length, get_or, ltb, leb, inl, inr, arith}
-use Rattle.std.specs.List.{list_all}
+-- What the test of a link's bounds gives: each is from 1 to 1,048,576 and no larger than those of higher levels, and
+-- those within x ticks are the first ones.
+use Rattle.std.proofs.Common.{◌≡◌, ℕ, zero, suc, ◌-◌, ◌<◌, ◌≤◌, true, false, cond, List, [], ◌∷◌, length, get_or, ltb, leb, inl, inr, arith}
+use Rattle.std.proofs.lemmas.List.Sums.{AllPass-from_list_all}
 use Rattle.std.proofs.lemmas.Bool.{ltb-true, leb-true, leb-false, and_parts, cases_Bool}
 use Rattle.net_units.specs.Limits.{most_bound}
 use Rattle.net_units.specs.Steps.{rises_above, are_bounds, bound_at, levels_within}
@@ -13,12 +14,6 @@ above_low low (b ∷ bs) (suc j) r h =
     let first : low < b = ltb-true low b (and_parts _ _ r).0 in
     let later : b < get_or bs j 0 = above_low b bs j (and_parts (ltb low b) (rises_above b bs) r).1 (omega arith) in
     omega arith
-
--- what passes a test of each item passes it at each place
-pub all_at : (p : ℕ → Bool) (bs : List ℕ) (j : ℕ) → list_all p bs ≡ true → j < length bs → p (get_or bs j 0) ≡ true
-all_at p [] j r h = absurd (omega arith)
-all_at p (b ∷ bs) zero r h = (and_parts _ _ r).0
-all_at p (b ∷ bs) (suc j) r h = all_at p bs j (and_parts _ _ r).1 (omega arith)
 
 -- an item of rising bounds is no larger than one further on
 get_or-rising : (low : ℕ) (bs : List ℕ) (i j : ℕ) → rises_above low bs ≡ true → i ≤ j → j < length bs → get_or bs i 0 ≤ get_or bs j 0
@@ -67,12 +62,12 @@ over_above low (b ∷ bs) x (suc j) r h k =
       | inr e ↦ (let first : x < b = leb-false b x e in let later : b < get_or bs j 0 = above_low b bs j rising (omega arith) in omega arith)
     ]
 
--- the parts of what makes bounds
+-- what the test of bounds says, part by part
 pub record AreBounds (bs : List ℕ) : Type 0 where
   pub least : 1 ≤ length bs
   pub most : length bs ≤ 8
   pub rising : rises_above 0 bs ≡ true
-  pub small : list_all (λ b. leb b most_bound) bs ≡ true
+  pub each : (i : ℕ) → i < length bs → (1 ≤ get_or bs i 0) × (get_or bs i 0 ≤ most_bound)
 
 pub bounds_parts : (bs : List ℕ) → are_bounds bs ≡ true → AreBounds bs
 bounds_parts bs h =
@@ -83,26 +78,22 @@ bounds_parts bs h =
       least = leb-true 1 (length bs) sizes.0;
       most = leb-true (length bs) 8 sizes.1;
       rising = front.1;
-      small = both.1;
+      each = λ i h. (
+        above_low 0 bs i front.1 h,
+        leb-true (get_or bs i 0) most_bound (AllPass-from_list_all (λ b. leb b most_bound) bs both.1 i 0 h),
+      );
     }
 
 -- a level's bound is at least 1
 pub bound_least : (bs : List ℕ) (level : ℕ) → are_bounds bs ≡ true → 1 ≤ level → level ≤ length bs → 1 ≤ bound_at bs level
-bound_least bs level h one within =
-    let above : 0 < get_or bs (level - 1) 0 = above_low 0 bs (level - 1) (bounds_parts bs h).rising (omega arith) in
-    omega arith
-
--- a level's bound is at most 1,048,576
-pub bound_most : (bs : List ℕ) (level : ℕ) → are_bounds bs ≡ true → 1 ≤ level → level ≤ length bs → bound_at bs level ≤ 1048576
-bound_most bs level h one within =
-    leb-true (get_or bs (level - 1) 0) 1048576 (all_at (λ b. leb b most_bound) bs (level - 1) (bounds_parts bs h).small (omega arith))
+bound_least bs level h one within = ((bounds_parts bs h).each (level - 1) (omega arith)).0
 
 -- a higher level has no smaller bound
 pub bound_at-rising : (bs : List ℕ) (level higher : ℕ) → are_bounds bs ≡ true → 1 ≤ level → level ≤ higher → higher ≤ length bs → bound_at bs level ≤ bound_at bs higher
 bound_at-rising bs level higher h one order within =
     get_or-rising 0 bs (level - 1) (higher - 1) (bounds_parts bs h).rising (omega arith) (omega arith)
 
--- the count of levels within x is at most the number of levels
+-- at most 8 levels are within x
 pub within_most : (bs : List ℕ) (x : ℕ) → are_bounds bs ≡ true → levels_within bs x ≤ 8
 within_most bs x h = omega (arith, within_count bs x, (bounds_parts bs h).most)
 

@@ -9,6 +9,7 @@ abbrev pub rises_above : ℕ → List ℕ → Bool
 rises_above low [] = true
 rises_above low (b ∷ bs) = nat_lt low b && rises_above b bs
 
+-- these are the bounds of a link's levels
 abbrev pub are_bounds : List ℕ → Bool
 are_bounds bs = nat_le 1 (length bs) && nat_le (length bs) most_levels && rises_above 0 bs && list_all (λ b. nat_le b most_bound) bs
 

@@ -51,6 +51,7 @@ impl Bounds {
         }
     }
 
+    // The bounds, level 1 first.
     fn as_slice(&self) -> &[u32]
         ensures value { result.now ≡ self.now }
         ensures valid { IsTrue (are_bounds result.now) }
@@ -66,7 +67,7 @@ impl Bounds {
         self.as_slice().len() as u8
     }
 
-    /// The bound of a level, in ticks.
+    /// The bound of one of these levels, from 1 to 1,048,576 ticks.
     pub fn at(&self, level: Level) -> u32
         requires { level_number level ≤ length self.now }
         ensures value { result ≡ bound_at self.now (level_number level) }
@@ -77,7 +78,7 @@ impl Bounds {
         self.as_slice()[level.get() as usize - 1]
     }
 
-    /// The largest bound, that of the last level, in ticks.
+    /// The largest bound, that of the last level, from 1 to 1,048,576 ticks.
     pub fn last(&self) -> u32
         ensures value { result ≡ last_bound self.now }
         ensures least { 1 ≤ result }
@@ -101,6 +102,7 @@ impl Bounds {
     }
 }
 
+// The bounds, and zeros behind them.
 fn with_zeros(bounds: &[u32]) -> [u32; MOST_LEVELS as usize]
     requires { length bounds.now ≤ 8 }
     ensures { result ≡ padded 8 bounds.now }
@@ -110,6 +112,7 @@ fn with_zeros(bounds: &[u32]) -> [u32; MOST_LEVELS as usize]
     cells
 }
 
+// How many levels, from the first on, have a bound of at most `x` ticks.
 fn count_within(bounds: &[u32], x: u64) -> u8
     requires { length bounds.now ≤ 8 }
     ensures { result ≡ levels_within bounds.now x }
@@ -124,6 +127,7 @@ fn count_within(bounds: &[u32], x: u64) -> u8
     count
 }
 
+// Whether these are the bounds of a link's levels.
 fn fits_levels(bounds: &[u32]) -> bool
     ensures { result ≡ are_bounds bounds.now }
 {
@@ -133,6 +137,7 @@ fn fits_levels(bounds: &[u32]) -> bool
         && are_small(bounds)
 }
 
+// Whether each is above the one before it, and the first above 0.
 fn is_rising(bounds: &[u32]) -> bool
     ensures { result ≡ rises_above 0 bounds.now }
 {
@@ -146,6 +151,7 @@ fn is_rising(bounds: &[u32]) -> bool
     true
 }
 
+// Whether none is over the limit.
 fn are_small(bounds: &[u32]) -> bool
     ensures { result ≡ list_all (λ b. nat_le b 1048576) bounds.now }
 {

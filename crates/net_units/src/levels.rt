@@ -28,7 +28,7 @@ impl Levels {
         }
     }
 
-    /// Adds a level at the end.
+    /// Adds a level at the end. There were fewer than 16.
     pub fn push(&mut self, level: Level)
         requires { length (levels_of self.old) < 16 }
         ensures { levels_of self.new ≡ levels_of self.old ++ level_number level ∷ [] }
@@ -45,7 +45,7 @@ impl Levels {
         self.len
     }
 
-    /// The level at a place, from 1.
+    /// The level at a place, from 1 to `len`.
     pub fn at(&self, place: u8) -> Level
         requires first { 1 ≤ place }
         requires last { place ≤ length (levels_of self.now) }

@@ -45,7 +45,8 @@ pub enum Kind {
     Jitter,
 }
 
-/// The quotient rounded up. A packet of `a` units on a link of `b` units a tick takes so many ticks.
+/// The quotient rounded up, for `b` of at least 1. A packet of `a` units on a link of `b` units a tick takes so many
+/// ticks.
 pub fn ceil_div(a: u64, b: u64) -> u64
     requires { 1 ≤ b }
     ensures { result ≡ ceil_quotient a b }

@@ -1,4 +1,4 @@
-//! The limits of a network, as the code uses them. `specs/Limits.antt` has those that clauses cite.
+//! The limits of a network, as the code uses them. `specs/Limits.antt` has those that the definitions cite.
 
 /// Links of a network.
 pub const MOST_LINKS: u8 = 32;

@@ -45,7 +45,7 @@ impl Name {
         ensures found { IsSome result ↔ IsTrue (is_name bytes.now) }
         ensures value { IfSome result (λ name. name ≡ bytes.now) }
     {
-        if names_something(bytes) {
+        if is_whole_name(bytes) {
             Some(Name {
                 bytes: with_zeros(bytes),
                 len: bytes.len() as u8,
@@ -72,48 +72,6 @@ impl Name {
             Err(_) => unreachable!(),
         }
     }
-}
-
-fn with_zeros(bytes: &[u8]) -> [u8; MOST_NAME]
-    requires { length bytes.now ≤ 16 }
-    ensures { result ≡ padded 16 bytes.now }
-{
-    let mut cells = [0; MOST_NAME];
-    cells[..bytes.len()].copy_from_slice(bytes);
-    cells
-}
-
-fn names_something(bytes: &[u8]) -> bool
-    ensures { result ≡ is_name bytes.now }
-{
-    is_begun_as_name(bytes) && bytes.len() <= MOST_NAME && !keeps_word(bytes)
-}
-
-fn keeps_word(bytes: &[u8]) -> bool
-    ensures { result ≡ is_kept_word bytes.now }
-{
-    bytes == b"contract".as_slice() || bytes == b"plane".as_slice()
-}
-
-fn is_begun_as_name(bytes: &[u8]) -> bool
-    ensures { result ≡ begins_as_name bytes.now }
-{
-    match bytes {
-        [] => false,
-        [first, rest @ ..] => first.is_ascii_alphabetic() && are_name_bytes(rest),
-    }
-}
-
-fn are_name_bytes(bytes: &[u8]) -> bool
-    ensures { result ≡ list_all is_name_byte bytes.now }
-{
-    bytes.iter().all(|byte| is_name_part(*byte))
-}
-
-fn is_name_part(byte: u8) -> bool
-    ensures { result ≡ is_name_byte byte }
-{
-    byte.is_ascii_alphanumeric() || byte == b'_'
 }
 
 impl PartialEq for Name {
@@ -152,4 +110,52 @@ impl fmt::Display for Name {
     fn fmt<W: fmt::Write>(&self, f: &mut fmt::Formatter<W>) -> fmt::Result {
         fmt::Display::fmt(&self.as_str(), f)
     }
+}
+
+// The bytes, and zeros behind them.
+fn with_zeros(bytes: &[u8]) -> [u8; MOST_NAME]
+    requires { length bytes.now ≤ 16 }
+    ensures { result ≡ padded 16 bytes.now }
+{
+    let mut cells = [0; MOST_NAME];
+    cells[..bytes.len()].copy_from_slice(bytes);
+    cells
+}
+
+// Whether these bytes are a name.
+fn is_whole_name(bytes: &[u8]) -> bool
+    ensures { result ≡ is_name bytes.now }
+{
+    is_begun_as_name(bytes) && bytes.len() <= MOST_NAME && !is_reserved(bytes)
+}
+
+// Whether these are a word of the grammar that can't be a name.
+fn is_reserved(bytes: &[u8]) -> bool
+    ensures { result ≡ is_kept_word bytes.now }
+{
+    bytes == b"contract".as_slice() || bytes == b"plane".as_slice()
+}
+
+// Whether a letter comes first, and then bytes that may stand behind one.
+fn is_begun_as_name(bytes: &[u8]) -> bool
+    ensures { result ≡ begins_as_name bytes.now }
+{
+    match bytes {
+        [] => false,
+        [first, rest @ ..] => first.is_ascii_alphabetic() && are_name_bytes(rest),
+    }
+}
+
+// Whether each may stand behind the first byte of a name.
+fn are_name_bytes(bytes: &[u8]) -> bool
+    ensures { result ≡ list_all is_name_byte bytes.now }
+{
+    bytes.iter().all(|byte| is_name_part(*byte))
+}
+
+// Whether this one may.
+fn is_name_part(byte: u8) -> bool
+    ensures { result ≡ is_name_byte byte }
+{
+    byte.is_ascii_alphanumeric() || byte == b'_'
 }

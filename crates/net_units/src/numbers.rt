@@ -1,5 +1,5 @@
 //! The numbers of links, actors, channels and levels.
-ghost use Rattle.std.specs.Prelude.{◌≡◌, ◌+◌, ◌-◌, ◌*◌, ◌<◌, ◌≤◌, ◌↔◌, IsSome, IfSome};
+ghost use Rattle.std.specs.Prelude.{◌≡◌, ◌<◌, ◌≤◌, ◌↔◌, IsSome, IfSome};
 
 use crate::limits::{MOST_ACTORS, MOST_CHANNELS, MOST_LEVELS, MOST_LINKS};
 

@@ -1,14 +1,13 @@
 -- What is kept of a link stays admitted through each change.
-use Rattle.std.proofs.Common.{◌≡◌, ◌≢◌, ℕ, zero, suc, ◌+◌, ◌-◌, ◌<◌, ◌≤◌, ⊎_elim, Bool, true, false, cond, eqb, ltb, List, [], ◌∷◌, length, map, get_or, refl, sym, ap, ◌∙◌, subst, arith}
-use Rattle.std.proofs.lemmas.Bool.{eqb-true, eqb-false, ne_eqb, cases_order, cases_Bool, and_parts}
+use Rattle.std.proofs.Common.{◌≡◌, ◌≢◌, ℕ, zero, suc, ◌+◌, ◌-◌, ◌<◌, ◌≤◌, ⊎_elim, Bool, true, false, cond, eqb, List, [], ◌∷◌, length, map, get_or, refl, sym, ap, ◌∙◌, subst, arith}
+use Rattle.std.proofs.lemmas.Bool.{eqb-true, eqb-false, ne_eqb, cases_order, cases_Bool}
 use Rattle.std.proofs.lemmas.List.{map_push, length-map, get_or-map, get_or_default}
 use Rattle.std.proofs.lemmas.List.Quantifiers.{all_pairs_push}
 use Rattle.std.proofs.lemmas.List.Kept.{AllPairs-filter}
 use Rattle.std.proofs.lemmas.List.Elements.{Contains-push_cases}
 use Rattle.std.specs.List.{filter}
 use Rattle.std.specs.Prelude.{Contains}
-use Rattle.net_units.specs.Steps.{are_bounds, bound_at, rises_above}
-use Rattle.net_units.proofs.BoundFacts.{bounds_parts, above_low}
+use Rattle.net_units.proofs.BoundFacts.{bound_at-rising}
 use Rattle.traffic_contract.specs.Contract.{Terms}
 use Rattle.traffic_contract.specs.Admission.{Passes, with_row}
 use Rattle.traffic_contract.proofs.AdmissionFacts.{Passes-nil, Passes-kept, Passes-changed}
@@ -16,23 +15,11 @@ use Rattle.rcsp_admission.specs.Sums.{Held, Sums, row_of, key_of, rows_of, held_
 
 -- ---- a link without rows
 
-least_of : (low : ℕ) (bounds : List ℕ) (m : ℕ) → rises_above low bounds ≡ true → 1 ≤ m → m ≤ length bounds → bound_at bounds 1 ≤ bound_at bounds m
-least_of low [] m rising from upto = absurd (omega arith)
-least_of low (b ∷ bs) zero rising from upto = absurd (omega arith)
-least_of low (b ∷ bs) (suc zero) rising from upto = omega arith
-least_of low (b ∷ bs) (suc (suc j)) rising from upto =
-    let e : suc (suc j) - 1 ≡ suc j = omega arith in
-    let above : b < get_or bs j 0 = above_low b bs j (and_parts (ltb low b) (rises_above b bs) rising).1 (omega arith) in
-    rw e (omega arith)
-
--- the first bound is the least
-first_is_least : (bounds : List ℕ) (m : ℕ) → are_bounds bounds ≡ true → 1 ≤ m → m ≤ length bounds → bound_at bounds 1 ≤ bound_at bounds m
-first_is_least bounds m valid from upto = least_of 0 bounds m (bounds_parts bounds valid).rising from upto
-
+-- the blocking is at most the first bound, and so at most each
 pub AreAdmitted-new : (sums : Sums) → IsServer sums.server → sums.rows ≡ [] → AreAdmitted sums
 AreAdmitted-new sums server none = record {
   server = server;
-  passes = rw none (Passes-nil sums.server (λ m from upto. omega (arith, server.first, first_is_least sums.server.bounds m server.bounds from upto)));
+  passes = rw none (Passes-nil sums.server (λ m from upto. omega (arith, server.first, bound_at-rising sums.server.bounds 1 m server.bounds (omega arith) from upto)));
   distinct = rw none (record { apart = λ i j d h inside. absurd (omega arith) });
 }
 

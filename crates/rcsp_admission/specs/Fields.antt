@@ -1,4 +1,5 @@
--- What is kept of a link, from its fields. Spare is the capacity that isn't used.
+-- What a link keeps of admission, by the fields of the struct that keeps it. Spare are the rows for which memory was
+-- taken and that aren't used.
 use Rattle.std.specs.Prelude.{◌-◌, map, vec_len, vec_capacity}
 use Rattle.rcsp_admission.specs.Sums.{Sums, server_of}
 use Rattle.rcsp_admission.specs.Kept.{held_of}

@@ -12,11 +12,12 @@ use std::alloc::Global;
 use std::marker::Model;
 use traffic_contract::Contract;
 
-/// A new contract passes at no level: the sum of the last level with its row there, and the last bound, both in
-/// ticks. The sum is over the bound.
+/// A new contract passes at no level: with its row at the last one, the sum there is over the bound.
 #[derive(Clone, Copy, Debug, PartialEq, Eq)]
 pub struct NoLevel {
+    /// The sum of the last level with the new row there, in ticks.
     pub sum: u64,
+    /// The bound of that level, in ticks.
     pub bound: u64,
 }
 
@@ -106,7 +107,7 @@ impl LevelSums {
         Ok(level_at(full + 1))
     }
 
-    /// Adds a row under a new key.
+    /// Adds a row under a new key, at a level at which it passes with the rows. Room for it was reserved.
     pub fn add(&mut self, key: u32, contract: Contract, level: Level)
         requires spare { 1 ≤ self.old.spare }
         requires new { ¬ Holds self.old.rows key }

@@ -1,4 +1,4 @@
 pub mod AnswerFacts
 pub mod StandingFacts
 pub mod ShiftFacts
-pub mod Worked
+mod Worked

@@ -11,7 +11,7 @@ use Rattle.regulator_core.specs.Shifted.{shifted_by}
 abbrev paced : Terms
 paced = terms_of 5 10 20 2
 
--- the answer to a packet, and what is kept after it
+-- the answer to a packet that arrives at `at` and is due at `due`
 abbrev answer : Kept → ℕ → ℕ → ℕ
 answer kept at due = eligible kept.terms kept.recent (earliest_tick kept.kind at due)
 

@@ -22,7 +22,7 @@ pub struct Draining {
 impl Draining {
     /// Whether the hold has ended at tick `now`, where `top` is the link's largest delay bound in ticks: the
     /// channel brings no packet, or all that it brings were given an eligible tick and the last one's bound
-    /// has passed.
+    /// has passed. The last eligible tick and `top` are below 2^63.
     pub fn due(&self, now: u64, top: u64) -> bool
         requires tick { self.now.last_tick < 2 ^ 63 }
         requires bound { top < 2 ^ 63 }

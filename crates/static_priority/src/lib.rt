@@ -40,7 +40,7 @@ impl Model for LevelQueues {
 }
 
 impl LevelQueues {
-    /// Empty queues for so many levels, without room for a key.
+    /// Empty queues for so many levels, without room for a key. An `Err` comes only for want of memory.
     pub fn new(alloc: Global, levels: u8) -> Result<LevelQueues, OutOfMemory>
         ensures { IfOk result (λ made. made ≡ record { queues = replicate levels []; spare = 0 }) }
     {
@@ -53,7 +53,7 @@ impl LevelQueues {
     }
 
     /// Makes room for `more` more keys at every level at least. Where there is that room already it takes no
-    /// memory.
+    /// memory. An `Err` changes nothing.
     pub fn reserve(&mut self, more: usize) -> Result<(), OutOfMemory>
         ensures room { OnOk result (more ≤ self.new.spare) }
         ensures had_room { more ≤ self.old.spare → IsOk result }
@@ -70,7 +70,7 @@ impl LevelQueues {
         Ok(())
     }
 
-    /// Puts a key at the end of a level's queue. It takes no memory.
+    /// Puts a key at the end of the queue of one of these levels. Room for it was reserved, so it takes no memory.
     pub fn push(&mut self, level: Level, key: u32)
         requires room { 1 ≤ self.old.spare }
         requires one_of { level_number level ≤ length self.old.queues }

@@ -21,7 +21,7 @@ use Rattle.link_steps.specs.declared.replies.Refusal.{Refusal}
 use Rattle.link_steps.specs.declared.replies.Reply.{Reply}
 use Rattle.link_steps.specs.declared.replies.Reply.TheVariants as Is
 use Rattle.link_steps.specs.declared.shape.LinkShape.{LinkShape}
-use Rattle.link_steps.proofs.AdmissionHolds.{offer-best}
+use Rattle.link_steps.proofs.ReplyFacts.{offer-best}
 use Rattle.link_steps.proofs.LevelFacts.{same_level, level_of-number}
 use Rattle.tenet_app.specs.Establishment.{Settled, IsAccepted, IsTooLate, IsPending, reserve_for, delay_at, allotted, relaxed_to, way_back, at_destination, settled}
 use Rattle.tenet_app.specs.Run.{asked, replied, after_open}

@@ -23,7 +23,6 @@ pub mod DistinctFacts
 pub mod PlaceFacts
 pub mod ContractFacts
 pub mod ReadFacts
-pub mod LinkFacts
 pub mod TallyFacts
 pub mod BatchFacts
 pub mod PlayerFacts

@@ -19,7 +19,7 @@ use Rattle.link_steps.specs.Reservation.{Reservation, tentative, admitted, is_of
 use Rattle.link_steps.specs.Shape.{server_of}
 use Rattle.link_steps.specs.declared.replies.Reply.TheVariants as Is
 use Rattle.link_steps.specs.declared.shape.LinkShape.{LinkShape}
-use Rattle.link_steps.proofs.AdmissionHolds.{offer-best}
+use Rattle.link_steps.proofs.ReplyFacts.{offer-best}
 use Rattle.link_steps.proofs.LevelFacts.{level_of-number}
 use Rattle.link_steps.proofs.RefusalFacts.{kept-rule}
 use Rattle.tenet_app.specs.Establishment.{delay_at, relaxed_to, is_late}

@@ -1,14 +1,13 @@
 -- The lines of a plan pass their rules, and say the parts of the plan.
 use Rattle.std.proofs.Common.{◌≡◌, ℕ, ◌+◌, ◌*◌, ◌-◌, ◌<◌, ◌≤◌, Bool, true, false, not, ◌&&◌, ◌||◌, nat_eq, nat_lt, nat_le, List, [], ◌∷◌, length, map, get_or, take, drop, None, decimal, codes, is_some, refl, sym, ◌∙◌, ap, arith, get_or-drop, length-drop}
-use Rattle.std.proofs.lemmas.Bool.{leb-true, le-leb, lt-ltb, eq-eqb, and_parts, or_left, or_parts, not-true}
+use Rattle.std.proofs.lemmas.Bool.{le-leb, lt-ltb, eq-eqb, and_parts, or_left, or_parts, not-true}
 use Rattle.std.proofs.lemmas.List.{drop_all, length-map}
 use Rattle.std.proofs.lemmas.Slice.Eq.{bytes_eq-Decides}
 use Rattle.std.specs.Cmp.Lexicographic.{pointwise}
 use Rattle.net_units.specs.Quotient.{ceil_quotient}
-use Rattle.net_units.specs.Steps.{rises_above, are_bounds, bound_at}
+use Rattle.net_units.specs.Steps.{bound_at}
 use Rattle.net_units.specs.Text.{begins_as_name, is_kept_word, is_name}
-use Rattle.net_units.proofs.BoundFacts.{above_low, all_at}
-use Rattle.std.specs.List.{list_all}
+use Rattle.net_units.proofs.BoundFacts.{AreBounds, bounds_parts}
 use Rattle.traffic_contract.specs.Contract.{Terms, IsContract, burst_of}
 use Rattle.traffic_contract.specs.Refusal.{first_bad}
 use Rattle.tenet_app.specs.Causes.{Rule, unless, first_cause}
@@ -55,30 +54,12 @@ name_no_contract name e =
 
 -- ---- links
 
--- what the parts of the test of bounds say
-pub record BoundParts (bounds : List ℕ) : Type 0 where
-  pub least : 1 ≤ length bounds
-  pub most : length bounds ≤ 8
-  pub each : (i : ℕ) → i < length bounds → (1 ≤ get_or bounds i 0) × (get_or bounds i 0 ≤ 1048576)
-
--- the test of bounds says them
-pub bound_parts : (bounds : List ℕ) → are_bounds bounds ≡ true → BoundParts bounds
-bound_parts bounds e =
-    let p = and_parts (nat_le 1 (length bounds) && nat_le (length bounds) 8 && rises_above 0 bounds) (list_all (λ b. nat_le b 1048576) bounds) e in
-    let q = and_parts (nat_le 1 (length bounds) && nat_le (length bounds) 8) (rises_above 0 bounds) p.0 in
-    let r = and_parts (nat_le 1 (length bounds)) (nat_le (length bounds) 8) q.0 in
-    record {
-      least = leb-true 1 (length bounds) r.0;
-      most = leb-true (length bounds) 8 r.1;
-      each = λ i h. (above_low 0 bounds i q.1 h, leb-true (get_or bounds i 0) 1048576 (all_at (λ b. nat_le b 1048576) bounds i p.1 h));
-    }
-
 -- 1 to 8 bounds end a link line
 bounds_form : (fs : List (List ℕ)) → 1 ≤ length fs → length fs ≤ 8 → has_form (part.Bounds ∷ []) fs ≡ true
 bounds_form fs least most = rw (le-leb 1 (length fs) least, le-leb (length fs) 8 most) (ap (λ gs. has_form [] gs) (drop_all (length fs) fs (omega arith)))
 
 -- a link line has its form
-link_form_back : (link : Link) → BoundParts link.bounds → has_form link_form (link_fields link) ≡ true
+link_form_back : (link : Link) → AreBounds link.bounds → has_form link_form (link_fields link) ≡ true
 link_form_back link b =
     let count = length-map link.bounds decimal in
     bounds_form (map decimal link.bounds) (omega (arith, b.least)) (omega (arith, b.most))
@@ -86,7 +67,7 @@ link_form_back link b =
 -- a link line says its link
 pub link_again : (link : Link) → IsLink link → link_of (link_fields link) ≡ link
 link_again link l =
-    let b = bound_parts link.bounds l.bounds in
+    let b = bounds_parts link.bounds l.bounds in
     let rate = value-decimal link.rate (omega (arith, l.rate_most)) in
     let cap = value-decimal link.cap (omega (arith, l.cap_most)) in
     let prop = value-decimal link.prop (omega (arith, l.prop)) in
@@ -97,7 +78,7 @@ link_again link l =
 -- a link line passes behind the header
 pub link_back : (said : Said) (link : Link) → said.links ≡ [] → IsLink link → link_rule said (link_fields link) ≡ None
 link_back said link none l =
-    let b = bound_parts link.bounds l.bounds in
+    let b = bounds_parts link.bounds l.bounds in
     let fields = link_fields link in
     let new : is_among (link_names said) link.name ≡ false = ap (λ (links : List Link). is_among (map (λ link. link.name) links) link.name) none in
     let few : length said.links ≡ 0 = ap length none in

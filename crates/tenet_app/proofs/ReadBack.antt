@@ -6,6 +6,7 @@ use Rattle.std.proofs.lemmas.List.Elements.{All-get_or}
 use Rattle.std.specs.Prelude.{unwrap_or}
 use Rattle.byte_ends.specs.WholeLines.{all_given}
 use Rattle.net_units.specs.Text.{is_name}
+use Rattle.net_units.proofs.BoundFacts.{bounds_parts}
 use Rattle.tenet_app.specs.Causes.{Rule, judged}
 use Rattle.tenet_app.specs.Fields.{fields_of, line_of, are_fields, field_at}
 use Rattle.tenet_app.specs.Grammar.{may_stand, line_word, judge_as, judge_word, judge_fields, judge}
@@ -23,7 +24,7 @@ use Rattle.tenet_app.specs.declared.scenario.plan.Request.{Request}
 use Rattle.tenet_app.specs.declared.scenario.plan.Send.{Send}
 use Rattle.tenet_app.proofs.FieldText.{fields_back, name_field, number_field}
 use Rattle.tenet_app.proofs.LineFacts.{AreLines, lines_of_text}
-use Rattle.tenet_app.proofs.PassBack.{bound_parts, link_again, link_back, caller_back, rounds_back, tail_back, name_no_contract, request_again, open_back, send_again, send_back, close_again, close_back}
+use Rattle.tenet_app.proofs.PassBack.{link_again, link_back, caller_back, rounds_back, tail_back, name_no_contract, request_again, open_back, send_again, send_back, close_again, close_back}
 use Rattle.tenet_app.proofs.NumberText.{value-decimal}
 use Rattle.tenet_app.proofs.ScriptText.{line_of_next, AreNamed, named_begins, named_push}
 
@@ -37,7 +38,7 @@ numbers_fields (n ∷ ns) few = rw (number_field n (few 0 (omega arith)), number
 -- a link line is made of fields
 link_is_line : (link : Link) → IsLink link → are_fields (link_fields link) ≡ true
 link_is_line link l =
-    let b = bound_parts link.bounds l.bounds in
+    let b = bounds_parts link.bounds l.bounds in
     let bounds = numbers_fields link.bounds (λ i h. let each = b.each i h in omega (arith, each)) in
     rw (
       name_field link.name l.name,

@@ -1,8 +1,7 @@
 -- In every run each accepted request whose source keeps its contract is carried within the delay that it was told: its
 -- channel has one row, with its contract and at its level, and the link serves the source of that row promptly.
-use Rattle.std.proofs.Common.{◌≡◌, inl, inr, ℕ, zero, suc, ◌+◌, ◌-◌, Bool, true, false, List, [], ◌∷◌, map, refl, sym, ap, ◌∙◌, subst, arith, if◌then◌else◌}
+use Rattle.std.proofs.Common.{◌≡◌, ℕ, zero, suc, ◌+◌, ◌-◌, true, List, [], ◌∷◌, map, refl, sym, ap, ◌∙◌, subst, arith, if◌then◌else◌}
 use Rattle.std.specs.Prelude.{filter}
-use Rattle.std.proofs.lemmas.Bool.{cases_Bool}
 use Rattle.net_units.specs.Steps.{bound_at}
 use Rattle.traffic_contract.specs.Keeping.{Keeps}
 use Rattle.link_steps.specs.Legal.{IsLegal}
@@ -15,6 +14,7 @@ use Rattle.link_steps.specs.declared.asks.Ask.TheVariants.{Tick}
 use Rattle.link_steps.specs.declared.replies.Entry.{Entry}
 use Rattle.link_steps.specs.declared.shape.LinkShape.{LinkShape}
 use Rattle.link_steps.proofs.FreeSlots.{eligible_of}
+use Rattle.link_steps.proofs.ChangeFacts.{Each-if_passes}
 use Rattle.link_steps.proofs.ListFacts.{Each-both, Each-filter, Each-if}
 use Rattle.link_steps.proofs.ServiceFacts.{starts-fact}
 use Rattle.link_steps.proofs.SourceHistory.{source-guarantee}
@@ -35,15 +35,6 @@ unfolding after_ticks
 rows-ticked shape h requests verdicts zero kept = kept
 rows-ticked shape h requests verdicts (suc ticks) kept =
     rows-asked shape (after_ticks shape h ticks) Tick 0 requests verdicts (λ i less. tt) (rows-ticked shape h requests verdicts ticks kept)
-
--- what is so of those that pass a test is so of each that passes
-each-passing : {X : Type 0} (P : X → Type 0) (test : X → Bool) (xs : List X) → Each P (filter test xs) → Each (λ x. test x ≡ true → P x) xs
-each-passing P test [] each = tt
-each-passing P test (x ∷ xs) each =
-    elim (cases_Bool (test x)) [
-      | inl passed ↦ (let both : P x × Each P (filter test xs) = rw passed at each in (λ _. both.0, each-passing P test xs both.1))
-      | inr failed ↦ (let rest : Each P (filter test xs) = rw failed at each in (λ passed. absurd (let h : false ≡ true = sym failed ∙ passed in cc), each-passing P test xs rest))
-    ]
 
 -- what is so of each row is so of the only one
 only-fact : (P : Row → Type 0) (n : ℕ) (row : Row) (rows gone : List Row) → IsOnly n row rows gone → Each P rows → Each P gone → P row
@@ -66,7 +57,7 @@ row-promise shape h n request level bound legal kept keeps =
     } in
     let guarantee = source-guarantee shape h legal in
     let served = only-fact (KeepingIsServed shape h) n has.row (scan_of shape h).rows (scan_of shape h).gone has.only guarantee.held guarantee.gone source in
-    let own = starts-fact (λ p. is_packet_in n p ≡ true → IsOf has.row p) shape.rate (scan_of shape h).packets (clock_of h) (each-passing (IsOf has.row) (is_packet_in n) (scan_of shape h).packets has.is.packets) in
+    let own = starts-fact (λ p. is_packet_in n p ≡ true → IsOf has.row p) shape.rate (scan_of shape h).packets (clock_of h) (Each-if_passes (IsOf has.row) (is_packet_in n) (scan_of shape h).packets has.is.packets) in
     let at_once = Each-if (λ p. IsEligibleAtOnce has.row p × IsOf has.row p) (λ p. p.eligible ≡ p.at) (filter (is_packet_in n) (scan_of shape h).packets) (λ p both. both.0.at_once both.1.led)
     (Each-both (IsEligibleAtOnce has.row) (IsOf has.row) (filter (is_packet_in n) (scan_of shape h).packets) (Each-filter (IsEligibleAtOnce has.row) (is_packet_in n) (scan_of shape h).packets served.at_once) has.is.packets) in
     let taken : taken_in shape n h ≡ offered_in n h = sym (same-ticks (filter (is_packet_in n) (scan_of shape h).packets) at_once) ∙ sym has.is.ticks ∙ served.as_offered ∙ offered in

@@ -21,8 +21,7 @@ pub struct Calendar {
 }
 
 impl Model for Calendar {
-    ghost use Rattle.std.specs.Prelude.{◌-◌, vec_len};
-    ghost use Rattle.std.specs.Vec.{vec_capacity};
+    ghost use Rattle.std.specs.Prelude.{◌-◌, vec_len, vec_capacity};
     ghost use Rattle.tick_calendar.specs.Calendar.{Schedule};
 
     ghost Value = { Schedule };
@@ -31,7 +30,7 @@ impl Model for Calendar {
 }
 
 impl Calendar {
-    /// A calendar with no entry, without room for one.
+    /// A calendar with no entry, without room for one. An `Err` comes only for want of memory.
     pub fn new(alloc: Global) -> Result<Calendar, OutOfMemory>
         ensures { IfOk result (λ made. made ≡ record { entries = []; spare = 0; clock = 0 }) }
     {
@@ -41,7 +40,8 @@ impl Calendar {
         })
     }
 
-    /// Makes room for `more` more entries at least. Where there is that room already it takes no memory.
+    /// Makes room for `more` more entries at least. Where there is that room already it takes no memory. An `Err`
+    /// changes nothing.
     pub fn reserve(&mut self, more: usize) -> Result<(), OutOfMemory>
         ensures room { OnOk result (more ≤ self.new.spare) }
         ensures had_room { more ≤ self.old.spare → IsOk result }
@@ -53,7 +53,8 @@ impl Calendar {
         Ok(())
     }
 
-    /// Puts a key for a tick. It takes no memory.
+    /// Puts a key for a tick, which isn't before the last `take_due`. Room for it was reserved, so it takes no
+    /// memory.
     pub fn put(&mut self, tick: u64, key: u32)
         requires room { 1 ≤ self.old.spare }
         requires ahead { self.old.clock ≤ tick }
@@ -63,7 +64,8 @@ impl Calendar {
     }
 
     /// Takes out the key with the least tick, the earliest put among equals, where that tick is at most
-    /// `now`. None comes exactly where there is none. It takes no memory.
+    /// `now`. None comes exactly where there is none. `now` isn't below that of the call before. It takes no
+    /// memory.
     pub fn take_due(&mut self, now: u64) -> Option<u32>
         requires { self.old.clock ≤ now }
 

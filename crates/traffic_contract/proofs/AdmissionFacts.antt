@@ -71,18 +71,6 @@ load-with_row server rows terms level m w =
 pub Passes-le : (server : Server) (rows others : List Row) → ((m : ℕ) → level_sum server others m ≤ level_sum server rows m) → Passes server rows → Passes server others
 Passes-le server rows others less passed = record { each = λ m from upto. omega (arith, less m, passed.each m from upto) }
 
--- rows that pass still pass when one is taken out
-pub Passes-without : (server : Server) (rows : List Row) (row : Row) (later : List Row) → Passes server (rows ++ row ∷ later) → Passes server (rows ++ later)
-unfolding load
-Passes-without server rows row later =
-    Passes-le server (rows ++ row ∷ later) (rows ++ later) (λ m. let e = total-middle (work_up_to server.rate m (bound_at server.bounds m)) rows row later in omega (arith, e))
-
--- or when any of them are
-pub Passes-filter : (server : Server) (test : Row → Bool) (rows : List Row) → Passes server rows → Passes server (filter test rows)
-unfolding load
-Passes-filter server test rows =
-    Passes-le server rows (filter test rows) (λ m. let e = total-filter-le (work_up_to server.rate m (bound_at server.bounds m)) test rows in omega (arith, e))
-
 -- rows that pass still pass when one moves to a larger level
 pub Passes-raised : (server : Server) (rows : List Row) (row raised : Row) (later : List Row) → raised.terms ≡ row.terms → row.level ≤ raised.level → Passes server (rows ++ row ∷ later) → Passes server (rows ++ raised ∷ later)
 unfolding load
@@ -94,7 +82,7 @@ Passes-raised server rows row raised later same larger =
     let g = work_up_to-le server.rate m (bound_at server.bounds m) row raised same larger in
     omega (arith, e, f, g))
 
--- f gives the row of an item: the rows of fewer items pass
+-- f gives the row of an item: the rows that pass still do when items are taken out
 pub Passes-kept : {X : Type 0} (server : Server) (f : X → Row) (test : X → Bool) (xs : List X) → Passes server (map f xs) → Passes server (map f (filter test xs))
 unfolding load
 Passes-kept server f test xs =
@@ -120,12 +108,7 @@ pub Passes-larger : (server : Server) (rows : List Row) (terms : Terms) (m large
 Passes-larger server rows terms m larger h =
     Passes-raised server rows (record { terms = terms; level = m }) (record { terms = terms; level = larger }) [] refl h
 
--- without the new row the rows pass too
-pub Passes-before : (server : Server) (rows : List Row) (terms : Terms) (m : ℕ) → Passes server (with_row rows terms m) → Passes server rows
-Passes-before server rows terms m =
-    Passes-le server (with_row rows terms m) rows (λ k. let e = load-with_row server rows terms m k (bound_at server.bounds k) in omega (arith, e))
-
--- no rows pass where the blocking fits every bound
+-- the empty list of rows passes where the blocking fits every bound
 pub Passes-nil : (server : Server) → ((m : ℕ) → 1 ≤ m → m ≤ length server.bounds → server.blocking ≤ bound_at server.bounds m) → Passes server []
 unfolding load
 Passes-nil server fits = record { each = λ m from upto. omega (arith, fits m from upto) }
@@ -212,22 +195,6 @@ pub best_level-none : (server : Server) (rows : List Row) (terms : Terms) → Is
 unfolding best_level
 best_level-none server rows terms refused =
     first_level-none (admits server rows terms) 1 (length server.bounds) (λ k from upto. false_from_ne_true _ (λ passed. refused.each k from (omega arith) ((Decides-admits server rows terms k).0 passed)))
-
--- where a level up to m passes, the search finds one
-some_level : (test : ℕ → Bool) (m count k : ℕ) → m ≤ k → k < m + count → test k ≡ true → first_level test m count ≡ None → ⊥
-unfolding first_level
-some_level test m zero k from upto holds e = absurd (omega arith)
-some_level test m (suc count) k from upto holds e =
-    ⊎_elim (λ (here : test m ≡ true). (let f = rw here at e in cc))
-    (λ (not_here : test m ≡ false).
-    some_level test (m + 1) count k (⊎_elim (λ (same : m ≡ k). absurd (true≢false (sym holds ∙ sym (ap test same) ∙ not_here))) (λ (other : m ≡ k → ⊥). omega arith) (cases_eq m k)) (omega arith) holds (rw not_here at e))
-    (cases_Bool (test m))
-
-pub IsRefused-from_none : (server : Server) (rows : List Row) (terms : Terms) → best_level server rows terms ≡ None → IsRefused server rows terms
-unfolding best_level
-IsRefused-from_none server rows terms e = record {
-  each = λ m from upto passed. some_level (admits server rows terms) 1 (length server.bounds) m from (omega arith) ((Decides-admits server rows terms m).1 passed) e;
-}
 
 -- ---- room for a new row at each level
 

@@ -2,7 +2,7 @@
 -- no more than a burst of the newest ticks.
 use Rattle.std.proofs.Common.{◌≡◌, ℕ, zero, suc, ◌+◌, ◌-◌, ◌≤◌, ⊎_elim, Bool, true, false, cond, List, [], ◌∷◌, get_or, take, drop, Decides, max, refl, sym, ap, ◌∙◌, subst, arith}
 use Rattle.std.proofs.lemmas.Bool.{leb-true, cases_eq, cases_Bool, true≢false, and_parts, and_from}
-use Rattle.std.proofs.lemmas.List.{get_or-drop, drop-take, reverse-reverse}
+use Rattle.std.proofs.lemmas.List.{get_or-drop, take-take, drop-take, reverse-reverse}
 use Rattle.std.specs.Prelude.{reverse}
 use Rattle.traffic_contract.specs.Contract.{Terms, IsContract, burst_of}
 use Rattle.traffic_contract.specs.Keeping.{Keeps, starts_before, may_follow, keeps_newest_first}
@@ -87,14 +87,21 @@ eligible-is c past low valid some kept =
       least = λ t h keeps. first_from-least (may_follow c past) low (newest past + c.interval - low) t h ((follows t some kept).1 keeps);
     }
 
--- what is early enough before t, and what is newest, shows in the first tick alone
+-- what is early enough before t shows in the first tick alone
 starts_before-take : (t least n : ℕ) (past : List ℕ) → starts_before t least (take (suc n) past) ≡ starts_before t least past
 starts_before-take t least n [] = refl
 starts_before-take t least n (u ∷ past) = refl
 
-newest-take : (n : ℕ) (past : List ℕ) → newest (take (suc n) past) ≡ newest past
-newest-take n [] = refl
-newest-take n (u ∷ past) = refl
+-- the newest tick is the newest of the newest n
+pub newest-take : (n : ℕ) (past : List ℕ) → 1 ≤ n → newest (take n past) ≡ newest past
+newest-take zero past some = absurd (omega arith)
+newest-take (suc n) [] some = refl
+newest-take (suc n) (u ∷ past) some = refl
+
+-- with one more tick the newest n need no more than the newest n before it
+pub take-cons-take : (n e : ℕ) (past : List ℕ) → take n (e ∷ take n past) ≡ take n (e ∷ past)
+take-cons-take zero e past = refl
+take-cons-take (suc n) e past = ap (λ ticks. e ∷ ticks) (take-take n (suc n) past (omega arith))
 
 -- a burst of the newest ticks says whether t may follow, and which tick is eligible
 may_follow-of_burst : (c : Terms) (n : ℕ) (past : List ℕ) (t : ℕ) → burst_of c ≡ suc n → may_follow c (take (suc n) past) t ≡ may_follow c past t
@@ -112,9 +119,7 @@ may_follow-take c past t some =
 pub eligible-take : (c : Terms) (past : List ℕ) (low : ℕ) → 1 ≤ burst_of c → eligible c (take (burst_of c) past) low ≡ eligible c past low
 unfolding eligible
 eligible-take c past low some =
-    let e : burst_of c ≡ suc (burst_of c - 1) = omega arith in
-    let n : newest (take (burst_of c) past) ≡ newest past = subst (λ k. newest (take k past) ≡ newest past) (sym e) (newest-take (burst_of c - 1) past) in
-    rw n (first_from-same (may_follow c (take (burst_of c) past)) (may_follow c past) low (newest past + c.interval - low) (λ t. may_follow-take c past t some))
+    rw (newest-take (burst_of c) past some) (first_from-same (may_follow c (take (burst_of c) past)) (may_follow c past) low (newest past + c.interval - low) (λ t. may_follow-take c past t some))
 
 -- the same of ticks in order of time
 pub eligible-exists : (c : Terms) (past : List ℕ) (low : ℕ) → IsContract c → Keeps c past → IsEligible c past low (eligible c (reverse past) low)

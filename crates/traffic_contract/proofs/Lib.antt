@@ -5,4 +5,4 @@ pub mod EligibleFacts
 pub mod WindowFacts
 pub mod LongerWindows
 pub mod AdmissionFacts
-pub mod Worked
+mod Worked

@@ -7,16 +7,16 @@ use Rattle.std.specs.Prelude.{reverse}
 use Rattle.traffic_contract.specs.Contract.{Terms, IsContract, burst_of}
 use Rattle.traffic_contract.specs.Keeping.{Spaced, Keeps, keeps, starts_before, may_follow, keeps_newest_first}
 use Rattle.traffic_contract.proofs.ContractFacts.{burst-least}
-use Rattle.traffic_contract.proofs.KeepingFacts.{Decides-keeps}
+use Rattle.traffic_contract.proofs.KeepingFacts.{Decides-keeps, Keeps-prefix}
 
 -- a list, newest first, starts early enough exactly where its first entry, if there is one, does
 pub starts_before-tells : (t least : ℕ) (past : List ℕ) → Decides (starts_before t least past) (0 < length past → get_or past 0 0 + least ≤ t)
 starts_before-tells t least [] = (λ _ h. absurd (omega arith), λ _. refl)
 starts_before-tells t least (u ∷ past) = (λ e _. leb-true (u + least) t e, λ h. le-leb (u + least) t (h (omega arith)))
 
--- a spaced list stays so with t at its end exactly where the entry `gap` places before t is early enough
-pub spaced-push : (gap least t : ℕ) (ticks : List ℕ) → 1 ≤ gap → Spaced gap least ticks → (gap ≤ length ticks → get_or ticks (length ticks - gap) 0 + least ≤ t) → Spaced gap least (ticks ++ t ∷ [])
-spaced-push gap least t ticks some spaced early = record {
+-- a spaced list stays so with t at its end where the entry `gap` places before t is early enough
+Spaced-push : (gap least t : ℕ) (ticks : List ℕ) → 1 ≤ gap → Spaced gap least ticks → (gap ≤ length ticks → get_or ticks (length ticks - gap) 0 + least ≤ t) → Spaced gap least (ticks ++ t ∷ [])
+Spaced-push gap least t ticks some spaced early = record {
   apart = λ i h.
       let n : length (ticks ++ t ∷ []) ≡ length ticks + 1 = length_push ticks t in
       let first : get_or (ticks ++ t ∷ []) i 0 ≡ get_or ticks i 0 = get_or_append_left ticks (t ∷ []) 0 i (omega arith) in
@@ -28,18 +28,9 @@ spaced-push gap least t ticks some spaced early = record {
       (cases_lt (i + gap) (length ticks)));
 }
 
-pub spaced-front : (gap least t : ℕ) (ticks : List ℕ) → 1 ≤ gap → Spaced gap least (ticks ++ t ∷ []) → Spaced gap least ticks
-spaced-front gap least t ticks some spaced = record {
-  apart = λ i h.
-      let n : length (ticks ++ t ∷ []) ≡ length ticks + 1 = length_push ticks t in
-      let e : get_or (ticks ++ t ∷ []) i 0 ≡ get_or ticks i 0 = get_or_append_left ticks (t ∷ []) 0 i (omega arith) in
-      let f : get_or (ticks ++ t ∷ []) (i + gap) 0 ≡ get_or ticks (i + gap) 0 = get_or_append_left ticks (t ∷ []) 0 (i + gap) h in
-      let g = spaced.apart i (omega arith) in
-      omega (arith, g, e, f);
-}
-
-pub spaced-last : (gap least t : ℕ) (ticks : List ℕ) → 1 ≤ gap → Spaced gap least (ticks ++ t ∷ []) → gap ≤ length ticks → get_or ticks (length ticks - gap) 0 + least ≤ t
-spaced-last gap least t ticks some spaced h =
+-- and only there
+Spaced-last : (gap least t : ℕ) (ticks : List ℕ) → 1 ≤ gap → Spaced gap least (ticks ++ t ∷ []) → gap ≤ length ticks → get_or ticks (length ticks - gap) 0 + least ≤ t
+Spaced-last gap least t ticks some spaced h =
     let n : length (ticks ++ t ∷ []) ≡ length ticks + 1 = length_push ticks t in
     let i : ℕ = length ticks - gap in
     let e : get_or (ticks ++ t ∷ []) (length ticks - gap) 0 ≡ get_or ticks (length ticks - gap) 0 = get_or_append_left ticks (t ∷ []) 0 (length ticks - gap) (omega arith) in
@@ -68,18 +59,13 @@ unfolding may_follow
 Decides-may_follow c past t some kept =
     Decides-like _
     (λ both. record {
-      neighbours = spaced-push 1 c.xmin t (reverse past) (omega arith) kept.neighbours both.0;
-      bursts = spaced-push (burst_of c) c.interval t (reverse past) some kept.bursts both.1;
+      neighbours = Spaced-push 1 c.xmin t (reverse past) (omega arith) kept.neighbours both.0;
+      bursts = Spaced-push (burst_of c) c.interval t (reverse past) some kept.bursts both.1;
     })
-    (λ all. (spaced-last 1 c.xmin t (reverse past) (omega arith) all.neighbours, spaced-last (burst_of c) c.interval t (reverse past) some all.bursts))
+    (λ all. (Spaced-last 1 c.xmin t (reverse past) (omega arith) all.neighbours, Spaced-last (burst_of c) c.interval t (reverse past) some all.bursts))
     (Decides-and _ _ (follows_at 1 c.xmin t past (omega arith)) (follows_at (burst_of c) c.interval t past some))
 
-Keeps-front : (c : Terms) (ticks : List ℕ) (t : ℕ) → 1 ≤ burst_of c → Keeps c (ticks ++ t ∷ []) → Keeps c ticks
-Keeps-front c ticks t some kept = record {
-  neighbours = spaced-front 1 c.xmin t ticks (omega arith) kept.neighbours;
-  bursts = spaced-front (burst_of c) c.interval t ticks some kept.bursts;
-}
-
+-- the empty list keeps every contract
 Keeps-nil : (c : Terms) → Keeps c []
 Keeps-nil c = record { neighbours = record { apart = λ i h. absurd (omega arith) }; bursts = record { apart = λ i h. absurd (omega arith) } }
 
@@ -95,7 +81,7 @@ Decides-keeps_newest_first c (t ∷ past) some =
       λ e. let both = and_parts (may_follow c past t) (keeps_newest_first c past) e in
           rw (reverse-cons t past) ((Decides-may_follow c past t some (rest.0 both.1)).0 both.0),
       λ kept. let all = rw (reverse-cons t past) at kept in
-          let before = Keeps-front c (reverse past) t some all in
+          let before = Keeps-prefix c (reverse past) (t ∷ []) all in
           and_from (may_follow c past t) (keeps_newest_first c past) ((Decides-may_follow c past t some before).1 all) (rest.1 before),
     )
 

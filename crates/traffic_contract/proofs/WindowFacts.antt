@@ -5,37 +5,13 @@ use Rattle.std.proofs.lemmas.Nat.{div-add-mod'}
 use Rattle.std.proofs.lemmas.Grind.{div_ceil_times}
 use Rattle.std.proofs.lemmas.List.Elements.{filter_passes}
 use Rattle.std.proofs.Math.Nat.{add-div_right, add-mod_right, lt_of_mul-lt-mul_right}
-use Rattle.std.proofs.lemmas.List.{get_or-drop, get_or-take, length-take}
+use Rattle.std.proofs.lemmas.List.{get_or-drop}
 use Rattle.std.specs.List.{filter}
 use Rattle.net_units.specs.Quotient.{ceil_quotient}
 use Rattle.traffic_contract.specs.Contract.{Terms, IsContract, burst_of, most_in}
 use Rattle.traffic_contract.specs.Keeping.{Spaced, Keeps}
 use Rattle.traffic_contract.specs.Window.{is_in_window, count_in}
-
--- ---- parts of a list that keeps a contract keep it
-
-Spaced-drop : (gap least n : ℕ) (ticks : List ℕ) → Spaced gap least ticks → Spaced gap least (drop n ticks)
-Spaced-drop gap least n ticks spaced = record {
-  apart = λ i h.
-      let e : get_or (drop n ticks) i 0 ≡ get_or ticks (n + i) 0 = get_or-drop n ticks i 0 in
-      let f : get_or (drop n ticks) (i + gap) 0 ≡ get_or ticks (n + i + gap) 0 = get_or-drop n ticks (i + gap) 0 ∙ ap (λ k. get_or ticks k 0) (omega arith) in
-      omega (arith, e, f, spaced.apart (n + i) (omega (arith, length-drop n ticks)));
-}
-
-Spaced-take : (gap least n : ℕ) (ticks : List ℕ) → Spaced gap least ticks → Spaced gap least (take n ticks)
-Spaced-take gap least n ticks spaced = record {
-  apart = λ i h.
-      let long : length (take n ticks) ≡ min n (length ticks) = length-take n ticks in
-      let e : get_or (take n ticks) i 0 ≡ get_or ticks i 0 = get_or-take n ticks i 0 (omega arith) in
-      let f : get_or (take n ticks) (i + gap) 0 ≡ get_or ticks (i + gap) 0 = get_or-take n ticks (i + gap) 0 (omega arith) in
-      omega (arith, e, f, spaced.apart i (omega arith));
-}
-
-Keeps-drop : (c : Terms) (n : ℕ) (ticks : List ℕ) → Keeps c ticks → Keeps c (drop n ticks)
-Keeps-drop c n ticks kept = record { neighbours = Spaced-drop 1 c.xmin n ticks kept.neighbours; bursts = Spaced-drop (burst_of c) c.interval n ticks kept.bursts }
-
-Keeps-take : (c : Terms) (n : ℕ) (ticks : List ℕ) → Keeps c ticks → Keeps c (take n ticks)
-Keeps-take c n ticks kept = record { neighbours = Spaced-take 1 c.xmin n ticks kept.neighbours; bursts = Spaced-take (burst_of c) c.interval n ticks kept.bursts }
+use Rattle.traffic_contract.proofs.KeepingFacts.{Keeps-drop, Keeps-take, Spaced-rest}
 
 -- ---- a list whose entries all fall into a window
 
@@ -130,9 +106,6 @@ filter-past from w (t ∷ ticks) past =
 -- later entries of a spaced list aren't below the first
 first_least : (least t : ℕ) (ticks : List ℕ) (i : ℕ) → Spaced 1 least (t ∷ ticks) → i < length ticks → t ≤ get_or ticks i 0
 first_least least t ticks i spaced h = omega (arith, gaps_before least (t ∷ ticks) (suc i) spaced (omega arith))
-
-Spaced-rest : (gap least t : ℕ) (ticks : List ℕ) → Spaced gap least (t ∷ ticks) → Spaced gap least ticks
-Spaced-rest gap least t ticks spaced = Spaced-drop gap least 1 (t ∷ ticks) spaced
 
 -- where no entry is before the window, those in it come first
 filter-front : (least from w : ℕ) (ticks : List ℕ) → Spaced 1 least ticks → ((i : ℕ) → i < length ticks → from ≤ get_or ticks i 0) → filter (is_in_window from w) ticks ≡ take (length (filter (is_in_window from w) ticks)) ticks

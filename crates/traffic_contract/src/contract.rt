@@ -8,19 +8,20 @@ use std::marker::Model;
 /// A number of a contract.
 #[derive(Clone, Copy, Debug, PartialEq, Eq)]
 pub enum ContractField {
-    /// The least gap between packets.
+    /// The least gap between packets, in ticks.
     Xmin,
-    /// The average gap between packets.
+    /// The average gap between packets, in ticks.
     Xave,
-    /// The interval over which the average is taken.
+    /// The interval over which the average is taken, in ticks.
     Interval,
-    /// The largest packet.
+    /// The largest packet, in units.
     Smax,
 }
 
 /// Four numbers that aren't a contract, with the first of them that fails.
 #[derive(Clone, Copy, Debug, PartialEq, Eq)]
 pub struct BadContract {
+    /// The first number that fails.
     pub field: ContractField,
 }
 
@@ -93,7 +94,7 @@ impl Contract {
         })
     }
 
-    /// The most packets in any `w` consecutive ticks of a list that keeps the contract.
+    /// The most packets in any `w` consecutive ticks of a list that keeps the contract. `w` is below 2^40.
     pub fn bound(&self, w: u64) -> u64
         requires { w < 2 ^ 40 }
         ensures value { result ≡ most_in self.now w }

@@ -5,7 +5,7 @@ use net_units::{ChanNo, Kind, Level, LinkNo};
 use std::test::Fail;
 
 #[test]
-fn a_long_history_has_every_reply(rt: HostRuntime) -> Result<(), Fail> {
+fn each_ask_in_the_life_of_a_reservation_is_answered(rt: HostRuntime) -> Result<(), Fail> {
     let mut link = open(rt.alloc(), 100)?;
     assert_eq!(rt; reserve(&mut link, 1, &voice()?, 12)?, offer(1, 1)?);
     assert_eq!(rt;

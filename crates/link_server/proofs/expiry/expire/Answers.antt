@@ -1,5 +1,6 @@
 -- The row at the place stays, or is taken out of the rows and, being its channel's only one, of the sums.
 use Rattle.std.proofs.Common.{◌≡◌, ◌<◌, ◌^◌, length, map, not, get_or, sym, ap, ◌∙◌, subst, arith}
+use Rattle.std.proofs.lemmas.List.Edits.{length-remove}
 use Rattle.net_units.specs.Numbers.{channel_number}
 use Rattle.rcsp_admission.specs.Sums.{Holds, without, IsDistinct}
 use Rattle.traffic_contract.specs.Eligible.{newest as newest_of}
@@ -9,7 +10,7 @@ use Rattle.link_server.specs.Rows.{terms_in, row_in, summed, IsWithin}
 use Rattle.link_server.specs.Sources.{IsReady}
 use Rattle.link_server.proofs.PlaceFacts.{all-without}
 use Rattle.link_server.proofs.SumsFacts.{place-holds, summed-without}
-use Rattle.link_server.proofs.ExpiryFacts.{staying, staying-without, stays-is, place-distinct, each-without, each-at, fewer}
+use Rattle.link_server.proofs.ExpiryFacts.{staying, staying-without, stays-is, place-distinct, each-without, each-at}
 use Rattle.link_server.proofs.expiry.expire.Goals as goal
 
 pub has_ended-requires : goal.has_ended-requires
@@ -37,7 +38,7 @@ loop-place-preserved-then-has_ended c =
     let stays = stays-is c.args.bounds.now c.args.clock (get_or c.loop-place.rows.items c.loop-place.place c.index.result.now) c.has_ended.result ended ∙ ap not c.if-has_ended.true in
     let distinct = subst IsDistinct c.loop-place.invariant.same c.loop-place.invariant.admitted.distinct in
     let place = place-distinct c.loop-place.rows.items c.loop-place.place c.index-then-has_ended.result.now distinct inside in
-    let fewer = fewer c.loop-place.rows.items c.loop-place.place inside in
+    let fewer = length-remove c.loop-place.rows.items c.loop-place.place inside in
     let len : length c.remove-then-has_ended.new.self.items ≡ length (remove c.loop-place.rows.items c.loop-place.place) = ap length c.remove-then-has_ended.ensures.items in
     record {
       place = omega (arith, fewer, len, inside);

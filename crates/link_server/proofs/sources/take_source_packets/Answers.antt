@@ -9,7 +9,8 @@ use Rattle.link_steps.specs.Sources.{taken_by, lost_by}
 use Rattle.link_server.specs.Packets.{arrival_in, here_in}
 use Rattle.link_server.specs.Rows.{row_in, summed, IsWithin}
 use Rattle.link_server.specs.Sources.{step_in, brought_by}
-use Rattle.link_server.proofs.SourceRows.{StandsStepped, none-stepped, one-stepped, all-stepped, ready-now, packets-now, lost-more, lost-same, front-same, front-within, summed-stepped, within-stepped}
+use Rattle.link_server.proofs.SourceRows.{StandsStepped, none-stepped, one-stepped, all-stepped, ready-now, packets-now, lost-more, lost-same, front-same, front-within, terms-stepped}
+use Rattle.link_server.proofs.SumsFacts.{summed-same, within-same}
 use Rattle.link_server.proofs.sources.take_source_packets.Goals as goal
 use Rattle.link_server.proofs.sources.take_source_packets.Goals.{After-loop-row, then-take_source_packet, else-take_source_packet}
 
@@ -71,6 +72,7 @@ loop-row-preserved c =
     let front = c.loop-row.invariant.front in
     let stepped : row_in c.take_source_packet.new.row ≡ kept_after_step (step_in c.args.bounds.now was c.args.clock row) c.args.clock (suc c.loop-row.packets.taken) (row_in row) =
     subst (λ h. row_in c.take_source_packet.new.row ≡ kept_after_step (step_in c.args.bounds.now h c.args.clock row) c.args.clock (suc c.loop-row.packets.taken) (row_in row)) front c.take_source_packet.ensures.row in
+    let terms = terms-stepped (step_in c.args.bounds.now was c.args.clock row) c.args.clock (suc c.loop-row.packets.taken) c.take_source_packet.new.row row stepped in
     let brought : here_in c.take_source_packet.new.packets.here.items ≡ here_in c.loop-row.packets.here.items ++ kept_packet (step_in c.args.bounds.now was c.args.clock row) c.args.clock (suc c.loop-row.packets.taken) (row_in row) =
     subst (λ h. here_in c.take_source_packet.new.packets.here.items ≡ here_in c.loop-row.packets.here.items ++ kept_packet (step_in c.args.bounds.now h c.args.clock row) c.args.clock (suc c.loop-row.packets.taken) (row_in row)) front c.take_source_packet.ensures.here in
     let taken : c.take_source_packet.new.packets.taken ≡ c.loop-row.packets.taken + taken_by (step_in c.args.bounds.now was c.args.clock row) =
@@ -91,11 +93,11 @@ loop-row-preserved c =
       capacity = c.take_source_packet.ensures.capacity ∙ c.loop-row.invariant.capacity;
       summed =
           map-set_same summed c.loop-row.rows c.loop-row.row-index c.take_source_packet.new.row c.row-item.result
-          (summed-stepped (step_in c.args.bounds.now was c.args.clock row) c.args.clock (suc c.loop-row.packets.taken) c.take_source_packet.new.row row stepped)
+          (summed-same c.take_source_packet.new.row row terms)
           ∙ c.loop-row.invariant.summed;
       levels =
           All-set (IsWithin _) c.loop-row.rows c.loop-row.row-index c.take_source_packet.new.row
-          (within-stepped (step_in c.args.bounds.now was c.args.clock row) _ c.args.clock (suc c.loop-row.packets.taken) c.take_source_packet.new.row row stepped (c.loop-row.invariant.levels c.loop-row.row-index c.row-item.result here))
+          (within-same _ c.take_source_packet.new.row row terms (c.loop-row.invariant.levels c.loop-row.row-index c.row-item.result here))
           c.loop-row.invariant.levels;
     }
 

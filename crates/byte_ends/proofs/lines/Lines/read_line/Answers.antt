@@ -1,6 +1,6 @@
 use Rattle.std.proofs.Common.{[], refl, inl}
 use Rattle.byte_ends.proofs.Blocks.{Answers-settled, Moves-settled}
-use Rattle.byte_ends.proofs.Again.{HasLine-given, over_settles, cut_settles, final_settles}
+use Rattle.byte_ends.proofs.Settling.{HasLine-given, over_settles, cut_settles, final_settles}
 use Rattle.byte_ends.proofs.Outlooks.{Foretells-answered}
 use Rattle.byte_ends.specs.Cutting.{let_go}
 use Rattle.byte_ends.proofs.lines.Lines.read_line.Goals as goal

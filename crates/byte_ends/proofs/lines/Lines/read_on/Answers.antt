@@ -1,4 +1,4 @@
-use Rattle.byte_ends.proofs.Again.{pending_below_block}
+use Rattle.byte_ends.proofs.Settling.{pending_below_block}
 use Rattle.byte_ends.proofs.Blocks.{GivesNone-after, Answers-settled}
 use Rattle.byte_ends.proofs.lines.Lines.read_on.Goals as goal
 

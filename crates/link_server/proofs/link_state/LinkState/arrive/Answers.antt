@@ -17,9 +17,10 @@ use Rattle.link_server.specs.Sound.{IsSound}
 use Rattle.link_server.specs.Sources.{IsReady}
 use Rattle.link_server.specs.State.{kept_in}
 use Rattle.link_server.specs.Strays.{stray}
-use Rattle.link_server.proofs.ArriveFacts.{arrive-absent, arrive-stray, arrive-full, arrive-taken, arrive-same, arrive-kept, next-number, summed-arrived, within-arrived, slots-rule, arrive-room}
+use Rattle.link_server.proofs.ArriveFacts.{arrive-absent, arrive-stray, arrive-full, arrive-taken, arrive-same, arrive-kept, next-number, slots-rule, arrive-room}
 use Rattle.link_server.proofs.ExpiryFacts.{each-at}
 use Rattle.link_server.proofs.PlaceFacts.{at-place}
+use Rattle.link_server.proofs.SumsFacts.{summed-same, within-same}
 use Rattle.link_server.proofs.SoundNumbers.{rows-ready}
 use Rattle.link_server.proofs.SoundTaking.{sound-arrive}
 use Rattle.link_server.proofs.link_state.LinkState.arrive.Goals as goal
@@ -122,10 +123,10 @@ invariant_of-self-2 c =
       same_rows =
           c.args.self.now.same_rows
           ∙ sym (map-set_same summed c.args.self.now.rows.items c.in-Some.place c.take-taken.new.self c.index_mut.result.now
-          (summed-arrived c.take-taken.new.self (get_or c.args.self.now.rows.items c.in-Some.place c.index_mut.result.now) _ _ same));
+          (summed-same c.take-taken.new.self (get_or c.args.self.now.rows.items c.in-Some.place c.index_mut.result.now) (ap (λ row. row.terms) same)));
       within =
           All-set (IsWithin _) c.args.self.now.rows.items c.in-Some.place c.take-taken.new.self
-          (within-arrived _ c.take-taken.new.self (get_or c.args.self.now.rows.items c.in-Some.place c.index_mut.result.now) _ _ same (c.args.self.now.within c.in-Some.place c.index_mut.result.now place.inside))
+          (within-same _ c.take-taken.new.self (get_or c.args.self.now.rows.items c.in-Some.place c.index_mut.result.now) (ap (λ row. row.terms) same) (c.args.self.now.within c.in-Some.place c.index_mut.result.now place.inside))
           c.args.self.now.within;
       sound = subst (IsSound c.args.self.now.shape c.args.self.now.room) (sym (kept (goal.at.invariant_of-self-2 c).After-push place)) after;
       roomy = omega (arith, roomy, c.push.ensures.capacity);

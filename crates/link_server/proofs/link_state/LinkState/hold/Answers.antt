@@ -14,7 +14,7 @@ use Rattle.link_server.specs.Wants.{ask_for}
 use Rattle.link_server.proofs.SumsFacts.{absent-new, within-reserved}
 use Rattle.link_server.proofs.AnswerFacts.{reserve-kept}
 use Rattle.link_server.proofs.HoldingFacts.{held_terms, sound-held, summed-pushed, within-pushed}
-use Rattle.link_server.proofs.RoomFacts.{account-same}
+use Rattle.link_server.proofs.AccountFacts.{account-same}
 use Rattle.link_server.proofs.link_state.LinkState.hold.Goals as goal
 use Rattle.link_server.proofs.link_state.LinkState.hold.Goals.{After-add}
 

@@ -5,7 +5,8 @@ use Rattle.traffic_contract.specs.Admission.{total}
 use Rattle.link_server.specs.Rows.{row_in, summed, AreWithin}
 use Rattle.link_server.specs.Sound.{all_places_of, IsSound}
 use Rattle.link_server.specs.State.{kept_in}
-use Rattle.link_server.proofs.RoomFacts.{account-same, most_places-are}
+use Rattle.link_server.proofs.AccountFacts.{account-same}
+use Rattle.link_server.proofs.RoomFacts.{most_places-are}
 use Rattle.link_server.proofs.SoundNumbers.{rows-upto}
 use Rattle.link_server.proofs.SoundSetup.{sound-larger}
 use Rattle.link_server.proofs.link_state.LinkState.make_room.Goals as goal

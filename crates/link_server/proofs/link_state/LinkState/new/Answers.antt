@@ -2,7 +2,7 @@
 use Rattle.std.proofs.Common.{◌∙◌, sym, subst}
 use Rattle.link_steps.proofs.Account.{nothing-stands}
 use Rattle.link_server.specs.Sound.{IsSound}
-use Rattle.link_server.proofs.RoomFacts.{account-nothing}
+use Rattle.link_server.proofs.AccountFacts.{account-nothing}
 use Rattle.link_server.proofs.SoundSetup.{nothing-sound}
 use Rattle.link_server.proofs.link_state.LinkState.new.Goals as goal
 

@@ -6,7 +6,7 @@ use Rattle.rcsp_admission.specs.Sums.{HoldsUpTo, moved, IsDistinct}
 use Rattle.link_steps.specs.declared.replies.Phase.TheVariants.{Tentative}
 use Rattle.link_steps.specs.Refusals.{not_in_phase, unfit}
 use Rattle.link_steps.specs.Kept.{kept_relaxed}
-use Rattle.link_steps.proofs.RefusalFacts.{unfit-least}
+use Rattle.link_steps.proofs.RefusalFacts.{unfit-none}
 use Rattle.link_server.specs.Rows.{terms_in, row_in, summed, IsAbsent, IsPlaceOf, IsWithin}
 use Rattle.link_server.specs.Sound.{IsSound}
 use Rattle.link_server.specs.State.{kept_in}
@@ -47,7 +47,7 @@ pub move_to-requires-clause-held : goal.move_to-requires-clause-held
 move_to-requires-clause-held c =
     let place = subst (λ rows. IsPlaceOf c.args.chan rows c.in-Some.place) c.deref.ensures.value c.in-Some.ensures.some in
     let fits = c.in_default-unfit.ensures ∙ ap (λ row. unfit (terms_in row) c.args.level c.args.up_bound) c.index-2.ensures in
-    let up = unfit-least (terms_in (get_or c.args.self.now.rows.items c.in-Some.place c.index-2.result.now)) c.args.level c.args.up_bound (sym fits) in
+    let up = (unfit-none (terms_in (get_or c.args.self.now.rows.items c.in-Some.place c.index-2.result.now)) c.args.level c.args.up_bound (sym fits)).0 in
     let held = place-holds-upto c.args.chan (level_number c.args.level) c.args.self.now.rows.items c.in-Some.place c.index-2.result.now place up in
     subst (λ rows. HoldsUpTo rows c.get.result (level_number c.args.level)) (sym c.args.self.now.same_rows)
     (subst (λ key. HoldsUpTo (map summed c.args.self.now.rows.items) key (level_number c.args.level)) (sym c.get.ensures.value) held)

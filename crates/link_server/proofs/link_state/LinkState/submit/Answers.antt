@@ -13,7 +13,7 @@ use Rattle.link_steps.specs.declared.replies.Reply.TheVariants.{Planned}
 use Rattle.link_server.proofs.SoundSetup.{sound-submit}
 use Rattle.link_server.proofs.AnswerFacts.{submit-absent, submit-phase, submit-busy, submit-big, submit-planned, submit-same, submit-kept}
 use Rattle.link_server.proofs.PlaceFacts.{at-place}
-use Rattle.link_server.proofs.SumsFacts.{summed-planned, within-planned}
+use Rattle.link_server.proofs.SumsFacts.{summed-same, within-same}
 use Rattle.link_server.proofs.PlanFacts.{none-left}
 use Rattle.link_server.proofs.link_state.LinkState.submit.Goals as goal
 
@@ -79,10 +79,10 @@ invariant_of-self c =
       same_rows =
           c.args.self.now.same_rows
           ∙ sym (map-set_same summed c.args.self.now.rows.items c.in-Some.place c.plan.new.self c.index_mut.result.now
-          (summed-planned c.plan.new.self (get_or c.args.self.now.rows.items c.in-Some.place c.index_mut.result.now) c.args.self.now.clock c.args.count c.args.gap c.args.size same));
+          (summed-same c.plan.new.self (get_or c.args.self.now.rows.items c.in-Some.place c.index_mut.result.now) (ap (λ row. row.terms) same)));
       within =
           All-set (IsWithin _) c.args.self.now.rows.items c.in-Some.place c.plan.new.self
-          (within-planned _ c.plan.new.self (get_or c.args.self.now.rows.items c.in-Some.place c.index_mut.result.now) c.args.self.now.clock c.args.count c.args.gap c.args.size same (c.args.self.now.within c.in-Some.place c.index_mut.result.now place.inside))
+          (within-same _ c.plan.new.self (get_or c.args.self.now.rows.items c.in-Some.place c.index_mut.result.now) (ap (λ row. row.terms) same) (c.args.self.now.within c.in-Some.place c.index_mut.result.now place.inside))
           c.args.self.now.within;
       sound = subst (IsSound c.args.self.now.shape c.args.self.now.room) (sym kept) (sound-submit c.args.self.now.shape c.args.self.now.room (kept_in c.args.self.now) c.args.chan c.args.count c.args.gap c.args.size (Planned c.args.self.now.clock) c.requires.fits c.args.self.now.sound reply);
       roomy = c.args.self.now.roomy;

@@ -1,17 +1,14 @@
 -- What was tested is what serving wants.
 use Rattle.std.proofs.Common.{◌≡◌, ℕ, Bool, true, false, List, Option, Some, None, All, subst, ap}
 use Rattle.std.proofs.lemmas.List.Elements.{All-map}
+use Rattle.std.proofs.lemmas.Option.{same_Some}
 use Rattle.std.specs.Bool.{OnTrue}
 use Rattle.link_steps.specs.declared.shape.LinkShape.{LinkShape}
-use Rattle.link_steps.specs.Service.{Start}
 use Rattle.link_server.specs.declared.packets.HeldPacket.{HeldPacket}
 use Rattle.link_server.specs.declared.packets.Running.{Running}
 use Rattle.link_server.specs.Packets.{arrival_in, here_in, on_in, start_in}
 use Rattle.link_server.specs.Serving.{CanServe, GoesOn, IsAtLevel}
 use Rattle.link_server.proofs.packets.tests.can_serve.Goals as goal
-
-some-same : (a b : Start) → Some a ≡ Some b → a ≡ b
-some-same a b same = cc
 
 -- with no packet on, and with one that can go on
 serves-idle : (shape : LinkShape) (tick : ℕ) (here : List HeldPacket) (on : Option Running) → All (λ packet. IsAtLevel shape (arrival_in packet)) here → on ≡ None → CanServe shape tick (here_in here) (on_in on)
@@ -25,7 +22,7 @@ serves-on shape tick here on running false levels busy goes = tt
 serves-on shape tick here None running true levels busy goes = cc
 serves-on shape tick here (Some other) running true levels busy goes = record {
   at_levels = All-map (IsAtLevel shape) arrival_in here levels;
-  goes_on = λ start same. subst (GoesOn shape tick) (some-same (start_in running) start (let e = ap on_in busy in cc)) goes;
+  goes_on = λ start same. subst (GoesOn shape tick) (same_Some (start_in running) start (let e = ap on_in busy in cc)) goes;
 }
 
 pub returns-in-None : goal.returns-in-None

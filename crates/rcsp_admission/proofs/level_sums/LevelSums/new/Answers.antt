@@ -1,4 +1,4 @@
--- No rows pass, since the blocking is at most the first bound and so at most each.
+-- The empty list of rows passes, since the blocking is at most the first bound and so at most each.
 use Rattle.std.proofs.Common.{ap, map}
 use Rattle.rcsp_admission.specs.Kept.{held_of}
 use Rattle.rcsp_admission.proofs.SumsFacts.{AreAdmitted-new}

@@ -1,13 +1,13 @@
--- A cutting that is over, cut short or done answers the same again.
+-- What the bytes taken decide. A line that is given was pending whole, and ends in the block that was read last. A
+-- cutting that is over, cut short or done answers the same again.
 use Rattle.std.proofs.Common.{◌≡◌, ◌≢◌, ℕ, ◌+◌, ◌<◌, ◌≤◌, inl, inr, true, List, [], ◌∷◌, ◌++◌, length, take, get_or, Option, Some, Result, Ok, Err, length-append, length-take, sym, ap, refl, ◌∙◌, arith}
 use Rattle.std.proofs.lemmas.List.{get_or-take, get_or_at, get_or_append_left}
 use Rattle.std.proofs.lemmas.Bool.{cases_lt}
 use Rattle.std.proofs.lemmas.List.Elements.{All-take}
 use Rattle.byte_ends.specs.WholeLines.{feed}
 use Rattle.byte_ends.specs.Cutting.{Cutting, HasLine, HasNoFeed, IsCutting, IsDone, IsOver, IsCut, IsFinal, IsOpen, allowance, let_go}
-use Rattle.byte_ends.specs.Steps.{GivesLine}
 use Rattle.byte_ends.specs.Answers.{Moves}
-use Rattle.byte_ends.specs.Steps.{Settles}
+use Rattle.byte_ends.specs.Steps.{GivesLine, Settles}
 use Rattle.byte_ends.specs.declared.lines.Cut.{Cut}
 use Rattle.byte_ends.specs.declared.lines.Cut.TheVariants.{Line, End}
 use Rattle.byte_ends.specs.declared.lines.LineRefusal.{LineRefusal}
