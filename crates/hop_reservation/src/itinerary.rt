@@ -2,7 +2,7 @@
 ghost use Rattle.std.specs.Prelude.{◌≡◌, ◌+◌, ◌-◌, ◌<◌, ◌≤◌, [], ◌∷◌, ◌++◌, length, slice_index, Some};
 ghost use Rattle.std.specs.List.{slice_get};
 ghost use Rattle.net_units.specs.Numbers.{level_number};
-ghost use Rattle.hop_reservation.specs.Offers.{delay_over, next_bound, next_levels, IsLevelOf};
+ghost use Rattle.hop_reservation.specs.Offers.{delay_over, next_bound, next_levels, AreLevels, IsLevelOf};
 
 use crate::route::{Hop, Route};
 use net_units::{Level, Levels};
@@ -71,6 +71,7 @@ impl Itinerary {
     pub fn offers(&self) -> u8
         ensures value { result ≡ length self.now.levels }
         ensures in_route { result ≤ length self.now.route }
+        ensures levels { AreLevels self.now.route self.now.levels }
         ensures most { result ≤ 16 }
     {
         self.levels.len()

@@ -1,15 +1,16 @@
 -- The shares of the slack, from the last hop to the first: what one more hop makes of those behind it.
-use Rattle.std.proofs.Common.{◌≡◌, ℕ, zero, suc, ◌+◌, ◌-◌, ◌/◌, ◌<◌, ◌≤◌, Option, Some, None, List, [], ◌∷◌, length, map, take, drop, set, get_or, inl, inr, ap, subst, sym, refl, ◌∙◌, arith}
+use Rattle.std.proofs.Common.{◌≡◌, ℕ, zero, suc, ◌+◌, ◌-◌, ◌/◌, ◌<◌, ◌≤◌, true, Option, Some, None, List, [], ◌∷◌, length, map, take, drop, set, get_or, inl, inr, ap, subst, sym, refl, ◌∙◌, arith}
 use Rattle.std.specs.List.{slice_get}
 use Rattle.std.proofs.Math.Seq.{drop-cons}
 use Rattle.std.proofs.lemmas.Bool.{cases_lt}
 use Rattle.std.proofs.lemmas.List.{drop_all, drop-set}
 use Rattle.std.proofs.lemmas.Option.{slice_get_within, get_or_from_slice_get}
 use Rattle.net_units.specs.Numbers.{level_number}
-use Rattle.net_units.specs.Steps.{bound_at}
+use Rattle.net_units.specs.Steps.{are_bounds, bound_at}
 use Rattle.net_units.specs.declared.numbers.Level.{Level}
 use Rattle.hop_reservation.specs.declared.route.Hop.{Hop}
 use Rattle.hop_reservation.specs.Offers.{delay_over}
+use Rattle.relaxation.specs.Laws.{HaveBounds}
 use Rattle.relaxation.specs.Allotment.{last_bound, limit_before, relaxed, with_level, allotment, Allotment, IsWithin}
 
 -- a list from a place on is the item there and what is behind it
@@ -130,3 +131,16 @@ put-one levels n place level one upto fits =
     let more : n - (place - 1) ≡ suc (n - place) = omega (arith, one, upto) in
     let next : place - 1 + 1 ≡ place = omega (arith, one) in
     rw (drop-set levels (place - 1) level (omega (arith, one, upto, fits))) (rw more (rw next refl))
+
+-- ---- bounds that are a link's
+
+pub bounds-none : (hops : List Hop) (place : ℕ) → length hops ≤ place → HaveBounds (drop place hops)
+unfolding HaveBounds
+bounds-none hops place past = subst HaveBounds (sym (drop_all place hops past)) tt
+
+-- those of one more hop
+pub bounds-one : (hops : List Hop) (place : ℕ) (hop : Hop) → 1 ≤ place → slice_get hops (place - 1) ≡ Some hop → are_bounds hop.bounds ≡ true → HaveBounds (drop place hops) → HaveBounds (drop (place - 1) hops)
+unfolding HaveBounds
+bounds-one hops place hop one found are behind =
+    let next : suc (place - 1) ≡ place = omega (arith, one) in
+    subst HaveBounds (sym (drop-item hops (place - 1) hop found)) (are, subst (λ p. HaveBounds (drop p hops)) (sym next) behind)

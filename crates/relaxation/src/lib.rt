@@ -9,8 +9,9 @@ ghost use Rattle.std.specs.Prelude.{◌≡◌, ◌+◌, ◌^◌, ◌<◌, ◌≤
 ghost use Rattle.net_units.specs.Allotted.{levels_of};
 ghost use Rattle.net_units.specs.Numbers.{level_number};
 ghost use Rattle.net_units.specs.Steps.{are_bounds, bound_at};
-ghost use Rattle.hop_reservation.specs.Offers.{delay_over, IsLevelOf};
+ghost use Rattle.hop_reservation.specs.Offers.{delay_over, AreLevels, IsLevelOf};
 ghost use Rattle.relaxation.specs.Allotment.{allotted, allotment, denial_of, last_bound, relaxed, up_to, IsWithin};
+ghost use Rattle.relaxation.specs.Laws.{AreWithinReach, HaveBounds, KeepBounds};
 
 pub mod laws;
 
@@ -40,6 +41,9 @@ pub enum EndDenial {
 /// Puts the levels of all hops, in route order, in place of those in `out`: for a request with this delay bound and, under
 /// delay-jitter control, this jitter bound, both in ticks. Where the destination denies the request, `out` stays as it
 /// was.
+///
+/// Each level is one of its hop's, from the offered one to the hop's reach, and the levels keep both bounds (`reach`,
+/// `bounds`).
 pub fn allot(
     it: &Itinerary,
     delay: u64,
@@ -51,6 +55,8 @@ pub fn allot(
         (λ _. denial_of it.now.route it.now.levels delay jitter ≡ None)
         (λ denial. denial_of it.now.route it.now.levels delay jitter ≡ Some denial) }
     ensures levels { OnOk result (levels_of out.new ≡ allotted it.now.route it.now.levels delay jitter) }
+    ensures reach { OnOk result (AreWithinReach delay it.now.route it.now.levels (levels_of out.new)) }
+    ensures bounds { OnOk result (KeepBounds it.now.route (levels_of out.new) delay jitter) }
     ensures unchanged { OnErr result (out.new ≡ out.old) }
 {
     let sum = it.delay_sum();
@@ -87,9 +93,12 @@ fn bound_of(offer: &Offer) -> u64
 
 // Shares the slack out, from the last hop to the first.
 fn share_out(it: &Itinerary, slack: u64, jitter: Option<u64>, out: &mut Levels)
+    requires whole { length it.now.levels ≡ length it.now.route }
     requires fits { slack + delay_over it.now.route it.now.levels < 2 ^ 64 }
     requires jitter { IsWithin jitter (last_bound it.now.route it.now.levels) }
-    ensures { levels_of out.new ≡ (allotment jitter slack 0 it.now.route it.now.levels).levels }
+    ensures levels { levels_of out.new ≡ (allotment jitter slack 0 it.now.route it.now.levels).levels }
+    ensures offers { AreLevels it.now.route it.now.levels }
+    ensures bounds { HaveBounds it.now.route }
 {
     let mut levels = [Level::LEAST; MOST_HOPS as usize];
     let mut left = slack;

@@ -5,7 +5,8 @@ use Rattle.std.proofs.lemmas.List.{length-set}
 use Rattle.net_units.specs.Numbers.{level_number}
 use Rattle.net_units.specs.Steps.{bound_at}
 use Rattle.relaxation.specs.Allotment.{allotment, limit_before, relaxed, IsWithin}
-use Rattle.relaxation.proofs.ShareFacts.{bound-in_delay, limit-last, limit-none, limit-kept, share-step, allotment-none, put-none, put-one}
+use Rattle.relaxation.specs.Laws.{HaveBounds}
+use Rattle.relaxation.proofs.ShareFacts.{bound-in_delay, limit-last, limit-none, limit-kept, share-step, allotment-none, put-none, put-one, bounds-none, bounds-one}
 use Rattle.relaxation.proofs.share_out.Goals as goal
 
 pub loop-place-init : goal.loop-place-init
@@ -19,6 +20,7 @@ loop-place-init c =
       limit = sym (limit-last c.args.jitter c.args.it.now.levels c.offers-place.result n);
       less = omega arith;
       size = refl;
+      bounds = bounds-none c.args.it.now.route c.offers-place.result (omega (arith, c.offers-place.ensures.value, c.requires.whole));
     }
 
 pub offer-offer-requires-clause-last : goal.offer-offer-requires-clause-last
@@ -61,10 +63,11 @@ loop-place-preserved c =
       limit = sym (limit-none c.args.jitter offers (place - 1) (omega (arith, c.loop-place-test.true, c.loop-place.invariant.in_route)));
       less = omega (arith, c.loop-place.invariant.less);
       size = length-set c.loop-place.levels (place - 1) c.within_share-level.result ∙ c.loop-place.invariant.size;
+      bounds = bounds-one hops place hop c.loop-place-test.true c.offer-offer.ensures.hop c.bound_of.ensures.valid c.loop-place.invariant.bounds;
     }
 
-pub returns : goal.returns
-returns c =
+pub returns-clause-levels : goal.returns-clause-levels
+returns-clause-levels c =
     let hops = c.args.it.now.route in
     let offers = c.args.it.now.levels in
     let first : c.loop-place.place ≡ 0 = omega (arith, c.loop-place-test.false) in
@@ -72,3 +75,11 @@ returns c =
     subst (λ p. map level_number (take (length offers - p) (drop p c.loop-place.levels)) ≡ (allotment c.args.jitter c.args.slack p (drop p hops) (drop p offers)).levels) first c.loop-place.invariant.levels in
     let count : c.offers.result ≡ length offers - 0 = omega (arith, c.offers.ensures.value) in
     c.put.ensures ∙ ap (λ n. map level_number (take n c.loop-place.levels)) count ∙ all
+
+pub returns-clause-offers : goal.returns-clause-offers
+returns-clause-offers c = c.offers.ensures.levels
+
+pub returns-clause-bounds : goal.returns-clause-bounds
+returns-clause-bounds c =
+    let first : c.loop-place.place ≡ 0 = omega (arith, c.loop-place-test.false) in
+    subst (λ p. HaveBounds (drop p c.args.it.now.route)) first c.loop-place.invariant.bounds

@@ -1,6 +1,7 @@
 use Rattle.std.proofs.Common.{◌≡◌, ◌-◌, ◌≤◌, length, map, take, drop}
 use Rattle.net_units.specs.Numbers.{level_number}
 use Rattle.relaxation.specs.Allotment.{allotment, limit_before}
+use Rattle.relaxation.specs.Laws.{HaveBounds}
 use Rattle.relaxation.proofs.share_out.Given as goal
 
 -- the hops behind the place have their levels, and so much is left for those before them
@@ -12,6 +13,7 @@ invariant-loop-place l = record {
   limit : l.limit ≡ limit_before l.fn.jitter (drop l.place l.it.levels);
   less : l.left ≤ l.slack;
   size : length l.levels ≡ 16;
+  bounds : HaveBounds (drop l.place l.it.route);
 }
 
 abbrev pub decreases-loop-place : goal.decreases-loop-place
