@@ -1,7 +1,7 @@
 -- In a legal history the packets of the levels up to m that are eligible in a window as long as the bound of m leave
 -- room for the blocking. For the rows with such a packet stand together in one list that passes the admission test: a
 -- row expires only when its last packet has been eligible for as long as the largest bound.
-use Rattle.std.proofs.Common.{◌≡◌, ℕ, suc, ◌+◌, ◌-◌, ◌*◌, ◌<◌, ◌≤◌, Bool, true, false, cond, ◌&&◌, List, [], ◌∷◌, length, Option, Some, None, ⊎_elim, refl, arith}
+use Rattle.std.proofs.Common.{◌≡◌, ℕ, suc, ◌+◌, ◌*◌, ◌<◌, ◌≤◌, Bool, true, false, cond, ◌&&◌, List, [], ◌∷◌, length, Option, Some, None, ⊎_elim, refl, arith}
 use Rattle.std.proofs.lemmas.Bool.{cases_lt, lt-leb, le-ltb}
 use Rattle.std.specs.Prelude.{filter, find, nat_le}
 use Rattle.net_units.proofs.BoundFacts.{bound_at-rising, bound_least}
