@@ -1,6 +1,6 @@
 -- A regulator stands for every list of ticks whose newest are the ones that it keeps: its answer is the eligible
 -- tick after each of them, and with the answer it stands for the longer list.
-use Rattle.std.proofs.Common.{◌≡◌, ℕ, ◌+◌, ◌-◌, ◌≤◌, List, [], ◌∷◌, ◌++◌, length, take, drop, sym, ap, ◌∙◌, subst, arith}
+use Rattle.std.proofs.Common.{◌≡◌, ℕ, ◌≤◌, List, [], ◌∷◌, ◌++◌, length, take, drop, sym, ap, ◌∙◌, subst, arith}
 use Rattle.std.proofs.lemmas.List.{reverse-append, length-take, take_all, take-append-drop}
 use Rattle.std.specs.Prelude.{reverse}
 use Rattle.traffic_contract.specs.Contract.{IsContract, burst_of}
