@@ -27,13 +27,13 @@ each-other before hop none k d within same =
 pub none_among : (before : List Hop) (hop : Hop) (hops : List Hop) → AllPairs AreApart (before ++ hop ∷ hops) → stands_among before (link_of hop) ≡ false
 none_among before hop hops apart =
     list_any_none (is_by (link_of hop)) before (λ i d within.
-      let pair : AreApart (get_or (before ++ hop ∷ hops) i d) (get_or (before ++ hop ∷ hops) (length before) d) = apart i (length before) d within (fits before hop hops) in
-      let left = get_or_append_left before (hop ∷ hops) d i within in
-      let right = get_or-append_seam before hop hops d in
-      ne_eqb (link_of (get_or before i d)) (link_of hop) (λ same. pair (ap link_of left ∙ same ∙ sym (ap link_of right)))) where
-  fits : (before : List Hop) (hop : Hop) (hops : List Hop) → length before < length (before ++ hop ∷ hops)
-  fits [] hop hops = omega arith
-  fits (first ∷ before) hop hops = omega (arith, fits before hop hops)
+    let pair : AreApart (get_or (before ++ hop ∷ hops) i d) (get_or (before ++ hop ∷ hops) (length before) d) = apart i (length before) d within (fits before hop hops) in
+    let left = get_or_append_left before (hop ∷ hops) d i within in
+    let right = get_or-append_seam before hop hops d in
+    ne_eqb (link_of (get_or before i d)) (link_of hop) (λ same. pair (ap link_of left ∙ same ∙ sym (ap link_of right)))) where
+      fits : (before : List Hop) (hop : Hop) (hops : List Hop) → length before < length (before ++ hop ∷ hops)
+      fits [] hop hops = omega arith
+      fits (first ∷ before) hop hops = omega (arith, fits before hop hops)
 
 -- where no link is repeated behind hops that are apart, all are apart
 pub apart-from_none : (before hops : List Hop) → AllPairs AreApart before → repeated_from before hops ≡ None → AllPairs AreApart (before ++ hops)
@@ -91,10 +91,10 @@ route-from_none (hop ∷ hops) none =
     elim (cases_Bool (ltb 16 (length (hop ∷ hops)))) [
       | inl many ↦ absurd (let clash : Some 17 ≡ None = rw many at none in cc)
       | inr few ↦ record {
-          least = omega arith;
-          most = omega (arith, ltb-false 16 (length (hop ∷ hops)) few);
-          apart = apart-from_none [] (hop ∷ hops) (λ i j d before within. absurd (omega (arith, before, within))) (rw few at none);
-        }
+        least = omega arith;
+        most = omega (arith, ltb-false 16 (length (hop ∷ hops)) few);
+        apart = apart-from_none [] (hop ∷ hops) (λ i j d before within. absurd (omega (arith, before, within))) (rw few at none);
+      }
     ]
 
 pub none-from_route : (hops : List Hop) → IsRoute hops → fault_in hops ≡ None

@@ -46,12 +46,33 @@ fn offers_add_up(rt: HostRuntime) -> Result<(), Fail> {
     assert_eq!(rt; route.len(), 2);
     assert_eq!(rt; route.hop(2).link.get(), 1);
     let mut itinerary = Itinerary::new(route);
-    assert_eq!(rt; (itinerary.offers(), itinerary.reach_before(), itinerary.delay_sum()), (0, 0, 0));
+    assert_eq!(rt;
+        (
+            itinerary.offers(),
+            itinerary.reach_before(),
+            itinerary.delay_sum()
+        ),
+        (0, 0, 0)
+    );
     let reach = Level::new(3).ok_or("level")?;
     itinerary.push_offer(Level::LEAST, reach);
-    assert_eq!(rt; (itinerary.offers(), itinerary.reach_before(), itinerary.delay_sum()), (1, 40, 12));
+    assert_eq!(rt;
+        (
+            itinerary.offers(),
+            itinerary.reach_before(),
+            itinerary.delay_sum()
+        ),
+        (1, 40, 12)
+    );
     itinerary.push_offer(Level::LEAST, Level::LEAST);
-    assert_eq!(rt; (itinerary.offers(), itinerary.reach_before(), itinerary.delay_sum()), (2, 10, 24));
+    assert_eq!(rt;
+        (
+            itinerary.offers(),
+            itinerary.reach_before(),
+            itinerary.delay_sum()
+        ),
+        (2, 10, 24)
+    );
     assert_eq!(rt; itinerary.offer(2).level, Level::LEAST);
     Ok(())
 }

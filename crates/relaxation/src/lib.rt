@@ -59,18 +59,26 @@ pub fn allot(
     ensures bounds { OnOk result (KeepBounds it.now.route (levels_of out.new) delay jitter) }
     ensures unchanged { OnErr result (out.new ≡ out.old) }
 {
+    if let Some(denial) = denial(it, delay, jitter) {
+        return Err(denial);
+    }
+    share_out(it, delay - it.delay_sum(), jitter, out);
+    Ok(())
+}
+
+// Why the destination denies the offers, if it does.
+fn denial(it: &Itinerary, delay: u64, jitter: Option<u64>) -> Option<EndDenial>
+    ensures { result ≡ denial_of it.now.route it.now.levels delay jitter }
+{
     let sum = it.delay_sum();
     if sum > delay {
-        return Err(EndDenial::Delay { sum, bound: delay });
+        return Some(EndDenial::Delay { sum, bound: delay });
     }
-    if let Some(bound) = jitter {
-        let last = last_offered(it);
-        if last > bound {
-            return Err(EndDenial::Jitter { last, bound });
-        }
+    let last = last_offered(it);
+    match jitter {
+        Some(bound) if last > bound => Some(EndDenial::Jitter { last, bound }),
+        _ => None,
     }
-    share_out(it, delay - sum, jitter, out);
-    Ok(())
 }
 
 // The bound that the last hop has offered.

@@ -31,8 +31,8 @@ invariant_of-self c =
     let is : IsLevelOf c.hop-hop.result (level_number c.args.level) = record { least = c.args.level.least; most = omega (arith, c.requires.level, count, seen) } in
     rw c.push.ensures
     (offers-push c.self.inside.route (levels_of c.self.inside.levels) c.hop-hop.result (level_number c.args.level) c.self.inside.reach c.at-self-inside.result c.self.inside.delay (c.from.result + c.from-2.result) found c.self.invariant is c.at-self-inside.ensures.most
-      (omega (arith, c.from.ensures, c.from-2.ensures, c.at.ensures.value))
-      (omega (arith, c.from.ensures, c.from-2.ensures, c.at.ensures.most)))
+    (omega (arith, c.from.ensures, c.from-2.ensures, c.at.ensures.value))
+    (omega (arith, c.from.ensures, c.from-2.ensures, c.at.ensures.most)))
 
 pub returns : goal.returns
 returns c =
