@@ -1,5 +1,5 @@
 -- What the reply to a reserve comes to, and what is asked behind it.
-use Rattle.std.proofs.Common.{◌≡◌, ℕ, ◌+◌, ◌-◌, ◌<◌, ◌≤◌, true, false, List, length, map, refl, sym, subst, ◌∙◌, ap, ltb, arith}
+use Rattle.std.proofs.Common.{◌≡◌, ℕ, ◌-◌, ◌<◌, ◌≤◌, false, List, length, map, refl, sym, subst, ◌∙◌, ap, ltb, arith}
 use Rattle.std.specs.Prelude.{Result, Ok, Err, OnOk}
 use Rattle.std.proofs.lemmas.Bool.{le-ltb, lt-ltb}
 use Rattle.net_units.specs.Numbers.{level_number}
@@ -12,7 +12,7 @@ use Rattle.link_steps.specs.Levels.{level_of}
 use Rattle.link_steps.specs.Replies.{reserve_reply, reply_at, reply_to}
 use Rattle.link_steps.specs.Reservation.{admitted}
 use Rattle.link_steps.specs.Rows.{row_terms}
-use Rattle.link_steps.specs.Scan.{clock_of, scan_of}
+use Rattle.link_steps.specs.Scan.{scan_of}
 use Rattle.link_steps.specs.Shape.{server_of}
 use Rattle.link_steps.specs.declared.asks.Ask.{Ask}
 use Rattle.link_steps.specs.declared.asks.Ask.TheVariants.{Relax, Deny}

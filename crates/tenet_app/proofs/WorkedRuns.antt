@@ -1,6 +1,6 @@
 -- Runs worked by hand, found by computing with the definitions: what the requests of a script come to, and what the
 -- history tells of the channels and of the link.
-use Rattle.std.proofs.Common.{◌≡◌, ℕ, ◌+◌, Bool, true, false, List, [], ◌∷◌, length, Some, refl, codes, lit<, lit≤}
+use Rattle.std.proofs.Common.{◌≡◌, ℕ, Bool, true, false, List, [], ◌∷◌, length, Some, refl, codes, lit≤}
 use Rattle.traffic_contract.specs.Admission.{work_in, work_up_to, load, passes_up_to, passes, admits, first_level, best_level}
 use Rattle.traffic_contract.specs.Contract.{Terms, most_in}
 use Rattle.traffic_contract.specs.Eligible.{first_from, eligible}
@@ -14,7 +14,6 @@ use Rattle.link_steps.specs.Rows.{planned_from}
 use Rattle.link_steps.specs.Scan.{clock_of, without_expired, with_sources, after_tick, after, scan_of}
 use Rattle.link_steps.specs.Service.{goes_before, first_in_line, is_waiting, serve_tick, starts_below, here_at}
 use Rattle.link_steps.specs.Sources.{step_of, source_packets, rows_after, lost_in}
-use Rattle.link_steps.specs.declared.replies.Entry.{Entry}
 use Rattle.link_steps.specs.declared.shape.LinkShape.{LinkShape}
 use Rattle.tenet_app.specs.Channels.{planned_in, offered_in, refused_in, delays_in, departures_in, dropped_in}
 use Rattle.tenet_app.specs.Establishment.{Settled, IsAccepted, HasNoLevel, HasNoBuffer, IsTooWide, IsTooLate, way_back, at_destination}
@@ -23,7 +22,6 @@ use Rattle.tenet_app.specs.Run.{Run, after_open, opened, sent, closed, after_scr
 use Rattle.tenet_app.specs.Shapes.{first_link}
 use Rattle.tenet_app.specs.declared.scenario.plan.Operation.{Operation}
 use Rattle.tenet_app.specs.declared.scenario.plan.Operation.TheVariants as operation
-use Rattle.tenet_app.specs.declared.scenario.plan.Request.{Request}
 
 -- a link that sends a unit a tick, with so many units of buffer
 abbrev shape_a : LinkShape
