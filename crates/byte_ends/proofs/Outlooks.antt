@@ -80,7 +80,7 @@ allowance-kept s t left left' m =
     omega (arith, m.counted, m.same_most, ap length m.joined, length-append s.pending m.bytes)
 
 -- a line and its line feed use the allowance up
-allowance-line : (s t : Cutting) (left left' : Option (List ℕ)) → AnswersLine s t left left' → allowance s ≡ length t.line + 1 + allowance t
+pub allowance-line : (s t : Cutting) (left left' : Option (List ℕ)) → AnswersLine s t left left' → allowance s ≡ length t.line + 1 + allowance t
 allowance-line s t left left' a =
     let m = a.moves in
     omega (arith, a.within, m.counted, m.same_most, ap length m.joined, length-append s.pending m.bytes, length-append (t.line ++ feed ∷ []) t.pending, length-append t.line (feed ∷ []))

@@ -5,10 +5,10 @@ use Rattle.std.proofs.lemmas.List.{drop_all, length-map}
 use Rattle.std.proofs.lemmas.Slice.Eq.{bytes_eq-Decides}
 use Rattle.std.specs.Cmp.Lexicographic.{pointwise}
 use Rattle.net_units.specs.Quotient.{ceil_quotient}
-use Rattle.net_units.specs.Steps.{rises_above, are_bounds, bound_at}
+use Rattle.net_units.specs.Limits.{most_bound}
+use Rattle.net_units.specs.Steps.{are_bounds, bound_at}
 use Rattle.net_units.specs.Text.{begins_as_name, is_kept_word, is_name}
-use Rattle.net_units.proofs.BoundFacts.{above_low, all_at}
-use Rattle.std.specs.List.{list_all}
+use Rattle.net_units.proofs.BoundFacts.{above_low, all_at, bounds_parts}
 use Rattle.traffic_contract.specs.Contract.{Terms, IsContract, burst_of}
 use Rattle.traffic_contract.specs.Refusal.{first_bad}
 use Rattle.tenet_app.specs.Causes.{Rule, unless, first_cause}
@@ -27,7 +27,7 @@ use Rattle.tenet_app.specs.declared.scenario.plan.Operation.{Operation}
 use Rattle.tenet_app.specs.declared.scenario.plan.Request.{Request}
 use Rattle.tenet_app.specs.declared.scenario.plan.Send.{Send}
 use Rattle.tenet_app.proofs.PassFacts.{RulesPass}
-use Rattle.tenet_app.proofs.PlaceFacts.{among_at, place_at, distinct_drop}
+use Rattle.tenet_app.proofs.NameFacts.{among_at, place_at, distinct_drop}
 use Rattle.tenet_app.proofs.NumberText.{value-decimal, decimal_passes, decimals_pass, values-decimals}
 
 -- rules that pass each pass together
@@ -55,49 +55,36 @@ name_no_contract name e =
 
 -- ---- links
 
--- what the parts of the test of bounds say
-pub record BoundParts (bounds : List ℕ) : Type 0 where
-  pub least : 1 ≤ length bounds
-  pub most : length bounds ≤ 8
-  pub each : (i : ℕ) → i < length bounds → (1 ≤ get_or bounds i 0) × (get_or bounds i 0 ≤ 1048576)
-
--- the test of bounds says them
-pub bound_parts : (bounds : List ℕ) → are_bounds bounds ≡ true → BoundParts bounds
-bound_parts bounds e =
-    let p = and_parts (nat_le 1 (length bounds) && nat_le (length bounds) 8 && rises_above 0 bounds) (list_all (λ b. nat_le b 1048576) bounds) e in
-    let q = and_parts (nat_le 1 (length bounds) && nat_le (length bounds) 8) (rises_above 0 bounds) p.0 in
-    let r = and_parts (nat_le 1 (length bounds)) (nat_le (length bounds) 8) q.0 in
-    record {
-      least = leb-true 1 (length bounds) r.0;
-      most = leb-true (length bounds) 8 r.1;
-      each = λ i h. (above_low 0 bounds i q.1 h, leb-true (get_or bounds i 0) 1048576 (all_at (λ b. nat_le b 1048576) bounds i p.1 h));
-    }
+-- each bound is from 1 to 1,048,576
+pub bound_from : (bounds : List ℕ) → are_bounds bounds ≡ true → (i : ℕ) → i < length bounds → (1 ≤ get_or bounds i 0) × (get_or bounds i 0 ≤ 1048576)
+bound_from bounds are i within =
+    let parts = bounds_parts bounds are in
+    (above_low 0 bounds i parts.rising within, leb-true (get_or bounds i 0) 1048576 (all_at (λ b. nat_le b most_bound) bounds i parts.small within))
 
 -- 1 to 8 bounds end a link line
 bounds_form : (fs : List (List ℕ)) → 1 ≤ length fs → length fs ≤ 8 → has_form (part.Bounds ∷ []) fs ≡ true
 bounds_form fs least most = rw (le-leb 1 (length fs) least, le-leb (length fs) 8 most) (ap (λ gs. has_form [] gs) (drop_all (length fs) fs (omega arith)))
 
 -- a link line has its form
-link_form_back : (link : Link) → BoundParts link.bounds → has_form link_form (link_fields link) ≡ true
-link_form_back link b =
+link_form_back : (link : Link) → are_bounds link.bounds ≡ true → has_form link_form (link_fields link) ≡ true
+link_form_back link are =
+    let parts = bounds_parts link.bounds are in
     let count = length-map link.bounds decimal in
-    bounds_form (map decimal link.bounds) (omega (arith, b.least)) (omega (arith, b.most))
+    bounds_form (map decimal link.bounds) (omega (arith, parts.least)) (omega (arith, parts.most))
 
 -- a link line says its link
 pub link_again : (link : Link) → IsLink link → link_of (link_fields link) ≡ link
 link_again link l =
-    let b = bound_parts link.bounds l.bounds in
     let rate = value-decimal link.rate (omega (arith, l.rate_most)) in
     let cap = value-decimal link.cap (omega (arith, l.cap_most)) in
     let prop = value-decimal link.prop (omega (arith, l.prop)) in
     let buffer = value-decimal link.buffer (omega (arith, l.buffer)) in
-    let bounds = values-decimals link.bounds (λ i h. let each = b.each i h in omega (arith, each)) in
+    let bounds = values-decimals link.bounds (λ i h. let from = bound_from link.bounds l.bounds i h in omega (arith, from)) in
     rw (rate, cap, prop, buffer, bounds) refl
 
 -- a link line passes behind the header
 pub link_back : (said : Said) (link : Link) → said.links ≡ [] → IsLink link → link_rule said (link_fields link) ≡ None
 link_back said link none l =
-    let b = bound_parts link.bounds l.bounds in
     let fields = link_fields link in
     let new : is_among (link_names said) link.name ≡ false = ap (λ (links : List Link). is_among (map (λ link. link.name) links) link.name) none in
     let few : length said.links ≡ 0 = ap length none in
@@ -111,13 +98,13 @@ link_back said link none l =
         (decimal_passes 0 1048576 link.prop (omega arith) l.prop (omega arith), (decimal_passes 0 262144 link.buffer (omega arith) l.buffer (omega arith), tt)),
       ),
     ) in
-    let bounds = decimals_pass 1 1048576 link.bounds b.each (omega arith) in
+    let bounds = decimals_pass 1 1048576 link.bounds (bound_from link.bounds l.bounds) (omega arith) in
     let left = pass_all (new_name_rule (link_names said) (field_at fields 1) ∷ name_rule (field_at fields 2) ∷ name_rule (field_at fields 3)
     ∷ link_numbers_rule fields ∷ bound_numbers_rule (bound_fields fields) ∷ [])
     (new_name_back (link_names said) link.name l.name new, (name_back link.from l.from, (name_back link.to l.to, (numbers, (bounds, tt))))) in
     pass_all (unless (has_form link_form fields) cause.Shape ∷ link_fields_rule said fields ∷ unless (nat_lt (length said.links) 32) cause.Many
     ∷ levels_rule (link_of fields) ∷ unless (nat_eq (length said.links) 0) cause.Later ∷ []) (
-      unless_holds (has_form link_form fields) cause.Shape (link_form_back link b),
+      unless_holds (has_form link_form fields) cause.Shape (link_form_back link l.bounds),
       (
         left,
         (

@@ -6,6 +6,7 @@ use Rattle.std.proofs.lemmas.List.Elements.{All-get_or}
 use Rattle.std.specs.Prelude.{unwrap_or}
 use Rattle.byte_ends.specs.WholeLines.{all_given}
 use Rattle.net_units.specs.Text.{is_name}
+use Rattle.link_steps.proofs.ListFacts.{Each-append}
 use Rattle.tenet_app.specs.Causes.{Rule, judged}
 use Rattle.tenet_app.specs.Fields.{fields_of, line_of, are_fields, field_at}
 use Rattle.tenet_app.specs.Grammar.{may_stand, line_word, judge_as, judge_word, judge_fields, judge}
@@ -23,7 +24,7 @@ use Rattle.tenet_app.specs.declared.scenario.plan.Request.{Request}
 use Rattle.tenet_app.specs.declared.scenario.plan.Send.{Send}
 use Rattle.tenet_app.proofs.FieldText.{fields_back, name_field, number_field}
 use Rattle.tenet_app.proofs.LineFacts.{AreLines, lines_of_text}
-use Rattle.tenet_app.proofs.PassBack.{bound_parts, link_again, link_back, caller_back, rounds_back, tail_back, name_no_contract, request_again, open_back, send_again, send_back, close_again, close_back}
+use Rattle.tenet_app.proofs.PassBack.{bound_from, link_again, link_back, caller_back, rounds_back, tail_back, name_no_contract, request_again, open_back, send_again, send_back, close_again, close_back}
 use Rattle.tenet_app.proofs.NumberText.{value-decimal}
 use Rattle.tenet_app.proofs.ScriptText.{line_of_next, AreNamed, named_begins, named_push}
 
@@ -37,8 +38,7 @@ numbers_fields (n ∷ ns) few = rw (number_field n (few 0 (omega arith)), number
 -- a link line is made of fields
 link_is_line : (link : Link) → IsLink link → are_fields (link_fields link) ≡ true
 link_is_line link l =
-    let b = bound_parts link.bounds l.bounds in
-    let bounds = numbers_fields link.bounds (λ i h. let each = b.each i h in omega (arith, each)) in
+    let bounds = numbers_fields link.bounds (λ i h. let from = bound_from link.bounds l.bounds i h in omega (arith, from)) in
     rw (
       name_field link.name l.name,
       name_field link.from l.from,
@@ -260,11 +260,6 @@ read_lines link said p =
     ∙ read_script said.script [] 2 link (rounds_of said) (tail_of said) p.sound named_begins p.script (plan_rounds link said p)
     ∙ ap IsRead (same_whole link said p)
 
--- two lists of lines
-AreLines-append : (xs ys : List (List (List ℕ))) → AreLines xs → AreLines ys → AreLines (xs ++ ys)
-AreLines-append [] ys p q = q
-AreLines-append (x ∷ xs) ys p q = (p.0, AreLines-append xs ys p.1 q)
-
 -- the lines of operations are made of fields
 script_are_lines : (script done : List Operation) (link : List ℕ) → is_name link ≡ true → AreNamed done → GoOn done script
     → AreLines (map (operation_fields link (names_of (requests_in (done ++ script)))) script)
@@ -283,7 +278,7 @@ plan_are_lines link said p =
       refl,
       (
         link_is_line link p.sound,
-        AreLines-append (map (operation_fields link.name (request_names said)) said.script) (last_lines (rounds_of said) (tail_of said))
+        Each-append (λ fields. are_fields fields ≡ true) (map (operation_fields link.name (request_names said)) said.script) (last_lines (rounds_of said) (tail_of said))
             (script_are_lines said.script [] link.name p.sound.name named_begins p.script)
             (rounds_is_line (rounds_of said) few.rounds_most, (tail_is_line (tail_of said) few.tail_most, tt)),
       ),

@@ -1,11 +1,11 @@
 -- Before the first line, what is ahead comes to what all bytes come to, and so it does behind each line. What was
 -- read is a draft all the while.
-use Rattle.std.proofs.Common.{◌≡◌, ◌≢◌, ℕ, ◌+◌, false, List, [], ◌∷◌, ◌++◌, length, Option, Some, None, IfSome, Ok, Err, refl, ◌∙◌, ap, subst, sym, append_assoc, length-append, arith}
+use Rattle.std.proofs.Common.{◌≡◌, ◌≢◌, ℕ, ◌+◌, false, List, [], ◌∷◌, ◌++◌, Option, Some, None, IfSome, Ok, Err, refl, ◌∙◌, ap, subst, sym, append_assoc}
 use Rattle.std.proofs.KnownBytes.{Consumes-nil, Consumes-trans}
 use Rattle.std.proofs.lemmas.List.Elements.{All-take}
 use Rattle.byte_ends.specs.Answers.{AnswersLine, AnswersReadFault}
 use Rattle.byte_ends.specs.WholeLines.{feed, whole_lines}
-use Rattle.byte_ends.proofs.Outlooks.{whole_lines-line, whole_lines-none}
+use Rattle.byte_ends.proofs.Outlooks.{whole_lines-line, whole_lines-none, allowance-line}
 use Rattle.byte_ends.specs.Cutting.{Cutting, allowance}
 use Rattle.tenet_app.specs.Drafts.{IsDraft}
 use Rattle.tenet_app.specs.Plans.{Said, nothing_said, with_item}
@@ -36,12 +36,6 @@ foretells_next (Some bytes) (Some r) after f e = e ∙ f
 -- a draft with one line more is one
 pub draft_added : (said after : Said) → IsDraft said → IsAdded said after → IsDraft after
 draft_added said after d a = subst IsDraft (sym a.added) (draft_goes_on said a.line a.item d a.judged)
-
--- a line and its line feed use the allowance up
-allowance-line : (s t : Cutting) (left left' : Option (List ℕ)) → AnswersLine s t left left' → allowance s ≡ length t.line + 1 + allowance t
-allowance-line s t left left' a =
-    let m = a.moves in
-    omega (arith, a.within, m.counted, m.same_most, ap length m.joined, length-append s.pending m.bytes, length-append (t.line ++ feed ∷ []) t.pending, length-append t.line (feed ∷ []))
 
 -- a line that was let pass leaves the rest to be let pass
 pub passes_line : (s t : Cutting) (said after : Said) (left left' : Option (List ℕ)) (item : Item) → AnswersLine s t left left' → judge said t.line ≡ Ok item → after ≡ with_item item said

@@ -97,6 +97,7 @@ run_by : LinkShape → Said → Run
 unfolding run_of after_script after_ticks opened sent closed after_open way_back at_destination reply_to reply_at reserve_reply relax_reply deny_reply submit_reply release_reply sent_at clock_of scan_of after after_tick change_first without_first without_expired with_sources hold_ended here_at starts_below serve_tick is_waiting first_in_line goes_before held_packets slots_of need_of kept_units free_units planned_from eligible_next step_of source_packets rows_after lost_in work_in work_up_to load passes_up_to passes admits first_level best_level most_in first_from eligible may_follow
 run_by shape said = run_of shape said
 
+-- which is the run of the plan
 run_by-is : (shape : LinkShape) (said : Said) → run_by shape said ≡ run_of shape said
 unfolding run_by
 run_by-is shape said = refl
