@@ -1,6 +1,6 @@
 -- Before the first line, what is ahead comes to what all bytes come to, and so it does behind each line. What was
 -- read is a draft all the while.
-use Rattle.std.proofs.Common.{◌≡◌, ◌≢◌, ℕ, ◌+◌, false, List, [], ◌∷◌, ◌++◌, Option, Some, None, IfSome, Ok, Err, refl, ◌∙◌, ap, subst, sym, append_assoc}
+use Rattle.std.proofs.Common.{◌≡◌, ◌≢◌, ℕ, false, List, [], ◌∷◌, ◌++◌, Option, Some, None, IfSome, Ok, Err, refl, ◌∙◌, ap, subst, sym, append_assoc}
 use Rattle.std.proofs.KnownBytes.{Consumes-nil, Consumes-trans}
 use Rattle.std.proofs.lemmas.List.Elements.{All-take}
 use Rattle.byte_ends.specs.Answers.{AnswersLine, AnswersReadFault}
