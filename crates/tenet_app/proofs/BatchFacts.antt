@@ -3,11 +3,11 @@ use Rattle.std.proofs.Common.{◌≡◌, ℕ, suc, ◌+◌, ◌-◌, ◌<◌, �
 use Rattle.std.specs.Prelude.{filter, nat_eq}
 use Rattle.std.proofs.lemmas.Bool.{ne_eqb, lt-ltb, eqb-true, cases_Bool}
 use Rattle.std.proofs.lemmas.Grind.{drop_more_same}
-use Rattle.std.proofs.lemmas.List.{take_more, take_more_set, take_all, drop-set-lt, get_or-drop}
+use Rattle.std.proofs.lemmas.List.{take_more, take_more_set, drop-set-lt, get_or-drop}
 use Rattle.std.proofs.lemmas.List.Elements.{filter-append}
 use Rattle.tenet_app.specs.Tallies.{ticks_from, ticks_by, ticks_in, is_made, ticks_left}
 use Rattle.tenet_app.specs.declared.batch.Batch.{Batch}
-use Rattle.tenet_app.proofs.TallyFacts.{ticks_in-append, none-made}
+use Rattle.tenet_app.proofs.TickFacts.{ticks_in-append, none-made}
 
 -- ---- what stays of a batch behind a release
 
@@ -105,9 +105,3 @@ cut-next released clock old now i batch d inside long cut this = record {
         ap (λ batch. ticks_in number (take i old) ++ ticks_by number batch) there
         ∙ ap (λ ticks. ticks_in number (take i old) ++ ticks) (sym (append-nil (ticks_by number (get_or old i d))))
         ∙ sym (ap (ticks_in number) (take_more old i d (omega arith)) ∙ ticks_in-append number (take i old) (get_or old i d ∷ []))
-
--- once all are
-pub cut-all : (released clock : ℕ) (old now : List Batch) (i : ℕ) → length now ≤ i → length now ≡ length old → AreCut released clock old i now
-    → (number : ℕ) → ticks_in number now ≡ ticks_left released clock number (ticks_in number old)
-cut-all released clock old now i all long cut number =
-    sym (ap (ticks_in number) (take_all i now all)) ∙ cut.front number ∙ ap (λ bs. ticks_left released clock number (ticks_in number bs)) (take_all i old (omega arith))

@@ -1,7 +1,7 @@
 -- The one row of a channel, held or gone, through every step of a link: its plan is what the history tells of the
 -- channel, and its packets are those of the channel.
-use Rattle.std.proofs.Common.{◌≡◌, ◌≢◌, ◌⊎◌, inl, inr, ℕ, suc, ◌+◌, Bool, true, false, ◌&&◌, Some, None, Option, List, [], ◌∷◌, ◌++◌, length, map, refl, sym, ap, ◌∙◌, subst, arith, append-nil}
-use Rattle.std.proofs.lemmas.Bool.{cases_Bool, eqb-true, eqb-false, ne_eqb, eq-eqb, and_parts, and_from}
+use Rattle.std.proofs.Common.{◌≡◌, ◌≢◌, ◌⊎◌, inl, inr, ℕ, suc, ◌+◌, Bool, true, false, Some, None, List, [], ◌∷◌, ◌++◌, length, map, refl, sym, ap, ◌∙◌, subst, arith, append-nil}
+use Rattle.std.proofs.lemmas.Bool.{cases_Bool, eqb-true, eqb-false, ne_eqb, and_parts, and_from}
 use Rattle.std.proofs.lemmas.List.Elements.{filter-append}
 use Rattle.std.specs.Prelude.{filter, find, reverse, nat_eq}
 use Rattle.net_units.specs.Numbers.{channel_number, level_number}
@@ -15,7 +15,7 @@ use Rattle.link_steps.specs.Reservation.{is_same, tentative}
 use Rattle.link_steps.specs.Rows.{Row, SourcePacket, new_row, planned_from, left_at, made_by}
 use Rattle.link_steps.specs.Scan.{Scan, is_row_of, is_row_at_hop, relax_row, plan_row, close_row, without_expired, with_sources, after_tick, after}
 use Rattle.link_steps.specs.Service.{Arrival, here_at}
-use Rattle.link_steps.specs.Sources.{SourceStep, Rests, Brings, Loses, lead_with, source_tick, step_of, packet_of, row_after, taken_by, source_packets, rows_after}
+use Rattle.link_steps.specs.Sources.{SourceStep, Rests, Brings, Loses, lead_with, step_of, packet_of, row_after, taken_by, source_packets, rows_after}
 use Rattle.link_steps.specs.declared.asks.Ask.{Ask}
 use Rattle.link_steps.specs.declared.asks.Ask.TheVariants.{Reserve, Relax, Deny, Submit, Release, Arrive, Tick}
 use Rattle.link_steps.specs.declared.replies.Phase.TheVariants.{Committed}
@@ -25,7 +25,7 @@ use Rattle.link_steps.specs.declared.replies.Reply.TheVariants as Is
 use Rattle.link_steps.specs.declared.shape.LinkShape.{LinkShape}
 use Rattle.link_steps.proofs.ChangeFacts.{Each-passes}
 use Rattle.link_steps.proofs.FreeSlots.{eligible_of}
-use Rattle.link_steps.proofs.ListFacts.{Each-append, Each-from, Each-if, filter-filter, filter-same, find-filter}
+use Rattle.link_steps.proofs.ListFacts.{Each-append, Each-if, find-filter}
 use Rattle.link_steps.proofs.RefusalFacts.{kept-rule}
 use Rattle.link_steps.proofs.SourcesServed.{ticks-more}
 use Rattle.tenet_app.specs.Channels.{is_number, planned_after}
@@ -75,6 +75,7 @@ Spares n (Release chan (Some told)) = ⊥
 Spares n (Arrive packet) = ⊥
 Spares n Tick = Unit {0}
 
+-- with the same rows of the channel
 only-same : (n : ℕ) (row : Row) (rows others gone : List Row) → filter (is_row_in n) others ≡ filter (is_row_in n) rows → IsOnly n row rows gone → IsOnly n row others gone
 only-same n row rows others gone same (IsHeld held none) = IsHeld (same ∙ held) none
 only-same n row rows others gone same (IsGone none was) = IsGone (same ∙ none) was
@@ -102,6 +103,7 @@ record IsFound (n : ℕ) (chan : ChanNo) (row : Row) (rows gone : List Row) : Ty
   none : filter (is_row_in n) gone ≡ []
   found : find (is_row_at_hop chan true) rows ≡ Some row
 
+-- or the row is gone, and none is found
 finds : (n : ℕ) (chan : ChanNo) (row : Row) (rows gone : List Row) → channel_number chan ≡ n → row.terms.first ≡ true → IsOnly n row rows gone → IsFound n chan row rows gone ⊎ (find (is_row_at_hop chan true) rows ≡ None)
 finds n chan row rows gone same first (IsHeld held none) =
     let is : is_row_in n row ≡ true = (subst (Each (λ r. is_row_in n r ≡ true)) held (Each-passes (is_row_in n) rows)).0 in
@@ -122,6 +124,7 @@ only-changed n chan row change rows gone same keeps found =
 
 -- ---- a submit and a release
 
+-- a submit is planned from the clock on
 planned-at : (t size : ℕ) (row : Row) (clock : ℕ) → Is.Planned clock ≡ submit_to t size (Some row) → clock ≡ t
 unfolding submit_reply
 planned-at t size row clock same =
@@ -132,6 +135,7 @@ planned-at t size row clock same =
       planned-same : (a b : ℕ) → Is.Planned a ≡ Is.Planned b → a ≡ b
       planned-same a b same = cc
 
+-- it adds to the plan of the row
 has-planned : (n : ℕ) (contract : Terms) (level : ℕ) (plan : List SourcePacket) (scan : Scan) (t : ℕ) (chan : ChanNo) (count gap size clock : ℕ) → channel_number chan ≡ n → Is.Planned clock ≡ submit_to t size (find (is_row_at_hop chan true) scan.rows) → HasRow n contract level plan scan
     → HasRow n contract level (plan ++ planned_from clock gap size count) (record scan { rows = change_first (is_row_at_hop chan true) (plan_row t count gap size) scan.rows })
 has-planned n contract level plan scan t chan count gap size clock same answered has =
@@ -155,6 +159,7 @@ has-planned n contract level plan scan t chan count gap size clock same answered
       }
       by-found (inr none) = absurd (not-planned (answered ∙ ap (submit_to t size) none))
 
+-- a release leaves of it what was made
 has-closed : (n : ℕ) (contract : Terms) (level : ℕ) (plan : List SourcePacket) (scan : Scan) (t : ℕ) (chan : ChanNo) (count cancelled : ℕ) → channel_number chan ≡ n → Is.Closing count cancelled ≡ release_to t None (find (is_row_at_hop chan true) scan.rows) → HasRow n contract level plan scan
     → HasRow n contract level (made_by t plan) (record scan { rows = change_first (is_row_at_hop chan true) (close_row t count) scan.rows })
 has-closed n contract level plan scan t chan count cancelled same answered has =
@@ -180,6 +185,7 @@ has-closed n contract level plan scan t chan count cancelled same answered has =
 
 -- ---- a tick
 
+-- a step of its source leaves a row in its channel, and its packet is of the channel
 row-in : (n : ℕ) (step : SourceStep) (t place : ℕ) (row : Row) → is_row_in n (row_after step t place row) ≡ is_row_in n row
 row-in n (Brings size) t place row = refl
 row-in n Rests t place row = refl
@@ -198,7 +204,7 @@ packet-in n Loses t place row is = refl
 not-nil : (row : Row) (rows : List Row) → row ∷ rows ≡ [] → ⊥
 not-nil row rows same = cc
 
--- the sources of other channels
+-- the sources of other channels bring nothing of this one
 none-after : (n : ℕ) (bounds : List ℕ) (here : List Arrival) (t taken : ℕ) (rows : List Row) → filter (is_row_in n) rows ≡ []
     → (filter (is_row_in n) (rows_after bounds here t taken rows) ≡ []) × (filter (is_packet_in n) (source_packets bounds here t taken rows) ≡ [])
 unfolding rows_after source_packets
@@ -221,6 +227,7 @@ record MakesStep (n : ℕ) (bounds : List ℕ) (here : List Arrival) (t taken : 
 head-same : (a b : Row) (xs ys : List Row) → a ∷ xs ≡ b ∷ ys → (a ≡ b) × (xs ≡ ys)
 head-same a b xs ys same = (cc, cc)
 
+-- among those of other channels
 one-after : (n : ℕ) (bounds : List ℕ) (here : List Arrival) (t taken : ℕ) (row : Row) (rows : List Row) → filter (is_row_in n) rows ≡ row ∷ [] → MakesStep n bounds here t taken row rows
 unfolding rows_after source_packets
 one-after n bounds here t taken row [] one = absurd (not-nil row [] (sym one))
@@ -255,6 +262,7 @@ led-some lead place none =
       | inr some ↦ eqb-false lead 0 some (rw some at none)
     ]
 
+-- the row and its packets behind the step
 step-is : (contract : Terms) (level : ℕ) (plan : List SourcePacket) (own : List Arrival) (row : Row) (t place : ℕ) (step : SourceStep) → IsRowOf contract level plan own row → IsRowOf contract level plan (own ++ packet_of step t (suc place) row) (row_after step t (suc place) row)
 step-is contract level plan own row t place Rests is = rw (append-nil own) is
 step-is contract level plan own row t place Loses is =
@@ -311,12 +319,10 @@ gone-step n contract level plan bounds here t row rows gone packets none was is 
           (sym (filter-append (is_packet_in n) packets _ ∙ ap (λ new. filter (is_packet_in n) packets ++ new) rests.1 ∙ append-nil _)) is;
     }
 
+-- so the channel has one row behind a tick
 has-ticked : (n : ℕ) (contract : Terms) (level : ℕ) (plan : List SourcePacket) (shape : LinkShape) (t : ℕ) (scan : Scan) → HasRow n contract level plan scan → HasRow n contract level plan (after_tick shape t scan)
 unfolding after_tick with_sources without_expired
 has-ticked n contract level plan shape t scan has = by-place has.only where
-  bounds : List ℕ
-  bounds = shape.bounds
-
   stay : filter (is_row_in n) (filter (stays shape.bounds t) scan.rows) ≡ filter (stays shape.bounds t) (filter (is_row_in n) scan.rows)
   stay = filter-swap (is_row_in n) (stays shape.bounds t) scan.rows
 
@@ -342,6 +348,7 @@ has-ticked n contract level plan shape t scan has = by-place has.only where
 
 -- ---- one entry
 
+-- and so behind each entry that spares it
 pub has-after : (n : ℕ) (contract : Terms) (level : ℕ) (plan : List SourcePacket) (shape : LinkShape) (t : ℕ) (scan : Scan) (ask : Ask) (reply : Reply) → Spares n ask → reply ≡ reply_at shape t scan ask → HasRow n contract level plan scan
     → HasRow n contract level (planned_after n t plan ask reply) (after shape t scan ask reply)
 unfolding after reply_at

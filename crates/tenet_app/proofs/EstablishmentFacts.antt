@@ -1,19 +1,14 @@
 -- What the reply to a reserve comes to, and what is asked behind it.
-use Rattle.std.proofs.Common.{◌≡◌, ℕ, ◌+◌, ◌-◌, ◌<◌, ◌≤◌, true, false, List, length, map, refl, sym, subst, ◌∙◌, ap, ltb, arith}
+use Rattle.std.proofs.Common.{◌≡◌, ℕ, ◌-◌, ◌<◌, ◌≤◌, false, List, length, map, refl, sym, subst, ◌∙◌, ap, ltb, arith}
 use Rattle.std.specs.Prelude.{Result, Ok, Err, OnOk}
 use Rattle.std.proofs.lemmas.Bool.{le-ltb, lt-ltb}
 use Rattle.net_units.specs.Numbers.{level_number}
 use Rattle.net_units.specs.declared.numbers.ChanNo.{ChanNo}
 use Rattle.net_units.specs.declared.numbers.Level.{Level}
-use Rattle.net_units.proofs.BoundFacts.{bounds_parts}
-use Rattle.traffic_contract.specs.Admission.{best_level}
-use Rattle.traffic_contract.proofs.AdmissionFacts.{best_level-is}
 use Rattle.link_steps.specs.Levels.{level_of}
-use Rattle.link_steps.specs.Replies.{reserve_reply, reply_at, reply_to}
-use Rattle.link_steps.specs.Reservation.{admitted}
+use Rattle.link_steps.specs.Replies.{reply_at, reply_to}
 use Rattle.link_steps.specs.Rows.{row_terms}
-use Rattle.link_steps.specs.Scan.{clock_of, scan_of}
-use Rattle.link_steps.specs.Shape.{server_of}
+use Rattle.link_steps.specs.Scan.{scan_of}
 use Rattle.link_steps.specs.declared.asks.Ask.{Ask}
 use Rattle.link_steps.specs.declared.asks.Ask.TheVariants.{Relax, Deny}
 use Rattle.link_steps.specs.declared.replies.Entry.{Entry}
@@ -21,13 +16,13 @@ use Rattle.link_steps.specs.declared.replies.Refusal.{Refusal}
 use Rattle.link_steps.specs.declared.replies.Reply.{Reply}
 use Rattle.link_steps.specs.declared.replies.Reply.TheVariants as Is
 use Rattle.link_steps.specs.declared.shape.LinkShape.{LinkShape}
-use Rattle.link_steps.proofs.ReplyFacts.{offer-best}
 use Rattle.link_steps.proofs.LevelFacts.{same_level, level_of-number}
 use Rattle.tenet_app.specs.Establishment.{Settled, IsAccepted, IsTooLate, IsPending, reserve_for, delay_at, allotted, relaxed_to, way_back, at_destination, settled}
 use Rattle.tenet_app.specs.Run.{asked, replied, after_open}
 use Rattle.tenet_app.specs.Tallies.{IsAt, SameLink}
 use Rattle.tenet_app.specs.declared.player.Player.{Player}
 use Rattle.tenet_app.specs.declared.scenario.plan.Request.{Request}
+use Rattle.tenet_app.proofs.OfferFacts.{offer-is}
 
 -- the reply ends the setup: it offers nothing
 abbrev pub IsLast : Reply → Type 0
@@ -55,14 +50,8 @@ module _ (shape : LinkShape) (h : List Entry) (chan : ChanNo) (request : Request
 
   -- the level of an offer is one of the link's
   pub offer-within : (level reach : Level) → reply ≡ Is.Offer level reach → level_number level ≤ length shape.bounds
-  unfolding reply_to reply_at reserve_reply
-  offer-within level reach offer =
-      let held = map row_terms (scan_of shape h).rows in
-      let found = offer-best shape held chan request.contract request.delay 0 (best_level (server_of shape) (map admitted held) request.contract) level reach (sym offer ∙ is) in
-      let tells = best_level-is (server_of shape) (map admitted held) request.contract found.0 found.1 in
-      let most = (bounds_parts shape.bounds shape.bounds_rise).most in
-      let n = ap level_number found.2 ∙ level_of-number found.0 tells.from (omega (arith, tells.upto, most)) in
-      omega (arith, n, tells.upto)
+  unfolding reply_to reply_at
+  offer-within level reach offer = (offer-is shape (map row_terms (scan_of shape h).rows) chan request.contract request.delay 0 level reach (sym offer ∙ is)).most
 
 -- a reply that is neither is pending
 pub pending-else : (shape : LinkShape) (request : Request) (reply : Reply) → ((level reach : Level) → reply ≡ Is.Offer level reach → ⊥)

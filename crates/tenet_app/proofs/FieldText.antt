@@ -13,7 +13,7 @@ use Rattle.byte_ends.specs.Cutting.{HasNoFeed}
 use Rattle.byte_ends.specs.WholeLines.{feed}
 use Rattle.net_units.specs.Text.{is_letter, is_name_byte, begins_as_name, is_kept_word, is_name}
 use Rattle.tenet_app.specs.Fields.{is_space, fields_of, line_of, is_graphic, is_field, are_fields}
-use Rattle.tenet_app.proofs.DecimalFacts.{numerals}
+use Rattle.tenet_app.proofs.DecimalFacts.{numerals, all_digits}
 
 -- a byte of a field is none below 33
 graphic_apart : (b c : ℕ) → c < 33 → is_graphic b ≡ true → b ≢ c
@@ -95,10 +95,7 @@ name_field bs e =
 
 -- digits may stand in a field
 all_digits_graphic : (bs : List ℕ) → all_ascii_digits bs ≡ true → list_all is_graphic bs ≡ true
-all_digits_graphic [] e = refl
-all_digits_graphic (b ∷ bs) e =
-    let p = and_parts (is_ascii_digit b) (all_ascii_digits bs) e in
-    and_from (is_graphic b) (list_all is_graphic bs) (digit_graphic b p.0) (all_digits_graphic bs p.1)
+all_digits_graphic bs e = all_graphic is_ascii_digit digit_graphic bs (all_digits bs ∙ e)
 
 -- a decimal form is a field
 pub number_field : (n : ℕ) → n < 2 ^ 64 → is_field (decimal n) ≡ true

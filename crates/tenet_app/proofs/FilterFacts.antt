@@ -1,5 +1,6 @@
 -- What a filter passes of a list of which one element is changed or taken out.
 use Rattle.std.proofs.Common.{◌≡◌, inl, inr, Bool, true, false, ◌&&◌, List, [], ◌∷◌, refl, sym, ap, ◌∙◌}
+use Rattle.std.proofs.Math.Bool.{and_comm}
 use Rattle.std.proofs.lemmas.Bool.{cases_Bool}
 use Rattle.std.specs.Prelude.{filter}
 use Rattle.link_steps.specs.Lists.{change_first, without_first}
@@ -41,9 +42,4 @@ change-only test change x passes = rw passes refl
 
 pub filter-swap : {X : Type 0} (p q : X → Bool) (xs : List X) → filter p (filter q xs) ≡ filter q (filter p xs)
 filter-swap p q xs =
-    filter-filter p q xs ∙ filter-same _ _ xs (Each-from (λ x. (q x && p x) ≡ (p x && q x)) xs (λ x. swap (q x) (p x))) ∙ sym (filter-filter q p xs) where
-      swap : (a b : Bool) → (a && b) ≡ (b && a)
-      swap true true = refl
-      swap true false = refl
-      swap false true = refl
-      swap false false = refl
+    filter-filter p q xs ∙ filter-same _ _ xs (Each-from (λ x. (q x && p x) ≡ (p x && q x)) xs (λ x. and_comm (q x) (p x))) ∙ sym (filter-filter q p xs)

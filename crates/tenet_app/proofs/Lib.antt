@@ -1,4 +1,3 @@
-pub mod FieldFacts
 pub mod FormFacts
 pub mod DecimalFacts
 pub mod NameFacts
@@ -19,11 +18,10 @@ pub mod TextRead
 pub mod ReadBack
 pub mod Worked
 pub mod WorkedChannels
-pub mod DistinctFacts
-pub mod PlaceFacts
 pub mod ContractFacts
 pub mod ReadFacts
 pub mod TallyFacts
+pub mod TickFacts
 pub mod BatchFacts
 pub mod PlayerFacts
 pub mod ShapeFacts

@@ -3,6 +3,7 @@
 use Rattle.std.proofs.Common.{◌≡◌, ◌≢◌, ℕ, zero, suc, ◌+◌, ◌-◌, ◌≤◌, ◌==◌, Bool, true, false, not, List, [], ◌∷◌, ◌++◌, length, map, flat_map, refl, sym, ◌∙◌, ap, inl, inr, arith, append_assoc, length-append}
 use Rattle.std.proofs.lemmas.Bool.{cases_Bool, cases_lt, eqb-true}
 use Rattle.byte_ends.specs.WholeLines.{feed, with_front, whole_lines, all_given, ending_from, ending, Outlook, outlook}
+use Rattle.link_steps.specs.Lists.{Each}
 use Rattle.tenet_app.specs.Fields.{line_of, are_fields, ended_line}
 use Rattle.byte_ends.proofs.Outlooks.{whole_lines-line, ending_from-line, ending_from-too_long}
 use Rattle.tenet_app.proofs.FieldText.{line_no_feed}
@@ -39,8 +40,7 @@ whole_within most bs e =
 
 -- each line is made of fields
 abbrev pub AreLines : List (List (List ℕ)) → Type 0
-AreLines [] = Unit {0}
-AreLines (fields ∷ lines) = (are_fields fields ≡ true) × AreLines lines
+AreLines lines = Each (λ fields. are_fields fields ≡ true) lines
 
 -- lines of fields are the whole lines of their bytes, and nothing is left behind them
 pub lines_of_text : (lines : List (List (List ℕ))) (most : ℕ) → AreLines lines → length (flat_map ended_line lines) ≤ most

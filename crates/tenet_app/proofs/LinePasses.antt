@@ -15,7 +15,7 @@ use Rattle.tenet_app.specs.declared.scenario.cause.Cause.TheVariants as cause
 use Rattle.tenet_app.specs.declared.scenario.plan.Request.{Request}
 use Rattle.tenet_app.specs.declared.scenario.plan.Operation.{Operation}
 use Rattle.tenet_app.proofs.PassFacts.{RulesPass, all_pass, unless_passes, IsNumberFrom, number_passes, name_passes, new_name_passes, used_name_passes, no_items, contract_passes}
-use Rattle.tenet_app.proofs.PlaceFacts.{name_found}
+use Rattle.tenet_app.proofs.NameFacts.{name_found}
 
 -- what a link line that passes holds
 pub record LinkPasses (said : Said) (fields : List (List ℕ)) : Type 0 where

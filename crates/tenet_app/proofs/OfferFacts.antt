@@ -79,7 +79,6 @@ pub record IsFit (shape : LinkShape) (request : Request) (level reach : Level) :
 pub relaxed-fits : (shape : LinkShape) (request : Request) (level reach : Level) → OfferIs shape request.delay level reach → is_late shape request level ≡ false → IsFit shape request level reach
 relaxed-fits shape request level reach offer in_time =
     let by = ltb-false request.delay (delay_at shape (level_number level)) in_time in
-    let slack : ℕ = bound_at shape.bounds (level_number level) + (request.delay - delay_at shape (level_number level)) in
     let one = level.least in
     let from = within-least shape (bound_at shape.bounds (level_number level) + (request.delay - delay_at shape (level_number level))) (level_number level) offer.most (omega arith) in
     let upto = within-more shape (bound_at shape.bounds (level_number level) + (request.delay - delay_at shape (level_number level))) (max request.delay (bound_at shape.bounds (level_number level))) (relaxed_to shape request level)

@@ -26,7 +26,7 @@ use Rattle.tenet_app.specs.declared.scenario.plan.Operation.{Operation}
 use Rattle.tenet_app.specs.declared.scenario.plan.Request.{Request}
 use Rattle.tenet_app.specs.declared.scenario.plan.Send.{Send}
 use Rattle.tenet_app.proofs.PassFacts.{RulesPass}
-use Rattle.tenet_app.proofs.PlaceFacts.{among_at, place_at, distinct_drop}
+use Rattle.tenet_app.proofs.NameFacts.{among_at, place_at, distinct_drop}
 use Rattle.tenet_app.proofs.NumberText.{value-decimal, decimal_passes, decimals_pass, values-decimals}
 
 -- rules that pass each pass together
@@ -72,7 +72,7 @@ link_again link l =
     let cap = value-decimal link.cap (omega (arith, l.cap_most)) in
     let prop = value-decimal link.prop (omega (arith, l.prop)) in
     let buffer = value-decimal link.buffer (omega (arith, l.buffer)) in
-    let bounds = values-decimals link.bounds (λ i h. let each = b.each i h in omega (arith, each)) in
+    let bounds = values-decimals link.bounds (λ i h. let from = bound_from link.bounds l.bounds i h in omega (arith, from)) in
     rw (rate, cap, prop, buffer, bounds) refl
 
 -- a link line passes behind the header
@@ -92,13 +92,13 @@ link_back said link none l =
         (decimal_passes 0 1048576 link.prop (omega arith) l.prop (omega arith), (decimal_passes 0 262144 link.buffer (omega arith) l.buffer (omega arith), tt)),
       ),
     ) in
-    let bounds = decimals_pass 1 1048576 link.bounds b.each (omega arith) in
+    let bounds = decimals_pass 1 1048576 link.bounds (bound_from link.bounds l.bounds) (omega arith) in
     let left = pass_all (new_name_rule (link_names said) (field_at fields 1) ∷ name_rule (field_at fields 2) ∷ name_rule (field_at fields 3)
     ∷ link_numbers_rule fields ∷ bound_numbers_rule (bound_fields fields) ∷ [])
     (new_name_back (link_names said) link.name l.name new, (name_back link.from l.from, (name_back link.to l.to, (numbers, (bounds, tt))))) in
     pass_all (unless (has_form link_form fields) cause.Shape ∷ link_fields_rule said fields ∷ unless (nat_lt (length said.links) 32) cause.Many
     ∷ levels_rule (link_of fields) ∷ unless (nat_eq (length said.links) 0) cause.Later ∷ []) (
-      unless_holds (has_form link_form fields) cause.Shape (link_form_back link b),
+      unless_holds (has_form link_form fields) cause.Shape (link_form_back link l.bounds),
       (
         left,
         (

@@ -1,6 +1,7 @@
 -- What holds of a line that its rules let pass.
 use Rattle.std.proofs.Common.{◌≡◌, ℕ, ◌≤◌, Bool, true, false, not, ◌&&◌, nat_eq, nat_le, List, [], ◌∷◌, length, Option, Some, None, Ok, is_some, is_none, if◌then◌else◌, refl, inl, inr, arith}
 use Rattle.std.proofs.lemmas.Bool.{leb-true, eqb-true, eq-eqb, and_parts, not-true, both_ways, cases_lt}
+use Rattle.std.proofs.lemmas.List.{nil_from_length}
 use Rattle.net_units.specs.Text.{is_name}
 use Rattle.traffic_contract.specs.Contract.{Terms, IsContract, burst_of}
 use Rattle.traffic_contract.specs.Refusal.{first_bad, fits_xmin, fits_xave, fits_interval, fits_smax}
@@ -79,8 +80,7 @@ some_count n e = elim (cases_lt n 1) [ inl none ↦ absurd (both_ways (nat_eq n 
 
 -- a list of length 0
 pub no_items : {X : Type 0} (xs : List X) → nat_eq (length xs) 0 ≡ true → xs ≡ []
-no_items [] e = refl
-no_items (x ∷ xs) e = absurd (omega (arith, eqb-true (length (x ∷ xs)) 0 e))
+no_items xs e = nil_from_length xs (eqb-true (length xs) 0 e)
 
 -- a choice of none
 pub not_said : {X : Type 0} (o : Option X) → is_none o ≡ true → o ≡ None

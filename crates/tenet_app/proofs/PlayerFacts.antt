@@ -15,7 +15,8 @@ use Rattle.tenet_app.specs.Channels.{offered_in}
 use Rattle.tenet_app.specs.Run.{asked, after_ticks}
 use Rattle.tenet_app.specs.Tallies.{IsAt, SameLink, Tells, is_made, made_in}
 use Rattle.tenet_app.specs.declared.player.Player.{Player}
-use Rattle.tenet_app.proofs.TallyFacts.{clock-few, offered-made}
+use Rattle.tenet_app.proofs.TallyFacts.{clock-few}
+use Rattle.tenet_app.proofs.TickFacts.{offered-made}
 
 -- the link's clock is that of the history
 pub at-clock : (h : List Entry) (player : Player) → IsAt h player → player.link.clock ≡ clock_of h

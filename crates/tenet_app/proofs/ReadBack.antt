@@ -7,6 +7,7 @@ use Rattle.std.specs.Prelude.{unwrap_or}
 use Rattle.byte_ends.specs.WholeLines.{all_given}
 use Rattle.net_units.specs.Text.{is_name}
 use Rattle.net_units.proofs.BoundFacts.{bounds_parts}
+use Rattle.link_steps.proofs.ListFacts.{Each-append}
 use Rattle.tenet_app.specs.Causes.{Rule, judged}
 use Rattle.tenet_app.specs.Fields.{fields_of, line_of, are_fields, field_at}
 use Rattle.tenet_app.specs.Grammar.{may_stand, line_word, judge_as, judge_word, judge_fields, judge}
@@ -261,11 +262,6 @@ read_lines link said p =
     ∙ read_script said.script [] 2 link (rounds_of said) (tail_of said) p.sound named_begins p.script (plan_rounds link said p)
     ∙ ap IsRead (same_whole link said p)
 
--- two lists of lines
-AreLines-append : (xs ys : List (List (List ℕ))) → AreLines xs → AreLines ys → AreLines (xs ++ ys)
-AreLines-append [] ys p q = q
-AreLines-append (x ∷ xs) ys p q = (p.0, AreLines-append xs ys p.1 q)
-
 -- the lines of operations are made of fields
 script_are_lines : (script done : List Operation) (link : List ℕ) → is_name link ≡ true → AreNamed done → GoOn done script
     → AreLines (map (operation_fields link (names_of (requests_in (done ++ script)))) script)
@@ -284,7 +280,7 @@ plan_are_lines link said p =
       refl,
       (
         link_is_line link p.sound,
-        AreLines-append (map (operation_fields link.name (request_names said)) said.script) (last_lines (rounds_of said) (tail_of said))
+        Each-append (λ fields. are_fields fields ≡ true) (map (operation_fields link.name (request_names said)) said.script) (last_lines (rounds_of said) (tail_of said))
             (script_are_lines said.script [] link.name p.sound.name named_begins p.script)
             (rounds_is_line (rounds_of said) few.rounds_most, (tail_is_line (tail_of said) few.tail_most, tt)),
       ),

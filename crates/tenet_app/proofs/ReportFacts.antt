@@ -1,13 +1,10 @@
 -- The lines of a report, one after another.
-use Rattle.std.proofs.Common.{◌≡◌, ℕ, zero, suc, ◌+◌, ◌<◌, ◌≤◌, Bool, Option, List, [], ◌∷◌, ◌++◌, length, map, drop, get_or, refl, sym, ◌∙◌, ap, arith, add-one, append_assoc, append-nil}
-use Rattle.std.proofs.Math.Seq.{drop-cons}
+use Rattle.std.proofs.Common.{◌≡◌, ℕ, zero, suc, ◌+◌, ◌<◌, Bool, Option, List, ◌++◌, length, get_or, refl, ◌∙◌, ap, arith, append_assoc}
 use Rattle.traffic_contract.specs.Keeping.{keeps}
 use Rattle.link_steps.specs.declared.replies.Entry.{Entry}
-use Rattle.tenet_app.specs.Channels.{offered_in, delays_in, least_of, worst_of, refused_in}
-use Rattle.tenet_app.specs.Establishment.{Settled, is_accepted, verdict_of}
-use Rattle.tenet_app.specs.Report.{told_line, source_words, tally_words, channel_line, line_if, channel_lines}
-use Rattle.tenet_app.specs.Tallies.{IsAt, Tells, tally_of, each_from, tallies_of}
-use Rattle.tenet_app.specs.declared.establishment.Verdict.{Verdict}
+use Rattle.tenet_app.specs.Channels.{offered_in}
+use Rattle.tenet_app.specs.Report.{told_line, source_words, tally_words, channel_line}
+use Rattle.tenet_app.specs.Tallies.{IsAt, tally_of, each_from}
 use Rattle.tenet_app.specs.declared.player.Player.{Player}
 use Rattle.tenet_app.specs.declared.scenario.plan.Request.{Request}
 use Rattle.tenet_app.specs.declared.tally.Tally.{Tally}

@@ -1,6 +1,6 @@
 -- A rule over a list of fields goes on from one field to the next.
-use Rattle.std.proofs.Common.{◌≡◌, ℕ, zero, suc, ◌+◌, ◌-◌, ◌<◌, ◌≤◌, List, [], ◌∷◌, Some, None, map, length, get_or, take, drop, refl, sym, ◌∙◌, ap, arith, add-one, get_or-drop, get_or-take, length-take-le, length-drop, true, false, cond}
-use Rattle.std.proofs.lemmas.List.{drop_all}
+use Rattle.std.proofs.Common.{◌≡◌, ℕ, zero, suc, ◌+◌, ◌-◌, ◌<◌, ◌≤◌, List, [], ◌∷◌, ◌++◌, Some, None, map, length, get_or, take, drop, refl, sym, ◌∙◌, ap, ap₂, arith, add-one, get_or-drop, get_or-take, length-take-le, length-drop, true, false, cond}
+use Rattle.std.proofs.lemmas.List.{map-append, take_more, take_more_set}
 use Rattle.std.specs.Prelude.{IsErrAnd, Result}
 use Rattle.std.proofs.lemmas.Result.{err_from_is_err_and}
 use Rattle.std.proofs.Math.ListN.{set}
@@ -30,10 +30,6 @@ pub rules_stop : (rule : List ℕ → Rule) (fields : List (List ℕ)) (place : 
 rules_stop rule fields place field cause h e n =
     rules_next_suc rule fields place h ∙ ap (λ r. or_else r (rules_from rule fields (suc place))) (ap rule (sym e) ∙ n)
 
--- behind the last field nothing is refused
-pub rules_end : (rule : List ℕ → Rule) (fields : List (List ℕ)) (place : ℕ) → length fields ≤ place → rules_from rule fields place ≡ None
-rules_end rule fields place h = ap (λ fs. first_cause (map rule fs)) (drop_all place fields h)
-
 -- a route is within the line
 pub route_within : (fields : List (List ℕ)) → route_length fields ≤ length fields
 route_within [] = omega arith
@@ -56,19 +52,11 @@ judges_stop r rule said cause h e =
     let p = err_from_is_err_and r h in
     rw (p.1) (e ∙ ap (λ y. Some y) (sym p.2))
 
-cells_more_suc : (cells : List ℕ) (fields : List (List ℕ)) (place value : ℕ) → place < length fields → place < length cells → take place cells ≡ map value_of (take place fields) → value ≡ value_of (get_or fields place []) → take (suc place) (set cells place value) ≡ map value_of (take (suc place) fields)
-cells_more_suc [] fields place value h k e v = absurd (omega arith)
-cells_more_suc (x ∷ cells) [] place value h k e v = absurd (omega arith)
-cells_more_suc (x ∷ cells) (f ∷ fields) zero value h k e v = ap (λ y. y ∷ []) v
-cells_more_suc (x ∷ cells) (f ∷ fields) (suc place) value h k e v =
-    let rest : take place cells ≡ map value_of (take place fields) = cc in
-    let head : x ≡ value_of f = cc in
-    let more : take (suc place) (set cells place value) ≡ map value_of (take (suc place) fields) = cells_more_suc cells fields place value (omega arith) (omega arith) rest v in
-    cc
-
 -- the front of the cells with one more number
 pub cells_more : (cells : List ℕ) (fields : List (List ℕ)) (place value : ℕ) → place < length fields → place < length cells → take place cells ≡ map value_of (take place fields) → value ≡ value_of (get_or fields place []) → take (place + 1) (set cells place value) ≡ map value_of (take (place + 1) fields)
-cells_more cells fields place value h k e v = rw add-one (cells_more_suc cells fields place value h k e v)
+cells_more cells fields place value h k e v =
+    take_more_set cells place value k ∙ ap₂ (λ front last. front ++ last ∷ []) e v
+    ∙ sym (ap (map value_of) (take_more fields place [] h) ∙ map-append value_of (take place fields) (get_or fields place [] ∷ []))
 
 -- the place of a bound among the last fields
 pub bound_place : (fields : List (List ℕ)) (count left place : ℕ) → count ≡ length fields → left ≡ count - 13 → place < left → place < length (bound_fields fields)
@@ -77,11 +65,3 @@ bound_place fields count left place c l h = omega (arith, length-drop 13 fields)
 -- the field of a bound
 pub bound_field : (fields : List (List ℕ)) (place : ℕ) → get_or fields (13 + place) [] ≡ get_or (bound_fields fields) place []
 bound_field fields place = sym (rw get_or-drop refl)
-
--- a rule that lets the line pass leaves it to those behind it
-pub first_pass : (rule : Rule) (rules : List Rule) (cause : Rule) → rule ≡ None → first_cause rules ≡ cause → first_cause (rule ∷ rules) ≡ cause
-first_pass rule rules cause n e = ap (λ r. or_else r (first_cause rules)) n ∙ e
-
--- a rule that refuses gives the cause
-pub first_stop : (rule : Rule) (rules : List Rule) (cause : Cause) → rule ≡ Some cause → first_cause (rule ∷ rules) ≡ Some cause
-first_stop rule rules cause e = ap (λ r. or_else r (first_cause rules)) e

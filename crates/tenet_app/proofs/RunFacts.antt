@@ -1,4 +1,4 @@
--- A run, operation by operation: where its player stands, and that its history is legal.
+-- A run, operation by operation: where its player stands, and that each operation can be made.
 use Rattle.std.proofs.Common.{◌≡◌, ℕ, zero, suc, ◌+◌, ◌<◌, ◌≤◌, Bool, true, false, if◌then◌else◌, List, [], ◌∷◌, ◌++◌, length, map, take, drop, get_or, refl, sym, subst, ◌∙◌, ap, arith, append-nil, append_assoc, length-append}
 use Rattle.std.proofs.lemmas.List.{take_more, length-map, map-append, take-append-drop}
 use Rattle.net_units.specs.declared.numbers.ChanNo.{ChanNo}

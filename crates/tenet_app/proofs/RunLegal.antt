@@ -9,7 +9,6 @@ use Rattle.link_steps.specs.HopGuarantee.{AfterEach, HeldRowsPass, HopGuarantee}
 use Rattle.link_steps.specs.Legal.{AskFits, IsLegal}
 use Rattle.link_steps.specs.Levels.{level_of}
 use Rattle.link_steps.specs.Replies.{reply_to}
-use Rattle.link_steps.specs.declared.asks.Ask.{Ask}
 use Rattle.link_steps.specs.declared.asks.Ask.TheVariants.{Relax, Deny, Tick}
 use Rattle.link_steps.specs.declared.replies.Entry.{Entry}
 use Rattle.link_steps.specs.declared.replies.Reply.{Reply}
@@ -18,6 +17,7 @@ use Rattle.link_steps.specs.declared.shape.LinkShape.{LinkShape}
 use Rattle.link_steps.proofs.AdmissionHolds.{held_rows-pass}
 use Rattle.link_steps.specs.SourceGuarantee.{SourceGuarantee}
 use Rattle.link_steps.proofs.HopHolds.{hop-guarantee}
+use Rattle.link_steps.proofs.RuleFacts.{legal-answered}
 use Rattle.link_steps.proofs.SourceHistory.{source-guarantee}
 use Rattle.tenet_app.specs.Establishment.{channel_at, reserve_for, relaxed_to, is_late, way_back, is_accepted}
 use Rattle.tenet_app.specs.Plans.{Said, rounds_of, tail_of, MayFollow, GoOn, IsScript, IsRequest}
@@ -26,11 +26,6 @@ use Rattle.tenet_app.specs.declared.scenario.plan.Operation.{Operation}
 use Rattle.tenet_app.specs.declared.scenario.plan.Operation.TheVariants as operation
 use Rattle.tenet_app.specs.declared.scenario.plan.Request.{Request}
 use Rattle.tenet_app.specs.declared.scenario.plan.Send.{Send}
-
--- an ask that meets its conditions, with its legal reply
-legal-asked : (shape : LinkShape) (h : List Entry) (ask : Ask) → AskFits shape ask → IsLegal shape h → IsLegal shape (asked shape h ask)
-unfolding IsLegal
-legal-asked shape h ask fits legal = (legal, record { fits = fits; answered = refl })
 
 -- a number of levels that are within some ticks is that of a level of the link, or 0
 level-fits : (shape : LinkShape) (x : ℕ) → level_number (level_of (levels_within shape.bounds x)) ≤ length shape.bounds
@@ -47,27 +42,27 @@ back-fits shape chan request offered = go (is_late shape request offered) where
   go false = record { level_most = level-fits shape _; bound_most = omega arith }
 
 legal-replied : (shape : LinkShape) (h : List Entry) (chan : ChanNo) (request : Request) (reply : Reply) → IsLegal shape h → IsLegal shape (replied shape h chan request reply)
-legal-replied shape h chan request (Is.Offer level reach) legal = legal-asked shape h (way_back shape chan request level) (back-fits shape chan request level) legal
+legal-replied shape h chan request (Is.Offer level reach) legal = legal-answered shape h (way_back shape chan request level) legal (back-fits shape chan request level)
 legal-replied shape h chan request _ legal = legal
 
 legal-open : (shape : LinkShape) (h : List Entry) (chan : ChanNo) (request : Request) → IsRequest request → IsLegal shape h → IsLegal shape (after_open shape h chan request)
 unfolding after_open
 legal-open shape h chan request sound legal =
     legal-replied shape (asked shape h (reserve_for chan request)) chan request (reply_to shape h (reserve_for chan request))
-    (legal-asked shape h (reserve_for chan request) (record { is_contract = sound.contract; reach_most = omega arith; nothing_before = λ first. refl }) legal)
+    (legal-answered shape h (reserve_for chan request) legal (record { is_contract = sound.contract; reach_most = omega arith; nothing_before = λ first. refl }))
 
 legal-send : (shape : LinkShape) (run : Run) (send : Send) → AskFits shape (submit_for send) → IsLegal shape run.history → IsLegal shape (sent shape run send).history
 unfolding sent
 legal-send shape run send fits legal = go (is_accepted (verdict_at send.request run.verdicts)) where
   go : (b : Bool) → IsLegal shape (if b then record run { history = asked shape run.history (submit_for send) } else run).history
-  go true = legal-asked shape run.history (submit_for send) fits legal
+  go true = legal-answered shape run.history (submit_for send) legal fits
   go false = legal
 
 legal-close : (shape : LinkShape) (run : Run) (request : ℕ) → IsLegal shape run.history → IsLegal shape (closed shape run request).history
 unfolding closed
 legal-close shape run request legal = go (is_accepted (verdict_at request run.verdicts)) where
   go : (b : Bool) → IsLegal shape (if b then record run { history = asked shape run.history (release_of request) } else run).history
-  go true = legal-asked shape run.history (release_of request) tt legal
+  go true = legal-answered shape run.history (release_of request) legal tt
   go false = legal
 
 -- an operation that may follow those done
@@ -95,7 +90,7 @@ legal-script shape run done (next ∷ script) goes legal =
 legal-ticks : (shape : LinkShape) (h : List Entry) (n : ℕ) → IsLegal shape h → IsLegal shape (after_ticks shape h n)
 unfolding after_ticks
 legal-ticks shape h zero legal = legal
-legal-ticks shape h (suc n) legal = legal-asked shape (after_ticks shape h n) Tick tt (legal-ticks shape h n legal)
+legal-ticks shape h (suc n) legal = legal-answered shape (after_ticks shape h n) Tick (legal-ticks shape h n legal) tt
 
 -- the run of a plan, over a link of any shape
 pub legal-run : (shape : LinkShape) (said : Said) → IsScript said.script → IsLegal shape (run_of shape said).history

@@ -1,6 +1,6 @@
 -- In every run each accepted request has one row at the link, with its contract, at its level, and with the plan that
 -- the history tells of its channel.
-use Rattle.std.proofs.Common.{◌≡◌, ◌≢◌, inl, inr, ℕ, suc, ◌+◌, ◌-◌, ◌<◌, ◌≤◌, Bool, true, false, Some, None, List, [], ◌∷◌, ◌++◌, length, map, refl, sym, ap, ◌∙◌, subst, arith, append-nil, append_assoc, length-append, if◌then◌else◌}
+use Rattle.std.proofs.Common.{◌≡◌, ◌≢◌, inl, inr, ℕ, suc, ◌+◌, ◌<◌, ◌≤◌, Bool, true, false, Some, None, List, [], ◌∷◌, ◌++◌, length, map, refl, sym, ap, ◌∙◌, subst, arith, append-nil, append_assoc, length-append, if◌then◌else◌}
 use Rattle.std.specs.Prelude.{filter, find, nat_eq}
 use Rattle.std.proofs.lemmas.Bool.{cases_Bool, eq-eqb, ne_eqb}
 use Rattle.std.proofs.lemmas.List.Elements.{filter-append}
@@ -32,7 +32,6 @@ use Rattle.tenet_app.specs.Run.{Run, asked, replied, after_open, opened, verdict
 use Rattle.tenet_app.specs.declared.scenario.plan.Operation.{Operation}
 use Rattle.tenet_app.specs.declared.scenario.plan.Operation.TheVariants as operation
 use Rattle.tenet_app.specs.declared.scenario.plan.Request.{Request}
-use Rattle.tenet_app.specs.declared.scenario.plan.Send.{Send}
 use Rattle.tenet_app.proofs.ChannelRow.{is_row_in, IsHeld, IsOf, HasRow, Spares, has-after}
 use Rattle.tenet_app.proofs.FilterFacts.{filter-change-own, change-only}
 use Rattle.tenet_app.proofs.RunFacts.{opened-verdicts}
@@ -42,11 +41,13 @@ use Rattle.tenet_app.proofs.OfferFacts.{offer-is, relaxed-fits, relax-granted}
 
 -- ---- the row of a request that is accepted
 
+-- behind rows of lower channels, the row of a channel is found
 find-last : (n : ℕ) (chan : ChanNo) (rows : List Row) (row : Row) → channel_number chan ≡ n → row.terms.chan ≡ chan → Each (IsBelow n) rows → find (is_of chan) (map row_terms (rows ++ row ∷ [])) ≡ Some row.terms
 find-last n chan [] row same own below = rw (eq-eqb (channel_number row.terms.chan) (channel_number chan) (ap channel_number own)) refl
 find-last n chan (r ∷ rows) row same own below =
     rw (ne_eqb (channel_number r.terms.chan) (channel_number chan) (λ e. omega (arith, e, same, below.0))) (find-last n chan rows row same own below.1)
 
+-- none of these is the channel's
 none-in : (n : ℕ) (rows : List Row) → Each (IsBelow n) rows → filter (is_row_in n) rows ≡ []
 none-in n [] below = refl
 none-in n (r ∷ rows) below = rw (ne_eqb (channel_number r.terms.chan) n (λ e. omega (arith, e, below.0))) (none-in n rows below.1)
@@ -55,11 +56,15 @@ none-in n (r ∷ rows) below = rw (ne_eqb (channel_number r.terms.chan) n (λ e.
 abbrev row_for : ChanNo → Request → Level → Level → Row
 row_for chan request level reach = new_row (tentative chan request.contract Rate true None 0 level reach)
 
+-- the scan with one row more
+abbrev with_row : Scan → Row → Scan
+with_row scan row = record scan { rows = scan.rows ++ row ∷ [] }
+
+-- where its channel is the only one of its number, the relax makes it the row of an accepted request
 relaxed-row : (n : ℕ) (shape : LinkShape) (t : ℕ) (scan : Scan) (chan : ChanNo) (request : Request) (level reach relaxed : Level) (clock : ℕ) → channel_number chan ≡ n → Each (IsBelow n) scan.rows → scan.gone ≡ [] → scan.packets ≡ []
-    → HasRow n request.contract (level_number relaxed) [] (after shape t (record scan { rows = scan.rows ++ row_for chan request level reach ∷ [] }) (Relax chan relaxed 0) (Is.Relaxed clock))
+    → HasRow n request.contract (level_number relaxed) [] (after shape t (with_row scan (row_for chan request level reach)) (Relax chan relaxed 0) (Is.Relaxed clock))
 unfolding after
 relaxed-row n shape t scan chan request level reach relaxed clock same below no_gone no_packets =
-    let row : Row = row_for chan request level reach in
     let own : is_row_of chan (row_for chan request level reach) ≡ true = eq-eqb (channel_number chan) (channel_number chan) refl in
     let in_own : is_row_in n (row_for chan request level reach) ≡ true = eq-eqb (channel_number chan) n same in
     let rows : filter (is_row_in n) (scan.rows ++ row_for chan request level reach ∷ []) ≡ row_for chan request level reach ∷ [] =
@@ -95,6 +100,7 @@ RowsAreKept shape h number [] [] = Unit {0}
 RowsAreKept shape h number (request ∷ requests) (verdict ∷ verdicts) = RowIsKept shape h number request verdict × RowsAreKept shape h (suc number) requests verdicts
 RowsAreKept shape h number _ _ = ⊥
 
+-- an ask that spares a channel keeps its row
 has-asked : (n : ℕ) (contract : Terms) (level : ℕ) (shape : LinkShape) (h : List Entry) (ask : Ask) → Spares n ask → HasRow n contract level (planned_in n h) (scan_of shape h)
     → HasRow n contract level (planned_in n (asked shape h ask)) (scan_of shape (asked shape h ask))
 unfolding planned_in scan_of reply_to
@@ -111,6 +117,7 @@ rows-asked shape h ask n (request ∷ requests) (verdict ∷ verdicts) spares ke
 rows-asked shape h ask n [] (verdict ∷ verdicts) spares kept = absurd kept
 rows-asked shape h ask n (request ∷ requests) [] spares kept = absurd kept
 
+-- with one more request
 rows-push : (shape : LinkShape) (h : List Entry) (n : ℕ) (requests : List Request) (verdicts : List Settled) (request : Request) (verdict : Settled) → RowsAreKept shape h n requests verdicts → RowIsKept shape h (n + length verdicts) request verdict
     → RowsAreKept shape h n (requests ++ request ∷ []) (verdicts ++ verdict ∷ [])
 rows-push shape h n [] [] request verdict kept last = (let e : n + 0 ≡ n = omega arith in (subst (λ m. RowIsKept shape h m request verdict) e last, tt))
@@ -130,6 +137,7 @@ pub record Stands (shape : LinkShape) (n : ℕ) (requests : List Request) (verdi
   pub unplanned : (m : ℕ) → n ≤ m → planned_in m h ≡ []
   pub rows : RowsAreKept shape h 0 requests verdicts
 
+-- an ask of a script takes no packet, and no row expires
 after-still : (n : ℕ) (shape : LinkShape) (t : ℕ) (scan : Scan) (ask : Ask) (reply : Reply) → AsksBelow n ask → ((after shape t scan ask reply).gone ≡ scan.gone) × ((after shape t scan ask reply).packets ≡ scan.packets)
 unfolding after
 after-still n shape t scan (Reserve chan contract kind delay up_reach first next) (Is.Offer level reach) setup = (refl, refl)
@@ -141,6 +149,7 @@ after-still n shape t scan (Arrive packet) reply setup = absurd setup
 after-still n shape t scan Tick reply setup = absurd setup
 after-still n shape t scan _ _ setup = (refl, refl)
 
+-- one more ask
 stands-asked : (shape : LinkShape) (n : ℕ) (requests : List Request) (verdicts : List Settled) (h : List Entry) (ask : Ask) → AsksBelow n ask → ((i : ℕ) → i < length verdicts → Spares i ask)
     → ((m : ℕ) (reply : Reply) → n ≤ m → planned_after m (clock_of h) (planned_in m h) ask reply ≡ planned_in m h) → Stands shape n requests verdicts h → Stands shape n requests verdicts (asked shape h ask)
 unfolding scan_of planned_in reply_to
@@ -180,63 +189,65 @@ back-plans m t plan shape chan request level reply = go (is_late shape request l
   go true = refl
   go false = refl
 
-module _ (shape : LinkShape) (n : ℕ) (requests : List Request) (verdicts : List Settled) (h : List Entry) (request : Request) (few : n < 1024) (count : length verdicts ≡ n) where
-  chan : ChanNo
-  chan = channel_at n
+-- behind the reserve of the request at place n
+abbrev reserved : LinkShape → List Entry → ℕ → Request → List Entry
+reserved shape h n request = asked shape h (reserve_for (channel_at n) request)
 
+module _ (shape : LinkShape) (n : ℕ) (requests : List Request) (verdicts : List Settled) (h : List Entry) (request : Request) (few : n < 1024) (count : length verdicts ≡ n) where
+  -- the channels before it have other numbers
   other : (i : ℕ) → i < length verdicts → channel_number (channel_at n) ≢ i
   other i less same = omega (arith, channel-number n few, less, count, same)
 
   -- behind the reserve
-  stands-reserved : Stands shape n requests verdicts h → Stands shape (n + 1) requests verdicts (asked shape h (reserve_for (channel_at n) request))
+  stands-reserved : Stands shape n requests verdicts h → Stands shape (n + 1) requests verdicts (reserved shape h n request)
   stands-reserved stands =
       stands-asked shape (n + 1) requests verdicts h (reserve_for (channel_at n) request) (omega (arith, channel-number n few)) other (λ m reply above. refl) (stands-more shape n requests verdicts h stands)
 
-  stands-back : (level : Level) → Stands shape n requests verdicts h → Stands shape (n + 1) requests verdicts (asked shape (asked shape h (reserve_for (channel_at n) request)) (way_back shape (channel_at n) request level))
+  -- and behind the way back
+  stands-back : (level : Level) → Stands shape n requests verdicts h → Stands shape (n + 1) requests verdicts (asked shape (reserved shape h n request) (way_back shape (channel_at n) request level))
   stands-back level stands =
-      let between : List Entry = asked shape h (reserve_for (channel_at n) request) in
-      stands-asked shape (n + 1) requests verdicts (asked shape h (reserve_for (channel_at n) request)) (way_back shape (channel_at n) request level) (back-below (n + 1) shape (channel_at n) request level)
+      stands-asked shape (n + 1) requests verdicts (reserved shape h n request) (way_back shape (channel_at n) request level) (back-below (n + 1) shape (channel_at n) request level)
       (λ i less. back-spares i shape (channel_at n) request level (other i less))
-      (λ m reply above. back-plans m (clock_of (asked shape h (reserve_for (channel_at n) request))) (planned_in m (asked shape h (reserve_for (channel_at n) request))) shape (channel_at n) request level reply)
+      (λ m reply above. back-plans m (clock_of (reserved shape h n request)) (planned_in m (reserved shape h n request)) shape (channel_at n) request level reply)
       (stands-reserved stands)
 
   -- the scan behind the reserve of an offer
   scan-reserved : (level reach : Level) → Is.Offer level reach ≡ reply_to shape h (reserve_for (channel_at n) request)
-      → scan_of shape (asked shape h (reserve_for (channel_at n) request)) ≡ record (scan_of shape h) { rows = (scan_of shape h).rows ++ row_for (channel_at n) request level reach ∷ [] }
+      → scan_of shape (reserved shape h n request) ≡ with_row (scan_of shape h) (row_for (channel_at n) request level reach)
   unfolding scan_of after
   scan-reserved level reach offered = ap (after shape (clock_of h) (scan_of shape h) (reserve_for (channel_at n) request)) (sym offered)
 
   -- the relax is granted
   reply-relaxed : (level reach relaxed : Level) → Is.Offer level reach ≡ reply_to shape h (reserve_for (channel_at n) request) → level_number level ≤ level_number relaxed → level_number relaxed ≤ level_number reach → Stands shape n requests verdicts h
-      → reply_to shape (asked shape h (reserve_for (channel_at n) request)) (Relax (channel_at n) relaxed 0) ≡ Is.Relaxed (clock_of (asked shape h (reserve_for (channel_at n) request)))
+      → reply_to shape (reserved shape h n request) (Relax (channel_at n) relaxed 0) ≡ Is.Relaxed (clock_of (reserved shape h n request))
   unfolding reply_to reply_at
   reply-relaxed level reach relaxed offered from upto stands =
-      let clock : ℕ = clock_of (asked shape h (reserve_for (channel_at n) request)) in
-      ap (λ scan. relax_reply (clock_of (asked shape h (reserve_for (channel_at n) request))) relaxed 0 (find (is_of (channel_at n)) (map row_terms (scan.rows)))) (scan-reserved level reach offered)
-      ∙ ap (relax_reply (clock_of (asked shape h (reserve_for (channel_at n) request))) relaxed 0) (find-last n (channel_at n) (scan_of shape h).rows (row_for (channel_at n) request level reach) (channel-number n few) refl stands.below)
-      ∙ relax-granted (clock_of (asked shape h (reserve_for (channel_at n) request))) (channel_at n) request.contract level reach relaxed from upto
+      ap (λ scan. relax_reply (clock_of (reserved shape h n request)) relaxed 0 (find (is_of (channel_at n)) (map row_terms (scan.rows)))) (scan-reserved level reach offered)
+      ∙ ap (relax_reply (clock_of (reserved shape h n request)) relaxed 0) (find-last n (channel_at n) (scan_of shape h).rows (row_for (channel_at n) request level reach) (channel-number n few) refl stands.below)
+      ∙ relax-granted (clock_of (reserved shape h n request)) (channel_at n) request.contract level reach relaxed from upto
 
+  -- the scan behind it
   scan-relaxed : (level reach relaxed : Level) → Is.Offer level reach ≡ reply_to shape h (reserve_for (channel_at n) request) → level_number level ≤ level_number relaxed → level_number relaxed ≤ level_number reach → Stands shape n requests verdicts h
-      → scan_of shape (asked shape (asked shape h (reserve_for (channel_at n) request)) (Relax (channel_at n) relaxed 0))
-      ≡ after shape (clock_of (asked shape h (reserve_for (channel_at n) request))) (record (scan_of shape h) { rows = (scan_of shape h).rows ++ row_for (channel_at n) request level reach ∷ [] }) (Relax (channel_at n) relaxed 0) (Is.Relaxed (clock_of (asked shape h (reserve_for (channel_at n) request))))
+      → scan_of shape (asked shape (reserved shape h n request) (Relax (channel_at n) relaxed 0))
+      ≡ after shape (clock_of (reserved shape h n request)) (with_row (scan_of shape h) (row_for (channel_at n) request level reach)) (Relax (channel_at n) relaxed 0) (Is.Relaxed (clock_of (reserved shape h n request)))
   unfolding scan_of
   scan-relaxed level reach relaxed offered from upto stands =
-      ap (λ scan. after shape (clock_of (asked shape h (reserve_for (channel_at n) request))) scan (Relax (channel_at n) relaxed 0) (reply_to shape (asked shape h (reserve_for (channel_at n) request)) (Relax (channel_at n) relaxed 0))) (scan-reserved level reach offered)
-      ∙ ap (after shape (clock_of (asked shape h (reserve_for (channel_at n) request))) (record (scan_of shape h) { rows = (scan_of shape h).rows ++ row_for (channel_at n) request level reach ∷ [] }) (Relax (channel_at n) relaxed 0)) (reply-relaxed level reach relaxed offered from upto stands)
+      ap (λ scan. after shape (clock_of (reserved shape h n request)) scan (Relax (channel_at n) relaxed 0) (reply_to shape (reserved shape h n request) (Relax (channel_at n) relaxed 0))) (scan-reserved level reach offered)
+      ∙ ap (after shape (clock_of (reserved shape h n request)) (with_row (scan_of shape h) (row_for (channel_at n) request level reach)) (Relax (channel_at n) relaxed 0)) (reply-relaxed level reach relaxed offered from upto stands)
 
   -- so the channel has its row
   relaxed-has : (level reach relaxed : Level) → Is.Offer level reach ≡ reply_to shape h (reserve_for (channel_at n) request) → level_number level ≤ level_number relaxed → level_number relaxed ≤ level_number reach → Stands shape n requests verdicts h
-      → HasRow n request.contract (level_number relaxed) (planned_in n (asked shape (asked shape h (reserve_for (channel_at n) request)) (Relax (channel_at n) relaxed 0))) (scan_of shape (asked shape (asked shape h (reserve_for (channel_at n) request)) (Relax (channel_at n) relaxed 0)))
+      → HasRow n request.contract (level_number relaxed) (planned_in n (asked shape (reserved shape h n request) (Relax (channel_at n) relaxed 0))) (scan_of shape (asked shape (reserved shape h n request) (Relax (channel_at n) relaxed 0)))
   unfolding planned_in
   relaxed-has level reach relaxed offered from upto stands =
       let none : planned_in n h ≡ [] = stands.unplanned n (omega arith) in
-      let row = relaxed-row n shape (clock_of (asked shape h (reserve_for (channel_at n) request))) (scan_of shape h) (channel_at n) request level reach relaxed (clock_of (asked shape h (reserve_for (channel_at n) request))) (channel-number n few) stands.below stands.no_gone stands.no_packets in
-      subst (λ plan. HasRow n request.contract (level_number relaxed) plan (scan_of shape (asked shape (asked shape h (reserve_for (channel_at n) request)) (Relax (channel_at n) relaxed 0)))) (sym none)
+      let row = relaxed-row n shape (clock_of (reserved shape h n request)) (scan_of shape h) (channel_at n) request level reach relaxed (clock_of (reserved shape h n request)) (channel-number n few) stands.below stands.no_gone stands.no_packets in
+      subst (λ plan. HasRow n request.contract (level_number relaxed) plan (scan_of shape (asked shape (reserved shape h n request) (Relax (channel_at n) relaxed 0)))) (sym none)
       (subst (HasRow n request.contract (level_number relaxed) []) (sym (scan-relaxed level reach relaxed offered from upto stands)) row)
 
   -- what an offer comes to
   offer-kept : (level reach : Level) → Is.Offer level reach ≡ reply_to shape h (reserve_for (channel_at n) request) → Stands shape n requests verdicts h
-      → RowIsKept shape (asked shape (asked shape h (reserve_for (channel_at n) request)) (way_back shape (channel_at n) request level)) n request (at_destination shape request level)
+      → RowIsKept shape (asked shape (reserved shape h n request) (way_back shape (channel_at n) request level)) n request (at_destination shape request level)
   unfolding at_destination way_back reply_to reply_at
   offer-kept level reach offered stands =
       elim (cases_Bool (is_late shape request level)) [
@@ -244,9 +255,10 @@ module _ (shape : LinkShape) (n : ℕ) (requests : List Request) (verdicts : Lis
         | inr in_time ↦ (let offer = offer-is shape (map row_terms (scan_of shape h).rows) (channel_at n) request.contract request.delay 0 level reach offered in
             let fit = relaxed-fits shape request level reach offer in_time in
             let has = relaxed-has level reach (level_of (relaxed_to shape request level)) offered fit.from fit.upto stands in
-            rw in_time (subst (λ l. HasRow n request.contract l (planned_in n (asked shape (asked shape h (reserve_for (channel_at n) request)) (Relax (channel_at n) (level_of (relaxed_to shape request level)) 0))) (scan_of shape (asked shape (asked shape h (reserve_for (channel_at n) request)) (Relax (channel_at n) (level_of (relaxed_to shape request level)) 0)))) fit.is has, refl))
+            rw in_time (subst (λ l. HasRow n request.contract l (planned_in n (asked shape (reserved shape h n request) (Relax (channel_at n) (level_of (relaxed_to shape request level)) 0))) (scan_of shape (asked shape (reserved shape h n request) (Relax (channel_at n) (level_of (relaxed_to shape request level)) 0)))) fit.is has, refl))
       ]
 
+  -- with one more verdict
   stands-push : (verdict : Settled) (after_h : List Entry) → Stands shape (n + 1) requests verdicts after_h → RowIsKept shape after_h n request verdict → Stands shape (length (verdicts ++ verdict ∷ [])) (requests ++ request ∷ []) (verdicts ++ verdict ∷ []) after_h
   stands-push verdict after_h stands last =
       let place : n ≡ 0 + length verdicts = omega (arith, count) in
@@ -259,11 +271,12 @@ module _ (shape : LinkShape) (n : ℕ) (requests : List Request) (verdicts : Lis
         rows = rows-push shape after_h 0 requests verdicts request verdict stands.rows (subst (λ m. RowIsKept shape after_h m request verdict) place last);
       })
 
+  -- behind the whole setup
   stands-replied : (reply : Reply) → reply ≡ reply_to shape h (reserve_for (channel_at n) request) → Stands shape n requests verdicts h
-      → Stands shape (length (verdicts ++ settled shape request reply ∷ [])) (requests ++ request ∷ []) (verdicts ++ settled shape request reply ∷ []) (replied shape (asked shape h (reserve_for (channel_at n) request)) (channel_at n) request reply)
+      → Stands shape (length (verdicts ++ settled shape request reply ∷ [])) (requests ++ request ∷ []) (verdicts ++ settled shape request reply ∷ []) (replied shape (reserved shape h n request) (channel_at n) request reply)
   stands-replied (Is.Offer level reach) offered stands = stands-push (at_destination shape request level) _ (stands-back level stands) (offer-kept level reach offered stands)
   stands-replied (Is.Refused refusal) answered stands = stands-push (refused_as refusal) _ (stands-reserved stands) (none-kept refusal) where
-    none-kept : (refusal : Refusal) → RowIsKept shape (asked shape h (reserve_for (channel_at n) request)) n request (refused_as refusal)
+    none-kept : (refusal : Refusal) → RowIsKept shape (reserved shape h n request) n request (refused_as refusal)
     none-kept (NoLevel sum bound) = tt
     none-kept (NoBuffer need free) = tt
     none-kept (TooWide smax cap) = tt
@@ -277,6 +290,7 @@ module _ (shape : LinkShape) (n : ℕ) (requests : List Request) (verdicts : Lis
 
 -- ---- a send and a close
 
+-- those of another channel plan nothing for this one
 unplanned-submit : (m t : ℕ) (plan : List SourcePacket) (chan : ChanNo) (count gap size : ℕ) (reply : Reply) → is_number m chan ≡ false → planned_after m t plan (Submit chan count gap size) reply ≡ plan
 unplanned-submit m t plan chan count gap size (Is.Planned tick) out = rw out refl
 unplanned-submit m t plan chan count gap size _ out = refl

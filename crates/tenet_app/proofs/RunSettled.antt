@@ -32,7 +32,6 @@ use Rattle.tenet_app.specs.Run.{Run, no_steps, asked, replied, after_open, opene
 use Rattle.tenet_app.specs.declared.scenario.plan.Operation.{Operation}
 use Rattle.tenet_app.specs.declared.scenario.plan.Operation.TheVariants as operation
 use Rattle.tenet_app.specs.declared.scenario.plan.Request.{Request}
-use Rattle.tenet_app.specs.declared.scenario.plan.Send.{Send}
 use Rattle.tenet_app.proofs.RunFacts.{opened-verdicts}
 use Rattle.tenet_app.proofs.ScriptFacts.{requests_in-append}
 
@@ -175,7 +174,7 @@ operation-settled shape run (operation.Close request) few so_far = go (is_accept
   go true = record { settled = so_far.settled; below = asked-below (length run.verdicts) shape run.history (release_of request) tt so_far.below }
   go false = so_far
 
-pub few-verdicts : (done : List Operation) (next : Operation) (n : ℕ) → MayFollow done next → n ≡ length (requests_in done) → n < 1024 ⊎ (requests_in (next ∷ []) ≡ [])
+few-verdicts : (done : List Operation) (next : Operation) (n : ℕ) → MayFollow done next → n ≡ length (requests_in done) → n < 1024 ⊎ (requests_in (next ∷ []) ≡ [])
 few-verdicts done (operation.Caller name) n may count = inr refl
 few-verdicts done (operation.Open request) n may count = inl (omega (arith, may.few, count))
 few-verdicts done (operation.Send send) n may count = inr refl

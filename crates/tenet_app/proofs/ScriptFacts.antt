@@ -1,5 +1,6 @@
 -- The parts of a script behind which operations come, what is kept of it, and how much it has.
 use Rattle.std.proofs.Common.{◌≡◌, ℕ, zero, suc, ◌+◌, ◌<◌, ◌≤◌, Bool, true, false, ◌||◌, nat_eq, eqb, List, [], ◌∷◌, ◌++◌, length, get_or, set, refl, sym, ◌∙◌, ap, subst, arith, inl, inr, append-nil, append_assoc, length-append, get_or-set_same, get_or-set_other}
+use Rattle.std.proofs.Math.Bool.{or-true, or-false}
 use Rattle.std.proofs.lemmas.Bool.{cases_Bool, eqb-true, eqb-false, true≢false}
 use Rattle.std.proofs.lemmas.Cmp.{nat_eq_equiv}
 use Rattle.std.proofs.lemmas.List.{length-set}
@@ -86,29 +87,16 @@ closed-more script request = closed_in-append script (operation.Close request �
 -- whether the request at a place is closed then
 is_closed-more : (script : List Operation) (request place : ℕ) → is_closed (script ++ operation.Close request ∷ []) place ≡ (is_closed script place || nat_eq place request)
 is_closed-more script request place =
-    ap (list_any (nat_eq place)) (closed-more script request) ∙ list_any-append (nat_eq place) (closed_in script) (request ∷ []) ∙ last (is_closed script place) (nat_eq place request)
-  where
-    last : (a b : Bool) → (a || (b || false)) ≡ (a || b)
-    last true b = refl
-    last false true = refl
-    last false false = refl
+    ap (list_any (nat_eq place)) (closed-more script request) ∙ list_any-append (nat_eq place) (closed_in script) (request ∷ []) ∙ ap (λ last. is_closed script place || last) (or-false (nat_eq place request))
 
 -- the marks of a script with a close more
 pub marked-close : (script : List Operation) (closed : List Bool) (request : ℕ) → ((place : ℕ) → get_or closed place false ≡ is_closed script place) → request < length closed
     → (place : ℕ) → get_or (set closed request true) place false ≡ is_closed (script ++ operation.Close request ∷ []) place
 marked-close script closed request marked within place =
     elim (cases_Bool (nat_eq place request)) [
-      | inl same ↦ rw (is_closed-more script request place, same) (let e = eqb-true place request same in rw (e, get_or-set_same closed request true false within) (sym (or_true (is_closed script request))))
-      | inr other ↦ rw (is_closed-more script request place, other) (get_or-set_other closed request place true false (eqb-false place request other) ∙ marked place ∙ sym (or_false (is_closed script place)))
+      | inl same ↦ rw (is_closed-more script request place, same) (let e = eqb-true place request same in rw (e, get_or-set_same closed request true false within) (sym (or-true (is_closed script request))))
+      | inr other ↦ rw (is_closed-more script request place, other) (get_or-set_other closed request place true false (eqb-false place request other) ∙ marked place ∙ sym (or-false (is_closed script place)))
     ]
-  where
-    or_true : (a : Bool) → (a || true) ≡ true
-    or_true true = refl
-    or_true false = refl
-
-    or_false : (a : Bool) → (a || false) ≡ a
-    or_false true = refl
-    or_false false = refl
 
 -- and those of one with a request more
 pub marked-open : (script : List Operation) (closed : List Bool) (request : Request) → ((place : ℕ) → get_or closed place false ≡ is_closed script place)
@@ -193,14 +181,6 @@ GoOn-push done (first ∷ script) next g may = (
   g.0,
   GoOn-push (done ++ first ∷ []) script next g.1 (subst (λ front. MayFollow front next) (sym (append_assoc done (first ∷ []) script)) may),
 )
-
--- without a caller nothing is said
-pub no_script : (script : List Operation) → IsScript script → callers_in script ≡ [] → script ≡ []
-no_script [] is none = refl
-no_script (operation.Caller name ∷ script) is none = cc
-no_script (operation.Open request ∷ script) is none = absurd (omega (arith, is.0.caller))
-no_script (operation.Send send ∷ script) is none = absurd (omega (arith, is.0.caller))
-no_script (operation.Close request ∷ script) is none = absurd (omega (arith, is.0.caller))
 
 -- what each operation that may follow keeps, a script keeps
 pub script_keeps : (P : List Operation → Type 0) → ((done : List Operation) (next : Operation) → MayFollow done next → P done → P (done ++ next ∷ []))

@@ -11,7 +11,7 @@ use Rattle.tenet_app.specs.declared.scenario.plan.Operation.{Operation}
 use Rattle.tenet_app.specs.declared.scenario.plan.Operation.TheVariants as operation
 use Rattle.tenet_app.specs.declared.scenario.plan.Request.{Request}
 use Rattle.tenet_app.specs.declared.scenario.plan.Send.{Send}
-use Rattle.tenet_app.proofs.PlaceFacts.{distinct_push}
+use Rattle.tenet_app.proofs.NameFacts.{distinct_push}
 use Rattle.tenet_app.proofs.ScriptFacts.{requests_in-append}
 
 -- the names of the requests of two scripts

@@ -1,8 +1,8 @@
 -- Each link that can be read has a shape, which its numbers determine.
-use Rattle.std.proofs.Common.{◌≡◌, ◌<◌, ◌≤◌, Bool, true, false, ◌&&◌, Some, None, refl, sym, ◌∙◌, ap}
+use Rattle.std.proofs.Common.{◌≡◌, ◌<◌, ◌≤◌, Bool, true, false, Some, None, refl, sym, ◌∙◌, ap}
 use Rattle.std.specs.Prelude.{nat_le}
 use Rattle.std.proofs.Math.Bridge.{le_prop}
-use Rattle.std.proofs.lemmas.Bool.{le-leb}
+use Rattle.std.proofs.lemmas.Bool.{le-leb, and_from}
 use mathlib.Core.Bool.{Bool-set}
 use mathlib.Core.HLevel.{is_prop→PathP}
 use Rattle.net_units.specs.Numbers.{link_number}
@@ -50,16 +50,13 @@ where-some link false rooms bounds a b c x y z = cc
 where-some link true false bounds a b c x y z = cc
 where-some link true true false a b c x y z = cc
 
-both : (x y : Bool) → x ≡ true → y ≡ true → (x && y) ≡ true
-both x y a b = rw (a, b) refl
-
 module _ (link : Link) (sound : IsLink link) where
   -- each of the tests of a shape holds
   rate-within : is_within 1 65536 link.rate ≡ true
-  rate-within = both (nat_le 1 link.rate) (nat_le link.rate 65536) (le-leb 1 link.rate sound.rate_least) (le-leb link.rate 65536 sound.rate_most)
+  rate-within = and_from (nat_le 1 link.rate) (nat_le link.rate 65536) (le-leb 1 link.rate sound.rate_least) (le-leb link.rate 65536 sound.rate_most)
 
   cap-within : is_within 1 65536 link.cap ≡ true
-  cap-within = both (nat_le 1 link.cap) (nat_le link.cap 65536) (le-leb 1 link.cap sound.cap_least) (le-leb link.cap 65536 sound.cap_most)
+  cap-within = and_from (nat_le 1 link.cap) (nat_le link.cap 65536) (le-leb 1 link.cap sound.cap_least) (le-leb link.cap 65536 sound.cap_most)
 
   prop-within : nat_le link.prop 1048576 ≡ true
   prop-within = le-leb link.prop 1048576 sound.prop
@@ -75,9 +72,9 @@ module _ (link : Link) (sound : IsLink link) where
   unfolding shape_of
   shape-some =
       where-some link (has_rate link) (has_room link) (has_bounds link) refl refl refl
-      (both (is_within 1 65536 link.rate) (is_within 1 65536 link.cap) rate-within cap-within)
-      (both (nat_le link.prop 1048576) (nat_le link.buffer 262144) prop-within buffer-within)
-      (both (are_bounds link.bounds) (nat_le (ceil_quotient link.cap link.rate) (bound_at link.bounds 1)) sound.bounds prompt)
+      (and_from (is_within 1 65536 link.rate) (is_within 1 65536 link.cap) rate-within cap-within)
+      (and_from (nat_le link.prop 1048576) (nat_le link.buffer 262144) prop-within buffer-within)
+      (and_from (are_bounds link.bounds) (nat_le (ceil_quotient link.cap link.rate) (bound_at link.bounds 1)) sound.bounds prompt)
 
   -- that is the one with its numbers
   pub shape-is : (shape : LinkShape) → IsShape link shape → shape_of link ≡ Some shape

@@ -1,9 +1,6 @@
 -- What a history grows by is what the tallies grow by.
-use Rattle.std.proofs.Common.{◌≡◌, ℕ, zero, suc, ◌+◌, ◌-◌, ◌^◌, ◌<◌, ◌≤◌, Bool, true, false, if◌then◌else◌, Option, Some, None, List, [], ◌∷◌, ◌++◌, length, map, get_or, set, replicate, refl, sym, ◌∙◌, ap, arith, zero-add, append_assoc, append-nil, length-append}
-use Rattle.std.specs.Prelude.{filter, nat_eq}
-use Rattle.std.proofs.lemmas.Bool.{ne_eqb, eq-eqb, le-ltb, lt-ltb}
-use Rattle.std.proofs.lemmas.List.{map-append}
-use Rattle.std.proofs.lemmas.List.Elements.{filter-append}
+use Rattle.std.proofs.Common.{◌≡◌, ℕ, zero, suc, ◌+◌, ◌-◌, ◌^◌, ◌<◌, ◌≤◌, Bool, true, false, if◌then◌else◌, Option, Some, None, List, [], ◌∷◌, length, map, get_or, set, replicate, refl, ◌∙◌, ap, arith, zero-add, length-append}
+use Rattle.std.proofs.lemmas.Bool.{ne_eqb, eq-eqb}
 use Rattle.net_units.specs.Numbers.{channel_number}
 use Rattle.net_units.specs.declared.numbers.ChanNo.{ChanNo}
 use Rattle.link_steps.specs.declared.asks.Ask.{Ask}
@@ -13,12 +10,10 @@ use Rattle.link_steps.specs.declared.replies.Refusal.{Refusal}
 use Rattle.link_steps.specs.declared.replies.Reply.{Reply}
 use Rattle.link_steps.specs.declared.replies.Reply.TheVariants as Is
 use Rattle.link_steps.specs.declared.replies.Sent.{Sent}
-use Rattle.link_steps.specs.Rows.{SourcePacket, planned_from, made_by, is_before, tick_of}
+use Rattle.link_steps.specs.Rows.{SourcePacket, tick_of}
 use Rattle.link_steps.specs.Scan.{clock_of, clock_with}
-use Rattle.link_steps.proofs.ListFacts.{Each-from, filter-map}
-use Rattle.tenet_app.specs.Channels.{is_number, planned_after, planned_in, offered_in, refused_by, refused_in, sent_by, delay_of, delays_in, departures_by, departures_in, dropped_by, dropped_in}
-use Rattle.tenet_app.specs.Tallies.{tally_of, each_from, tallies_of, with_delay, with_refusal, change_at, with_packet, counted, AreFew, ticks_from, ticks_by, ticks_in, is_made, made_in, ticks_left, Tells}
-use Rattle.tenet_app.specs.declared.batch.Batch.{Batch}
+use Rattle.tenet_app.specs.Channels.{is_number, planned_after, planned_in, refused_by, refused_in, sent_by, delay_of, delays_in, departures_by, departures_in, dropped_by, dropped_in}
+use Rattle.tenet_app.specs.Tallies.{tally_of, each_from, tallies_of, with_delay, with_refusal, change_at, with_packet, counted, AreFew, ticks_in, Tells}
 use Rattle.tenet_app.specs.declared.tallies.Tallies.{Tallies}
 use Rattle.tenet_app.specs.declared.tally.Tally.{Tally}
 
@@ -205,49 +200,6 @@ few-from h k (suc n) few = (omega (arith, refused-few k h), omega (arith, delays
 pub few-tallies : (h : List Entry) (n : ℕ) → length h < 2 ^ 63 → AreFew (tallies_of n h)
 few-tallies h n few = few-from h 0 n few
 
--- ---- planned packets
-
-pub ticks-planned : (u gap size count : ℕ) → map tick_of (planned_from u gap size count) ≡ ticks_from u gap count
-unfolding planned_from
-ticks-planned u gap size zero = refl
-ticks-planned u gap size (suc count) = ap (λ ticks. u ∷ ticks) (ticks-planned (u + gap) gap size count)
-
-pub ticks_in-append : (number : ℕ) (xs ys : List Batch) → ticks_in number (xs ++ ys) ≡ ticks_in number xs ++ ticks_in number ys
-ticks_in-append number [] ys = refl
-ticks_in-append number (batch ∷ xs) ys = ap (λ ticks. ticks_by number batch ++ ticks) (ticks_in-append number xs ys) ∙ sym (append_assoc (ticks_by number batch) (ticks_in number xs) (ticks_in number ys))
-
--- the ticks of planned packets that are below a clock are those of the packets
-made-planned : (clock : ℕ) (planned : List SourcePacket) → filter (is_made clock) (map tick_of planned) ≡ map tick_of (made_by clock planned)
-made-planned clock planned = filter-map tick_of (is_before clock) (is_made clock) planned (Each-from _ planned (λ p. refl))
-
--- the ticks offered are those planned that are below the clock
-pub offered-made : (number : ℕ) (h : List Entry) → offered_in number h ≡ filter (is_made (clock_of h)) (map tick_of (planned_in number h))
-offered-made number h = sym (made-planned (clock_of h) (planned_in number h))
-
--- the ticks from the clock on aren't made
-pub none-made : (clock u gap count : ℕ) → clock ≤ u → filter (is_made clock) (ticks_from u gap count) ≡ []
-none-made clock u gap zero late = refl
-none-made clock u gap (suc count) late =
-    let later : clock ≤ u + gap = omega arith in
-    rw (le-ltb u clock late) (none-made clock (u + gap) gap count later)
-
--- with a batch more, the ticks are those of the packets planned with those of its submit
-pub ticks-submitted : (number t channel u gap size count : ℕ) (chan : ChanNo) (ticks : List ℕ) (planned : List SourcePacket) → channel ≡ channel_number chan → ticks ≡ map tick_of planned
-    → ticks ++ (if nat_eq channel number then ticks_from u gap count else []) ≡ map tick_of (planned_after number t planned (Submit chan count gap size) (Is.Planned u))
-ticks-submitted number t channel u gap size count chan ticks planned own same = rw own (go (is_number number chan)) where
-  go : (b : Bool) → ticks ++ (if b then ticks_from u gap count else []) ≡ map tick_of (if b then planned ++ planned_from u gap size count else planned)
-  go true = ap (λ front. front ++ ticks_from u gap count) same ∙ ap (λ new. map tick_of planned ++ new) (sym (ticks-planned u gap size count)) ∙ sym (map-append tick_of planned (planned_from u gap size count))
-  go false = append-nil ticks ∙ same
-
--- where a channel is released, the ticks left are those of the packets left
-pub ticks-released : (number clock channel count cancelled : ℕ) (upstream : Option ℕ) (chan : ChanNo) (ask : Ask) (reply : Reply) (ticks : List ℕ) (planned : List SourcePacket)
-    → ask ≡ Release chan upstream → reply ≡ Is.Closing count cancelled → channel ≡ channel_number chan → ticks ≡ map tick_of planned
-    → ticks_left channel clock number ticks ≡ map tick_of (planned_after number clock planned ask reply)
-ticks-released number clock channel count cancelled upstream chan ask reply ticks planned asks replies own same = rw (asks, replies, own) (go (is_number number chan)) where
-  go : (b : Bool) → (if b then filter (is_made clock) ticks else ticks) ≡ map tick_of (if b then made_by clock planned else planned)
-  go true = ap (filter (is_made clock)) same ∙ made-planned clock planned
-  go false = same
-
 -- ---- the whole
 
 -- the tallies of a history that isn't too long count few
@@ -282,44 +234,6 @@ tells-step h clock ask reply old new tells time steps sent dropped few channels 
       planned = λ number. planned number (planned_in number h) (tells.planned number)
           ∙ ap (λ t. map tick_of (planned_after number t (planned_in number h) ask reply)) time;
     }
-
--- ---- the ticks of a batch, one after another
-
--- a tick below the clock, and then those behind it
-pub made-next : (ticks : List ℕ) (clock tick gap count m : ℕ) (all : List ℕ) → m < count → tick < clock
-    → ticks ++ filter (is_made clock) (ticks_from tick gap (count - m)) ≡ all
-    → (ticks ++ tick ∷ []) ++ filter (is_made clock) (ticks_from (tick + gap) gap (count - (m + 1))) ≡ all
-made-next ticks clock tick gap count m all left made so_far =
-    let more : count - m ≡ suc (count - (m + 1)) = omega arith in
-    simp append_assoc (sym (ap (λ rest. ticks ++ rest) (step (count - m) (count - (m + 1)) more)) ∙ so_far)
-  where
-    step : (k left : ℕ) → k ≡ suc left → filter (is_made clock) (ticks_from tick gap k) ≡ tick ∷ filter (is_made clock) (ticks_from (tick + gap) gap left)
-    step k left e = rw (e, lt-ltb tick clock made) refl
-
--- a tick that isn't below the clock, and so none behind it
-pub made-end : (ticks : List ℕ) (clock tick gap left : ℕ) (all : List ℕ) → clock ≤ tick → ticks ++ filter (is_made clock) (ticks_from tick gap left) ≡ all → ticks ≡ all
-made-end ticks clock tick gap left all late so_far =
-    sym (append-nil ticks) ∙ ap (λ rest. ticks ++ rest) (sym (none-made clock tick gap left late)) ∙ so_far
-
--- the ticks of the first batch, and then those of the others
-pub made-batch : (ticks : List ℕ) (clock number : ℕ) (batch : Batch) (batches : List Batch) (all : List ℕ) → batch.channel ≡ number
-    → ticks ++ made_in clock number (batch ∷ batches) ≡ all
-    → (ticks ++ filter (is_made clock) (ticks_from batch.tick batch.gap batch.count)) ++ made_in clock number batches ≡ all
-made-batch ticks clock number batch batches all own so_far =
-    simp append_assoc (ap (λ rest. ticks ++ rest) (sym (filter-append (is_made clock) (ticks_from batch.tick batch.gap batch.count) (ticks_in number batches)))
-    ∙ ap (λ these. ticks ++ filter (is_made clock) (these ++ ticks_in number batches)) (sym (own_ticks batch.channel own)) ∙ so_far)
-  where
-    own_ticks : (channel : ℕ) → channel ≡ number → (if nat_eq channel number then ticks_from batch.tick batch.gap batch.count else []) ≡ ticks_from batch.tick batch.gap batch.count
-    own_ticks channel e = rw (eq-eqb channel number e) refl
-
-pub made-other : (ticks : List ℕ) (clock number : ℕ) (batch : Batch) (batches : List Batch) (all : List ℕ) → (batch.channel ≡ number → ⊥)
-    → ticks ++ made_in clock number (batch ∷ batches) ≡ all
-    → ticks ++ made_in clock number batches ≡ all
-made-other ticks clock number batch batches all other so_far =
-    ap (λ these. ticks ++ filter (is_made clock) (these ++ ticks_in number batches)) (sym (no_ticks batch.channel other)) ∙ so_far
-  where
-    no_ticks : (channel : ℕ) → (channel ≡ number → ⊥) → (if nat_eq channel number then ticks_from batch.tick batch.gap batch.count else []) ≡ []
-    no_ticks channel never = rw (ne_eqb channel number never) refl
 
 -- ---- a change at a place
 

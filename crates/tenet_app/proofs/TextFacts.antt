@@ -29,7 +29,7 @@ use Rattle.tenet_app.proofs.DraftFacts.{some_links, operation_follows}
 use Rattle.tenet_app.proofs.FormText.{same_bytes, header_text, link_text, caller_text, send_text, close_text, rounds_text, tail_text, some_hops, open_text}
 use Rattle.tenet_app.proofs.LinePasses.{LinkPasses, link_passes, caller_passes, OpenPasses, open_passes, SendPasses, send_passes, ClosePasses, close_passes, rounds_passes, tail_passes}
 use Rattle.tenet_app.proofs.NumberText.{decimal-value, decimals-values}
-use Rattle.tenet_app.proofs.PlaceFacts.{name_found}
+use Rattle.tenet_app.proofs.NameFacts.{name_found}
 use Rattle.tenet_app.proofs.ScriptText.{script_lines-push}
 
 -- the name of the first link, over which the requests are

@@ -1,6 +1,6 @@
 -- Runs worked by hand, found by computing with the definitions: what the requests of a script come to, and what the
 -- history tells of the channels and of the link.
-use Rattle.std.proofs.Common.{◌≡◌, ℕ, ◌+◌, Bool, true, false, List, [], ◌∷◌, length, Some, refl, codes, lit<, lit≤}
+use Rattle.std.proofs.Common.{◌≡◌, ℕ, Bool, true, false, List, [], ◌∷◌, length, Some, refl, codes, lit≤}
 use Rattle.traffic_contract.specs.Admission.{work_in, work_up_to, load, passes_up_to, passes, admits, first_level, best_level}
 use Rattle.traffic_contract.specs.Contract.{Terms, most_in}
 use Rattle.traffic_contract.specs.Eligible.{first_from, eligible}
@@ -14,7 +14,6 @@ use Rattle.link_steps.specs.Rows.{planned_from}
 use Rattle.link_steps.specs.Scan.{clock_of, without_expired, with_sources, after_tick, after, scan_of}
 use Rattle.link_steps.specs.Service.{goes_before, first_in_line, is_waiting, serve_tick, starts_below, here_at}
 use Rattle.link_steps.specs.Sources.{step_of, source_packets, rows_after, lost_in}
-use Rattle.link_steps.specs.declared.replies.Entry.{Entry}
 use Rattle.link_steps.specs.declared.shape.LinkShape.{LinkShape}
 use Rattle.tenet_app.specs.Channels.{planned_in, offered_in, refused_in, delays_in, departures_in, dropped_in}
 use Rattle.tenet_app.specs.Establishment.{Settled, IsAccepted, HasNoLevel, HasNoBuffer, IsTooWide, IsTooLate, way_back, at_destination}
@@ -23,7 +22,6 @@ use Rattle.tenet_app.specs.Run.{Run, after_open, opened, sent, closed, after_scr
 use Rattle.tenet_app.specs.Shapes.{first_link}
 use Rattle.tenet_app.specs.declared.scenario.plan.Operation.{Operation}
 use Rattle.tenet_app.specs.declared.scenario.plan.Operation.TheVariants as operation
-use Rattle.tenet_app.specs.declared.scenario.plan.Request.{Request}
 
 -- a link that sends a unit a tick, with so many units of buffer
 abbrev shape_a : LinkShape
@@ -99,6 +97,7 @@ run_by : LinkShape → Said → Run
 unfolding run_of after_script after_ticks opened sent closed after_open way_back at_destination reply_to reply_at reserve_reply relax_reply deny_reply submit_reply release_reply sent_at clock_of scan_of after after_tick change_first without_first without_expired with_sources hold_ended here_at starts_below serve_tick is_waiting first_in_line goes_before held_packets slots_of need_of kept_units free_units planned_from eligible_next step_of source_packets rows_after lost_in work_in work_up_to load passes_up_to passes admits first_level best_level most_in first_from eligible may_follow
 run_by shape said = run_of shape said
 
+-- which is the run of the plan
 run_by-is : (shape : LinkShape) (said : Said) → run_by shape said ≡ run_of shape said
 unfolding run_by
 run_by-is shape said = refl

@@ -4,6 +4,7 @@ use Rattle.std.specs.Prelude.{ℕ, Bool, nat_eq, nat_le, not, ◌&&◌, ◌||◌
 use Rattle.std.specs.Str.{all_ascii_digits}
 use Rattle.std.specs.Str.Parse.{digits_value}
 
+-- whether a field is a number so written
 abbrev pub is_number : List ℕ → Bool
 is_number field = all_ascii_digits field && nat_le 1 (length field) && nat_le (length field) 18 && (nat_eq (length field) 1 || not (nat_eq (slice_index field 0) 48))
 

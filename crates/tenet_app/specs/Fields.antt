@@ -15,6 +15,10 @@ fields_of line = slice_split is_space line
 abbrev pub line_of : List (List ℕ) → List ℕ
 line_of fields = join_with_byte 32 fields
 
+-- the same with its line feed
+abbrev pub ended_line : List (List ℕ) → List ℕ
+ended_line fields = line_of fields ++ 10 ∷ []
+
 -- a byte that may stand in a field
 abbrev pub is_graphic : ℕ → Bool
 is_graphic b = nat_le 33 b && nat_le b 126
@@ -29,7 +33,3 @@ are_fields fields = list_all is_field fields
 -- the field at a place, from 0, or no bytes where there is none
 abbrev pub field_at : List (List ℕ) → ℕ → List ℕ
 field_at fields place = slice_index_or fields place []
-
--- the same with its line feed
-abbrev pub ended_line : List (List ℕ) → List ℕ
-ended_line fields = line_of fields ++ 10 ∷ []

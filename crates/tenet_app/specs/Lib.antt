@@ -10,8 +10,8 @@ pub mod Grammar
 pub mod PlanText
 pub mod Plans
 pub mod Playing
-pub mod ReadSteps
 pub mod Promises
+pub mod ReadSteps
 pub mod Reading
 pub mod Report
 pub mod Run

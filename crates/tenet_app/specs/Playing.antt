@@ -66,7 +66,8 @@ ComesTo left P = IfSome left (λ bytes. P (reading MOST_BYTES bytes))
 -- the scenario was read to its end and the report of its plan's run was written; in the run each request is settled;
 -- after every step the rows that the link holds pass the admission test; each packet leaves the link within the bound
 -- of its level of its eligible tick; a source that keeps its contract loses none, and each of its packets leaves within
--- that bound of its arrival; and so none of its packets is delayed for longer than the `accept` line of its request tells
+-- that bound of its arrival; and so each request that was accepted is served as its `accept` line tells, while its
+-- source keeps its contract
 pub record PlaysDone (before after : Ends) : Type 0 where
   pub said : Said
   pub plan : IsPlan said

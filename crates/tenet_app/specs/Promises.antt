@@ -21,10 +21,10 @@ use Rattle.tenet_app.specs.declared.scenario.plan.Request.{Request}
 abbrev pub is_packet_in : ℕ → Arrival → Bool
 is_packet_in number p = is_number number p.chan
 
--- the ticks at which the link has taken a packet of the channel, in order of time
 abbrev pub arrival_tick : Arrival → ℕ
 arrival_tick p = p.at
 
+-- the ticks at which the link has taken a packet of the channel, in order of time
 abbrev pub taken_in : LinkShape → ℕ → List Entry → List ℕ
 taken_in shape number h = map arrival_tick (filter (is_packet_in number) (scan_of shape h).packets)
 

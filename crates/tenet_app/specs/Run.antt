@@ -39,10 +39,11 @@ abbrev pub replied : LinkShape → List Entry → ChanNo → Request → Reply �
 replied shape h chan request (Offer level reach) = asked shape h (way_back shape chan request level)
 replied shape h chan request _ = h
 
--- an open of this channel
+-- the history behind an open of this channel
 unfoldable pub after_open : LinkShape → List Entry → ChanNo → Request → List Entry
 after_open shape h chan request = replied shape (asked shape h (reserve_for chan request)) chan request (reply_to shape h (reserve_for chan request))
 
+-- the run behind an open: one verdict more, and the setup of the next channel
 unfoldable pub opened : LinkShape → Run → Request → Run
 opened shape run request = record {
   history = after_open shape run.history (channel_at (length run.verdicts)) request;
@@ -57,6 +58,7 @@ verdict_at place verdicts = slice_index_or verdicts place IsPending
 abbrev pub submit_for : Send → Ask
 submit_for send = Submit (channel_at send.request) send.count send.gap send.size
 
+-- behind a send
 unfoldable pub sent : LinkShape → Run → Send → Run
 sent shape run send = if is_accepted (verdict_at send.request run.verdicts) then record run { history = asked shape run.history (submit_for send) } else run
 
@@ -64,22 +66,23 @@ sent shape run send = if is_accepted (verdict_at send.request run.verdicts) then
 abbrev pub release_of : ℕ → Ask
 release_of request = Release (channel_at request) None
 
+-- behind a close
 unfoldable pub closed : LinkShape → Run → ℕ → Run
 closed shape run request = if is_accepted (verdict_at request run.verdicts) then record run { history = asked shape run.history (release_of request) } else run
 
--- one operation
+-- behind one operation
 abbrev pub after_operation : LinkShape → Run → Operation → Run
 after_operation shape run (operation.Caller name) = run
 after_operation shape run (operation.Open request) = opened shape run request
 after_operation shape run (operation.Send send) = sent shape run send
 after_operation shape run (operation.Close request) = closed shape run request
 
--- the operations of a script in order
+-- behind the operations of a script in order
 unfoldable pub after_script : LinkShape → Run → List Operation → Run
 after_script shape run [] = run
 after_script shape run (operation ∷ script) = after_script shape (after_operation shape run operation) script
 
--- so many ticks
+-- the history behind so many ticks
 unfoldable pub after_ticks : LinkShape → List Entry → ℕ → List Entry
 after_ticks shape h zero = h
 after_ticks shape h (suc ticks) = asked shape (after_ticks shape h ticks) Tick

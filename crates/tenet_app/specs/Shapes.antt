@@ -1,7 +1,7 @@
 -- A link of a plan as the rules of a link see it: its shape, which has its numbers and its own number among the links.
 -- A plan has one link so far, and its number is 0. Only numbers within the limits of a link have a shape, as those of
 -- each link that was read are.
-use Rattle.std.specs.Prelude.{◌≡◌, refl, Bool, true, false, nat_le, ◌&&◌, Option, Some, None}
+use Rattle.std.specs.Prelude.{◌≡◌, refl, Bool, true, nat_le, ◌&&◌, Option, Some, None}
 use Rattle.std.proofs.Common.{lit<}
 use Rattle.std.proofs.lemmas.Bool.{and_parts, leb-true}
 use Rattle.net_units.specs.Quotient.{ceil_quotient}

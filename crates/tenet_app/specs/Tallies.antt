@@ -35,11 +35,12 @@ tally_of number h = record {
   worst = worst_of (delays_in number h);
 }
 
--- those of so many channels, from this number on
+-- what a function gives of so many numbers, from this one on
 unfoldable pub each_from : {X : Type 0} → (ℕ → X) → ℕ → ℕ → List X
 each_from f number zero = []
 each_from f number (suc count) = f number ∷ each_from f (suc number) count
 
+-- the tallies of so many channels, by their numbers
 abbrev pub tallies_of : ℕ → List Entry → List Tally
 tallies_of count h = each_from (λ number. tally_of number h) 0 count
 
@@ -93,10 +94,11 @@ abbrev pub ticks_in : ℕ → List Batch → List ℕ
 ticks_in number [] = []
 ticks_in number (batch ∷ batches) = ticks_by number batch ++ ticks_in number batches
 
--- those of them that the link has made by a clock
+-- whether the link has made a tick by a clock
 abbrev pub is_made : ℕ → ℕ → Bool
 is_made clock tick = nat_lt tick clock
 
+-- the ticks of a channel that some batches plan and the link has made by a clock
 abbrev pub made_in : ℕ → ℕ → List Batch → List ℕ
 made_in clock number batches = filter (is_made clock) (ticks_in number batches)
 
@@ -141,7 +143,7 @@ pub record IsAfter (run : Run) (player : Player) (verdicts : List Verdict) : Typ
   pub at : IsAt run.history player
   pub said : map verdict_of verdicts ≡ run.verdicts
 
--- the same link and the same number of channels
+-- a link of the same shape, and the same number of channels
 pub record SameLink (old new : Player) : Type 0 where
   pub shape : new.link.shape ≡ old.link.shape
   pub channels : length new.tallies.channels.items ≡ length old.tallies.channels.items

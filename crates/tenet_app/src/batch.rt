@@ -10,7 +10,7 @@ pub struct Batch {
     pub tick: u64,
     /// Ticks from one to the next, at most 1,048,576.
     pub gap: u64,
-    /// How many.
+    /// How many packets.
     pub count: u64,
     ghost gap_most: { gap ≤ 1048576 },
 }

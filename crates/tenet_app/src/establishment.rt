@@ -1,9 +1,8 @@
 //! Establishing a request on one link, in one round trip.
-ghost use Rattle.std.specs.Prelude.{◌≡◌, ℕ, ◌+◌, ◌-◌, ◌<◌, ◌≤◌, ◌^◌, List, IfOk, OnOk, length};
+ghost use Rattle.std.specs.Prelude.{◌≡◌, ◌+◌, ◌-◌, ◌<◌, ◌≤◌, ◌^◌, List, IfOk, OnOk, length};
 ghost use Rattle.net_units.specs.Numbers.{level_number};
 ghost use Rattle.link_steps.specs.Replies.{reply_to};
 ghost use Rattle.link_steps.specs.declared.replies.Entry.{Entry};
-ghost use Rattle.link_steps.specs.declared.shape.LinkShape.{LinkShape as Shape};
 ghost use Rattle.tenet_app.specs.Establishment.{reserve_for, way_back, delay_at, allotted, at_destination, refused_as, settled, verdict_of};
 ghost use Rattle.tenet_app.specs.Run.{asked, after_open};
 ghost use Rattle.tenet_app.specs.Tallies.{IsAt, SameLink};
@@ -51,7 +50,7 @@ pub enum Verdict {
         /// The delay bound of the request, in ticks.
         bound: u64,
     },
-    /// The reserve has none of these replies.
+    /// The link's reserve had none of these replies. No request of a plan comes to this (`every_request_is_settled`).
     Pending,
 }
 
@@ -66,7 +65,7 @@ impl Verdict {
     }
 }
 
-/// Establishes one request on a link that holds no row of its channel.
+/// Establishes one request on the link: a reserve, and behind an offer a relax, or a deny where the destination refuses.
 pub fn establish(
     player: &mut Player,
     chan: ChanNo,
@@ -80,6 +79,7 @@ pub fn establish(
         → verdict_of verdict ≡ settled player.old.link.shape request.now (reply_to player.old.link.shape h (reserve_for chan request.now))) }
     ensures at { OnOk result ((h : List Entry) → IsAt h player.old → IsAt (after_open player.old.link.shape h chan request.now) player.new) }
 {
+    // `smax` tells that the numbers are a contract, as a reserve wants them to be.
     let _smax = request.contract.smax();
     let reply = player.ask(&Ask::Reserve {
         chan,

@@ -1,5 +1,5 @@
 //! A link that is asked one step after another, with the tallies of its run.
-ghost use Rattle.std.specs.Prelude.{◌≡◌, ℕ, ◌+◌, ◌^◌, ◌<◌, ◌≤◌, [], ◌∷◌, List, length, IfOk, OnOk};
+ghost use Rattle.std.specs.Prelude.{◌≡◌, ◌+◌, ◌^◌, ◌<◌, [], List, length, IfOk, OnOk};
 ghost use Rattle.link_steps.specs.Legal.{AskFits};
 ghost use Rattle.link_steps.specs.Replies.{reply_to};
 ghost use Rattle.link_steps.specs.declared.replies.Entry.{Entry};
@@ -13,7 +13,7 @@ use link_steps::{Ask, LinkShape, LinkStep, Reply};
 use net_units::OutOfMemory;
 use std::alloc::Global;
 
-/// A link, and the tallies of the steps that it has made.
+/// A link, and the tallies of the steps that it has made. Once a call has wanted memory, nothing is known of them.
 #[derive(Drop)]
 pub struct Player {
     /// The link.
@@ -51,15 +51,6 @@ impl Player {
         Ok(reply)
     }
 
-    /// The ticks at which the source of this channel has offered packets.
-    pub fn offered(&self, alloc: Global, number: u32) -> Result<Vec<u64>, OutOfMemory>
-        requires at { (h : List Entry) × IsAt h self.now }
-        requires early { self.now.tallies.steps < 2 ^ 61 }
-        ensures { IfOk result (λ ticks. (h : List Entry) → IsAt h self.now → ticks.items ≡ offered_in number h) }
-    {
-        self.tallies.made(alloc, number, self.link.clock())
-    }
-
     /// Makes so many ticks.
     pub fn tick(&mut self, ticks: u64) -> Result<(), OutOfMemory>
         requires at { (h : List Entry) × IsAt h self.old }
@@ -72,5 +63,14 @@ impl Player {
             self.ask(&Ask::Tick)?;
         }
         Ok(())
+    }
+
+    /// The ticks at which the source of this channel has offered packets, dropped ones included.
+    pub fn offered(&self, alloc: Global, number: u32) -> Result<Vec<u64>, OutOfMemory>
+        requires at { (h : List Entry) × IsAt h self.now }
+        requires early { self.now.tallies.steps < 2 ^ 61 }
+        ensures { IfOk result (λ ticks. (h : List Entry) → IsAt h self.now → ticks.items ≡ offered_in number h) }
+    {
+        self.tallies.made(alloc, number, self.link.clock())
     }
 }

@@ -17,7 +17,8 @@ use byte_ends::{Sink, Source, put_all};
 use net_units::OutOfMemory;
 use std::alloc::{AllocError, Global};
 
-/// Reads a scenario, establishes its requests, and writes the report. It waits for nobody.
+/// Reads a scenario, plays its run (the operations of its callers, and then the ticks), and writes the report. It waits
+/// for nobody.
 pub fn play<S: Source, K: Sink>(alloc: Global, source: &mut S, sink: &mut K) -> Status
     ensures plays { Plays result
         (record { left = S.left source.old; read_faults = S.faults source.old; written = K.written sink.old; write_faults = K.faults sink.old })

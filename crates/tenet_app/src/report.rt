@@ -1,9 +1,9 @@
 //! The report of a run.
-ghost use Rattle.std.specs.Prelude.{◌≡◌, ◌++◌, ◌<◌, ◌^◌, [], ℕ, List, IfOk, OnOk, Some, map, length, string_bytes};
+ghost use Rattle.std.specs.Prelude.{◌≡◌, ◌++◌, ◌<◌, ◌^◌, List, IfOk, OnOk, Some, map, length, string_bytes};
 ghost use Rattle.traffic_contract.specs.Keeping.{keeps};
 ghost use Rattle.link_steps.specs.declared.replies.Entry.{Entry};
 ghost use Rattle.tenet_app.specs.Establishment.{verdict_of};
-ghost use Rattle.tenet_app.specs.Report.{number_or_dash, keeping, source_words, tally_words, verdict_line, verdict_lines, channel_line, channel_lines, link_line, end_line, report_of};
+ghost use Rattle.tenet_app.specs.Report.{number_or_dash, keeping, source_words, tally_words, verdict_line, verdict_lines, channel_line, channel_lines, report_of};
 ghost use Rattle.tenet_app.specs.Run.{Run};
 ghost use Rattle.tenet_app.specs.Tallies.{IsAt, IsAfter};
 
@@ -114,6 +114,7 @@ pub fn report(
     Ok(text)
 }
 
+// A line for each request.
 fn push_verdicts(
     text: &mut String,
     requests: &[Request],
@@ -132,6 +133,7 @@ fn push_verdicts(
     Ok(())
 }
 
+// A line for each channel that was established.
 fn push_channels(
     text: &mut String,
     alloc: Global,

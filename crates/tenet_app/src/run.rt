@@ -1,8 +1,7 @@
 //! The run of a script over one link, and then its ticks.
-ghost use Rattle.std.specs.Prelude.{◌≡◌, ℕ, ◌+◌, ◌*◌, ◌<◌, ◌≤◌, ◌^◌, [], List, IfOk, OnOk, map, length};
-ghost use Rattle.net_units.specs.Numbers.{channel_number};
+ghost use Rattle.std.specs.Prelude.{◌≡◌, ◌+◌, ◌*◌, ◌<◌, ◌≤◌, ◌^◌, [], List, IfOk, OnOk, map, length};
 ghost use Rattle.tenet_app.specs.Establishment.{channel_at, is_accepted, verdict_of};
-ghost use Rattle.tenet_app.specs.Plans.{IsScript, requests_in};
+ghost use Rattle.tenet_app.specs.Plans.{IsScript};
 ghost use Rattle.tenet_app.specs.Run.{Run, no_steps, after_operation, after_script, after_ticks, verdict_at, asked, submit_for, release_of};
 ghost use Rattle.tenet_app.specs.Tallies.{IsAt, IsAfter, SameLink, MaySend, MayOperate};
 ghost use Rattle.link_steps.specs.declared.replies.Entry.{Entry};

@@ -61,7 +61,7 @@ impl Tallies {
         Ok(())
     }
 
-    /// The ticks below the clock for which packets of this channel were planned.
+    /// The ticks below the clock for which packets of this channel are planned, without the cancelled ones.
     pub fn made(&self, alloc: Global, number: u32, clock: u64) -> Result<Vec<u64>, OutOfMemory>
         requires { clock < 2 ^ 63 }
         ensures { IfOk result (λ ticks. ticks.items ≡ made_in clock number self.now.batches.items) }

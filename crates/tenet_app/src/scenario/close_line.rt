@@ -1,5 +1,5 @@
 //! Judging a close line.
-ghost use Rattle.std.specs.Prelude.{◌≡◌, ◌<◌, IfOk, length};
+ghost use Rattle.std.specs.Prelude.{◌<◌, IfOk, length};
 ghost use Rattle.tenet_app.specs.Causes.{Judges};
 ghost use Rattle.tenet_app.specs.Fields.{fields_of};
 ghost use Rattle.tenet_app.specs.Grammar.{closed_by, close_rule};

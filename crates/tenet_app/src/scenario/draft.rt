@@ -39,7 +39,8 @@ impl Model for Draft {
 }
 
 impl Draft {
-    ghost use Rattle.tenet_app.specs.Plans.{nothing_said, with_item, requests_of, rounds_of, tail_of, is_complete, MayAdd};
+    ghost use Rattle.tenet_app.specs.Forms.{is_among};
+    ghost use Rattle.tenet_app.specs.Plans.{nothing_said, with_item, link_names, requests_of, rounds_of, tail_of, is_complete, MayAdd};
 
     /// Before the first line.
     pub fn new(alloc: Global) -> Draft
@@ -75,6 +76,13 @@ impl Draft {
         ensures { result.now ≡ self.now.links }
     {
         self.links.as_slice()
+    }
+
+    /// Whether a link has this name.
+    pub fn has_link(&self, name: &[u8]) -> bool
+        ensures { result ≡ is_among (link_names self.now) name.now }
+    {
+        self.links.iter().any(|link| link.name.as_bytes() == name)
     }
 
     /// The callers and their operations, in the order of their lines.

@@ -5,9 +5,8 @@ ghost use Rattle.std.specs.Prelude.{◌≡◌, ◌≤◌, Some, IfOk};
 ghost use Rattle.tenet_app.specs.Causes.{Judges};
 ghost use Rattle.tenet_app.specs.Decimal.{value_of};
 ghost use Rattle.tenet_app.specs.Fields.{fields_of, field_at};
-ghost use Rattle.tenet_app.specs.Forms.{is_among};
 ghost use Rattle.tenet_app.specs.Grammar.{is_header, may_stand, line_word, judge_as, judge_word, judge, caller_rule, rounds_rule, tail_rule, is_within_load};
-ghost use Rattle.tenet_app.specs.Plans.{link_names, MayAdd};
+ghost use Rattle.tenet_app.specs.Plans.{MayAdd};
 
 use crate::scenario::cause::Cause;
 use crate::scenario::draft::Draft;
@@ -85,12 +84,6 @@ impl Draft {
             Keyword::Schedule => self.tail.is_some(),
             _ => false,
         }
-    }
-
-    pub(super) fn has_link(&self, name: &[u8]) -> bool
-        ensures { result ≡ is_among (link_names self.now) name.now }
-    {
-        self.links.iter().any(|link| link.name.as_bytes() == name)
     }
 
     fn judge_caller(&self, line: &[u8]) -> Result<Name, Cause>

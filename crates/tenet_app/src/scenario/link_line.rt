@@ -52,6 +52,29 @@ struct LinkFields {
 }
 
 impl Draft {
+    /// The link that the line says.
+    pub(super) fn judge_link(&self, line: &[u8]) -> Result<Link, Cause>
+        ensures judged { Judges result (link_rule self.now (fields_of line.now)) (link_of (fields_of line.now)) }
+        ensures room { OnOk result (length self.now.links < 32) }
+    {
+        require(has_form(&LINK_FORM, line), Cause::Shape)?;
+        let link = self.judge_link_fields(line)?;
+        require(self.links.len() < 32, Cause::Many)?;
+        let bounds = prompt(link.bounds, link.numbers.cap, link.numbers.rate)?;
+        require(self.links.is_empty(), Cause::Later)?;
+        Ok(Link {
+            name: link.name,
+            from: link.from,
+            to: link.to,
+            rate: link.numbers.rate,
+            cap: link.numbers.cap,
+            prop: link.numbers.prop,
+            buffer: link.numbers.buffer,
+            bounds,
+        })
+    }
+
+    /// The fields behind its form, from left to right.
     fn judge_link_fields(&self, line: &[u8]) -> Result<LinkFields, Cause>
         requires { length (bound_fields (fields_of line.now)) ≤ 8 }
         ensures range { IfOk result (λ link. (1 ≤ link.numbers.rate) × (link.numbers.rate ≤ 65536)) }
@@ -81,29 +104,9 @@ impl Draft {
             bounds,
         })
     }
-
-    pub(super) fn judge_link(&self, line: &[u8]) -> Result<Link, Cause>
-        ensures judged { Judges result (link_rule self.now (fields_of line.now)) (link_of (fields_of line.now)) }
-        ensures room { OnOk result (length self.now.links < 32) }
-    {
-        require(has_form(&LINK_FORM, line), Cause::Shape)?;
-        let link = self.judge_link_fields(line)?;
-        require(self.links.len() < 32, Cause::Many)?;
-        let bounds = prompt(link.bounds, link.numbers.cap, link.numbers.rate)?;
-        require(self.links.is_empty(), Cause::Later)?;
-        Ok(Link {
-            name: link.name,
-            from: link.from,
-            to: link.to,
-            rate: link.numbers.rate,
-            cap: link.numbers.cap,
-            prop: link.numbers.prop,
-            buffer: link.numbers.buffer,
-            bounds,
-        })
-    }
 }
 
+/// The four numbers between the nodes and the bounds.
 fn judge_link_numbers(line: &[u8]) -> Result<LinkNumbers, Cause>
     ensures range { IfOk result (λ numbers. (1 ≤ numbers.rate) × (numbers.rate ≤ 65536)) }
     ensures judged { Judges result (link_numbers_rule (fields_of line.now)) (record {

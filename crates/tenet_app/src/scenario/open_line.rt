@@ -56,6 +56,23 @@ struct OpenFields {
 }
 
 impl Draft {
+    /// The request that the line says.
+    pub(super) fn judge_open(&self, line: &[u8]) -> Result<Request, Cause>
+        ensures judged { Judges result (open_rule self.now (fields_of line.now)) (request_of (fields_of line.now)) }
+        ensures room { OnOk result (length (requests_of self.now) < 1024) }
+    {
+        require(is_open(line), Cause::Shape)?;
+        let hops = route_length(line, 3);
+        let open = self.judge_open_fields(line, hops)?;
+        let contract = self.judge_open_limits(line, hops, open.contract)?;
+        Ok(Request {
+            name: open.name,
+            contract,
+            delay: open.delay,
+        })
+    }
+
+    /// The fields behind its form, from left to right.
     fn judge_open_fields(&self, line: &[u8], hops: usize) -> Result<OpenFields, Cause>
         requires hops { hops ≡ hops_of (fields_of line.now) }
         requires few { hops ≤ 16 }
@@ -75,6 +92,25 @@ impl Draft {
             contract,
             delay: delay as u32,
         })
+    }
+
+    /// The links of the route, each of which is known.
+    fn judge_route(&self, line: &[u8], hops: usize) -> Result<(), Cause>
+        requires hops { hops ≡ hops_of (fields_of line.now) }
+        requires few { hops ≤ 16 }
+        ensures { Judges result (route_names_rule self.now (route_fields (fields_of line.now))) tt }
+    {
+        for place in 0..hops {
+            self.judge_used_link(field(line, 3 + place))?;
+        }
+        Ok(())
+    }
+
+    fn judge_used_link(&self, field: &[u8]) -> Result<(), Cause>
+        ensures { Judges result (used_name_rule (link_names self.now) field.now) tt }
+    {
+        let link = name(field)?;
+        require(self.has_link(link.as_bytes()), Cause::Unknown)
     }
 
     /// The request's contract, once its fields pass.
@@ -99,39 +135,6 @@ impl Draft {
         require(has_form(&RATE_FORM, line), Cause::Later)?;
         Ok(contract)
     }
-
-    pub(super) fn judge_open(&self, line: &[u8]) -> Result<Request, Cause>
-        ensures judged { Judges result (open_rule self.now (fields_of line.now)) (request_of (fields_of line.now)) }
-        ensures room { OnOk result (length (requests_of self.now) < 1024) }
-    {
-        require(is_open(line), Cause::Shape)?;
-        let hops = route_length(line, 3);
-        let open = self.judge_open_fields(line, hops)?;
-        let contract = self.judge_open_limits(line, hops, open.contract)?;
-        Ok(Request {
-            name: open.name,
-            contract,
-            delay: open.delay,
-        })
-    }
-
-    fn judge_route(&self, line: &[u8], hops: usize) -> Result<(), Cause>
-        requires hops { hops ≡ hops_of (fields_of line.now) }
-        requires few { hops ≤ 16 }
-        ensures { Judges result (route_names_rule self.now (route_fields (fields_of line.now))) tt }
-    {
-        for place in 0..hops {
-            self.judge_used_link(field(line, 3 + place))?;
-        }
-        Ok(())
-    }
-
-    fn judge_used_link(&self, field: &[u8]) -> Result<(), Cause>
-        ensures { Judges result (used_name_rule (link_names self.now) field.now) tt }
-    {
-        let link = name(field)?;
-        require(self.has_link(link.as_bytes()), Cause::Unknown)
-    }
 }
 
 /// The contract that the four numbers behind the route are, None where they aren't one.
@@ -147,6 +150,7 @@ fn judge_terms(line: &[u8], hops: usize) -> Result<Option<Contract>, Cause>
     Ok(Contract::new(xmin as u32, xave as u32, interval as u32, smax as u32).ok())
 }
 
+/// The jitter bound, where the line has one.
 fn judge_jitter(line: &[u8], hops: usize) -> Result<(), Cause>
     requires hops { hops ≡ hops_of (fields_of line.now) }
     requires few { hops ≤ 16 }

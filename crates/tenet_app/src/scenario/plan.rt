@@ -19,7 +19,7 @@ pub struct Link {
     pub prop: u32,
     /// Units of buffer, at most 262,144.
     pub buffer: u32,
-    /// The delay bounds of its levels.
+    /// The delay bounds of its levels in ticks.
     pub bounds: Bounds,
 }
 

@@ -13,7 +13,7 @@ use byte_ends::{Cut, LineRefusal, Lines, Source};
 use net_units::OutOfMemory;
 use std::alloc::Global;
 
-/// Bytes that a scenario may have.
+/// The bytes that a scenario may have at most.
 pub const MOST_BYTES: u64 = 4_194_304;
 
 /// Why no scenario was read.
@@ -25,7 +25,7 @@ pub enum ReadRefusal {
     ReadFault,
     /// There are more than 4,194,304 bytes, and no whole line within the first 4,194,304 is refused.
     TooLong {
-        /// How many bytes were taken.
+        /// How many bytes were taken: 4,194,305.
         taken: u64,
     },
     /// A line is refused.

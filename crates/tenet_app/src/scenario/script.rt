@@ -23,7 +23,9 @@ pub struct Script {
     requests: Vec<Request>,
     // Whether each request was closed.
     closed: Vec<bool>,
+    // The place of the last caller's first request, or that of the next one.
     first_own: usize,
+    // How many packets the sends plan.
     load: u64,
 }
 

@@ -1,10 +1,3 @@
-use Rattle.std.proofs.Common.{◌≡◌, refl, sym, subst, ◌∙◌, ap, arith}
-use Rattle.net_units.specs.Numbers.{level_number}
-use Rattle.link_steps.specs.declared.asks.Ask.{Ask}
-use Rattle.link_steps.specs.declared.shape.LinkShape.{LinkShape}
-use Rattle.tenet_app.specs.Establishment.{delay_at, allotted}
-use Rattle.tenet_app.specs.Run.{asked}
-use Rattle.tenet_app.specs.Tallies.{IsAt}
 use Rattle.tenet_app.proofs.EstablishmentFacts.{late-verdict, late-back, passed-verdict, passed-back}
 use Rattle.tenet_app.proofs.establishment.settle.Goals as goal
 

@@ -1,4 +1,4 @@
-use Rattle.std.proofs.Common.{◌≡◌, ◌++◌, sym, ◌∙◌, ap, refl, length, string_bytes, append_assoc}
+use Rattle.std.proofs.Common.{◌≡◌, ◌++◌, ◌∙◌, ap, refl, length, string_bytes, append_assoc}
 use Rattle.traffic_contract.specs.Keeping.{keeps}
 use Rattle.tenet_app.specs.Channels.{offered_in}
 use Rattle.tenet_app.specs.Report.{source_words, tally_words}

@@ -1,4 +1,4 @@
-use Rattle.std.proofs.Common.{◌≡◌, refl, sym, ◌∙◌}
+use Rattle.std.proofs.Common.{◌≡◌, refl, ◌∙◌}
 use mathlib.Core.List.{append_assoc}
 use Rattle.link_steps.specs.Scan.{clock_of}
 use Rattle.tenet_app.specs.Report.{report_of}

@@ -1,4 +1,4 @@
-use Rattle.std.proofs.Common.{[], refl, sym, arith, ap, take}
+use Rattle.std.proofs.Common.{[], refl, arith, take}
 use Rattle.tenet_app.specs.Run.{after_script}
 use Rattle.tenet_app.proofs.PlayerFacts.{same-both}
 use Rattle.tenet_app.proofs.RunFacts.{after-next, verdicts-count, may-follow, may-operate, script-few}

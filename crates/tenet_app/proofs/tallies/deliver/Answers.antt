@@ -1,5 +1,4 @@
-use Rattle.std.proofs.Common.{◌∙◌, sym, ap}
-use Rattle.std.specs.Prelude.{slice_set}
+use Rattle.std.proofs.Common.{sym}
 use Rattle.tenet_app.specs.Tallies.{with_delay}
 use Rattle.tenet_app.proofs.TallyFacts.{set-place, no-place, few-at}
 use Rattle.tenet_app.proofs.tallies.deliver.Goals as goal

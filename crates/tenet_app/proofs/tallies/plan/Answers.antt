@@ -1,7 +1,7 @@
 use Rattle.std.proofs.Common.{◌∙◌, ap, arith, append-nil}
 use Rattle.std.proofs.lemmas.List.{with_items_is}
 use Rattle.tenet_app.specs.Tallies.{ticks_in, ticks_left}
-use Rattle.tenet_app.proofs.TallyFacts.{ticks_in-append, ticks-submitted, ticks-released}
+use Rattle.tenet_app.proofs.TickFacts.{ticks_in-append, ticks-submitted, ticks-released}
 use Rattle.tenet_app.proofs.tallies.plan.Goals as goal
 
 pub returns-in_ok-push-in-Submit-Planned : goal.returns-in_ok-push-in-Submit-Planned

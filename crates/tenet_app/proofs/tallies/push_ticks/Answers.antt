@@ -1,5 +1,5 @@
 use Rattle.std.proofs.Common.{◌≡◌, ◌-◌, refl, sym, ◌∙◌, arith, append-nil}
-use Rattle.tenet_app.proofs.TallyFacts.{made-next, made-end}
+use Rattle.tenet_app.proofs.TickFacts.{made-next, made-end}
 use Rattle.tenet_app.proofs.tallies.push_ticks.Goals as goal
 
 pub loop-made-init : goal.loop-made-init

@@ -3,7 +3,7 @@ use Rattle.std.specs.Cmp.Lexicographic.{pointwise}
 use Rattle.tenet_app.specs.Fields.{fields_of, field_at}
 use Rattle.tenet_app.specs.Grammar.{route_fields}
 use Rattle.tenet_app.proofs.RuleFacts.{length-route, route_at}
-use Rattle.tenet_app.proofs.DistinctFacts.{among_skip, among_here}
+use Rattle.tenet_app.proofs.NameFacts.{among_skip, among_here}
 use Rattle.tenet_app.proofs.scenario.open_line.stands_again.Goals as goal
 
 pub returns-then-eq : goal.returns-then-eq

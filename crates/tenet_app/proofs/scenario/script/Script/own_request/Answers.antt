@@ -4,8 +4,7 @@ use Rattle.std.proofs.lemmas.List.{get_or-map, length-map}
 use Rattle.tenet_app.specs.Plans.{requests_in, names_of}
 use Rattle.tenet_app.specs.declared.scenario.plan.Request.{Request}
 use Rattle.tenet_app.specs.declared.scenario.plan.Operation.{Operation}
-use Rattle.tenet_app.proofs.DistinctFacts.{among_skip, among_here}
-use Rattle.tenet_app.proofs.PlaceFacts.{place_skip, place_here}
+use Rattle.tenet_app.proofs.NameFacts.{among_skip, among_here, place_skip, place_here}
 use Rattle.tenet_app.proofs.scenario.script.Script.own_request.Goals as goal
 
 -- the name of the request at a place stands at that place among the names
