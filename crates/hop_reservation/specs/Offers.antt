@@ -3,7 +3,7 @@
 -- also tells its reach: the largest level that the request could be relaxed to there. The next hop keeps buffer for
 -- the bound of that level, so its reserve carries it.
 use Rattle.std.specs.Prelude.{◌≡◌, ℕ, ◌+◌, ◌*◌, ◌^◌, ◌≤◌, List, [], ◌∷◌, length}
-use Rattle.net_units.specs.Steps.{bound_at}
+use Rattle.net_units.specs.LevelBounds.{bound_at}
 use Rattle.hop_reservation.specs.declared.route.Hop.{Hop}
 
 -- the ticks that a hop adds to the delay at a level: the level's bound and the propagation

@@ -17,7 +17,7 @@ use Rattle.link_server.proofs.PlaceFacts.{terms-found, terms-absent, kept-found,
 use Rattle.std.specs.List.{remove}
 use Rattle.net_units.specs.declared.numbers.ChanNo.{ChanNo}
 use Rattle.net_units.specs.declared.numbers.Level.{Level}
-use Rattle.net_units.specs.Steps.{last_bound}
+use Rattle.net_units.specs.LevelBounds.{last_bound}
 use Rattle.traffic_contract.specs.Admission.{best_level, refused_sum}
 use Rattle.traffic_contract.specs.Contract.{Terms}
 use Rattle.link_steps.specs.declared.asks.Ask.TheVariants.{Relax, Deny, Submit}

@@ -3,7 +3,7 @@ use Rattle.std.proofs.Common.{◌≡◌, ℕ, ◌+◌, ◌≤◌, Bool, true, fa
 use Rattle.std.proofs.lemmas.Bool.{le-leb, leb-true, eq-eqb, eqb-true, and_parts, or_cases, or_right}
 use Rattle.std.specs.Bool.{IsTrue}
 use Rattle.std.specs.Prelude.{◌↔◌, nat_eq, nat_le}
-use Rattle.net_units.specs.Steps.{last_bound}
+use Rattle.net_units.specs.LevelBounds.{last_bound}
 use Rattle.link_steps.specs.declared.replies.Phase.{Phase}
 use Rattle.link_steps.specs.declared.replies.Phase.TheVariants.{Tentative, Committed, Closing}
 use Rattle.link_steps.specs.Hold.{hold_ended}

@@ -29,7 +29,12 @@ fn step(link: &mut LinkState, ask: &Ask) -> Result<Reply, Fail>
 }
 
 // A reserve at the only hop of a route, with rate-jitter control.
-fn reserve(link: &mut LinkState, chan: u32, contract: &Contract, delay: u64) -> Result<Reply, Fail> {
+fn reserve(
+    link: &mut LinkState,
+    chan: u32,
+    contract: &Contract,
+    delay: u64,
+) -> Result<Reply, Fail> {
     // `smax` tells that the four numbers are a contract's, as the ask wants.
     let _smax = contract.smax();
     let chan = ChanNo::new(chan).ok_or("channel")?;

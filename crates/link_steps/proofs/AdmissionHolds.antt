@@ -6,7 +6,7 @@ use Rattle.std.specs.Option.{option_map}
 use Rattle.net_units.proofs.BoundFacts.{bounds_parts, bound_at-rising}
 use Rattle.net_units.specs.Numbers.{level_number}
 use Rattle.net_units.specs.Quotient.{ceil_quotient}
-use Rattle.net_units.specs.Steps.{bound_at}
+use Rattle.net_units.specs.LevelBounds.{bound_at}
 use Rattle.net_units.specs.declared.Kind.{Kind}
 use Rattle.net_units.specs.declared.numbers.ChanNo.{ChanNo}
 use Rattle.net_units.specs.declared.numbers.Level.{Level}

@@ -4,7 +4,7 @@ use Rattle.std.proofs.lemmas.Bool.{cases_lt, leb-true, le-leb, ltb-true, eqb-tru
 use Rattle.std.specs.Prelude.{nat_eq, nat_le, nat_lt, unwrap_or}
 use Rattle.net_units.proofs.BoundFacts.{within_count, bounds_parts}
 use Rattle.net_units.specs.Numbers.{level_number}
-use Rattle.net_units.specs.Steps.{bound_at}
+use Rattle.net_units.specs.LevelBounds.{bound_at}
 use Rattle.net_units.specs.declared.numbers.ChanNo.{ChanNo}
 use Rattle.net_units.specs.declared.numbers.Level.{Level}
 use Rattle.traffic_contract.specs.Admission.{best_level}

@@ -5,7 +5,7 @@ use Rattle.std.proofs.Common.{◌≡◌, ℕ, suc, ◌+◌, ◌<◌, ◌≤◌, 
 use Rattle.std.proofs.lemmas.Bool.{cases_lt, lt-leb, le-ltb}
 use Rattle.std.specs.Prelude.{filter, find, nat_le}
 use Rattle.net_units.proofs.BoundFacts.{bound_least, bound_at-rising}
-use Rattle.net_units.specs.Steps.{bound_at, last_bound}
+use Rattle.net_units.specs.LevelBounds.{bound_at, last_bound}
 use Rattle.traffic_contract.specs.Admission.{total, load}
 use Rattle.traffic_contract.specs.Window.{count_in}
 use Rattle.traffic_contract.proofs.AdmissionFacts.{total-append}

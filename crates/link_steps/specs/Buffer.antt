@@ -5,7 +5,7 @@
 -- its slot from its arrival until it departs. What the held reservations don't keep is free.
 use Rattle.std.specs.Prelude.{ℕ, ◌+◌, ◌-◌, ◌*◌, Bool, nat_eq, nat_lt, List, filter, length}
 use Rattle.net_units.specs.Numbers.{level_number}
-use Rattle.net_units.specs.Steps.{bound_at}
+use Rattle.net_units.specs.LevelBounds.{bound_at}
 use Rattle.traffic_contract.specs.Admission.{total}
 use Rattle.traffic_contract.specs.Contract.{Terms, most_in}
 use Rattle.link_steps.specs.declared.replies.Phase.{Phase}

@@ -4,7 +4,7 @@
 -- been eligible for as long as the largest bound of the link; with n = 0 it expires in the first tick after the
 -- release.
 use Rattle.std.specs.Prelude.{ℕ, ◌+◌, Bool, nat_eq, nat_le, ◌&&◌, ◌||◌, not, List, length}
-use Rattle.net_units.specs.Steps.{last_bound}
+use Rattle.net_units.specs.LevelBounds.{last_bound}
 use Rattle.traffic_contract.specs.Eligible.{newest}
 use Rattle.link_steps.specs.declared.replies.Phase.TheVariants.{Closing}
 use Rattle.link_steps.specs.Reservation.{Reservation, is_phase}

@@ -2,7 +2,7 @@
 -- which it applies. A rule is named by its refusal: it gives it where it applies, and nothing elsewhere.
 use Rattle.std.specs.Prelude.{ℕ, Bool, not, nat_eq, nat_lt, nat_le, ◌&&◌, if◌then◌else◌, Option, Some, None, List, [], ◌∷◌}
 use Rattle.net_units.specs.Numbers.{level_number}
-use Rattle.net_units.specs.Steps.{last_bound}
+use Rattle.net_units.specs.LevelBounds.{last_bound}
 use Rattle.net_units.specs.declared.numbers.Level.{Level}
 use Rattle.traffic_contract.specs.Admission.{Server, Row as Admitted, refused_sum}
 use Rattle.traffic_contract.specs.Contract.{Terms}

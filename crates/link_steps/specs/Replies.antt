@@ -7,7 +7,7 @@
 -- arrives is taken where the reservation is ready for it and has a slot free, and the reply says at which tick it is
 -- eligible. A tick says how many source packets were dropped in it, and which packet departs at its end.
 use Rattle.std.specs.Prelude.{ℕ, suc, ◌+◌, true, nat_eq, if◌then◌else◌, Option, Some, None, List, [], ◌∷◌, length, map, find, max, unwrap_or}
-use Rattle.net_units.specs.Steps.{bound_at, levels_within}
+use Rattle.net_units.specs.LevelBounds.{bound_at, levels_within}
 use Rattle.net_units.specs.declared.numbers.ChanNo.{ChanNo}
 use Rattle.net_units.specs.declared.numbers.Level.{Level}
 use Rattle.traffic_contract.specs.Admission.{best_level}

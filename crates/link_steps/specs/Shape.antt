@@ -4,7 +4,7 @@
 -- the bounds of its levels, its rate and its blocking.
 use Rattle.std.specs.Prelude.{◌≡◌, ℕ, Bool, nat_le, ◌&&◌, Option, Some, None, List, if◌then◌else◌}
 use Rattle.net_units.specs.Quotient.{ceil_quotient}
-use Rattle.net_units.specs.Steps.{bound_at}
+use Rattle.net_units.specs.LevelBounds.{bound_at}
 use Rattle.net_units.specs.declared.numbers.LinkNo.{LinkNo}
 use Rattle.traffic_contract.specs.Admission.{Server}
 use Rattle.link_steps.specs.declared.shape.LinkShape.{LinkShape}

@@ -4,7 +4,7 @@
 -- whatever all other sources do. What counts is what the source has offered: the packets whose tick was made, in order
 -- of time, with any that were dropped. It is the same for the channels held and for those that are gone.
 use Rattle.std.specs.Prelude.{◌≡◌, ℕ, ◌+◌, ◌≤◌, true, IsTrue, List, [], map, filter, reverse}
-use Rattle.net_units.specs.Steps.{bound_at}
+use Rattle.net_units.specs.LevelBounds.{bound_at}
 use Rattle.traffic_contract.specs.Keeping.{Keeps}
 use Rattle.link_steps.specs.declared.replies.Entry.{Entry}
 use Rattle.link_steps.specs.declared.shape.LinkShape.{LinkShape}

@@ -1,7 +1,7 @@
 //! What a link is, apart from what it does.
 ghost use Rattle.std.specs.Prelude.{◌≡◌, ◌≤◌, IsTrue, IfOk, MatchResult, None, Some};
 ghost use Rattle.net_units.specs.Quotient.{ceil_quotient};
-ghost use Rattle.net_units.specs.Steps.{are_bounds, bound_at};
+ghost use Rattle.net_units.specs.LevelBounds.{are_bounds, bound_at};
 
 use net_units::{Bounds, Level, LinkNo, ceil_div};
 

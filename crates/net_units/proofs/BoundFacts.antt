@@ -4,7 +4,7 @@ use Rattle.std.proofs.Common.{◌≡◌, ℕ, zero, suc, ◌-◌, ◌<◌, ◌�
 use Rattle.std.proofs.lemmas.List.Sums.{AllPass-from_list_all}
 use Rattle.std.proofs.lemmas.Bool.{ltb-true, leb-true, leb-false, and_parts, cases_Bool}
 use Rattle.net_units.specs.Limits.{most_bound}
-use Rattle.net_units.specs.Steps.{rises_above, are_bounds, bound_at, levels_within}
+use Rattle.net_units.specs.LevelBounds.{rises_above, are_bounds, bound_at, levels_within}
 
 -- each bound is above what the first is above
 pub above_low : (low : ℕ) (bs : List ℕ) (j : ℕ) → rises_above low bs ≡ true → j < length bs → low < get_or bs j 0

@@ -1,7 +1,7 @@
 pub mod Allotted
+pub mod LevelBounds
 pub mod Limits
 pub mod Numbers
 pub mod Padded
 pub mod Quotient
-pub mod Steps
 pub mod Text

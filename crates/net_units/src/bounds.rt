@@ -2,7 +2,7 @@
 ghost use Rattle.std.specs.Prelude.{◌≡◌, ◌↔◌, ◌<◌, ◌≤◌, ℕ, IsTrue, IsSome, IsNone, IfSome, length, nat_le};
 ghost use Rattle.std.specs.List.{list_all};
 ghost use Rattle.net_units.specs.Padded.{padded};
-ghost use Rattle.net_units.specs.Steps.{rises_above, are_bounds, bound_at, last_bound, levels_within};
+ghost use Rattle.net_units.specs.LevelBounds.{rises_above, are_bounds, bound_at, last_bound, levels_within};
 
 use crate::limits::{MOST_BOUND, MOST_LEVELS};
 use crate::numbers::Level;
@@ -20,7 +20,7 @@ pub struct Bounds {
 impl Model for Bounds {
     ghost use Rattle.std.specs.Prelude.{ℕ, List, IsTrue, length, take};
     ghost use Rattle.net_units.specs.Padded.{padded, IsPadded};
-    ghost use Rattle.net_units.specs.Steps.{are_bounds};
+    ghost use Rattle.net_units.specs.LevelBounds.{are_bounds};
 
     ghost Value = { List ℕ };
 

@@ -2,7 +2,7 @@
 -- bound. A row at level m counts at every level from m on. So rows that pass still pass with a new one at every
 -- level above the last that has no room, and at no other.
 use Rattle.std.specs.Prelude.{ℕ, ◌+◌, ◌<◌, ◌≤◌, List}
-use Rattle.net_units.specs.Steps.{bound_at}
+use Rattle.net_units.specs.LevelBounds.{bound_at}
 use Rattle.traffic_contract.specs.Contract.{Terms}
 use Rattle.traffic_contract.specs.Admission.{Server, Row, level_sum, work_in}
 

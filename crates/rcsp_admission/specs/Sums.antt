@@ -3,7 +3,7 @@
 -- leaves all others as they are. `spare` is the number of rows for which memory is at hand.
 use Rattle.std.specs.Prelude.{◌≡◌, ◌≢◌, ◌==◌, ℕ, ◌≤◌, Bool, not, if◌then◌else◌, IsTrue, List, [], ◌∷◌, ◌++◌, map, Contains}
 use Rattle.std.specs.List.{filter, Any, AllPairs}
-use Rattle.net_units.specs.Steps.{are_bounds, bound_at}
+use Rattle.net_units.specs.LevelBounds.{are_bounds, bound_at}
 use Rattle.traffic_contract.specs.Contract.{Terms}
 use Rattle.traffic_contract.specs.Admission.{Server, Row, Passes}
 

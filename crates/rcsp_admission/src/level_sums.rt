@@ -1,7 +1,7 @@
 //! The rows of a link and their sums at its levels.
 ghost use Rattle.std.specs.Prelude.{◌≡◌, ◌+◌, ◌<◌, ◌≤◌, ℕ, [], None, Some, IfOk, IfErr, OnOk, OnErr, MatchResult, IsOk, length};
 ghost use Rattle.net_units.specs.Numbers.{level_number};
-ghost use Rattle.net_units.specs.Steps.{bound_at, last_bound};
+ghost use Rattle.net_units.specs.LevelBounds.{bound_at, last_bound};
 ghost use Rattle.traffic_contract.specs.Admission.{Passes, IsBest, IsRefused, with_row, level_sum, best_level, refused_sum};
 ghost use Rattle.rcsp_admission.specs.Room.{IsLastFull, sum_with};
 ghost use Rattle.rcsp_admission.specs.Sums.{Holds, HoldsUpTo, AreAdmitted, server_of, rows_of, added, moved, without};

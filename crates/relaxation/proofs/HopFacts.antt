@@ -2,7 +2,7 @@
 use Rattle.std.proofs.Common.{◌≡◌, ℕ, ◌+◌, ◌<◌, ◌≤◌, true, Option, Some, None, List, length, min, inl, inr, refl, arith}
 use Rattle.std.proofs.Math.Nat.{min-le_left, min-le_right}
 use Rattle.std.proofs.lemmas.Bool.{cases_lt}
-use Rattle.net_units.specs.Steps.{are_bounds, bound_at, levels_within}
+use Rattle.net_units.specs.LevelBounds.{are_bounds, bound_at, levels_within}
 use Rattle.net_units.proofs.BoundFacts.{bound_at-rising, within_count, level_fits, level_largest}
 use Rattle.hop_reservation.specs.declared.route.Hop.{Hop}
 use Rattle.hop_reservation.specs.Offers.{IsLevelOf}

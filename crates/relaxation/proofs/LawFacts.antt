@@ -3,7 +3,7 @@
 use Rattle.std.proofs.Common.{◌≡◌, ℕ, suc, ◌+◌, ◌-◌, ◌/◌, ◌≤◌, true, Bool, Option, Some, None, List, [], ◌∷◌, max, inl, inr, ap, subst, sym, refl, ◌∙◌, ltb, arith}
 use Rattle.std.proofs.Math.Nat.{div-le_self}
 use Rattle.std.proofs.lemmas.Bool.{cases_Bool, ltb-false}
-use Rattle.net_units.specs.Steps.{bound_at}
+use Rattle.net_units.specs.LevelBounds.{bound_at}
 use Rattle.hop_reservation.specs.declared.route.Hop.{Hop}
 use Rattle.hop_reservation.specs.Offers.{delay_over, IsLevelOf, AreLevels}
 use Rattle.relaxation.specs.Allotment.{last_bound, jitter_denial, denial_of, relaxed, allotment, allotted, IsWithin}

@@ -6,7 +6,7 @@ use Rattle.std.proofs.lemmas.Bool.{cases_lt}
 use Rattle.std.proofs.lemmas.List.{drop_all, drop-set}
 use Rattle.std.proofs.lemmas.Option.{slice_get_within, get_or_from_slice_get}
 use Rattle.net_units.specs.Numbers.{level_number}
-use Rattle.net_units.specs.Steps.{are_bounds, bound_at}
+use Rattle.net_units.specs.LevelBounds.{are_bounds, bound_at}
 use Rattle.net_units.specs.declared.numbers.Level.{Level}
 use Rattle.hop_reservation.specs.declared.route.Hop.{Hop}
 use Rattle.hop_reservation.specs.Offers.{delay_over}

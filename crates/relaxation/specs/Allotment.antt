@@ -6,7 +6,7 @@
 -- control stays within the jitter bound too. What a hop gets beyond its offer is gone from the slack. (Relaxing on the
 -- way back is the Tenet suite's, Banerjea, Ferrari et al. 1996; this way of sharing the slack is this project's.)
 use Rattle.std.specs.Prelude.{◌≡◌, ℕ, suc, ◌+◌, ◌-◌, ◌/◌, ◌≤◌, nat_lt, if◌then◌else◌, min, Option, Some, None, List, [], ◌∷◌}
-use Rattle.net_units.specs.Steps.{bound_at, levels_within}
+use Rattle.net_units.specs.LevelBounds.{bound_at, levels_within}
 use Rattle.hop_reservation.specs.declared.route.Hop.{Hop}
 use Rattle.hop_reservation.specs.Offers.{delay_over}
 use Rattle.relaxation.specs.declared.EndDenial.{EndDenial}

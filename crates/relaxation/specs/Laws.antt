@@ -3,7 +3,7 @@
 -- larger. The bounds and propagations of the route add up to the delay bound at most, and under delay-jitter control the
 -- bound of the last hop is at most the jitter bound.
 use Rattle.std.specs.Prelude.{◌≡◌, ℕ, ◌≤◌, IsTrue, max, Option, None, List, [], ◌∷◌}
-use Rattle.net_units.specs.Steps.{are_bounds, bound_at, levels_within}
+use Rattle.net_units.specs.LevelBounds.{are_bounds, bound_at, levels_within}
 use Rattle.hop_reservation.specs.declared.route.Hop.{Hop}
 use Rattle.hop_reservation.specs.Offers.{delay_over, IsLevelOf, AreLevels}
 use Rattle.relaxation.specs.Allotment.{last_bound, denial_of, allotted, IsWithin}

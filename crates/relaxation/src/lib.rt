@@ -8,7 +8,7 @@
 ghost use Rattle.std.specs.Prelude.{◌≡◌, ◌+◌, ◌^◌, ◌<◌, ◌≤◌, Some, None, IsTrue, MatchResult, OnOk, OnErr, length, map};
 ghost use Rattle.net_units.specs.Allotted.{levels_of};
 ghost use Rattle.net_units.specs.Numbers.{level_number};
-ghost use Rattle.net_units.specs.Steps.{are_bounds, bound_at};
+ghost use Rattle.net_units.specs.LevelBounds.{are_bounds, bound_at};
 ghost use Rattle.hop_reservation.specs.Offers.{delay_over, AreLevels, IsLevelOf};
 ghost use Rattle.relaxation.specs.Allotment.{allotted, allotment, denial_of, last_bound, relaxed, up_to, IsWithin};
 ghost use Rattle.relaxation.specs.Laws.{AreWithinReach, HaveBounds, KeepBounds};

@@ -3,7 +3,7 @@ use Rattle.std.proofs.Common.{◌≡◌, ℕ, ◌+◌, ◌*◌, ◌<◌, ◌≤�
 use Rattle.std.proofs.lemmas.Bool.{leb-true, ltb-true, and_parts, not-true}
 use Rattle.std.proofs.lemmas.List.{length-map}
 use Rattle.net_units.specs.Quotient.{ceil_quotient}
-use Rattle.net_units.specs.Steps.{are_bounds, bound_at}
+use Rattle.net_units.specs.LevelBounds.{are_bounds, bound_at}
 use Rattle.net_units.specs.Text.{is_name}
 use Rattle.tenet_app.specs.Causes.{unless}
 use Rattle.tenet_app.specs.Decimal.{value_of}

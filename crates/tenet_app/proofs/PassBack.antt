@@ -5,7 +5,7 @@ use Rattle.std.proofs.lemmas.List.{drop_all, length-map}
 use Rattle.std.proofs.lemmas.Slice.Eq.{bytes_eq-Decides}
 use Rattle.std.specs.Cmp.Lexicographic.{pointwise}
 use Rattle.net_units.specs.Quotient.{ceil_quotient}
-use Rattle.net_units.specs.Steps.{bound_at}
+use Rattle.net_units.specs.LevelBounds.{bound_at}
 use Rattle.net_units.specs.Text.{begins_as_name, is_kept_word, is_name}
 use Rattle.net_units.proofs.BoundFacts.{AreBounds, bounds_parts}
 use Rattle.traffic_contract.specs.Contract.{Terms, IsContract, burst_of}
@@ -72,7 +72,7 @@ link_again link l =
     let cap = value-decimal link.cap (omega (arith, l.cap_most)) in
     let prop = value-decimal link.prop (omega (arith, l.prop)) in
     let buffer = value-decimal link.buffer (omega (arith, l.buffer)) in
-    let bounds = values-decimals link.bounds (λ i h. let from = bound_from link.bounds l.bounds i h in omega (arith, from)) in
+    let bounds = values-decimals link.bounds (λ i h. let from = b.each i h in omega (arith, from)) in
     rw (rate, cap, prop, buffer, bounds) refl
 
 -- a link line passes behind the header
@@ -92,13 +92,13 @@ link_back said link none l =
         (decimal_passes 0 1048576 link.prop (omega arith) l.prop (omega arith), (decimal_passes 0 262144 link.buffer (omega arith) l.buffer (omega arith), tt)),
       ),
     ) in
-    let bounds = decimals_pass 1 1048576 link.bounds (bound_from link.bounds l.bounds) (omega arith) in
+    let bounds = decimals_pass 1 1048576 link.bounds b.each (omega arith) in
     let left = pass_all (new_name_rule (link_names said) (field_at fields 1) ∷ name_rule (field_at fields 2) ∷ name_rule (field_at fields 3)
     ∷ link_numbers_rule fields ∷ bound_numbers_rule (bound_fields fields) ∷ [])
     (new_name_back (link_names said) link.name l.name new, (name_back link.from l.from, (name_back link.to l.to, (numbers, (bounds, tt))))) in
     pass_all (unless (has_form link_form fields) cause.Shape ∷ link_fields_rule said fields ∷ unless (nat_lt (length said.links) 32) cause.Many
     ∷ levels_rule (link_of fields) ∷ unless (nat_eq (length said.links) 0) cause.Later ∷ []) (
-      unless_holds (has_form link_form fields) cause.Shape (link_form_back link l.bounds),
+      unless_holds (has_form link_form fields) cause.Shape (link_form_back link b),
       (
         left,
         (

@@ -1,7 +1,7 @@
 -- The history of every run of a plan is legal, so it has what every legal history has.
 use Rattle.std.proofs.Common.{ℕ, zero, suc, ◌+◌, ◌≤◌, Bool, true, false, if◌then◌else◌, List, [], ◌∷◌, ◌++◌, length, refl, arith}
 use Rattle.net_units.specs.Numbers.{level_number}
-use Rattle.net_units.specs.Steps.{levels_within}
+use Rattle.net_units.specs.LevelBounds.{levels_within}
 use Rattle.net_units.specs.declared.numbers.ChanNo.{ChanNo}
 use Rattle.net_units.specs.declared.numbers.Level.{Level}
 use Rattle.net_units.proofs.BoundFacts.{within_count, bounds_parts}

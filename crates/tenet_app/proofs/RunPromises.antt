@@ -1,8 +1,8 @@
 -- In every run each accepted request whose source keeps its contract is carried within the delay that it was told: its
 -- channel has one row, with its contract and at its level, and the link serves the source of that row promptly.
-use Rattle.std.proofs.Common.{◌≡◌, ℕ, zero, suc, ◌+◌, ◌-◌, true, List, [], ◌∷◌, map, refl, sym, ap, ◌∙◌, subst, arith, if◌then◌else◌}
+use Rattle.std.proofs.Common.{◌≡◌, ℕ, zero, suc, ◌+◌, true, List, [], ◌∷◌, map, refl, sym, ap, ◌∙◌, subst, arith}
 use Rattle.std.specs.Prelude.{filter}
-use Rattle.net_units.specs.Steps.{bound_at}
+use Rattle.net_units.specs.LevelBounds.{bound_at}
 use Rattle.traffic_contract.specs.Keeping.{Keeps}
 use Rattle.link_steps.specs.Legal.{IsLegal}
 use Rattle.link_steps.specs.Lists.{Each}
@@ -15,7 +15,7 @@ use Rattle.link_steps.specs.declared.replies.Entry.{Entry}
 use Rattle.link_steps.specs.declared.shape.LinkShape.{LinkShape}
 use Rattle.link_steps.proofs.FreeSlots.{eligible_of}
 use Rattle.link_steps.proofs.ChangeFacts.{Each-if_passes}
-use Rattle.link_steps.proofs.ListFacts.{Each-both, Each-filter, Each-if}
+use Rattle.link_steps.proofs.ListFacts.{Each-both, Each-filter, Each-if, map-same}
 use Rattle.link_steps.proofs.ServiceFacts.{starts-fact}
 use Rattle.link_steps.proofs.SourceHistory.{source-guarantee}
 use Rattle.tenet_app.specs.Channels.{planned_in, offered_in}
@@ -41,11 +41,6 @@ only-fact : (P : Row → Type 0) (n : ℕ) (row : Row) (rows gone : List Row) �
 only-fact P n row rows gone (IsHeld held none) first second = (subst (Each P) held (Each-filter P (is_row_in n) rows first)).0
 only-fact P n row rows gone (IsGone none was) first second = (subst (Each P) was (Each-filter P (is_row_in n) gone second)).0
 
--- packets that are eligible as they arrive
-same-ticks : (own : List Arrival) → Each (λ p. p.eligible ≡ p.at) own → map eligible_of own ≡ map arrival_tick own
-same-ticks [] same = refl
-same-ticks (p ∷ own) same = ap (λ t. t ∷ map eligible_of own) same.0 ∙ ap (λ ts. p.at ∷ ts) (same-ticks own same.1)
-
 -- the packets of a channel whose source keeps its contract are taken as they are offered, and arrive within its bound
 row-promise : (shape : LinkShape) (h : List Entry) (n : ℕ) (request : Request) (level bound : ℕ) → IsLegal shape h → RowIsKept shape h n request (IsAccepted level bound) → PromiseIsKept shape n request (IsAccepted level bound) h
 row-promise shape h n request level bound legal kept keeps =
@@ -60,7 +55,7 @@ row-promise shape h n request level bound legal kept keeps =
     let own = starts-fact (λ p. is_packet_in n p ≡ true → IsOf has.row p) shape.rate (scan_of shape h).packets (clock_of h) (Each-if_passes (IsOf has.row) (is_packet_in n) (scan_of shape h).packets has.is.packets) in
     let at_once = Each-if (λ p. IsEligibleAtOnce has.row p × IsOf has.row p) (λ p. p.eligible ≡ p.at) (filter (is_packet_in n) (scan_of shape h).packets) (λ p both. both.0.at_once both.1.led)
     (Each-both (IsEligibleAtOnce has.row) (IsOf has.row) (filter (is_packet_in n) (scan_of shape h).packets) (Each-filter (IsEligibleAtOnce has.row) (is_packet_in n) (scan_of shape h).packets served.at_once) has.is.packets) in
-    let taken : taken_in shape n h ≡ offered_in n h = sym (same-ticks (filter (is_packet_in n) (scan_of shape h).packets) at_once) ∙ sym has.is.ticks ∙ served.as_offered ∙ offered in
+    let taken : taken_in shape n h ≡ offered_in n h = sym (map-same eligible_of arrival_tick (filter (is_packet_in n) (scan_of shape h).packets) at_once) ∙ sym has.is.ticks ∙ served.as_offered ∙ offered in
     let in_time = delays-within shape n bound h legal
     (Each-if (λ start. (is_packet_in n start.packet ≡ true → IsOf has.row start.packet) × LeavesPromptly shape (clock_of h) has.row start) (ArrivesWithin shape n bound (clock_of h)) (starts_of shape h)
     (λ start both. record {

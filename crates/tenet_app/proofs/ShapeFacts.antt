@@ -7,7 +7,7 @@ use mathlib.Core.Bool.{Bool-set}
 use mathlib.Core.HLevel.{is_prop→PathP}
 use Rattle.net_units.specs.Numbers.{link_number}
 use Rattle.net_units.specs.Quotient.{ceil_quotient}
-use Rattle.net_units.specs.Steps.{are_bounds, bound_at}
+use Rattle.net_units.specs.LevelBounds.{are_bounds, bound_at}
 use Rattle.net_units.specs.declared.numbers.LinkNo.{LinkNo}
 use Rattle.link_steps.specs.Shape.{is_within, first_bad_field, IsShapeOf}
 use Rattle.link_steps.specs.declared.shape.LinkShape.{LinkShape}

@@ -12,6 +12,7 @@ use Rattle.link_steps.specs.declared.replies.Reply.TheVariants as Is
 use Rattle.link_steps.specs.declared.replies.Sent.{Sent}
 use Rattle.link_steps.specs.Rows.{SourcePacket, tick_of}
 use Rattle.link_steps.specs.Scan.{clock_of, clock_with}
+use Rattle.link_steps.proofs.WindowFits.{clock_with-most}
 use Rattle.tenet_app.specs.Channels.{is_number, planned_after, planned_in, refused_by, refused_in, sent_by, delay_of, delays_in, departures_by, departures_in, dropped_by, dropped_in}
 use Rattle.tenet_app.specs.Tallies.{tally_of, each_from, tallies_of, with_delay, with_refusal, change_at, with_packet, counted, AreFew, ticks_in, Tells}
 use Rattle.tenet_app.specs.declared.tallies.Tallies.{Tallies}
@@ -178,19 +179,10 @@ unfolding departures_in
 departures-few [] = omega arith
 departures-few (e ∷ past) = omega (arith, departure-few (sent_by e.reply), departures-few past)
 
-clock-step : (ask : Ask) (t : ℕ) → clock_with ask t ≤ suc t
-clock-step (Submit chan count gap size) t = omega arith
-clock-step (Reserve chan contract kind delay up_reach first next) t = omega arith
-clock-step (Relax chan level up_bound) t = omega arith
-clock-step (Deny chan) t = omega arith
-clock-step (Release chan upstream) t = omega arith
-clock-step (Arrive packet) t = omega arith
-clock-step Tick t = omega arith
-
 pub clock-few : (h : List Entry) → clock_of h ≤ length h
 unfolding clock_of
 clock-few [] = omega arith
-clock-few (e ∷ past) = omega (arith, clock-step e.ask (clock_of past), clock-few past)
+clock-few (e ∷ past) = omega (arith, clock_with-most e.ask (clock_of past), clock-few past)
 
 few-from : (h : List Entry) (k n : ℕ) → length h < 2 ^ 63 → AreFew (each_from (λ i. tally_of i h) k n)
 unfolding each_from

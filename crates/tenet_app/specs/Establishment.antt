@@ -10,7 +10,7 @@ use Rattle.std.specs.Prelude.{ℕ, ◌+◌, ◌-◌, Bool, true, false, nat_lt, 
 use Rattle.std.proofs.Common.{lit<}
 use Rattle.std.proofs.Math.Nat.{min-le_left, lt_of_le_of_lt}
 use Rattle.net_units.specs.Numbers.{level_number}
-use Rattle.net_units.specs.Steps.{bound_at, levels_within}
+use Rattle.net_units.specs.LevelBounds.{bound_at, levels_within}
 use Rattle.net_units.specs.declared.Kind.TheVariants.{Rate}
 use Rattle.net_units.specs.declared.numbers.ChanNo.{ChanNo}
 use Rattle.net_units.specs.declared.numbers.Level.{Level}

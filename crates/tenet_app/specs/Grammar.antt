@@ -5,7 +5,7 @@
 use Rattle.std.specs.Prelude.{ℕ, ◌+◌, ◌*◌, Bool, true, false, nat_eq, nat_lt, nat_le, not, ◌&&◌, ◌||◌, if◌then◌else◌, Option, Some, None, Result, Err, List, [], ◌∷◌, length, map, take, drop, codes, is_some, is_none}
 use Rattle.std.specs.Cmp.Lexicographic.{pointwise}
 use Rattle.net_units.specs.Quotient.{ceil_quotient}
-use Rattle.net_units.specs.Steps.{are_bounds, bound_at}
+use Rattle.net_units.specs.LevelBounds.{are_bounds, bound_at}
 use Rattle.traffic_contract.specs.Contract.{Terms, terms_of}
 use Rattle.traffic_contract.specs.Refusal.{first_bad}
 use Rattle.tenet_app.specs.Causes.{Rule, unless, first_cause, judged}

@@ -5,7 +5,7 @@
 use Rattle.std.specs.Prelude.{◌≡◌, ℕ, suc, ◌+◌, ◌*◌, ◌<◌, ◌≤◌, Bool, true, false, Option, Some, None, List, [], ◌∷◌, ◌++◌, length, map, drop, nat_eq, is_some, unwrap_or}
 use Rattle.std.specs.List.{list_any}
 use Rattle.net_units.specs.Quotient.{ceil_quotient}
-use Rattle.net_units.specs.Steps.{are_bounds, bound_at}
+use Rattle.net_units.specs.LevelBounds.{are_bounds, bound_at}
 use Rattle.net_units.specs.Text.{is_name}
 use Rattle.traffic_contract.specs.Contract.{IsContract}
 use Rattle.tenet_app.specs.Forms.{is_among, place_of}

@@ -5,7 +5,7 @@ use Rattle.std.specs.Prelude.{◌≡◌, refl, Bool, true, nat_le, ◌&&◌, Opt
 use Rattle.std.proofs.Common.{lit<}
 use Rattle.std.proofs.lemmas.Bool.{and_parts, leb-true}
 use Rattle.net_units.specs.Quotient.{ceil_quotient}
-use Rattle.net_units.specs.Steps.{are_bounds, bound_at}
+use Rattle.net_units.specs.LevelBounds.{are_bounds, bound_at}
 use Rattle.net_units.specs.declared.numbers.LinkNo.{LinkNo}
 use Rattle.link_steps.specs.Shape.{is_within}
 use Rattle.link_steps.specs.declared.shape.LinkShape.{LinkShape}

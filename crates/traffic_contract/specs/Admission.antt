@@ -7,7 +7,7 @@
 -- rate-controlled static-priority server, Zhang & Ferrari 1993; the exact sum is this project's.)
 use Rattle.std.specs.Prelude.{ℕ, zero, suc, ◌+◌, ◌*◌, ◌≤◌, Bool, true, nat_le, ◌&&◌, if◌then◌else◌, Option, Some, None, List, [], ◌∷◌, ◌++◌, length}
 use Rattle.net_units.specs.Quotient.{ceil_quotient}
-use Rattle.net_units.specs.Steps.{bound_at}
+use Rattle.net_units.specs.LevelBounds.{bound_at}
 use Rattle.traffic_contract.specs.Contract.{Terms, most_in}
 
 -- a link, as far as admission goes: the bounds of its levels in ticks, its rate in units a tick, and the ticks

@@ -1,6 +1,6 @@
 use Rattle.std.proofs.Common.{◌≡◌, ◌-◌, Some, length, get_or, subst, sym, ◌∙◌, ap, arith}
 use Rattle.std.specs.List.{slice_get}
-use Rattle.net_units.specs.Steps.{bound_at}
+use Rattle.net_units.specs.LevelBounds.{bound_at}
 use Rattle.relaxation.proofs.ShareFacts.{last_bound-none, last_bound-at}
 use Rattle.relaxation.proofs.last_offered.Goals as goal
 

@@ -3,7 +3,7 @@ use Rattle.std.proofs.Common.{◌≡◌, ◌+◌, ◌-◌, ◌/◌, ◌≤◌, �
 use Rattle.std.proofs.Math.Nat.{div-le_self}
 use Rattle.std.proofs.lemmas.List.{length-set}
 use Rattle.net_units.specs.Numbers.{level_number}
-use Rattle.net_units.specs.Steps.{bound_at}
+use Rattle.net_units.specs.LevelBounds.{bound_at}
 use Rattle.relaxation.specs.Allotment.{allotment, limit_before, relaxed, IsWithin}
 use Rattle.relaxation.specs.Laws.{HaveBounds}
 use Rattle.relaxation.proofs.ShareFacts.{bound-in_delay, limit-last, limit-none, limit-kept, share-step, allotment-none, put-none, put-one, bounds-none, bounds-one}

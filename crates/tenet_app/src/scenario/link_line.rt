@@ -1,7 +1,7 @@
 //! Judging a link line.
 ghost use Rattle.std.specs.Prelude.{◌≡◌, ◌≤◌, IfOk, OnOk, ◌<◌, ◌&&◌, nat_le, map, length};
 ghost use Rattle.net_units.specs.Quotient.{ceil_quotient};
-ghost use Rattle.net_units.specs.Steps.{are_bounds, bound_at};
+ghost use Rattle.net_units.specs.LevelBounds.{are_bounds, bound_at};
 ghost use Rattle.tenet_app.specs.Causes.{Judges, unless};
 ghost use Rattle.tenet_app.specs.Decimal.{value_of};
 ghost use Rattle.tenet_app.specs.Fields.{fields_of, field_at};

@@ -1,5 +1,5 @@
 use Rattle.std.proofs.Common.{◌≡◌, ◌+◌, drop}
-use Rattle.net_units.specs.Steps.{levels_within}
+use Rattle.net_units.specs.LevelBounds.{levels_within}
 use Rattle.net_units.proofs.bounds.count_within.Given as goal
 
 -- the levels so far are within x, and what is left adds its own

@@ -1,5 +1,5 @@
 use Rattle.std.proofs.Common.{◌≡◌, drop}
-use Rattle.net_units.specs.Steps.{rises_above}
+use Rattle.net_units.specs.LevelBounds.{rises_above}
 use Rattle.net_units.proofs.bounds.is_rising.Given as goal
 
 -- what is left rises above the last bound seen exactly where the whole list rises

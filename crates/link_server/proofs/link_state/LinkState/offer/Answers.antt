@@ -2,7 +2,7 @@
 use Rattle.std.proofs.Common.{◌≡◌, map, get_or, sym, ap, ◌∙◌, subst, arith}
 use Rattle.std.proofs.lemmas.Bool.{le-leb, lt-leb}
 use Rattle.net_units.specs.Numbers.{level_number}
-use Rattle.net_units.specs.Steps.{last_bound}
+use Rattle.net_units.specs.LevelBounds.{last_bound}
 use Rattle.traffic_contract.specs.Admission.{best_level, refused_sum}
 use Rattle.link_steps.specs.declared.replies.Refusal.TheVariants.{Twice, NoLevel}
 use Rattle.link_steps.specs.declared.replies.Reply.TheVariants.{Offer, Refused}

@@ -1,7 +1,7 @@
 -- The sum is that of the definition over the rows kept, which pass, so it is at most the level's bound.
 use Rattle.std.proofs.Common.{◌≡◌, ◌+◌, ◌≤◌, ap, ◌∙◌, subst, arith}
 use Rattle.net_units.specs.Numbers.{level_number}
-use Rattle.net_units.specs.Steps.{bound_at}
+use Rattle.net_units.specs.LevelBounds.{bound_at}
 use Rattle.traffic_contract.specs.Admission.{total, work_up_to, load, level_sum}
 use Rattle.rcsp_admission.specs.Sums.{AreAdmitted, rows_of}
 use Rattle.rcsp_admission.specs.Kept.{kept_rows}
