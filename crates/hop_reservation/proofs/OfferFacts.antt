@@ -1,5 +1,5 @@
 -- What the offer of a hop adds: one more level, the bound of that level, and the hop's propagation.
-use Rattle.std.proofs.Common.{◌≡◌, ℕ, zero, suc, ◌+◌, ◌-◌, ◌*◌, ◌^◌, ◌<◌, ◌≤◌, Some, None, List, [], ◌∷◌, ◌++◌, length, get_or, ap, subst, sym, refl, arith}
+use Rattle.std.proofs.Common.{◌≡◌, ℕ, zero, suc, ◌+◌, ◌-◌, ◌^◌, ◌<◌, ◌≤◌, Some, None, List, [], ◌∷◌, ◌++◌, length, get_or, ap, subst, sym, refl, arith}
 use Rattle.std.specs.List.{slice_get}
 use Rattle.net_units.specs.LevelBounds.{bound_at}
 use Rattle.hop_reservation.specs.declared.route.Hop.{Hop}

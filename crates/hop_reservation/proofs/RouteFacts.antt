@@ -1,6 +1,6 @@
 -- Hops by different links are a route, and no others; how the search for a link that stood before goes on; and a filled
 -- array.
-use Rattle.std.proofs.Common.{◌≡◌, ◌≢◌, ℕ, suc, ◌+◌, ◌-◌, ◌<◌, ◌≤◌, Bool, true, false, cond, Option, Some, None, List, [], ◌∷◌, ◌++◌, length, take, drop, replicate, get_or, inl, inr, ap, sym, subst, refl, ◌∙◌, ltb, arith}
+use Rattle.std.proofs.Common.{◌≡◌, ◌≢◌, ℕ, suc, ◌+◌, ◌-◌, ◌<◌, ◌≤◌, true, false, Some, None, List, [], ◌∷◌, ◌++◌, length, take, drop, replicate, get_or, inl, inr, ap, sym, subst, refl, ◌∙◌, ltb, arith}
 use Rattle.std.specs.List.{slice_get, list_any, AllPairs}
 use Rattle.std.proofs.Math.Seq.{drop-cons, take-suc, take-append_seam, get_or-append_seam}
 use Rattle.std.proofs.lemmas.Bool.{cases_Bool, eq-eqb, ne_eqb, ltb-false, le-ltb}

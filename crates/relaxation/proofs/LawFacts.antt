@@ -1,13 +1,13 @@
 -- What the allotment of a route keeps: no hop falls below its offer or goes beyond its offer and the whole slack, what the
 -- hops get beyond their offers is what is gone from the slack, and the last hop stays within the limit.
-use Rattle.std.proofs.Common.{◌≡◌, ℕ, suc, ◌+◌, ◌-◌, ◌/◌, ◌≤◌, true, Bool, Option, Some, None, List, [], ◌∷◌, max, inl, inr, ap, subst, sym, refl, ◌∙◌, ltb, arith}
+use Rattle.std.proofs.Common.{◌≡◌, ℕ, suc, ◌+◌, ◌-◌, ◌/◌, ◌≤◌, Option, Some, None, List, [], ◌∷◌, max, inl, inr, ap, subst, sym, refl, ltb, arith}
 use Rattle.std.proofs.Math.Nat.{div-le_self}
 use Rattle.std.proofs.lemmas.Bool.{cases_Bool, ltb-false}
 use Rattle.net_units.specs.LevelBounds.{bound_at}
 use Rattle.hop_reservation.specs.declared.route.Hop.{Hop}
 use Rattle.hop_reservation.specs.Offers.{delay_over, IsLevelOf, AreLevels}
 use Rattle.relaxation.specs.Allotment.{last_bound, jitter_denial, denial_of, relaxed, allotment, allotted, IsWithin}
-use Rattle.relaxation.specs.Laws.{HaveBounds, reach_of, IsWithinReach, AreWithinReach, KeepBounds, AllottedLevelsFit}
+use Rattle.relaxation.specs.Laws.{HaveBounds, AreWithinReach, AllottedLevelsFit}
 use Rattle.relaxation.proofs.HopFacts.{IsRelaxed, relaxed_level, largest_within}
 use Rattle.relaxation.proofs.ShareFacts.{allotment-empty, last_bound-none}
 

@@ -1,3 +1,3 @@
 mod HopFacts
 mod ShareFacts
-mod LawFacts
+pub mod LawFacts

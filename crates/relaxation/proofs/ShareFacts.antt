@@ -11,7 +11,7 @@ use Rattle.net_units.specs.declared.numbers.Level.{Level}
 use Rattle.hop_reservation.specs.declared.route.Hop.{Hop}
 use Rattle.hop_reservation.specs.Offers.{delay_over}
 use Rattle.relaxation.specs.Laws.{HaveBounds}
-use Rattle.relaxation.specs.Allotment.{last_bound, limit_before, relaxed, with_level, allotment, Allotment, IsWithin}
+use Rattle.relaxation.specs.Allotment.{last_bound, limit_before, relaxed, with_level, allotment, IsWithin}
 
 -- a list from a place on is the item there and what is behind it
 pub drop-item : {X : Type 0} (xs : List X) (i : ℕ) (x : X) → slice_get xs i ≡ Some x → drop i xs ≡ x ∷ drop (suc i) xs

@@ -1,10 +1,10 @@
 -- Each turn gives a hop its share, before the hops behind it.
-use Rattle.std.proofs.Common.{◌≡◌, ◌+◌, ◌-◌, ◌/◌, ◌≤◌, ◌∷◌, length, map, take, drop, get_or, subst, sym, refl, ◌∙◌, ap, arith}
+use Rattle.std.proofs.Common.{◌≡◌, ◌-◌, ◌/◌, ◌≤◌, ◌∷◌, length, map, take, drop, get_or, subst, sym, refl, ◌∙◌, ap, arith}
 use Rattle.std.proofs.Math.Nat.{div-le_self}
 use Rattle.std.proofs.lemmas.List.{length-set}
 use Rattle.net_units.specs.Numbers.{level_number}
 use Rattle.net_units.specs.LevelBounds.{bound_at}
-use Rattle.relaxation.specs.Allotment.{allotment, limit_before, relaxed, IsWithin}
+use Rattle.relaxation.specs.Allotment.{allotment, limit_before, relaxed}
 use Rattle.relaxation.specs.Laws.{HaveBounds}
 use Rattle.relaxation.proofs.ShareFacts.{bound-in_delay, limit-last, limit-none, limit-kept, share-step, allotment-none, put-none, put-one, bounds-none, bounds-one}
 use Rattle.relaxation.proofs.share_out.Goals as goal

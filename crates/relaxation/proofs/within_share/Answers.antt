@@ -1,9 +1,9 @@
 -- The hop gets a level, since its first bound is no more than the one that it has offered.
-use Rattle.std.proofs.Common.{◌≡◌, ◌+◌, ◌≤◌, refl, ◌∙◌, ap, arith}
+use Rattle.std.proofs.Common.{◌+◌, refl, ◌∙◌, ap, arith}
 use Rattle.net_units.specs.Numbers.{level_number}
 use Rattle.net_units.specs.LevelBounds.{bound_at, levels_within}
 use Rattle.net_units.proofs.BoundFacts.{bound_at-rising}
-use Rattle.relaxation.specs.Allotment.{relaxed, up_to}
+use Rattle.relaxation.specs.Allotment.{up_to}
 use Rattle.relaxation.proofs.HopFacts.{up_to-least, relaxed_level}
 use Rattle.relaxation.proofs.within_share.Goals as goal
 

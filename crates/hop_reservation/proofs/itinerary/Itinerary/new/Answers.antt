@@ -1,4 +1,3 @@
-use Rattle.std.proofs.Common.{arith}
 use Rattle.hop_reservation.proofs.OfferFacts.{none-offered}
 use Rattle.hop_reservation.proofs.itinerary.Itinerary.new.Goals as goal
 

@@ -1,0 +1,3 @@
+mod LawFacts
+mod ProgressFacts
+mod RouteFacts

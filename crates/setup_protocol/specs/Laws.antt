@@ -1,0 +1,36 @@
+-- What a setup comes to. A settled request is accepted exactly where every hop of its route has offered and the destination
+-- denies nothing. An accepted one has a level of each hop, and its bound on the end-to-end delay is at most the one that was
+-- asked for; under delay-jitter control the last hop's bound is at most the jitter bound.
+use Rattle.std.specs.Prelude.{◌≡◌, ◌↔◌, ℕ, ◌≤◌, Bool, true, false, Some, None, List, length}
+use Rattle.hop_reservation.specs.Offers.{AreLevels}
+use Rattle.link_steps.specs.declared.replies.Reply.{Reply}
+use Rattle.relaxation.specs.Allotment.{denial_of, last_bound, IsWithin}
+use Rattle.relaxation.specs.Laws.{HaveBounds}
+use Rattle.setup_protocol.specs.Requests.{jitter_of}
+use Rattle.setup_protocol.specs.Setup.{Outcome, Accepts, Denies, offers_in, verdict_of}
+use Rattle.setup_protocol.specs.State.{HaveLevels}
+use Rattle.setup_protocol.specs.declared.request.Request.{Request}
+
+abbrev pub is_accepted : Outcome → Bool
+is_accepted (Accepts levels delay) = true
+is_accepted (Denies deny) = false
+
+-- every hop has offered, and the destination denies nothing
+pub record IsPassed (request : Request) (replies : List Reply) : Type 0 where
+  pub all_offer : length request.route ≤ length (offers_in replies)
+  pub no_denial : denial_of request.route (offers_in replies) request.delay (jitter_of request.control) ≡ None
+
+abbrev pub AcceptedWhereAllPass : Type 0
+AcceptedWhereAllPass = (request : Request) (replies : List Reply) (outcome : Outcome)
+    → verdict_of request replies ≡ Some outcome → (is_accepted outcome ≡ true) ↔ IsPassed request replies
+
+-- an accepted request's levels keep what was asked for
+pub record KeepsRequest (request : Request) (levels : List ℕ) (delay : ℕ) : Type 0 where
+  pub have_levels : HaveLevels request.route levels
+  pub in_time : delay ≤ request.delay
+  pub in_jitter : IsWithin (jitter_of request.control) (last_bound request.route levels)
+
+-- wherever the offers are levels of their hops
+abbrev pub AcceptedKeepTheirBounds : Type 0
+AcceptedKeepTheirBounds = (request : Request) (replies : List Reply) (levels : List ℕ) (delay : ℕ)
+    → HaveBounds request.route → AreLevels request.route (offers_in replies) → verdict_of request replies ≡ Some (Accepts levels delay) → KeepsRequest request levels delay

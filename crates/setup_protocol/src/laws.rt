@@ -1,0 +1,13 @@
+//! Laws of a setup, each as the contract of a function that does nothing.
+ghost use Rattle.setup_protocol.specs.Laws.{AcceptedKeepTheirBounds, AcceptedWhereAllPass};
+
+/// A settled request is accepted exactly where every hop of its route has offered and the destination denies nothing.
+pub fn accepted_where_all_hops_and_the_destination_pass()
+    ensures { AcceptedWhereAllPass }
+{}
+
+/// Each hop of an accepted request has one of its levels; the request's bound on the end-to-end delay is at most the one
+/// asked for; and under delay-jitter control the bound of the last hop is at most the jitter bound.
+pub fn accepted_requests_keep_their_bounds()
+    ensures { AcceptedKeepTheirBounds }
+{}
