@@ -108,6 +108,7 @@ fn repeated(hops: &[Hop]) -> Option<u8>
     None
 }
 
+// Whether one of the hops is by this link.
 fn stands_in(hops: &[Hop], link: LinkNo) -> bool
     ensures { result ≡ stands_among hops.now (link_number link) }
 {

@@ -6,10 +6,10 @@ use Rattle.std.proofs.lemmas.Bool.{cases_Bool, ltb-false}
 use Rattle.net_units.specs.LevelBounds.{bound_at}
 use Rattle.hop_reservation.specs.declared.route.Hop.{Hop}
 use Rattle.hop_reservation.specs.Offers.{delay_over, IsLevelOf, AreLevels}
-use Rattle.relaxation.specs.Allotment.{last_bound, jitter_denial, denial_of, relaxed, allotment, allotted, IsWithin}
+use Rattle.relaxation.specs.Allotment.{bound_at_end, jitter_denial, denial_of, relaxed, allotment, allotted, IsWithin}
 use Rattle.relaxation.specs.Laws.{HaveBounds, AreWithinReach, AllottedLevelsFit}
 use Rattle.relaxation.proofs.HopFacts.{IsRelaxed, relaxed_level, largest_within}
-use Rattle.relaxation.proofs.ShareFacts.{allotment-empty, last_bound-none}
+use Rattle.relaxation.proofs.ShareFacts.{allotment-empty, bound_at_end-none}
 
 -- a level from the offered one on, whose bound is within the offered one and the slack
 pub record IsShare (slack : ℕ) (hop : Hop) (offer level : ℕ) : Type 0 where
@@ -29,12 +29,12 @@ pub record IsShared (jitter : Option ℕ) (slack before : ℕ) (hops : List Hop)
   pub less : (allotment jitter slack before hops offers).slack ≤ slack
   pub sum : delay_over hops (allotment jitter slack before hops offers).levels + (allotment jitter slack before hops offers).slack ≡ delay_over hops offers + slack
   pub shares : AreShares slack hops offers (allotment jitter slack before hops offers).levels
-  pub last : IsWithin jitter (last_bound hops (allotment jitter slack before hops offers).levels)
+  pub last : IsWithin jitter (bound_at_end hops (allotment jitter slack before hops offers).levels)
 
 -- ---- hop by hop
 
-nothing-within : (jitter : Option ℕ) (hops : List Hop) → IsWithin jitter (last_bound hops [])
-nothing-within jitter hops most is = (let none = last_bound-none hops [] refl in omega (arith, none))
+nothing-within : (jitter : Option ℕ) (hops : List Hop) → IsWithin jitter (bound_at_end hops [])
+nothing-within jitter hops most is = (let none = bound_at_end-none hops [] refl in omega (arith, none))
 
 -- hops without offers
 shared-nothing : (jitter : Option ℕ) (slack before : ℕ) (hops : List Hop) → IsShared jitter slack before hops []
@@ -45,7 +45,7 @@ shared-nothing jitter slack before hops =
       less = omega (arith, ap (λ a. a.slack) none);
       sum = ap (λ a. delay_over hops a.levels + a.slack) none;
       shares = subst (AreShares slack hops []) (sym (ap (λ a. a.levels) none)) tt;
-      last = subst (λ levels. IsWithin jitter (last_bound hops levels)) (sym (ap (λ a. a.levels) none)) (nothing-within jitter hops);
+      last = subst (λ levels. IsWithin jitter (bound_at_end hops levels)) (sym (ap (λ a. a.levels) none)) (nothing-within jitter hops);
     }
 
 -- what one more hop makes of a share
@@ -64,8 +64,8 @@ one_more limit slack hop offer left places level less is =
     }
 
 -- the whole route, from any hop on
-pub shared : (jitter : Option ℕ) (slack before : ℕ) (hops : List Hop) (offers : List ℕ) → HaveBounds hops → AreLevels hops offers → IsWithin jitter (last_bound hops offers) → IsShared jitter slack before hops offers
-unfolding allotment delay_over last_bound AreShares AreLevels HaveBounds
+pub shared : (jitter : Option ℕ) (slack before : ℕ) (hops : List Hop) (offers : List ℕ) → HaveBounds hops → AreLevels hops offers → IsWithin jitter (bound_at_end hops offers) → IsShared jitter slack before hops offers
+unfolding allotment delay_over bound_at_end AreShares AreLevels HaveBounds
 shared jitter slack before hops [] bounds are within = shared-nothing jitter slack before hops
 shared jitter slack before [] (offer ∷ offers) bounds are within = absurd are
 shared jitter slack before (hop ∷ hops) (offer ∷ []) bounds are within =
@@ -77,7 +77,7 @@ shared jitter slack before (hop ∷ hops) (offer ∷ []) bounds are within =
       less = more.less;
       sum = omega (arith, more.sum, behind.sum);
       shares = (more.share, behind.shares);
-      last = subst (λ levels. IsWithin jitter (last_bound (hop ∷ hops) (relaxed jitter hop offer (left / suc before) ∷ levels))) (sym (ap (λ a. a.levels) (allotment-empty jitter slack (suc before) hops))) is.in_limit;
+      last = subst (λ levels. IsWithin jitter (bound_at_end (hop ∷ hops) (relaxed jitter hop offer (left / suc before) ∷ levels))) (sym (ap (λ a. a.levels) (allotment-empty jitter slack (suc before) hops))) is.in_limit;
     }
 shared jitter slack before (hop ∷ []) (offer ∷ next ∷ offers) bounds are within = absurd are.1
 shared jitter slack before (hop ∷ second ∷ hops) (offer ∷ next ∷ offers) bounds are within =
@@ -122,11 +122,11 @@ no_jitter_denial last (Some bound) none most is =
     ]
 
 -- no denial: the offers are within the delay bound, and the last is within the jitter bound
-pub no_denial : (hops : List Hop) (offers : List ℕ) (delay : ℕ) (jitter : Option ℕ) → denial_of hops offers delay jitter ≡ None → (delay_over hops offers ≤ delay) × IsWithin jitter (last_bound hops offers)
+pub no_denial : (hops : List Hop) (offers : List ℕ) (delay : ℕ) (jitter : Option ℕ) → denial_of hops offers delay jitter ≡ None → (delay_over hops offers ≤ delay) × IsWithin jitter (bound_at_end hops offers)
 no_denial hops offers delay jitter none =
     elim (cases_Bool (ltb delay (delay_over hops offers))) [
       | inl over ↦ absurd (let clash : Some _ ≡ None = rw over at none in cc)
-      | inr within ↦ (ltb-false delay (delay_over hops offers) within, no_jitter_denial (last_bound hops offers) jitter (rw within at none))
+      | inr within ↦ (ltb-false delay (delay_over hops offers) within, no_jitter_denial (bound_at_end hops offers) jitter (rw within at none))
     ]
 
 pub allotted-fit : AllottedLevelsFit

@@ -11,7 +11,7 @@ use Rattle.net_units.specs.declared.numbers.Level.{Level}
 use Rattle.hop_reservation.specs.declared.route.Hop.{Hop}
 use Rattle.hop_reservation.specs.Offers.{delay_over}
 use Rattle.relaxation.specs.Laws.{HaveBounds}
-use Rattle.relaxation.specs.Allotment.{last_bound, limit_before, relaxed, with_level, allotment, IsWithin}
+use Rattle.relaxation.specs.Allotment.{bound_at_end, limit_before, relaxed, with_level, allotment, IsWithin}
 
 -- a list from a place on is the item there and what is behind it
 pub drop-item : {X : Type 0} (xs : List X) (i : ℕ) (x : X) → slice_get xs i ≡ Some x → drop i xs ≡ x ∷ drop (suc i) xs
@@ -28,22 +28,22 @@ bound-in_delay (first ∷ hops) (offer ∷ offers) zero hop found within = (let 
 bound-in_delay (first ∷ hops) (offer ∷ offers) (suc i) hop found within = omega (arith, bound-in_delay hops offers i hop found (omega arith))
 
 -- no offers have no last bound
-pub last_bound-none : (hops : List Hop) (offers : List ℕ) → length offers ≡ 0 → last_bound hops offers ≡ 0
-unfolding last_bound
-last_bound-none [] offers none = refl
-last_bound-none (hop ∷ hops) [] none = refl
-last_bound-none (hop ∷ hops) (offer ∷ offers) none = absurd (omega arith)
+pub bound_at_end-none : (hops : List Hop) (offers : List ℕ) → length offers ≡ 0 → bound_at_end hops offers ≡ 0
+unfolding bound_at_end
+bound_at_end-none [] offers none = refl
+bound_at_end-none (hop ∷ hops) [] none = refl
+bound_at_end-none (hop ∷ hops) (offer ∷ offers) none = absurd (omega arith)
 
 -- the last bound is that of the last offer
-pub last_bound-at : (hops : List Hop) (offers : List ℕ) (hop : Hop) → 1 ≤ length offers → slice_get hops (length offers - 1) ≡ Some hop → last_bound hops offers ≡ bound_at hop.bounds (get_or offers (length offers - 1) 0)
-unfolding last_bound
-last_bound-at [] offers hop some found = absurd (let clash : None ≡ Some hop = found in cc)
-last_bound-at (first ∷ hops) [] hop some found = absurd (omega arith)
-last_bound-at (first ∷ hops) (offer ∷ []) hop some found = (let same : first ≡ hop = cc in ap (λ h. bound_at h.bounds offer) same)
-last_bound-at (first ∷ hops) (offer ∷ next ∷ offers) hop some found =
+pub bound_at_end-at : (hops : List Hop) (offers : List ℕ) (hop : Hop) → 1 ≤ length offers → slice_get hops (length offers - 1) ≡ Some hop → bound_at_end hops offers ≡ bound_at hop.bounds (get_or offers (length offers - 1) 0)
+unfolding bound_at_end
+bound_at_end-at [] offers hop some found = absurd (let clash : None ≡ Some hop = found in cc)
+bound_at_end-at (first ∷ hops) [] hop some found = absurd (omega arith)
+bound_at_end-at (first ∷ hops) (offer ∷ []) hop some found = (let same : first ≡ hop = cc in ap (λ h. bound_at h.bounds offer) same)
+bound_at_end-at (first ∷ hops) (offer ∷ next ∷ offers) hop some found =
     let e : length (offer ∷ next ∷ offers) - 1 ≡ suc (length (next ∷ offers) - 1) = omega arith in
     let behind : slice_get hops (length (next ∷ offers) - 1) ≡ Some hop = subst (λ i. slice_get (first ∷ hops) i ≡ Some hop) e found in
-    last_bound-at hops (next ∷ offers) hop (omega arith) behind ∙ ap (λ i. bound_at hop.bounds (get_or (offer ∷ next ∷ offers) i 0)) (sym e)
+    bound_at_end-at hops (next ∷ offers) hop (omega arith) behind ∙ ap (λ i. bound_at hop.bounds (get_or (offer ∷ next ∷ offers) i 0)) (sym e)
 
 -- ---- the limit
 
@@ -57,14 +57,14 @@ limit-none jitter offers place within = ap (limit_before jitter) (drop-cons offe
 
 -- what each hop has offered is within its limit, where the last hop's offer is within that of the jitter
 pub limit-kept : (jitter : Option ℕ) (hops : List Hop) (offers : List ℕ) (place : ℕ) (hop : Hop) → 1 ≤ place → place ≤ length offers → slice_get hops (place - 1) ≡ Some hop
-    → IsWithin jitter (last_bound hops offers) → IsWithin (limit_before jitter (drop place offers)) (bound_at hop.bounds (get_or offers (place - 1) 0))
+    → IsWithin jitter (bound_at_end hops offers) → IsWithin (limit_before jitter (drop place offers)) (bound_at hop.bounds (get_or offers (place - 1) 0))
 limit-kept jitter hops offers place hop one upto found within most is =
     elim (cases_lt place (length offers)) [
       | inl before ↦ absurd (let clash : None ≡ Some most = sym (limit-none jitter offers place before) ∙ is in cc)
       | inr last ↦
           let same : place ≡ length offers = omega (arith, last, upto) in
           let found_last : slice_get hops (length offers - 1) ≡ Some hop = subst (λ p. slice_get hops (p - 1) ≡ Some hop) same found in
-          let bound = last_bound-at hops offers hop (omega (arith, one, same)) found_last in
+          let bound = bound_at_end-at hops offers hop (omega (arith, one, same)) found_last in
           let fits = within most (sym (limit-last jitter offers place last) ∙ is) in
           let e = ap (λ p. bound_at hop.bounds (get_or offers (p - 1) 0)) same in
           omega (arith, bound, fits, e)

@@ -12,12 +12,12 @@ use Rattle.hop_reservation.specs.Offers.{delay_over}
 use Rattle.relaxation.specs.declared.EndDenial.{EndDenial}
 use Rattle.relaxation.specs.declared.EndDenial.TheVariants.{Delay, Jitter}
 
--- the bound of the last level, in ticks, or 0 where there is none
-unfoldable pub last_bound : List Hop → List ℕ → ℕ
-last_bound [] levels = 0
-last_bound (hop ∷ hops) [] = 0
-last_bound (hop ∷ hops) (level ∷ []) = bound_at hop.bounds level
-last_bound (hop ∷ hops) (level ∷ next ∷ levels) = last_bound hops (next ∷ levels)
+-- the bound of the last hop that has a level, in ticks, or 0 where none has
+unfoldable pub bound_at_end : List Hop → List ℕ → ℕ
+bound_at_end [] levels = 0
+bound_at_end (hop ∷ hops) [] = 0
+bound_at_end (hop ∷ hops) (level ∷ []) = bound_at hop.bounds level
+bound_at_end (hop ∷ hops) (level ∷ next ∷ levels) = bound_at_end hops (next ∷ levels)
 
 -- a number of ticks is within a limit, where there is one
 abbrev pub IsWithin : Option ℕ → ℕ → Type 0
@@ -32,7 +32,7 @@ jitter_denial last (Some bound) = if nat_lt bound last then Some (Jitter last bo
 abbrev pub denial_of : List Hop → List ℕ → ℕ → Option ℕ → Option EndDenial
 denial_of hops offers delay jitter =
     if nat_lt delay (delay_over hops offers) then Some (Delay (delay_over hops offers) delay)
-    else jitter_denial (last_bound hops offers) jitter
+    else jitter_denial (bound_at_end hops offers) jitter
 
 -- ---- the way back
 

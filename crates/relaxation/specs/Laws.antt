@@ -6,7 +6,7 @@ use Rattle.std.specs.Prelude.{◌≡◌, ℕ, ◌≤◌, IsTrue, max, Option, No
 use Rattle.net_units.specs.LevelBounds.{are_bounds, bound_at, levels_within}
 use Rattle.hop_reservation.specs.declared.route.Hop.{Hop}
 use Rattle.hop_reservation.specs.Offers.{delay_over, IsLevelOf, AreLevels}
-use Rattle.relaxation.specs.Allotment.{last_bound, denial_of, allotted, IsWithin}
+use Rattle.relaxation.specs.Allotment.{bound_at_end, denial_of, allotted, IsWithin}
 
 -- each hop's bounds are those of a link's levels
 unfoldable pub HaveBounds : List Hop → Type 0
@@ -34,7 +34,7 @@ AreWithinReach delay (hop ∷ hops) (offer ∷ offers) (level ∷ levels) = IsWi
 -- the levels keep the request's delay bound, and its jitter bound where it has one
 pub record KeepBounds (hops : List Hop) (levels : List ℕ) (delay : ℕ) (jitter : Option ℕ) : Type 0 where
   pub in_time : delay_over hops levels ≤ delay
-  pub in_jitter : IsWithin jitter (last_bound hops levels)
+  pub in_jitter : IsWithin jitter (bound_at_end hops levels)
 
 -- where the destination denies nothing, each hop that has offered gets a level within its reach, and the bounds are kept
 abbrev pub AllottedLevelsFit : Type 0

@@ -10,7 +10,7 @@ ghost use Rattle.net_units.specs.Allotted.{levels_of};
 ghost use Rattle.net_units.specs.Numbers.{level_number};
 ghost use Rattle.net_units.specs.LevelBounds.{are_bounds, bound_at};
 ghost use Rattle.hop_reservation.specs.Offers.{delay_over, AreLevels, IsLevelOf};
-ghost use Rattle.relaxation.specs.Allotment.{allotted, allotment, denial_of, last_bound, relaxed, up_to, IsWithin};
+ghost use Rattle.relaxation.specs.Allotment.{allotted, allotment, denial_of, bound_at_end, relaxed, up_to, IsWithin};
 ghost use Rattle.relaxation.specs.Laws.{AreWithinReach, HaveBounds, KeepBounds};
 
 pub mod laws;
@@ -83,7 +83,7 @@ fn denial(it: &Itinerary, delay: u64, jitter: Option<u64>) -> Option<EndDenial>
 
 // The bound that the last hop has offered.
 fn last_offered(it: &Itinerary) -> u64
-    ensures { result ≡ last_bound it.now.route it.now.levels }
+    ensures { result ≡ bound_at_end it.now.route it.now.levels }
 {
     match it.offers() {
         0 => 0,
@@ -91,6 +91,7 @@ fn last_offered(it: &Itinerary) -> u64
     }
 }
 
+// The bound that a hop has offered, in ticks.
 fn bound_of(offer: &Offer) -> u64
     requires { IsLevelOf offer.now.hop (level_number offer.now.level) }
     ensures value { result ≡ bound_at offer.now.hop.bounds (level_number offer.now.level) }
@@ -103,7 +104,7 @@ fn bound_of(offer: &Offer) -> u64
 fn share_out(it: &Itinerary, slack: u64, jitter: Option<u64>, out: &mut Levels)
     requires whole { length it.now.levels ≡ length it.now.route }
     requires fits { slack + delay_over it.now.route it.now.levels < 2 ^ 64 }
-    requires jitter { IsWithin jitter (last_bound it.now.route it.now.levels) }
+    requires jitter { IsWithin jitter (bound_at_end it.now.route it.now.levels) }
     ensures levels { levels_of out.new ≡ (allotment jitter slack 0 it.now.route it.now.levels).levels }
     ensures offers { AreLevels it.now.route it.now.levels }
     ensures bounds { HaveBounds it.now.route }

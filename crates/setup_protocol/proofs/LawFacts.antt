@@ -34,7 +34,7 @@ relaxed-accepts request (suc left) levels outcome settled = absurd (let clash : 
 record IsTested (request : Request) (replies : List Reply) (outcome : Outcome) : Type 0 where
   accepted : is_accepted outcome ≡ true → denial_of request.route (offers_in replies) request.delay (jitter_of request.control) ≡ None
   passed : denial_of request.route (offers_in replies) request.delay (jitter_of request.control) ≡ None
-    → Accepts (allotted request.route (offers_in replies) request.delay (jitter_of request.control)) (delay_over request.route (allotted request.route (offers_in replies) request.delay (jitter_of request.control))) ≡ outcome
+      → Accepts (allotted request.route (offers_in replies) request.delay (jitter_of request.control)) (delay_over request.route (allotted request.route (offers_in replies) request.delay (jitter_of request.control))) ≡ outcome
 
 tested : (request : Request) (replies : List Reply) (outcome : Outcome) (denial : Option EndDenial) → denial_of request.route (offers_in replies) request.delay (jitter_of request.control) ≡ denial
     → settled_in (behind_test request (offers_in replies) (length (behind_offers replies)) denial) ≡ Some outcome → IsTested request replies outcome

@@ -4,7 +4,7 @@
 use Rattle.std.specs.Prelude.{◌≡◌, ◌↔◌, ℕ, ◌≤◌, Bool, true, false, Some, None, List, length}
 use Rattle.hop_reservation.specs.Offers.{AreLevels}
 use Rattle.link_steps.specs.declared.replies.Reply.{Reply}
-use Rattle.relaxation.specs.Allotment.{denial_of, last_bound, IsWithin}
+use Rattle.relaxation.specs.Allotment.{denial_of, bound_at_end, IsWithin}
 use Rattle.relaxation.specs.Laws.{HaveBounds}
 use Rattle.setup_protocol.specs.Requests.{jitter_of}
 use Rattle.setup_protocol.specs.Setup.{Outcome, Accepts, Denies, offers_in, verdict_of}
@@ -28,7 +28,7 @@ AcceptedWhereAllPass = (request : Request) (replies : List Reply) (outcome : Out
 pub record KeepsRequest (request : Request) (levels : List ℕ) (delay : ℕ) : Type 0 where
   pub have_levels : HaveLevels request.route levels
   pub in_time : delay ≤ request.delay
-  pub in_jitter : IsWithin (jitter_of request.control) (last_bound request.route levels)
+  pub in_jitter : IsWithin (jitter_of request.control) (bound_at_end request.route levels)
 
 -- wherever the offers are levels of their hops
 abbrev pub AcceptedKeepTheirBounds : Type 0

@@ -1,5 +1,5 @@
 //! The setup of a channel.
-ghost use Rattle.std.specs.Prelude.{◌≡◌, ◌↔◌, ℕ, ◌+◌, ◌-◌, ◌<◌, ◌≤◌, ◌&&◌, ◌++◌, ◌∷◌, [], List, None, Some, IsTrue, IsOk, IsSome, IsNone, IfErr, OnOk, nat_le, length, option_map};
+ghost use Rattle.std.specs.Prelude.{◌≡◌, ◌↔◌, ℕ, ◌+◌, ◌-◌, ◌<◌, ◌≤◌, ◌&&◌, ◌++◌, ◌∷◌, [], List, None, Some, IsTrue, IsOk, IsSome, IsNone, IfErr, OnErr, OnOk, nat_le, length, option_map};
 ghost use Rattle.std.specs.List.{slice_get};
 ghost use Rattle.net_units.specs.Allotted.{levels_of};
 ghost use Rattle.net_units.specs.Numbers.{level_number};
@@ -81,7 +81,7 @@ impl Setup {
         ensures expected { IsOk result ↔ IsTrue (is_expected self.old.request (progress_in self.old) reply) }
         ensures taken { OnOk result ((replies : List Replied) → Stands self.old replies → Stands self.new (replies ++ reply ∷ [])) }
         ensures unexpected { IfErr result (λ odd. (odd.reply ≡ reply) × (option_map (λ to. to.1) (asked self.old.request (progress_in self.old)) ≡ Some odd.ask)) }
-        ensures unchanged { IfErr result (λ odd. progress_in self.new ≡ progress_in self.old) }
+        ensures unchanged { OnErr result (self.new ≡ self.old) }
     {
         if self.expects(&reply) {
             self.advance(&reply);
