@@ -1,3 +1,4 @@
+mod AskFacts
 mod LawFacts
 mod ProgressFacts
 mod RouteFacts

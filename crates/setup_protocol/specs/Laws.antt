@@ -1,13 +1,21 @@
 -- What a setup comes to. A settled request is accepted exactly where every hop of its route has offered and the destination
 -- denies nothing. An accepted one has a level of each hop, and its bound on the end-to-end delay is at most the one that was
--- asked for; under delay-jitter control the last hop's bound is at most the jitter bound.
+-- asked for; under delay-jitter control the last hop's bound is at most the jitter bound. Each ask goes to a hop of the
+-- route, and meets the conditions on an ask at every link that has this hop's bounds.
 use Rattle.std.specs.Prelude.{◌≡◌, ◌↔◌, ℕ, ◌≤◌, Bool, true, false, Some, None, List, length}
+use Rattle.std.specs.List.{slice_get}
+use Rattle.net_units.specs.declared.numbers.LinkNo.{LinkNo}
+use Rattle.traffic_contract.specs.Contract.{IsContract}
 use Rattle.hop_reservation.specs.Offers.{AreLevels}
+use Rattle.hop_reservation.specs.declared.route.Hop.{Hop}
+use Rattle.link_steps.specs.Legal.{AskFits}
+use Rattle.link_steps.specs.declared.asks.Ask.{Ask}
+use Rattle.link_steps.specs.declared.shape.LinkShape.{LinkShape}
 use Rattle.link_steps.specs.declared.replies.Reply.{Reply}
 use Rattle.relaxation.specs.Allotment.{denial_of, bound_at_end, IsWithin}
 use Rattle.relaxation.specs.Laws.{HaveBounds}
 use Rattle.setup_protocol.specs.Requests.{jitter_of}
-use Rattle.setup_protocol.specs.Setup.{Outcome, Accepts, Denies, offers_in, verdict_of}
+use Rattle.setup_protocol.specs.Setup.{Outcome, Accepts, Denies, offers_in, next_ask, verdict_of}
 use Rattle.setup_protocol.specs.State.{HaveLevels}
 use Rattle.setup_protocol.specs.declared.request.Request.{Request}
 
@@ -34,3 +42,17 @@ pub record KeepsRequest (request : Request) (levels : List ℕ) (delay : ℕ) : 
 abbrev pub AcceptedKeepTheirBounds : Type 0
 AcceptedKeepTheirBounds = (request : Request) (replies : List Reply) (levels : List ℕ) (delay : ℕ)
     → HaveBounds request.route → AreLevels request.route (offers_in replies) → verdict_of request replies ≡ Some (Accepts levels delay) → KeepsRequest request levels delay
+
+-- an ask of a hop of the route, which meets its conditions at every link with that hop's bounds
+pub record AsksHop (request : Request) (to : LinkNo) (ask : Ask) : Type 0 where
+  pub index : ℕ
+  pub hop : Hop
+  pub stands : slice_get request.route index ≡ Some hop
+  pub is_asked : to ≡ hop.link
+  pub fits : (shape : LinkShape) → shape.bounds ≡ hop.bounds → AskFits shape ask
+
+-- wherever the offers are levels of their hops
+abbrev pub EveryAskFits : Type 0
+EveryAskFits = (request : Request) (replies : List Reply) (to : LinkNo) (ask : Ask)
+    → IsContract request.contract → HaveBounds request.route → AreLevels request.route (offers_in replies)
+    → next_ask request replies ≡ Some (to, ask) → AsksHop request to ask

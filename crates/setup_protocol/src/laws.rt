@@ -1,5 +1,5 @@
 //! Laws of a setup, each as the contract of a function that does nothing.
-ghost use Rattle.setup_protocol.specs.Laws.{AcceptedKeepTheirBounds, AcceptedWhereAllPass};
+ghost use Rattle.setup_protocol.specs.Laws.{AcceptedKeepTheirBounds, AcceptedWhereAllPass, EveryAskFits};
 
 /// A settled request is accepted exactly where every hop of its route has offered and the destination denies nothing.
 pub fn accepted_where_all_hops_and_the_destination_pass()
@@ -10,4 +10,10 @@ pub fn accepted_where_all_hops_and_the_destination_pass()
 /// asked for; and under delay-jitter control the bound of the last hop is at most the jitter bound.
 pub fn accepted_requests_keep_their_bounds()
     ensures { AcceptedKeepTheirBounds }
+{}
+
+/// Each ask of a setup goes to a hop of the request's route, and meets the conditions on an ask at every link that has
+/// that hop's bounds.
+pub fn every_ask_fits()
+    ensures { EveryAskFits }
 {}

@@ -1,0 +1,5 @@
+use Rattle.setup_protocol.proofs.AskFacts.{ask-fits}
+use Rattle.setup_protocol.proofs.laws.every_ask_fits.Goals as goal
+
+pub returns : goal.returns
+returns c = ask-fits
