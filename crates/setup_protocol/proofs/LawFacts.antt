@@ -2,13 +2,14 @@
 use Rattle.std.proofs.Common.{◌≡◌, ℕ, zero, suc, ◌-◌, ◌<◌, ◌≤◌, true, false, Option, Some, None, List, [], ◌∷◌, length, inl, inr, ap, subst, sym, refl, ◌∙◌, arith}
 use Rattle.std.proofs.lemmas.Bool.{cases_lt}
 use Rattle.hop_reservation.specs.Offers.{delay_over}
+use Rattle.hop_reservation.specs.declared.route.Hop.{Hop}
 use Rattle.hop_reservation.proofs.OfferFacts.{levels-fit}
 use Rattle.link_steps.specs.declared.replies.Reply.{Reply}
 use Rattle.relaxation.specs.Allotment.{denial_of, allotted}
 use Rattle.relaxation.specs.declared.EndDenial.{EndDenial}
 use Rattle.relaxation.proofs.LawFacts.{allotted-fit}
 use Rattle.setup_protocol.specs.Requests.{jitter_of}
-use Rattle.setup_protocol.specs.Laws.{is_accepted, AcceptedWhereAllPass, KeepsRequest, AcceptedKeepTheirBounds}
+use Rattle.setup_protocol.specs.Laws.{is_accepted, AcceptedWhereAllPass, KeepsRequest, AcceptedKeepTheirBounds, EveryOfferIsAskedBack}
 use Rattle.setup_protocol.specs.Setup.{Outcome, Accepts, Denies, offers_in, behind_offers, reach_after, undoing, relaxing, on_the_way, behind_test, settled_in, progress_of}
 use Rattle.setup_protocol.specs.declared.request.Request.{Request}
 use Rattle.setup_protocol.specs.declared.verdict.Deny.{Deny}
@@ -89,3 +90,31 @@ accepted-keep request replies levels delay bounds are settled =
       in_jitter = fit.1.in_jitter;
     } in
     subst (Keeps request) is kept
+
+-- ---- each hop that has offered is asked back
+
+-- nothing is left to undo, or to relax
+undone-all : (left : ℕ) (deny : Deny) (outcome : Outcome) → settled_in (undoing left deny) ≡ Some outcome → left ≡ 0
+undone-all zero deny outcome settled = refl
+undone-all (suc left) deny outcome settled = absurd (let clash : None ≡ Some outcome = settled in cc)
+
+relaxed-all : (hops : List Hop) (left : ℕ) (levels : List ℕ) (outcome : Outcome) → settled_in (relaxing hops left levels) ≡ Some outcome → left ≡ 0
+relaxed-all hops zero levels outcome settled = refl
+relaxed-all hops (suc left) levels outcome settled = absurd (let clash : None ≡ Some outcome = settled in cc)
+
+way-asked : (offers : List ℕ) (reach : ℕ) (rest : List Reply) (outcome : Outcome) → settled_in (on_the_way offers reach rest) ≡ Some outcome → length offers ≤ length rest
+way-asked offers reach [] outcome settled = absurd (let clash : None ≡ Some outcome = settled in cc)
+way-asked offers reach (first ∷ denied) outcome settled = (let none = undone-all (length offers - length denied) _ outcome settled in omega (arith, none))
+
+test-asked : (request : Request) (offers : List ℕ) (count : ℕ) (denial : Option EndDenial) (outcome : Outcome) → settled_in (behind_test request offers count denial) ≡ Some outcome → length request.route ≤ count
+test-asked request offers count (Some denial) outcome settled = (let none = undone-all (length request.route - count) _ outcome settled in omega (arith, none))
+test-asked request offers count None outcome settled = (let none = relaxed-all request.route (length request.route - count) _ outcome settled in omega (arith, none))
+
+pub offers-asked_back : EveryOfferIsAskedBack
+offers-asked_back request replies outcome are settled =
+    elim (cases_lt (length (offers_in replies)) (length request.route)) [
+      | inl fits ↦ way-asked (offers_in replies) (reach_after 0 request.route replies) (behind_offers replies) outcome (subst (λ p. settled_in p ≡ Some outcome) (progress-on_the_way request replies fits) settled)
+      | inr whole ↦
+          let count = test-asked request (offers_in replies) (length (behind_offers replies)) _ outcome (subst (λ p. settled_in p ≡ Some outcome) (progress-tested request replies whole) settled) in
+          omega (arith, count, levels-fit request.route (offers_in replies) are)
+    ]

@@ -1,7 +1,8 @@
 -- What a setup comes to. A settled request is accepted exactly where every hop of its route has offered and the destination
 -- denies nothing. An accepted one has a level of each hop, and its bound on the end-to-end delay is at most the one that was
 -- asked for; under delay-jitter control the last hop's bound is at most the jitter bound. Each ask goes to a hop of the
--- route, and meets the conditions on an ask at every link that has this hop's bounds.
+-- route, and meets the conditions on an ask at every link that has this hop's bounds. Before a request settles, each hop
+-- that has offered is asked once more, to give its row back or to relax.
 use Rattle.std.specs.Prelude.{◌≡◌, ◌↔◌, ℕ, ◌≤◌, Bool, true, false, Some, None, List, length}
 use Rattle.std.specs.List.{slice_get}
 use Rattle.net_units.specs.declared.numbers.LinkNo.{LinkNo}
@@ -15,7 +16,7 @@ use Rattle.link_steps.specs.declared.replies.Reply.{Reply}
 use Rattle.relaxation.specs.Allotment.{denial_of, bound_at_end, IsWithin}
 use Rattle.relaxation.specs.Laws.{HaveBounds}
 use Rattle.setup_protocol.specs.Requests.{jitter_of}
-use Rattle.setup_protocol.specs.Setup.{Outcome, Accepts, Denies, offers_in, next_ask, verdict_of}
+use Rattle.setup_protocol.specs.Setup.{Outcome, Accepts, Denies, offers_in, behind_offers, next_ask, verdict_of}
 use Rattle.setup_protocol.specs.State.{HaveLevels}
 use Rattle.setup_protocol.specs.declared.request.Request.{Request}
 
@@ -56,3 +57,8 @@ abbrev pub EveryAskFits : Type 0
 EveryAskFits = (request : Request) (replies : List Reply) (to : LinkNo) (ask : Ask)
     → IsContract request.contract → HaveBounds request.route → AreLevels request.route (offers_in replies)
     → next_ask request replies ≡ Some (to, ask) → AsksHop request to ask
+
+-- behind the offers of a settled request there are as many replies at least. The offers are levels of their hops
+abbrev pub EveryOfferIsAskedBack : Type 0
+EveryOfferIsAskedBack = (request : Request) (replies : List Reply) (outcome : Outcome)
+    → AreLevels request.route (offers_in replies) → verdict_of request replies ≡ Some outcome → length (offers_in replies) ≤ length (behind_offers replies)

@@ -1,5 +1,5 @@
 //! Laws of a setup, each as the contract of a function that does nothing.
-ghost use Rattle.setup_protocol.specs.Laws.{AcceptedKeepTheirBounds, AcceptedWhereAllPass, EveryAskFits};
+ghost use Rattle.setup_protocol.specs.Laws.{AcceptedKeepTheirBounds, AcceptedWhereAllPass, EveryAskFits, EveryOfferIsAskedBack};
 
 /// A settled request is accepted exactly where every hop of its route has offered and the destination denies nothing.
 pub fn accepted_where_all_hops_and_the_destination_pass()
@@ -16,4 +16,10 @@ pub fn accepted_requests_keep_their_bounds()
 /// that hop's bounds.
 pub fn every_ask_fits()
     ensures { EveryAskFits }
+{}
+
+/// Before a request settles, each hop that has offered is asked once more: to give its row back, or to relax. So behind
+/// the offers of a settled request there are at least as many replies.
+pub fn every_offer_is_asked_back()
+    ensures { EveryOfferIsAskedBack }
 {}

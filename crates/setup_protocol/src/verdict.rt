@@ -6,8 +6,13 @@ use relaxation::EndDenial;
 /// Why a request is denied.
 #[derive(Clone, Copy, Debug, PartialEq, Eq)]
 pub enum Deny {
-    /// A hop, counted from 1, refused its reserve.
-    Hop { hop: u8, refusal: Refusal },
+    /// A hop refused its reserve.
+    Hop {
+        /// Its place in the route, from 1.
+        hop: u8,
+        /// No level, no buffer, or too large packets.
+        refusal: Refusal,
+    },
     /// The destination denied what the hops offered.
     End(EndDenial),
 }
@@ -29,6 +34,8 @@ pub enum Verdict {
 /// A reply that isn't one of its ask's.
 #[derive(Clone, Copy, Debug, PartialEq, Eq)]
 pub struct Unexpected {
+    /// What was asked.
     pub ask: Ask,
+    /// What was replied.
     pub reply: Reply,
 }
