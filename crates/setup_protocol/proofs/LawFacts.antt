@@ -1,6 +1,6 @@
 -- What a settled request comes to.
-use Rattle.std.proofs.Common.{◌≡◌, ℕ, zero, suc, ◌-◌, ◌<◌, ◌≤◌, true, false, Option, Some, None, List, [], ◌∷◌, length, inl, inr, ap, subst, sym, refl, ◌∙◌, arith}
-use Rattle.std.proofs.lemmas.Bool.{cases_lt}
+use Rattle.std.proofs.Common.{◌≡◌, ℕ, zero, suc, ◌-◌, ◌<◌, ◌≤◌, true, false, Option, Some, None, List, [], ◌∷◌, length, drop, inl, inr, ap, subst, sym, refl, ◌∙◌, arith}
+use Rattle.std.proofs.lemmas.Bool.{cases_lt, lt-ltb, le-ltb}
 use Rattle.hop_reservation.specs.Offers.{delay_over}
 use Rattle.hop_reservation.specs.declared.route.Hop.{Hop}
 use Rattle.hop_reservation.proofs.OfferFacts.{levels-fit}
@@ -102,7 +102,7 @@ relaxed-all : (hops : List Hop) (left : ℕ) (levels : List ℕ) (outcome : Outc
 relaxed-all hops zero levels outcome settled = refl
 relaxed-all hops (suc left) levels outcome settled = absurd (let clash : None ≡ Some outcome = settled in cc)
 
-way-asked : (offers : List ℕ) (reach : ℕ) (rest : List Reply) (outcome : Outcome) → settled_in (on_the_way offers reach rest) ≡ Some outcome → length offers ≤ length rest
+way-asked : (offers : List ℕ) (reach : ℕ) (rest : List Reply) (outcome : Outcome) → settled_in (on_the_way offers reach rest) ≡ Some outcome → length offers ≤ length (drop 1 rest)
 way-asked offers reach [] outcome settled = absurd (let clash : None ≡ Some outcome = settled in cc)
 way-asked offers reach (first ∷ denied) outcome settled = (let none = undone-all (length offers - length denied) _ outcome settled in omega (arith, none))
 
@@ -113,8 +113,10 @@ test-asked request offers count None outcome settled = (let none = relaxed-all r
 pub offers-asked_back : EveryOfferIsAskedBack
 offers-asked_back request replies outcome are settled =
     elim (cases_lt (length (offers_in replies)) (length request.route)) [
-      | inl fits ↦ way-asked (offers_in replies) (reach_after 0 request.route replies) (behind_offers replies) outcome (subst (λ p. settled_in p ≡ Some outcome) (progress-on_the_way request replies fits) settled)
+      | inl fits ↦
+          rw (lt-ltb (length (offers_in replies)) (length request.route) fits)
+          (way-asked (offers_in replies) (reach_after 0 request.route replies) (behind_offers replies) outcome (subst (λ p. settled_in p ≡ Some outcome) (progress-on_the_way request replies fits) settled))
       | inr whole ↦
           let count = test-asked request (offers_in replies) (length (behind_offers replies)) _ outcome (subst (λ p. settled_in p ≡ Some outcome) (progress-tested request replies whole) settled) in
-          omega (arith, count, levels-fit request.route (offers_in replies) are)
+          rw (le-ltb (length (offers_in replies)) (length request.route) whole) (omega (arith, count, levels-fit request.route (offers_in replies) are))
     ]

@@ -3,7 +3,7 @@
 -- asked for; under delay-jitter control the last hop's bound is at most the jitter bound. Each ask goes to a hop of the
 -- route, and meets the conditions on an ask at every link that has this hop's bounds. Before a request settles, each hop
 -- that has offered is asked once more, to give its row back or to relax.
-use Rattle.std.specs.Prelude.{◌≡◌, ◌↔◌, ℕ, ◌≤◌, Bool, true, false, Some, None, List, length}
+use Rattle.std.specs.Prelude.{◌≡◌, ◌↔◌, ℕ, ◌≤◌, Bool, true, false, nat_lt, if◌then◌else◌, Some, None, List, length, drop}
 use Rattle.std.specs.List.{slice_get}
 use Rattle.net_units.specs.declared.numbers.LinkNo.{LinkNo}
 use Rattle.traffic_contract.specs.Contract.{IsContract}
@@ -58,7 +58,11 @@ EveryAskFits = (request : Request) (replies : List Reply) (to : LinkNo) (ask : A
     → IsContract request.contract → HaveBounds request.route → AreLevels request.route (offers_in replies)
     → next_ask request replies ≡ Some (to, ask) → AsksHop request to ask
 
--- behind the offers of a settled request there are as many replies at least. The offers are levels of their hops
+-- the replies on the way back: those behind the refusal of a hop, or behind the offers of all
+abbrev pub replies_back : Request → List Reply → List Reply
+replies_back request replies = if nat_lt (length (offers_in replies)) (length request.route) then drop 1 (behind_offers replies) else behind_offers replies
+
+-- a settled request has as many of them as there were offers, at least. The offers are levels of their hops
 abbrev pub EveryOfferIsAskedBack : Type 0
 EveryOfferIsAskedBack = (request : Request) (replies : List Reply) (outcome : Outcome)
-    → AreLevels request.route (offers_in replies) → verdict_of request replies ≡ Some outcome → length (offers_in replies) ≤ length (behind_offers replies)
+    → AreLevels request.route (offers_in replies) → verdict_of request replies ≡ Some outcome → length (offers_in replies) ≤ length (replies_back request replies)

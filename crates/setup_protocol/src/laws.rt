@@ -18,8 +18,8 @@ pub fn every_ask_fits()
     ensures { EveryAskFits }
 {}
 
-/// Before a request settles, each hop that has offered is asked once more: to give its row back, or to relax. So behind
-/// the offers of a settled request there are at least as many replies.
+/// A settled request has at least as many replies on the way back, to denies or to relaxes, as there were offers: each hop
+/// that has offered is asked once more.
 pub fn every_offer_is_asked_back()
     ensures { EveryOfferIsAskedBack }
 {}
