@@ -29,7 +29,7 @@ use std::rt::Env;
 use std::{env, io};
 use top::top;
 
-/// Plays over standard input and output, and exits with the status that `top` answers. It prints nothing itself.
+// Plays over standard input and output, and exits with the status that `top` answers. It prints nothing itself.
 fn main(rt: HostRuntime) -> ExitCode {
     let words: io::Result<Vec<String>> = read_words(&rt);
     let status = match words {
@@ -51,7 +51,7 @@ fn main(rt: HostRuntime) -> ExitCode {
     ExitCode::from(status.code())
 }
 
-/// The words after the program's name.
+// The words after the program's name.
 fn read_words(rt: &(impl Env + AllocGlobal)) -> io::Result<Vec<String>> {
     let mut words = Vec::new(rt.alloc());
     for word in env::args(rt)?.skip(1) {
@@ -60,7 +60,7 @@ fn read_words(rt: &(impl Env + AllocGlobal)) -> io::Result<Vec<String>> {
     Ok(words)
 }
 
-/// Words that can't be read aren't accepted, unless only memory for them lacks.
+// Words that can't be read aren't accepted, unless only memory for them lacks.
 fn unread_words(error: &io::Error) -> Status
     ensures memory { (result ≡ Memory) ↔ (error_kind error.now ≡ OutOfMemory) }
     ensures words { (result ≡ Words) ↔ ¬ (error_kind error.now ≡ OutOfMemory) }

@@ -49,7 +49,7 @@ pub fn play<S: Source, K: Sink>(alloc: Global, source: &mut S, sink: &mut K) -> 
     }
 }
 
-/// The report of a plan.
+// The report of a plan.
 fn answer(alloc: Global, plan: &Draft) -> Result<String, OutOfMemory>
     requires { IsPlan plan.now }
     ensures { IfOk result (λ text. string_bytes text ≡ plan_report plan.now) }
@@ -65,7 +65,7 @@ fn answer(alloc: Global, plan: &Draft) -> Result<String, OutOfMemory>
     }
 }
 
-/// The line that tells which line is refused.
+// The line that tells which line is refused.
 fn refusal_text(alloc: Global, line: u64) -> Result<String, AllocError>
     ensures { IfOk result (λ text. string_bytes text ≡ refusal_line line) }
 {
@@ -73,7 +73,7 @@ fn refusal_text(alloc: Global, line: u64) -> Result<String, AllocError>
     Ok(text)
 }
 
-/// Writes the whole text, and answers the status, or `WriteFault`.
+// Writes the whole text, and answers the status, or `WriteFault`.
 fn write<K: Sink>(sink: &mut K, text: &str, done: Status) -> Status
     ensures written { WritesAll result done text.now (K.written sink.old) (K.written sink.new) (K.faults sink.old) (K.faults sink.new) }
     ensures counts { K.faults sink.old ≤ K.faults sink.new }

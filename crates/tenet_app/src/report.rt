@@ -17,7 +17,7 @@ use net_units::{Name, OutOfMemory};
 use std::alloc::{AllocError, Global};
 use std::fmt;
 
-/// The line of a request with its verdict.
+// The line of a request with its verdict.
 #[derive(Clone, Copy)]
 struct VerdictLine {
     name: Name,
@@ -49,7 +49,7 @@ impl fmt::Display for VerdictLine {
     }
 }
 
-/// A number, or a dash where there is none.
+// A number, or a dash where there is none.
 #[derive(Clone, Copy)]
 struct NumberOrDash {
     number: Option<u64>,
@@ -66,7 +66,7 @@ impl fmt::Display for NumberOrDash {
     }
 }
 
-/// The word for a source that keeps its contract, or doesn't.
+// The word for a source that keeps its contract, or doesn't.
 #[derive(Clone, Copy)]
 struct Keeping {
     keeps: bool,

@@ -14,7 +14,7 @@ use crate::scenario::values::require;
 const CLOSE_FORM: [Part; 2] = [Part::Word(Keyword::Close), Part::Field];
 
 impl Draft {
-    /// The place of the request that the line closes.
+    // The place of the request that the line closes.
     pub(super) fn judge_close(&self, line: &[u8]) -> Result<u32, Cause>
         ensures judged { Judges result (close_rule self.now (fields_of line.now)) (closed_by self.now (fields_of line.now)) }
         ensures room { IfOk result (λ request. request < length (requests_of self.now)) }

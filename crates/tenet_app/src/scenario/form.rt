@@ -90,7 +90,7 @@ pub fn has_form(form: &[Part], line: &[u8]) -> bool
 }
 
 impl Part {
-    /// How many fields the part takes from a place on, None where they don't fit it.
+    // How many fields the part takes from a place on, None where they don't fit it.
     fn taken(&self, line: &[u8], place: usize) -> Option<usize>
         ensures value { result ≡ taken_by self.now (drop place (fields_of line.now)) }
         ensures within { IfSome result (λ count. place + count ≤ length (fields_of line.now)) }

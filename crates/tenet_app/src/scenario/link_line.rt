@@ -32,7 +32,7 @@ const LINK_FORM: [Part; 14] = [
     Part::Bounds,
 ];
 
-/// A link's rate, cap, propagation and buffer, each in its range.
+// A link's rate, cap, propagation and buffer, each in its range.
 #[derive(Clone, Copy)]
 struct LinkNumbers {
     rate: u32,
@@ -41,7 +41,7 @@ struct LinkNumbers {
     buffer: u32,
 }
 
-/// The fields of a link line, each of which passes.
+// The fields of a link line, each of which passes.
 #[derive(Clone, Copy)]
 struct LinkFields {
     name: Name,
@@ -52,7 +52,7 @@ struct LinkFields {
 }
 
 impl Draft {
-    /// The link that the line says.
+    // The link that the line says.
     pub(super) fn judge_link(&self, line: &[u8]) -> Result<Link, Cause>
         ensures judged { Judges result (link_rule self.now (fields_of line.now)) (link_of (fields_of line.now)) }
         ensures room { OnOk result (length self.now.links < 32) }
@@ -74,7 +74,7 @@ impl Draft {
         })
     }
 
-    /// The fields behind its form, from left to right.
+    // The fields behind its form, from left to right.
     fn judge_link_fields(&self, line: &[u8]) -> Result<LinkFields, Cause>
         requires { length (bound_fields (fields_of line.now)) ≤ 8 }
         ensures range { IfOk result (λ link. (1 ≤ link.numbers.rate) × (link.numbers.rate ≤ 65536)) }
@@ -106,7 +106,7 @@ impl Draft {
     }
 }
 
-/// The four numbers between the nodes and the bounds.
+// The four numbers between the nodes and the bounds.
 fn judge_link_numbers(line: &[u8]) -> Result<LinkNumbers, Cause>
     ensures range { IfOk result (λ numbers. (1 ≤ numbers.rate) × (numbers.rate ≤ 65536)) }
     ensures judged { Judges result (link_numbers_rule (fields_of line.now)) (record {
@@ -128,7 +128,7 @@ fn judge_link_numbers(line: &[u8]) -> Result<LinkNumbers, Cause>
     })
 }
 
-/// The bounds that the last fields of a link line are, None where they don't rise.
+// The bounds that the last fields of a link line are, None where they don't rise.
 fn judge_bounds(line: &[u8]) -> Result<Option<Bounds>, Cause>
     requires { length (bound_fields (fields_of line.now)) ≤ 8 }
     ensures { Judges result (bound_numbers_rule (bound_fields (fields_of line.now))) (bounds_of (map value_of (bound_fields (fields_of line.now)))) }
@@ -141,7 +141,7 @@ fn judge_bounds(line: &[u8]) -> Result<Option<Bounds>, Cause>
     Ok(Bounds::new(&cells[..count]))
 }
 
-/// The bounds, where the link's largest packet fits into the first of them.
+// The bounds, where the link's largest packet fits into the first of them.
 fn prompt(bounds: Option<Bounds>, cap: u32, rate: u32) -> Result<Bounds, Cause>
     requires { 1 ≤ rate }
     ensures { (numbers : _) → bounds ≡ bounds_of numbers

@@ -47,7 +47,7 @@ const JITTER_FORM: [Part; 13] = [
     Part::Field,
 ];
 
-/// The fields of an open line, each of which passes.
+// The fields of an open line, each of which passes.
 #[derive(Clone, Copy)]
 struct OpenFields {
     name: Name,
@@ -56,7 +56,7 @@ struct OpenFields {
 }
 
 impl Draft {
-    /// The request that the line says.
+    // The request that the line says.
     pub(super) fn judge_open(&self, line: &[u8]) -> Result<Request, Cause>
         ensures judged { Judges result (open_rule self.now (fields_of line.now)) (request_of (fields_of line.now)) }
         ensures room { OnOk result (length (requests_of self.now) < 1024) }
@@ -72,7 +72,7 @@ impl Draft {
         })
     }
 
-    /// The fields behind its form, from left to right.
+    // The fields behind its form, from left to right.
     fn judge_open_fields(&self, line: &[u8], hops: usize) -> Result<OpenFields, Cause>
         requires hops { hops ≡ hops_of (fields_of line.now) }
         requires few { hops ≤ 16 }
@@ -94,7 +94,7 @@ impl Draft {
         })
     }
 
-    /// The links of the route, each of which is known.
+    // The links of the route, each of which is known.
     fn judge_route(&self, line: &[u8], hops: usize) -> Result<(), Cause>
         requires hops { hops ≡ hops_of (fields_of line.now) }
         requires few { hops ≤ 16 }
@@ -113,7 +113,7 @@ impl Draft {
         require(self.has_link(link.as_bytes()), Cause::Unknown)
     }
 
-    /// The request's contract, once its fields pass.
+    // The request's contract, once its fields pass.
     #[tactic(auto, using(crate::proofs::ContractFacts::stated_terms))]
     fn judge_open_limits(
         &self,
@@ -137,7 +137,7 @@ impl Draft {
     }
 }
 
-/// The contract that the four numbers behind the route are, None where they aren't one.
+// The contract that the four numbers behind the route are, None where they aren't one.
 fn judge_terms(line: &[u8], hops: usize) -> Result<Option<Contract>, Cause>
     requires hops { hops ≡ hops_of (fields_of line.now) }
     requires few { hops ≤ 16 }
@@ -150,7 +150,7 @@ fn judge_terms(line: &[u8], hops: usize) -> Result<Option<Contract>, Cause>
     Ok(Contract::new(xmin as u32, xave as u32, interval as u32, smax as u32).ok())
 }
 
-/// The jitter bound, where the line has one.
+// The jitter bound, where the line has one.
 fn judge_jitter(line: &[u8], hops: usize) -> Result<(), Cause>
     requires hops { hops ≡ hops_of (fields_of line.now) }
     requires few { hops ≤ 16 }
@@ -162,7 +162,7 @@ fn judge_jitter(line: &[u8], hops: usize) -> Result<(), Cause>
     Ok(())
 }
 
-/// Whether the line has one of the two forms of an open line. Its route has then at most 16 links.
+// Whether the line has one of the two forms of an open line. Its route has then at most 16 links.
 fn is_open(line: &[u8]) -> bool
     ensures value { result ≡ (has_form rate_form (fields_of line.now) || has_form jitter_form (fields_of line.now)) }
     ensures few { IsTrue result → hops_of (fields_of line.now) ≤ 16 }
@@ -170,7 +170,7 @@ fn is_open(line: &[u8]) -> bool
     has_form(&RATE_FORM, line) || has_form(&JITTER_FORM, line)
 }
 
-/// Whether no link stands twice in the route.
+// Whether no link stands twice in the route.
 fn is_distinct(line: &[u8], hops: usize) -> bool
     requires hops { hops ≡ hops_of (fields_of line.now) }
     requires few { hops ≤ 16 }
@@ -184,7 +184,7 @@ fn is_distinct(line: &[u8], hops: usize) -> bool
     true
 }
 
-/// Whether the link at a place of the route stands again behind it.
+// Whether the link at a place of the route stands again behind it.
 fn stands_again(line: &[u8], hops: usize, place: usize) -> bool
     requires hops { hops ≡ hops_of (fields_of line.now) }
     requires few { hops ≤ 16 }

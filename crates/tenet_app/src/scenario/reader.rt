@@ -71,7 +71,7 @@ pub fn read_scenario<S: Source>(alloc: Global, source: &mut S) -> Result<Draft, 
     }
 }
 
-/// Reads the next line and adds what it says. It answers whether there was one.
+// Reads the next line and adds what it says. It answers whether there was one.
 #[tactic(auto, using(crate::proofs::ReadFacts::passes_line))]
 fn read_line<S: Source>(
     lines: &mut Lines,
@@ -100,7 +100,7 @@ fn read_line<S: Source>(
     }
 }
 
-/// Judges a line and adds what it says.
+// Judges a line and adds what it says.
 fn add_line(draft: &mut Draft, number: u64, line: &[u8]) -> Result<(), ReadRefusal>
     ensures { Adds result number line.now draft.old draft.new }
 {

@@ -21,7 +21,7 @@ const SEND_FORM: [Part; 5] = [
 ];
 
 impl Draft {
-    /// The send that the line says.
+    // The send that the line says.
     pub(super) fn judge_send(&self, line: &[u8]) -> Result<Send, Cause>
         ensures judged { Judges result (send_rule self.now (fields_of line.now)) (send_of self.now (fields_of line.now)) }
         ensures room { IfOk result (λ send. load_in self.now.script + send.count ≤ 262144) }
@@ -33,7 +33,7 @@ impl Draft {
         Ok(send)
     }
 
-    /// The fields behind its form, from left to right.
+    // The fields behind its form, from left to right.
     fn judge_send_fields(&self, line: &[u8]) -> Result<Send, Cause>
         ensures judged { Judges result (send_fields_rule self.now (fields_of line.now)) (send_of self.now (fields_of line.now)) }
         ensures range { IfOk result (λ send. send.count ≤ 262144) }
