@@ -2,6 +2,7 @@
 use Rattle.std.proofs.Common.{◌≡◌, ℕ, zero, suc, ◌+◌, ◌-◌, ◌^◌, ◌<◌, ◌≤◌, Some, None, List, [], ◌∷◌, ◌++◌, length, get_or, ap, subst, sym, refl, arith}
 use Rattle.std.specs.List.{slice_get}
 use Rattle.net_units.specs.LevelBounds.{bound_at}
+use Rattle.hop_reservation.specs.Routes.{IsRoute}
 use Rattle.hop_reservation.specs.declared.route.Hop.{Hop}
 use Rattle.hop_reservation.specs.Offers.{hop_delay, delay_over, next_bound, next_levels, IsLevelOf, AreLevels, AreOffers}
 
@@ -12,9 +13,9 @@ delay_over-none [] = refl
 delay_over-none (hop ∷ hops) = refl
 
 -- a route without levels
-pub none-offered : (hops : List Hop) → AreOffers hops [] 0 0
+pub none-offered : (hops : List Hop) → IsRoute hops → AreOffers hops [] 0 0
 unfolding AreLevels
-none-offered hops = record { are_levels = tt; reach_most = omega arith; delay_is = sym (delay_over-none hops); delay_most = omega arith }
+none-offered hops route = record { is_route = route; are_levels = tt; reach_most = omega arith; delay_is = sym (delay_over-none hops); delay_most = omega arith }
 
 -- there are no more levels than hops
 pub levels-fit : (hops : List Hop) (levels : List ℕ) → AreLevels hops levels → length levels ≤ length hops
@@ -68,6 +69,7 @@ found-next hops levels n hop count found = (let e : n + 1 - 1 ≡ length levels 
 pub offers-push : (hops : List Hop) (levels : List ℕ) (hop : Hop) (new reach reach' delay added : ℕ) → slice_get hops (length levels) ≡ Some hop → AreOffers hops levels reach delay
     → IsLevelOf hop new → reach' ≤ 1048576 → added ≡ hop_delay hop new → added ≤ 2 ^ 33 → AreOffers hops (levels ++ new ∷ []) reach' (delay + added)
 offers-push hops levels hop new reach reach' delay added found are is most e small = record {
+  is_route = are.is_route;
   are_levels = AreLevels-push hops levels hop new found are.are_levels is;
   reach_most = most;
   delay_is = omega (arith, delay_over-push hops levels hop new found, are.delay_is, e);

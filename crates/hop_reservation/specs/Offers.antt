@@ -4,6 +4,7 @@
 -- the bound of that level, so its reserve carries it.
 use Rattle.std.specs.Prelude.{◌≡◌, ℕ, ◌+◌, ◌*◌, ◌^◌, ◌≤◌, List, [], ◌∷◌, length}
 use Rattle.net_units.specs.LevelBounds.{bound_at}
+use Rattle.hop_reservation.specs.Routes.{IsRoute}
 use Rattle.hop_reservation.specs.declared.route.Hop.{Hop}
 
 -- the ticks that a hop adds to the delay at a level: the level's bound and the propagation
@@ -49,8 +50,9 @@ AreLevels hops [] = Unit {0}
 AreLevels [] (level ∷ levels) = ⊥
 AreLevels (hop ∷ hops) (level ∷ levels) = IsLevelOf hop level × AreLevels hops levels
 
--- what is kept of a route's offers: levels of its hops, a bound, and the delay over these levels
+-- what is kept of a route's offers: the route, levels of its hops, a bound, and the delay over these levels
 pub record AreOffers (route : List Hop) (levels : List ℕ) (reach delay : ℕ) : Type 0 where
+  pub is_route : IsRoute route
   pub are_levels : AreLevels route levels
   pub reach_most : reach ≤ 1048576
   pub delay_is : delay ≡ delay_over route levels

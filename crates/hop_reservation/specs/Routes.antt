@@ -1,7 +1,7 @@
 -- A route is the way of a channel's packets through the network: 1 to 16 hops in the order in which they pass them,
--- each by another link. A hop is seen as its link, the delay bounds of that link's levels, and its propagation. Hops that
--- aren't a route are refused with a number: 17 where there are more than 16, 0 where there is none, and else the first
--- place, from 1, whose link stood before.
+-- each by another link. (The limit of 16 is this project's.) A hop is seen as its link, the delay bounds of that link's
+-- levels, and its propagation, both in ticks. Hops that aren't a route are refused with a number: 17 where there are more
+-- than 16, 0 where there is none, and else the first place, from 1, whose link stood before.
 use Rattle.std.specs.Prelude.{◌≡◌, ◌≢◌, ◌==◌, ℕ, suc, ◌-◌, ◌≤◌, Bool, nat_lt, if◌then◌else◌, Option, Some, None, List, [], ◌∷◌, ◌++◌, length, take, replicate}
 use Rattle.std.specs.List.{list_any, AllPairs}
 use Rattle.net_units.specs.Numbers.{link_number}
@@ -11,6 +11,7 @@ use Rattle.hop_reservation.specs.declared.route.Hop.{Hop}
 abbrev pub link_of : Hop → ℕ
 link_of hop = link_number hop.link
 
+-- whether a hop is by this link
 abbrev pub is_by : ℕ → Hop → Bool
 is_by link hop = link_of hop == link
 
@@ -32,6 +33,7 @@ abbrev pub fault_in : List Hop → Option ℕ
 fault_in [] = Some 0
 fault_in (hop ∷ hops) = if nat_lt 16 (length (hop ∷ hops)) then Some 17 else repeated_in (hop ∷ hops)
 
+-- hops that are a route
 pub record IsRoute (hops : List Hop) : Type 0 where
   pub least : 1 ≤ length hops
   pub most : length hops ≤ 16

@@ -3,6 +3,7 @@ ghost use Rattle.std.specs.Prelude.{◌≡◌, ◌+◌, ◌-◌, ◌<◌, ◌≤
 ghost use Rattle.std.specs.List.{slice_get};
 ghost use Rattle.net_units.specs.Numbers.{level_number};
 ghost use Rattle.hop_reservation.specs.Offers.{delay_over, next_bound, next_levels, AreLevels, IsLevelOf};
+ghost use Rattle.hop_reservation.specs.Routes.{IsRoute};
 
 use crate::route::{Hop, Route};
 use net_units::{Level, Levels};
@@ -44,8 +45,11 @@ impl Itinerary {
 
     /// The route without offers.
     pub fn new(route: Route) -> Itinerary
-        ensures { result ≡ offered route [] 0 }
+        ensures value { result ≡ offered route [] 0 }
+        ensures valid { IsRoute route }
     {
+        // `len` tells that the route is one.
+        let _hops = route.len();
         Itinerary {
             route,
             levels: Levels::new(),
@@ -72,7 +76,7 @@ impl Itinerary {
         ensures value { result ≡ length self.now.levels }
         ensures in_route { result ≤ length self.now.route }
         ensures levels { AreLevels self.now.route self.now.levels }
-        ensures most { result ≤ 16 }
+        ensures valid { IsRoute self.now.route }
     {
         self.levels.len()
     }

@@ -68,6 +68,7 @@ pub fn allot(
 
 // Why the destination denies the offers, if it does.
 fn denial(it: &Itinerary, delay: u64, jitter: Option<u64>) -> Option<EndDenial>
+    requires { length it.now.levels ≡ length it.now.route }
     ensures { result ≡ denial_of it.now.route it.now.levels delay jitter }
 {
     let sum = it.delay_sum();
@@ -81,14 +82,12 @@ fn denial(it: &Itinerary, delay: u64, jitter: Option<u64>) -> Option<EndDenial>
     }
 }
 
-// The bound that the last hop has offered.
+// The bound that the last hop has offered, in ticks.
 fn last_offered(it: &Itinerary) -> u64
+    requires { length it.now.levels ≡ length it.now.route }
     ensures { result ≡ bound_at_end it.now.route it.now.levels }
 {
-    match it.offers() {
-        0 => 0,
-        place => bound_of(&it.offer(place)),
-    }
+    bound_of(&it.offer(it.offers()))
 }
 
 // The bound that a hop has offered, in ticks.
@@ -137,7 +136,7 @@ fn within_share(offer: &Offer, limit: Option<u64>, share: u64) -> Level
     let within = cut(limit, bound_of(offer) + share);
     match offer.hop.bounds.within(within) {
         Some(level) => level,
-        None => offer.level,
+        None => unreachable!(),
     }
 }
 

@@ -10,7 +10,8 @@ use Rattle.link_steps.specs.declared.replies.Reply.TheVariants.{Offer, Relaxed, 
 use Rattle.relaxation.specs.Allotment.{denial_of, allotted}
 use Rattle.relaxation.specs.declared.EndDenial.{EndDenial}
 use Rattle.setup_protocol.specs.Requests.{jitter_of}
-use Rattle.setup_protocol.specs.Setup.{Reserving, is_offer, level_in, reach_in, offers_in, behind_offers, reach_after, undoing, relaxing, on_the_way, behind_test, at_destination, after_reserve, progress_of, is_expected, advance, refusal_in, answers_reserve, answers_deny, answers_relax}
+use Rattle.setup_protocol.specs.Setup.{Reserving, is_offer, level_in, reach_in, offers_in, behind_offers, reach_after, undoing, relaxing, on_the_way, behind_test, at_destination, progress_of, is_expected, refusal_in, answers_reserve, answers_deny, answers_relax}
+use Rattle.setup_protocol.specs.State.{after_reserve, advance}
 use Rattle.setup_protocol.specs.declared.verdict.Deny.{Deny}
 use Rattle.setup_protocol.specs.declared.verdict.Deny.TheVariants.{Hop as AtHop, End}
 use Rattle.setup_protocol.specs.declared.request.Request.{Request}

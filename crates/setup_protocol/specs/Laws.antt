@@ -20,6 +20,7 @@ use Rattle.setup_protocol.specs.Setup.{Outcome, Accepts, Denies, offers_in, behi
 use Rattle.setup_protocol.specs.State.{HaveLevels}
 use Rattle.setup_protocol.specs.declared.request.Request.{Request}
 
+-- whether the channel is established
 abbrev pub is_accepted : Outcome → Bool
 is_accepted (Accepts levels delay) = true
 is_accepted (Denies deny) = false

@@ -5,12 +5,12 @@
 -- row back, from the last to the first; else each is asked to relax to the level that it is allotted, from the last to
 -- the first, so that the first hop is committed last. What is asked next follows from the replies so far: the offers at
 -- their front, and how many replies came behind these.
-use Rattle.std.specs.Prelude.{ℕ, zero, suc, ◌-◌, Bool, true, false, nat_lt, nat_le, nat_eq, ◌&&◌, if◌then◌else◌, Option, Some, None, option_map, List, [], ◌∷◌, ◌++◌, length, slice_index}
+use Rattle.std.specs.Prelude.{ℕ, zero, suc, ◌-◌, Bool, true, false, nat_lt, nat_le, nat_eq, ◌&&◌, if◌then◌else◌, Option, Some, None, option_map, List, [], ◌∷◌, length, slice_index}
 use Rattle.std.specs.List.{slice_get}
 use Rattle.net_units.specs.Numbers.{level_number}
 use Rattle.net_units.specs.LevelBounds.{bound_at}
 use Rattle.net_units.specs.declared.numbers.LinkNo.{LinkNo}
-use Rattle.hop_reservation.specs.Offers.{delay_over, next_bound, next_levels}
+use Rattle.hop_reservation.specs.Offers.{delay_over, next_levels}
 use Rattle.hop_reservation.specs.declared.route.Hop.{Hop}
 use Rattle.link_steps.specs.Levels.{level_of}
 use Rattle.link_steps.specs.declared.asks.Ask.{Ask}
@@ -28,6 +28,7 @@ use Rattle.setup_protocol.specs.declared.verdict.Deny.TheVariants.{Hop as AtHop,
 
 -- ---- the offers at the front of the replies
 
+-- whether a reply is an offer
 abbrev pub is_offer : Reply → Bool
 is_offer (Offer level reach) = true
 is_offer _ = false
@@ -82,6 +83,7 @@ abbrev pub relaxing : List Hop → ℕ → List ℕ → Progress
 relaxing hops zero levels = Settled (Accepts levels (delay_over hops levels))
 relaxing hops (suc left) levels = Relaxing (suc left) levels
 
+-- the refusal that a reply tells; no other reply stands behind offers on the way forward
 abbrev pub refusal_in : Reply → Refusal
 refusal_in (Refused refusal) = refusal
 refusal_in _ = NoSuch
@@ -96,17 +98,9 @@ abbrev pub behind_test : Request → List ℕ → ℕ → Option EndDenial → P
 behind_test request offers count (Some denial) = undoing (length request.route - count) (End denial)
 behind_test request offers count None = relaxing request.route (length request.route - count) (allotted request.route offers request.delay (jitter_of request.control))
 
+-- the same, once all hops have offered
 abbrev pub at_destination : Request → List ℕ → ℕ → Progress
 at_destination request offers count = behind_test request offers count (denial_of request.route offers request.delay (jitter_of request.control))
-
--- with the offers of some hops, or of all, and no reply behind them
-abbrev pub with_offers : Request → List ℕ → ℕ → Progress
-with_offers request offers reach = if nat_lt (length offers) (length request.route) then Reserving offers reach else at_destination request offers 0
-
--- behind the reply to the reserve of the first hop that has no level
-abbrev pub after_reserve : Request → List ℕ → Reply → Progress
-after_reserve request offers (Offer level reach) = with_offers request (offers ++ level_number level ∷ []) (next_bound request.route offers (level_number reach))
-after_reserve request offers reply = undoing (length offers) (AtHop (suc (length offers)) (refusal_in reply))
 
 -- how far a setup with these replies has come
 abbrev pub progress_of : Request → List Reply → Progress
@@ -158,6 +152,7 @@ next_ask request replies = asked request (progress_of request replies)
 
 -- ---- the verdict
 
+-- the outcome, where nothing is left to ask
 abbrev pub settled_in : Progress → Option Outcome
 settled_in (Settled outcome) = Some outcome
 settled_in _ = None
@@ -188,13 +183,6 @@ answers_deny _ = false
 abbrev pub answers_relax : Reply → Bool
 answers_relax (Relaxed clock) = true
 answers_relax _ = false
-
--- how far a setup has come with one reply more
-abbrev pub advance : Request → Progress → Reply → Progress
-advance request (Reserving offers reach) reply = after_reserve request offers reply
-advance request (Undoing left deny) reply = undoing (left - 1) deny
-advance request (Relaxing left levels) reply = relaxing request.route (left - 1) levels
-advance request (Settled outcome) reply = Settled outcome
 
 -- whether this is a reply to what is asked where a setup has come so far
 abbrev pub is_expected : Request → Progress → Reply → Bool

@@ -1,11 +1,17 @@
--- How far a setup has come is kept in a state beside the offers: which hops are still to be asked, and for what.
-use Rattle.std.specs.Prelude.{◌≡◌, ℕ, suc, ◌≤◌, List, length}
+-- How far a setup has come is kept in a state beside the offers: which hops are still to be asked, and for what. A reply
+-- to what is asked takes it on by one hop.
+use Rattle.std.specs.Prelude.{◌≡◌, ℕ, suc, ◌-◌, ◌≤◌, nat_lt, if◌then◌else◌, List, [], ◌∷◌, ◌++◌, length}
 use Rattle.net_units.specs.Allotted.{levels_of}
-use Rattle.hop_reservation.specs.Offers.{AreLevels}
+use Rattle.net_units.specs.Numbers.{level_number}
+use Rattle.hop_reservation.specs.Offers.{next_bound, AreLevels}
 use Rattle.hop_reservation.specs.declared.route.Hop.{Hop}
-use Rattle.setup_protocol.specs.Setup.{Outcome, Accepts, Denies, Progress, Reserving, Undoing, Relaxing, Settled}
+use Rattle.link_steps.specs.declared.replies.Reply.{Reply}
+use Rattle.link_steps.specs.declared.replies.Reply.TheVariants.{Offer}
+use Rattle.setup_protocol.specs.Setup.{Outcome, Accepts, Denies, Progress, Reserving, Undoing, Relaxing, Settled, undoing, relaxing, at_destination, refusal_in}
+use Rattle.setup_protocol.specs.declared.request.Request.{Request}
 use Rattle.setup_protocol.specs.declared.setup.State.{State}
 use Rattle.setup_protocol.specs.declared.setup.State.TheVariants as state
+use Rattle.setup_protocol.specs.declared.verdict.Deny.TheVariants.{Hop as AtHop}
 use Rattle.setup_protocol.specs.declared.verdict.Verdict.{Verdict}
 use Rattle.setup_protocol.specs.declared.verdict.Verdict.TheVariants as verdict
 
@@ -37,3 +43,21 @@ IsStateOf route offers state.Reserving = suc (length offers) ≤ length route
 IsStateOf route offers (state.Undoing left deny) = IsPlace route left
 IsStateOf route offers (state.Relaxing left levels) = IsPlace route left × HaveLevels route (levels_of levels)
 IsStateOf route offers (state.Settled verdict) = Unit {0}
+
+-- ---- one reply more
+
+-- with the offers of some hops, or of all, and no reply behind them
+abbrev pub with_offers : Request → List ℕ → ℕ → Progress
+with_offers request offers reach = if nat_lt (length offers) (length request.route) then Reserving offers reach else at_destination request offers 0
+
+-- behind the reply to the reserve of the first hop that has no level
+abbrev pub after_reserve : Request → List ℕ → Reply → Progress
+after_reserve request offers (Offer level reach) = with_offers request (offers ++ level_number level ∷ []) (next_bound request.route offers (level_number reach))
+after_reserve request offers reply = undoing (length offers) (AtHop (suc (length offers)) (refusal_in reply))
+
+-- how far a setup has come with one reply more
+abbrev pub advance : Request → Progress → Reply → Progress
+advance request (Reserving offers reach) reply = after_reserve request offers reply
+advance request (Undoing left deny) reply = undoing (left - 1) deny
+advance request (Relaxing left levels) reply = relaxing request.route (left - 1) levels
+advance request (Settled outcome) reply = Settled outcome

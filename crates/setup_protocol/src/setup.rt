@@ -6,9 +6,9 @@ ghost use Rattle.net_units.specs.Numbers.{level_number};
 ghost use Rattle.hop_reservation.specs.Offers.{delay_over, next_levels};
 ghost use Rattle.hop_reservation.specs.declared.route.Hop.{Hop};
 ghost use Rattle.link_steps.specs.declared.replies.Reply.{Reply as Replied};
-ghost use Rattle.setup_protocol.specs.Setup.{advance, after_reserve, answers_reserve, asked, asked_of, at_destination, bound_given, is_expected, is_reserve_refusal, link_in, next_ask, progress_of, relax_of, relaxing, reserve_of, settled_in, undoing, verdict_of, with_offers};
+ghost use Rattle.setup_protocol.specs.Setup.{answers_reserve, asked, asked_of, at_destination, bound_given, is_expected, is_reserve_refusal, link_in, next_ask, progress_of, relax_of, relaxing, reserve_of, settled_in, undoing, verdict_of};
 ghost use Rattle.link_steps.specs.declared.asks.Ask.TheVariants.{Deny as GiveBack};
-ghost use Rattle.setup_protocol.specs.State.{progress_at, IsStateOf, HaveLevels, IsPlace, outcome_of};
+ghost use Rattle.setup_protocol.specs.State.{advance, after_reserve, outcome_of, progress_at, with_offers, HaveLevels, IsPlace, IsStateOf};
 ghost use Rattle.setup_protocol.specs.StateProp.{IsStateOf-prop};
 
 use crate::request::Request;
@@ -51,8 +51,6 @@ impl Setup {
         ensures request { result.request ≡ request.now }
         ensures stands { Stands result [] }
     {
-        // `len` tells that a route has a hop.
-        let _hops = request.route.len();
         Setup {
             request: *request,
             itinerary: Itinerary::new(request.route),
@@ -89,7 +87,7 @@ impl Setup {
         }
         match self.next_ask() {
             Some((_, ask)) => Err(Unexpected { ask, reply }),
-            None => Ok(()),
+            None => unreachable!(),
         }
     }
 
@@ -184,7 +182,7 @@ impl Setup {
             State::Relaxing { left, levels } => {
                 self.state = relax_on(&self.request.route, left - 1, levels);
             }
-            State::Settled(_) => {}
+            State::Settled(_) => unreachable!(),
         }
     }
 
@@ -208,7 +206,7 @@ impl Setup {
                 };
                 self.state = undo(before, deny);
             }
-            _ => {}
+            _ => unreachable!(),
         }
     }
 }

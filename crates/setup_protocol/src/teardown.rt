@@ -73,7 +73,7 @@ impl Teardown {
                 Ok(())
             }
             (reply, Some((_, ask))) => Err(Unexpected { ask, reply }),
-            (_, None) => Ok(()),
+            (_, None) => unreachable!(),
         }
     }
 }

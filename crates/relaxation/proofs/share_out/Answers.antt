@@ -58,7 +58,7 @@ loop-place-preserved c =
     record {
       in_route = omega (arith, c.loop-place.invariant.in_route);
       left = ap (λ b. c.loop-place.left - b) bounds ∙ step.0;
-      levels = put-one c.loop-place.levels (length offers) place c.within_share-level.result c.loop-place-test.true c.loop-place.invariant.in_route (omega (arith, c.loop-place.invariant.size, c.offers-place.ensures.value, c.offers-place.ensures.most))
+      levels = put-one c.loop-place.levels (length offers) place c.within_share-level.result c.loop-place-test.true c.loop-place.invariant.in_route (omega (arith, c.loop-place.invariant.size, c.offers-place.ensures.value, c.offers-place.ensures.in_route, c.offers-place.ensures.valid.most))
           ∙ ap (λ ls. level_number c.within_share-level.result ∷ ls) c.loop-place.invariant.levels ∙ step.1;
       limit = sym (limit-none c.args.jitter offers (place - 1) (omega (arith, c.loop-place-test.true, c.loop-place.invariant.in_route)));
       less = omega (arith, c.loop-place.invariant.less);

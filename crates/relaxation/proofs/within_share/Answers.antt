@@ -7,14 +7,14 @@ use Rattle.relaxation.specs.Allotment.{up_to}
 use Rattle.relaxation.proofs.HopFacts.{up_to-least, relaxed_level}
 use Rattle.relaxation.proofs.within_share.Goals as goal
 
-pub returns-in-Some-clause-least : goal.returns-in-Some-clause-least
-returns-in-Some-clause-least c =
+pub returns-clause-least : goal.returns-clause-least
+returns-clause-least c =
     let fits = relaxed_level c.args.limit c.args.offer.now.hop (level_number c.args.offer.now.level) c.args.share c.bound_of.ensures.valid c.requires.level c.requires.limit in
     let far = c.cut-within.ensures ∙ ap (λ b. up_to c.args.limit (b + c.args.share)) c.bound_of.ensures.value in
     rw (c.in-Some.ensures.value ∙ ap (levels_within c.args.offer.now.hop.bounds) far) fits.no_sooner
 
-pub returns-in-None-clause-value : goal.returns-in-None-clause-value
-returns-in-None-clause-value c =
+pub unreachable-requires : goal.unreachable-requires
+unreachable-requires c =
     let bounds = c.args.offer.now.hop.bounds in
     let offer = level_number c.args.offer.now.level in
     let far = c.cut-within.ensures ∙ ap (λ b. up_to c.args.limit (b + c.args.share)) c.bound_of.ensures.value in

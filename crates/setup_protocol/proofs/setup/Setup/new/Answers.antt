@@ -4,4 +4,4 @@ use Rattle.setup_protocol.proofs.ProgressFacts.{progress-none}
 use Rattle.setup_protocol.proofs.setup.Setup.new.Goals as goal
 
 pub returns-clause-stands : goal.returns-clause-stands
-returns-clause-stands c = ap (λ o. Reserving o.levels o.reach) c.new.ensures ∙ sym (progress-none c.args.request.now (c.len-hops.ensures.valid.least))
+returns-clause-stands c = ap (λ o. Reserving o.levels o.reach) c.new.ensures.value ∙ sym (progress-none c.args.request.now c.new.ensures.valid.least)

@@ -1,6 +1,7 @@
 -- A reply that is expected goes on from where the setup has come.
 use Rattle.std.proofs.Common.{◌≡◌, ◌++◌, ◌∷◌, [], true, subst, sym, ap, ◌∙◌}
-use Rattle.setup_protocol.specs.Setup.{progress_of, advance, is_expected}
+use Rattle.setup_protocol.specs.Setup.{progress_of, is_expected}
+use Rattle.setup_protocol.specs.State.{advance}
 use Rattle.setup_protocol.proofs.ProgressFacts.{progress-advances}
 use Rattle.setup_protocol.proofs.setup.Setup.take.Goals as goal
 
