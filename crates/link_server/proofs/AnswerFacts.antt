@@ -30,6 +30,8 @@ use Rattle.link_steps.specs.Buffer.{need_of, free_units}
 use Rattle.link_steps.specs.Kept.{Kept, kept_reply, kept_after, with_kept_rows, new_kept, kept_relaxed, kept_planned, kept_submit, is_kept_of, is_kept_at_hop}
 use Rattle.link_steps.specs.Levels.{level_of}
 use Rattle.link_steps.specs.Refusals.{not_in_phase, unfit, busy, too_big}
+use Rattle.link_steps.specs.Split.{whole}
+use Rattle.link_steps.specs.Room.{room_of, whole_room}
 use Rattle.link_steps.specs.Replies.{reserve_reply, relax_reply, deny_reply, submit_reply, reach_of}
 use Rattle.link_steps.specs.Reservation.{tentative, admitted, is_of}
 use Rattle.link_steps.specs.Shape.{server_of}
@@ -43,15 +45,15 @@ units-more bounds rows i row inside same =
 
 -- ---- a deny
 
-pub deny-absent : (shape : LinkShape) (t : ℕ) (packets : Packets) (chan : ChanNo) (rows : List HeldRow) → IsAbsent chan rows → Refused NoSuch ≡ kept_reply shape (account t packets rows) (Deny chan)
+pub deny-absent : (shape : LinkShape) (t : ℕ) (packets : Packets) (chan : ChanNo) (rows : List HeldRow) → IsAbsent chan rows → Refused NoSuch ≡ kept_reply (whole shape) (account t packets rows) (Deny chan)
 unfolding kept_reply deny_reply
 deny-absent shape t packets chan rows absent = rw (terms-absent chan rows absent) refl
 
-pub deny-refused : (shape : LinkShape) (t : ℕ) (packets : Packets) (chan : ChanNo) (rows : List HeldRow) (i : ℕ) (d : HeldRow) (refusal : Refusal) → IsPlaceOf chan rows i → Some refusal ≡ not_in_phase Tentative (terms_in (get_or rows i d)) → Refused refusal ≡ kept_reply shape (account t packets rows) (Deny chan)
+pub deny-refused : (shape : LinkShape) (t : ℕ) (packets : Packets) (chan : ChanNo) (rows : List HeldRow) (i : ℕ) (d : HeldRow) (refusal : Refusal) → IsPlaceOf chan rows i → Some refusal ≡ not_in_phase Tentative (terms_in (get_or rows i d)) → Refused refusal ≡ kept_reply (whole shape) (account t packets rows) (Deny chan)
 unfolding kept_reply deny_reply
 deny-refused shape t packets chan rows i d refusal place phase = rw (terms-found chan rows i d place, sym phase) refl
 
-pub deny-denied : (shape : LinkShape) (t : ℕ) (packets : Packets) (chan : ChanNo) (rows : List HeldRow) (i : ℕ) (d : HeldRow) → IsPlaceOf chan rows i → None ≡ not_in_phase Tentative (terms_in (get_or rows i d)) → Denied ≡ kept_reply shape (account t packets rows) (Deny chan)
+pub deny-denied : (shape : LinkShape) (t : ℕ) (packets : Packets) (chan : ChanNo) (rows : List HeldRow) (i : ℕ) (d : HeldRow) → IsPlaceOf chan rows i → None ≡ not_in_phase Tentative (terms_in (get_or rows i d)) → Denied ≡ kept_reply (whole shape) (account t packets rows) (Deny chan)
 unfolding kept_reply deny_reply
 deny-denied shape t packets chan rows i d place phase = rw (terms-found chan rows i d place, sym phase) refl
 
@@ -67,19 +69,19 @@ deny-kept shape t packets chan rows i place = ap (with_kept_rows (account t pack
 
 -- ---- a relax
 
-pub relax-absent : (shape : LinkShape) (t : ℕ) (packets : Packets) (chan : ChanNo) (level : Level) (up_bound : ℕ) (rows : List HeldRow) → IsAbsent chan rows → Refused NoSuch ≡ kept_reply shape (account t packets rows) (Relax chan level up_bound)
+pub relax-absent : (shape : LinkShape) (t : ℕ) (packets : Packets) (chan : ChanNo) (level : Level) (up_bound : ℕ) (rows : List HeldRow) → IsAbsent chan rows → Refused NoSuch ≡ kept_reply (whole shape) (account t packets rows) (Relax chan level up_bound)
 unfolding kept_reply relax_reply
 relax-absent shape t packets chan level up_bound rows absent = rw (terms-absent chan rows absent) refl
 
-pub relax-phase : (shape : LinkShape) (t : ℕ) (packets : Packets) (chan : ChanNo) (level : Level) (up_bound : ℕ) (rows : List HeldRow) (i : ℕ) (d : HeldRow) (refusal : Refusal) → IsPlaceOf chan rows i → Some refusal ≡ not_in_phase Tentative (terms_in (get_or rows i d)) → Refused refusal ≡ kept_reply shape (account t packets rows) (Relax chan level up_bound)
+pub relax-phase : (shape : LinkShape) (t : ℕ) (packets : Packets) (chan : ChanNo) (level : Level) (up_bound : ℕ) (rows : List HeldRow) (i : ℕ) (d : HeldRow) (refusal : Refusal) → IsPlaceOf chan rows i → Some refusal ≡ not_in_phase Tentative (terms_in (get_or rows i d)) → Refused refusal ≡ kept_reply (whole shape) (account t packets rows) (Relax chan level up_bound)
 unfolding kept_reply relax_reply
 relax-phase shape t packets chan level up_bound rows i d refusal place phase = rw (terms-found chan rows i d place, sym phase) refl
 
-pub relax-unfit : (shape : LinkShape) (t : ℕ) (packets : Packets) (chan : ChanNo) (level : Level) (up_bound : ℕ) (rows : List HeldRow) (i : ℕ) (d : HeldRow) (refusal : Refusal) → IsPlaceOf chan rows i → None ≡ not_in_phase Tentative (terms_in (get_or rows i d)) → Some refusal ≡ unfit (terms_in (get_or rows i d)) level up_bound → Refused refusal ≡ kept_reply shape (account t packets rows) (Relax chan level up_bound)
+pub relax-unfit : (shape : LinkShape) (t : ℕ) (packets : Packets) (chan : ChanNo) (level : Level) (up_bound : ℕ) (rows : List HeldRow) (i : ℕ) (d : HeldRow) (refusal : Refusal) → IsPlaceOf chan rows i → None ≡ not_in_phase Tentative (terms_in (get_or rows i d)) → Some refusal ≡ unfit (terms_in (get_or rows i d)) level up_bound → Refused refusal ≡ kept_reply (whole shape) (account t packets rows) (Relax chan level up_bound)
 unfolding kept_reply relax_reply
 relax-unfit shape t packets chan level up_bound rows i d refusal place phase fits = rw (terms-found chan rows i d place, sym phase, sym fits) refl
 
-pub relax-relaxed : (shape : LinkShape) (t : ℕ) (packets : Packets) (chan : ChanNo) (level : Level) (up_bound : ℕ) (rows : List HeldRow) (i : ℕ) (d : HeldRow) → IsPlaceOf chan rows i → None ≡ not_in_phase Tentative (terms_in (get_or rows i d)) → None ≡ unfit (terms_in (get_or rows i d)) level up_bound → Relaxed t ≡ kept_reply shape (account t packets rows) (Relax chan level up_bound)
+pub relax-relaxed : (shape : LinkShape) (t : ℕ) (packets : Packets) (chan : ChanNo) (level : Level) (up_bound : ℕ) (rows : List HeldRow) (i : ℕ) (d : HeldRow) → IsPlaceOf chan rows i → None ≡ not_in_phase Tentative (terms_in (get_or rows i d)) → None ≡ unfit (terms_in (get_or rows i d)) level up_bound → Relaxed t ≡ kept_reply (whole shape) (account t packets rows) (Relax chan level up_bound)
 unfolding kept_reply relax_reply
 relax-relaxed shape t packets chan level up_bound rows i d place phase fits = rw (terms-found chan rows i d place, sym phase, sym fits) refl
 
@@ -95,24 +97,24 @@ relax-kept shape t packets chan level up_bound clock rows i new d place same =
 
 -- ---- a reserve, over the reservations that are held
 
-pub reserve-wide : (shape : LinkShape) (held : List Reservation) (chan : ChanNo) (contract : Terms) (delay up_reach : ℕ) → nat_le contract.smax shape.cap ≡ false → Refused (TooWide contract.smax shape.cap) ≡ reserve_reply shape held chan contract delay up_reach
-unfolding reserve_reply
+pub reserve-wide : (shape : LinkShape) (held : List Reservation) (chan : ChanNo) (contract : Terms) (delay up_reach : ℕ) → nat_le contract.smax shape.cap ≡ false → Refused (TooWide contract.smax shape.cap) ≡ reserve_reply (whole shape) held chan contract delay up_reach
+unfolding reserve_reply room_of whole_room
 reserve-wide shape held chan contract delay up_reach wide = rw wide refl
 
-pub reserve-twice : (shape : LinkShape) (held : List Reservation) (chan : ChanNo) (contract : Terms) (delay up_reach : ℕ) (terms : Reservation) → nat_le contract.smax shape.cap ≡ true → find (is_of chan) held ≡ Some terms → Refused (Twice terms.phase) ≡ reserve_reply shape held chan contract delay up_reach
-unfolding reserve_reply
+pub reserve-twice : (shape : LinkShape) (held : List Reservation) (chan : ChanNo) (contract : Terms) (delay up_reach : ℕ) (terms : Reservation) → nat_le contract.smax shape.cap ≡ true → find (is_of chan) held ≡ Some terms → Refused (Twice terms.phase) ≡ reserve_reply (whole shape) held chan contract delay up_reach
+unfolding reserve_reply room_of whole_room
 reserve-twice shape held chan contract delay up_reach terms wide found = rw (wide, found) refl
 
-pub reserve-no_level : (shape : LinkShape) (held : List Reservation) (chan : ChanNo) (contract : Terms) (delay up_reach : ℕ) → nat_le contract.smax shape.cap ≡ true → find (is_of chan) held ≡ None → best_level (server_of shape) (map admitted held) contract ≡ None → Refused (NoLevel (refused_sum (server_of shape) (map admitted held) contract) (last_bound shape.bounds)) ≡ reserve_reply shape held chan contract delay up_reach
-unfolding reserve_reply
+pub reserve-no_level : (shape : LinkShape) (held : List Reservation) (chan : ChanNo) (contract : Terms) (delay up_reach : ℕ) → nat_le contract.smax shape.cap ≡ true → find (is_of chan) held ≡ None → best_level (server_of shape) (map admitted held) contract ≡ None → Refused (NoLevel (refused_sum (server_of shape) (map admitted held) contract) (last_bound shape.bounds)) ≡ reserve_reply (whole shape) held chan contract delay up_reach
+unfolding reserve_reply room_of whole_room
 reserve-no_level shape held chan contract delay up_reach wide found best = rw (wide, found, best) refl
 
-pub reserve-no_buffer : (shape : LinkShape) (held : List Reservation) (chan : ChanNo) (contract : Terms) (delay up_reach m : ℕ) → nat_le contract.smax shape.cap ≡ true → find (is_of chan) held ≡ None → best_level (server_of shape) (map admitted held) contract ≡ Some m → nat_le (need_of shape.bounds contract up_reach (reach_of shape.bounds delay m)) (free_units shape held) ≡ false → Refused (NoBuffer (need_of shape.bounds contract up_reach (reach_of shape.bounds delay m)) (free_units shape held)) ≡ reserve_reply shape held chan contract delay up_reach
-unfolding reserve_reply
+pub reserve-no_buffer : (shape : LinkShape) (held : List Reservation) (chan : ChanNo) (contract : Terms) (delay up_reach m : ℕ) → nat_le contract.smax shape.cap ≡ true → find (is_of chan) held ≡ None → best_level (server_of shape) (map admitted held) contract ≡ Some m → nat_le (need_of shape.bounds contract up_reach (reach_of shape.bounds delay m)) (free_units shape held) ≡ false → Refused (NoBuffer (need_of shape.bounds contract up_reach (reach_of shape.bounds delay m)) (free_units shape held)) ≡ reserve_reply (whole shape) held chan contract delay up_reach
+unfolding reserve_reply room_of whole_room
 reserve-no_buffer shape held chan contract delay up_reach m wide found best room = rw (wide, found, best, room) refl
 
-pub reserve-offer : (shape : LinkShape) (held : List Reservation) (chan : ChanNo) (contract : Terms) (delay up_reach m : ℕ) → nat_le contract.smax shape.cap ≡ true → find (is_of chan) held ≡ None → best_level (server_of shape) (map admitted held) contract ≡ Some m → nat_le (need_of shape.bounds contract up_reach (reach_of shape.bounds delay m)) (free_units shape held) ≡ true → Offer (level_of m) (level_of (reach_of shape.bounds delay m)) ≡ reserve_reply shape held chan contract delay up_reach
-unfolding reserve_reply
+pub reserve-offer : (shape : LinkShape) (held : List Reservation) (chan : ChanNo) (contract : Terms) (delay up_reach m : ℕ) → nat_le contract.smax shape.cap ≡ true → find (is_of chan) held ≡ None → best_level (server_of shape) (map admitted held) contract ≡ Some m → nat_le (need_of shape.bounds contract up_reach (reach_of shape.bounds delay m)) (free_units shape held) ≡ true → Offer (level_of m) (level_of (reach_of shape.bounds delay m)) ≡ reserve_reply (whole shape) held chan contract delay up_reach
+unfolding reserve_reply room_of whole_room
 reserve-offer shape held chan contract delay up_reach m wide found best room = rw (wide, found, best, room) refl
 
 -- a refusal changes nothing
@@ -128,28 +130,28 @@ reserve-kept shape t packets wanted level reach rows new same =
 
 -- ---- a submit
 
-pub submit-absent : (shape : LinkShape) (t : ℕ) (packets : Packets) (chan : ChanNo) (count gap size : ℕ) (rows : List HeldRow) → HasNone (is_row_at_hop chan true) rows → Refused NoSuch ≡ kept_reply shape (account t packets rows) (Submit chan count gap size)
+pub submit-absent : (shape : LinkShape) (t : ℕ) (packets : Packets) (chan : ChanNo) (count gap size : ℕ) (rows : List HeldRow) → HasNone (is_row_at_hop chan true) rows → Refused NoSuch ≡ kept_reply (whole shape) (account t packets rows) (Submit chan count gap size)
 unfolding kept_reply
 submit-absent shape t packets chan count gap size rows absent = rw (kept-absent (is_row_at_hop chan true) (is_kept_at_hop chan true) (λ row. refl) rows absent) refl
 
 -- the reply is that of the row at the place
-submit-found : (shape : LinkShape) (t : ℕ) (packets : Packets) (chan : ChanNo) (count gap size : ℕ) (rows : List HeldRow) (i : ℕ) (d : HeldRow) → IsPlace (is_row_at_hop chan true) rows i → kept_reply shape (account t packets rows) (Submit chan count gap size) ≡ submit_reply t size (terms_in (get_or rows i d)) (length (left_in (get_or rows i d).planned))
+submit-found : (shape : LinkShape) (t : ℕ) (packets : Packets) (chan : ChanNo) (count gap size : ℕ) (rows : List HeldRow) (i : ℕ) (d : HeldRow) → IsPlace (is_row_at_hop chan true) rows i → kept_reply (whole shape) (account t packets rows) (Submit chan count gap size) ≡ submit_reply t size (terms_in (get_or rows i d)) (length (left_in (get_or rows i d).planned))
 unfolding kept_reply
 submit-found shape t packets chan count gap size rows i d place = ap (kept_submit t size) (kept-found (is_row_at_hop chan true) (is_kept_at_hop chan true) (λ row. refl) rows i d place)
 
-pub submit-phase : (shape : LinkShape) (t : ℕ) (packets : Packets) (chan : ChanNo) (count gap size : ℕ) (rows : List HeldRow) (i : ℕ) (d : HeldRow) (refusal : Refusal) → IsPlace (is_row_at_hop chan true) rows i → Some refusal ≡ not_in_phase Committed (terms_in (get_or rows i d)) → Refused refusal ≡ kept_reply shape (account t packets rows) (Submit chan count gap size)
+pub submit-phase : (shape : LinkShape) (t : ℕ) (packets : Packets) (chan : ChanNo) (count gap size : ℕ) (rows : List HeldRow) (i : ℕ) (d : HeldRow) (refusal : Refusal) → IsPlace (is_row_at_hop chan true) rows i → Some refusal ≡ not_in_phase Committed (terms_in (get_or rows i d)) → Refused refusal ≡ kept_reply (whole shape) (account t packets rows) (Submit chan count gap size)
 unfolding submit_reply
 submit-phase shape t packets chan count gap size rows i d refusal place phase = rw (submit-found shape t packets chan count gap size rows i d place, sym phase) refl
 
-pub submit-busy : (shape : LinkShape) (t : ℕ) (packets : Packets) (chan : ChanNo) (count gap size : ℕ) (rows : List HeldRow) (i : ℕ) (d : HeldRow) (refusal : Refusal) → IsPlace (is_row_at_hop chan true) rows i → None ≡ not_in_phase Committed (terms_in (get_or rows i d)) → Some refusal ≡ busy (length (left_in (get_or rows i d).planned)) → Refused refusal ≡ kept_reply shape (account t packets rows) (Submit chan count gap size)
+pub submit-busy : (shape : LinkShape) (t : ℕ) (packets : Packets) (chan : ChanNo) (count gap size : ℕ) (rows : List HeldRow) (i : ℕ) (d : HeldRow) (refusal : Refusal) → IsPlace (is_row_at_hop chan true) rows i → None ≡ not_in_phase Committed (terms_in (get_or rows i d)) → Some refusal ≡ busy (length (left_in (get_or rows i d).planned)) → Refused refusal ≡ kept_reply (whole shape) (account t packets rows) (Submit chan count gap size)
 unfolding submit_reply
 submit-busy shape t packets chan count gap size rows i d refusal place phase left = rw (submit-found shape t packets chan count gap size rows i d place, sym phase, sym left) refl
 
-pub submit-big : (shape : LinkShape) (t : ℕ) (packets : Packets) (chan : ChanNo) (count gap size : ℕ) (rows : List HeldRow) (i : ℕ) (d : HeldRow) (refusal : Refusal) → IsPlace (is_row_at_hop chan true) rows i → None ≡ not_in_phase Committed (terms_in (get_or rows i d)) → None ≡ busy (length (left_in (get_or rows i d).planned)) → Some refusal ≡ too_big (terms_in (get_or rows i d)) size → Refused refusal ≡ kept_reply shape (account t packets rows) (Submit chan count gap size)
+pub submit-big : (shape : LinkShape) (t : ℕ) (packets : Packets) (chan : ChanNo) (count gap size : ℕ) (rows : List HeldRow) (i : ℕ) (d : HeldRow) (refusal : Refusal) → IsPlace (is_row_at_hop chan true) rows i → None ≡ not_in_phase Committed (terms_in (get_or rows i d)) → None ≡ busy (length (left_in (get_or rows i d).planned)) → Some refusal ≡ too_big (terms_in (get_or rows i d)) size → Refused refusal ≡ kept_reply (whole shape) (account t packets rows) (Submit chan count gap size)
 unfolding submit_reply
 submit-big shape t packets chan count gap size rows i d refusal place phase left large = rw (submit-found shape t packets chan count gap size rows i d place, sym phase, sym left, sym large) refl
 
-pub submit-planned : (shape : LinkShape) (t : ℕ) (packets : Packets) (chan : ChanNo) (count gap size : ℕ) (rows : List HeldRow) (i : ℕ) (d : HeldRow) → IsPlace (is_row_at_hop chan true) rows i → None ≡ not_in_phase Committed (terms_in (get_or rows i d)) → None ≡ busy (length (left_in (get_or rows i d).planned)) → None ≡ too_big (terms_in (get_or rows i d)) size → Planned t ≡ kept_reply shape (account t packets rows) (Submit chan count gap size)
+pub submit-planned : (shape : LinkShape) (t : ℕ) (packets : Packets) (chan : ChanNo) (count gap size : ℕ) (rows : List HeldRow) (i : ℕ) (d : HeldRow) → IsPlace (is_row_at_hop chan true) rows i → None ≡ not_in_phase Committed (terms_in (get_or rows i d)) → None ≡ busy (length (left_in (get_or rows i d).planned)) → None ≡ too_big (terms_in (get_or rows i d)) size → Planned t ≡ kept_reply (whole shape) (account t packets rows) (Submit chan count gap size)
 unfolding submit_reply
 submit-planned shape t packets chan count gap size rows i d place phase left large = rw (submit-found shape t packets chan count gap size rows i d place, sym phase, sym left, sym large) refl
 

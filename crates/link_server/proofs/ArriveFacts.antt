@@ -12,6 +12,7 @@ use Rattle.link_steps.specs.declared.replies.Reply.TheVariants.{Taken, Refused}
 use Rattle.link_steps.specs.declared.replies.Why.TheVariants.{NoRow, WrongNumber}
 use Rattle.link_steps.specs.declared.shape.LinkShape.{LinkShape}
 use Rattle.link_steps.specs.Buffer.{held_packets, slots_of}
+use Rattle.link_steps.specs.Split.{whole}
 use Rattle.link_steps.specs.Kept.{Kept, kept_reply, kept_after, kept_arrive, kept_with, kept_with_arrival, kept_arrived_row, kept_arrived, is_kept_of}
 use Rattle.link_steps.specs.Lists.{change_first}
 use Rattle.link_steps.specs.Refusals.{Rule, first_refusal, first_hop, uncommitted, wrong_number, past_count, big, full}
@@ -23,6 +24,7 @@ use Rattle.link_steps.proofs.Account.{same-kept}
 use Rattle.link_steps.proofs.RefusalFacts.{unless-none}
 use Rattle.link_server.specs.Account.{account}
 use Rattle.link_server.specs.Packets.{arrival_in, here_in, on_in}
+use Rattle.link_server.specs.Planned.{left_in}
 use Rattle.link_server.specs.Rows.{terms_in, row_in, is_row_of, IsAbsent, IsPlaceOf}
 use Rattle.link_server.specs.Sound.{IsSound}
 use Rattle.link_server.specs.Strays.{first_rule, stray_rules, stray}
@@ -47,7 +49,7 @@ rules-kept (None ∷ rules) more reply none = rules-kept rules more reply none
 rules-kept (Some other ∷ rules) more reply none = cc
 
 -- the reply to a packet of a channel without a row
-pub arrive-absent : (shape : LinkShape) (t : ℕ) (packets : Packets) (packet : Packet) (rows : List HeldRow) → IsAbsent packet.chan rows → Refused (Stray NoRow) ≡ kept_reply shape (account t packets rows) (Arrive packet)
+pub arrive-absent : (shape : LinkShape) (t : ℕ) (packets : Packets) (packet : Packet) (rows : List HeldRow) → IsAbsent packet.chan rows → Refused (Stray NoRow) ≡ kept_reply (whole shape) (account t packets rows) (Arrive packet)
 unfolding kept_reply
 arrive-absent shape t packets packet rows absent = rw (kept-absent (is_row_of packet.chan) (is_kept_of packet.chan) (λ row. refl) rows absent) refl
 
@@ -59,16 +61,16 @@ abbrev taken-reply : ℕ → Packet → HeldRow → Reply
 taken-reply t packet row = Taken t (eligible_next (terms_in row) (row_in row).recent t packet.due)
 
 arrive-found : (shape : LinkShape) (t : ℕ) (packets : Packets) (packet : Packet) (rows : List HeldRow) (i : ℕ) (d : HeldRow) → IsPlaceOf packet.chan rows i
-    → kept_reply shape (account t packets rows) (Arrive packet) ≡ first_refusal (stray_rules packet (terms_in (get_or rows i d)) (get_or rows i d).taken ++ slots-rule shape packets.here.items (get_or rows i d) ∷ []) (taken-reply t packet (get_or rows i d))
+    → kept_reply (whole shape) (account t packets rows) (Arrive packet) ≡ first_refusal (stray_rules packet (terms_in (get_or rows i d)) (get_or rows i d).taken ++ slots-rule shape packets.here.items (get_or rows i d) ∷ []) (taken-reply t packet (get_or rows i d))
 unfolding kept_reply arrive_reply
 arrive-found shape t packets packet rows i d place = ap (kept_arrive shape t (here_in packets.here.items) packet) (kept-found (is_row_of packet.chan) (is_kept_of packet.chan) (λ row. refl) rows i d place)
 
 -- a packet without a place, one that finds each slot taken, and one that is taken
-pub arrive-stray : (shape : LinkShape) (t : ℕ) (packets : Packets) (packet : Packet) (rows : List HeldRow) (i : ℕ) (d : HeldRow) (refusal : Refusal) → IsPlaceOf packet.chan rows i → Some refusal ≡ stray packet (terms_in (get_or rows i d)) (get_or rows i d).taken → Refused refusal ≡ kept_reply shape (account t packets rows) (Arrive packet)
+pub arrive-stray : (shape : LinkShape) (t : ℕ) (packets : Packets) (packet : Packet) (rows : List HeldRow) (i : ℕ) (d : HeldRow) (refusal : Refusal) → IsPlaceOf packet.chan rows i → Some refusal ≡ stray packet (terms_in (get_or rows i d)) (get_or rows i d).taken → Refused refusal ≡ kept_reply (whole shape) (account t packets rows) (Arrive packet)
 arrive-stray shape t packets packet rows i d refusal place first = rule-applies (stray_rules packet (terms_in (get_or rows i d)) (get_or rows i d).taken) (slots-rule shape packets.here.items (get_or rows i d) ∷ []) (taken-reply t packet (get_or rows i d)) refusal first ∙ sym (arrive-found shape t packets packet rows i d place)
 
 pub arrive-full : (shape : LinkShape) (t : ℕ) (packets : Packets) (packet : Packet) (rows : List HeldRow) (i : ℕ) (d : HeldRow) (refusal : Refusal) → IsPlaceOf packet.chan rows i → None ≡ stray packet (terms_in (get_or rows i d)) (get_or rows i d).taken
-    → Some refusal ≡ slots-rule shape packets.here.items (get_or rows i d) → Refused refusal ≡ kept_reply shape (account t packets rows) (Arrive packet)
+    → Some refusal ≡ slots-rule shape packets.here.items (get_or rows i d) → Refused refusal ≡ kept_reply (whole shape) (account t packets rows) (Arrive packet)
 arrive-full shape t packets packet rows i d refusal place none holds =
     rule-applies (slots-rule shape packets.here.items (get_or rows i d) ∷ []) [] (taken-reply t packet (get_or rows i d)) refusal (one-rule (slots-rule shape packets.here.items (get_or rows i d)) refusal holds)
     ∙ rules-kept (stray_rules packet (terms_in (get_or rows i d)) (get_or rows i d).taken) (slots-rule shape packets.here.items (get_or rows i d) ∷ []) (taken-reply t packet (get_or rows i d)) none ∙ sym (arrive-found shape t packets packet rows i d place) where
@@ -77,7 +79,7 @@ arrive-full shape t packets packet rows i d refusal place none holds =
       one-rule (Some other) refusal same = same
 
 pub arrive-taken : (shape : LinkShape) (t : ℕ) (packets : Packets) (packet : Packet) (rows : List HeldRow) (i : ℕ) (d : HeldRow) (e : ℕ) → IsPlaceOf packet.chan rows i → None ≡ stray packet (terms_in (get_or rows i d)) (get_or rows i d).taken
-    → None ≡ slots-rule shape packets.here.items (get_or rows i d) → e ≡ eligible_next (terms_in (get_or rows i d)) (row_in (get_or rows i d)).recent t packet.due → Taken t e ≡ kept_reply shape (account t packets rows) (Arrive packet)
+    → None ≡ slots-rule shape packets.here.items (get_or rows i d) → e ≡ eligible_next (terms_in (get_or rows i d)) (row_in (get_or rows i d)).recent t packet.due → Taken t e ≡ kept_reply (whole shape) (account t packets rows) (Arrive packet)
 arrive-taken shape t packets packet rows i d e place none free tick =
     ap (Taken t) tick
     ∙ rule-none (slots-rule shape packets.here.items (get_or rows i d)) (taken-reply t packet (get_or rows i d)) free
@@ -108,10 +110,10 @@ pub arrive-kept : (shape : LinkShape) (t e : ℕ) (old new : Packets) (packet : 
     → packet.number ≡ suc (get_or rows i d).taken
     → row_in row ≡ kept_with (old.taken + 1) (eligible_next (terms_in (get_or rows i d)) (row_in (get_or rows i d)).recent t packet.due) (row_in (get_or rows i d))
     → arrival_in taken ≡ arrival_at (terms_in (get_or rows i d)) (get_or rows i d).lead (old.taken + 1) (suc (get_or rows i d).taken) packet.size t (eligible_next (terms_in (get_or rows i d)) (row_in (get_or rows i d)).recent t packet.due)
-    → new.taken ≡ old.taken + 1 → new.here.items ≡ old.here.items ++ taken ∷ [] → new.on ≡ old.on
+    → new.taken ≡ old.taken + 1 → new.here.items ≡ old.here.items ++ taken ∷ [] → new.on ≡ old.on → new.best ≡ old.best
     → account t new (set rows i row) ≡ kept_after shape (account t old rows) (Arrive packet) (Taken t e)
 unfolding kept_after kept_with_arrival
-arrive-kept shape t e old new packet rows i d row taken place number same arrived count pushed on =
+arrive-kept shape t e old new packet rows i d row taken place number same arrived count pushed on best =
     let was = get_or rows i d in
     let tick = eligible_next (terms_in was) (row_in was).recent t packet.due in
     let next : old.taken + 1 ≡ suc old.taken = omega arith in
@@ -122,7 +124,7 @@ arrive-kept shape t e old new packet rows i d row taken place number same arrive
     arrived ∙ ap (λ n. arrival_at (terms_in was) was.lead n (suc was.taken) packet.size t tick) next ∙ ap (λ n. arrival_at (terms_in was) was.lead (suc old.taken) n packet.size t tick) (sym number) in
     let here : here_in new.here.items ≡ here_in old.here.items ++ kept_arrived t (suc old.taken) packet (row_in was) ∷ [] =
     ap here_in pushed ∙ map_push arrival_in old.here.items taken ∙ ap (λ p. here_in old.here.items ++ p ∷ []) put in
-    same-kept (account t new (set rows i row)) (kept_with_arrival packet (account t old rows) (Some (row_in was))) refl (count ∙ next) changed here (ap on_in on)
+    same-kept (account t new (set rows i row)) (kept_with_arrival packet (account t old rows) (Some (row_in was))) refl (count ∙ next) changed here (ap on_in on) (ap left_in best)
     ∙ ap (kept_with_arrival packet (account t old rows)) (sym found)
 
 -- so where the account with the packet is sound, there was a place for it

@@ -10,6 +10,7 @@ use Rattle.link_steps.specs.declared.replies.Refusal.{Refusal}
 use Rattle.link_steps.specs.declared.replies.Refusal.TheVariants.{NoSuch}
 use Rattle.link_steps.specs.declared.replies.Reply.TheVariants.{Closing, Refused}
 use Rattle.link_steps.specs.declared.shape.LinkShape.{LinkShape}
+use Rattle.link_steps.specs.Split.{whole}
 use Rattle.link_steps.specs.Kept.{Kept, kept_reply, kept_after, with_kept_rows, kept_closed, kept_release, is_kept_at_hop}
 use Rattle.link_steps.specs.Refusals.{not_in_phase}
 use Rattle.link_steps.specs.Replies.{release_reply, count_at_release, cancelled_at_release}
@@ -28,22 +29,22 @@ names-is None false told = (let f : false ≡ true = told in cc)
 names-is (Some count) true told = (let f : true ≡ false = told in cc)
 names-is (Some count) false told = refl
 
-pub release-absent : (shape : LinkShape) (t : ℕ) (packets : Packets) (chan : ChanNo) (upstream : Option ℕ) (rows : List HeldRow) → HasNone (is_row_at_hop chan (names_first_hop upstream)) rows → Refused NoSuch ≡ kept_reply shape (account t packets rows) (Release chan upstream)
+pub release-absent : (shape : LinkShape) (t : ℕ) (packets : Packets) (chan : ChanNo) (upstream : Option ℕ) (rows : List HeldRow) → HasNone (is_row_at_hop chan (names_first_hop upstream)) rows → Refused NoSuch ≡ kept_reply (whole shape) (account t packets rows) (Release chan upstream)
 unfolding kept_reply
 release-absent shape t packets chan upstream rows absent = rw (kept-absent (is_row_at_hop chan (names_first_hop upstream)) (is_kept_at_hop chan (names_first_hop upstream)) (λ row. refl) rows absent) refl
 
 -- the reply is that of the row at the place
-release-found : (shape : LinkShape) (t : ℕ) (packets : Packets) (chan : ChanNo) (upstream : Option ℕ) (rows : List HeldRow) (i : ℕ) (d : HeldRow) → IsPlace (is_row_at_hop chan (names_first_hop upstream)) rows i → kept_reply shape (account t packets rows) (Release chan upstream) ≡ release_reply upstream (terms_in (get_or rows i d)) (get_or rows i d).taken (length (left_in (get_or rows i d).planned))
+release-found : (shape : LinkShape) (t : ℕ) (packets : Packets) (chan : ChanNo) (upstream : Option ℕ) (rows : List HeldRow) (i : ℕ) (d : HeldRow) → IsPlace (is_row_at_hop chan (names_first_hop upstream)) rows i → kept_reply (whole shape) (account t packets rows) (Release chan upstream) ≡ release_reply upstream (terms_in (get_or rows i d)) (get_or rows i d).taken (length (left_in (get_or rows i d).planned))
 unfolding kept_reply
 release-found shape t packets chan upstream rows i d place =
     ap (kept_release upstream) (kept-found (is_row_at_hop chan (names_first_hop upstream)) (is_kept_at_hop chan (names_first_hop upstream)) (λ row. refl) rows i d place)
 
-pub release-phase : (shape : LinkShape) (t : ℕ) (packets : Packets) (chan : ChanNo) (upstream : Option ℕ) (rows : List HeldRow) (i : ℕ) (d : HeldRow) (refusal : Refusal) → IsPlace (is_row_at_hop chan (names_first_hop upstream)) rows i → Some refusal ≡ not_in_phase Committed (terms_in (get_or rows i d)) → Refused refusal ≡ kept_reply shape (account t packets rows) (Release chan upstream)
+pub release-phase : (shape : LinkShape) (t : ℕ) (packets : Packets) (chan : ChanNo) (upstream : Option ℕ) (rows : List HeldRow) (i : ℕ) (d : HeldRow) (refusal : Refusal) → IsPlace (is_row_at_hop chan (names_first_hop upstream)) rows i → Some refusal ≡ not_in_phase Committed (terms_in (get_or rows i d)) → Refused refusal ≡ kept_reply (whole shape) (account t packets rows) (Release chan upstream)
 unfolding release_reply
 release-phase shape t packets chan upstream rows i d refusal place phase = rw (release-found shape t packets chan upstream rows i d place, sym phase) refl
 
 pub release-closes : (shape : LinkShape) (t : ℕ) (packets : Packets) (chan : ChanNo) (upstream : Option ℕ) (rows : List HeldRow) (i : ℕ) (d : HeldRow) (count cancelled : ℕ) → IsPlace (is_row_at_hop chan (names_first_hop upstream)) rows i → None ≡ not_in_phase Committed (terms_in (get_or rows i d))
-    → count ≡ count_at_release upstream (get_or rows i d).taken → cancelled ≡ cancelled_at_release upstream (length (left_in (get_or rows i d).planned)) → Closing count cancelled ≡ kept_reply shape (account t packets rows) (Release chan upstream)
+    → count ≡ count_at_release upstream (get_or rows i d).taken → cancelled ≡ cancelled_at_release upstream (length (left_in (get_or rows i d).planned)) → Closing count cancelled ≡ kept_reply (whole shape) (account t packets rows) (Release chan upstream)
 unfolding release_reply
 release-closes shape t packets chan upstream rows i d count cancelled place phase counted none = rw (release-found shape t packets chan upstream rows i d place, sym phase, counted, none) refl
 

@@ -8,6 +8,7 @@ use Rattle.net_units.specs.declared.numbers.Level.{Level}
 use Rattle.link_steps.specs.declared.replies.Reply.TheVariants.{Offer}
 use Rattle.link_steps.specs.declared.shape.LinkShape.{LinkShape}
 use Rattle.link_steps.specs.Buffer.{slots_of}
+use Rattle.link_steps.specs.Split.{whole}
 use Rattle.link_steps.specs.Kept.{Kept, kept_reply, kept_after, new_kept}
 use Rattle.link_steps.specs.Legal.{ReserveFits}
 use Rattle.link_steps.specs.Reservation.{Reservation, tentative}
@@ -25,8 +26,8 @@ abbrev pub held_terms : Wanted → Level → Level → Reservation
 held_terms wanted level reach = tentative wanted.chan wanted.contract wanted.kind wanted.first wanted.next wanted.up_reach level reach
 
 most-held : (shape : LinkShape) (room : ℕ) (k : Kept) (wanted : Wanted) (level reach : Level) (row : HeldRow) → row_in row ≡ new_kept (held_terms wanted level reach)
-    → most_places shape.bounds k.here k.rows + suc (slots_of shape.bounds (terms_in row)) ≤ room
-    → most_places shape.bounds (kept_after shape k (ask_for wanted) (Offer level reach)).here (kept_after shape k (ask_for wanted) (Offer level reach)).rows ≤ room
+    → most_places shape.bounds k.here k.rows + suc (slots_of shape.bounds (terms_in row)) + suc shape.best ≤ room
+    → most_places shape.bounds (kept_after shape k (ask_for wanted) (Offer level reach)).here (kept_after shape k (ask_for wanted) (Offer level reach)).rows + suc shape.best ≤ room
 unfolding kept_after
 most-held shape room k wanted level reach row same enough =
     let push = most_places-push shape.bounds k.here k.rows (new_kept (held_terms wanted level reach)) in
@@ -34,8 +35,8 @@ most-held shape room k wanted level reach row same enough =
     omega (arith, push, slots, enough)
 
 pub sound-held : (shape : LinkShape) (room : ℕ) (k : Kept) (wanted : Wanted) (level reach : Level) (row : HeldRow) → ReserveFits wanted.contract wanted.up_reach wanted.first → IsSound shape room k
-    → Offer level reach ≡ kept_reply shape k (ask_for wanted) → row_in row ≡ new_kept (held_terms wanted level reach)
-    → most_places shape.bounds k.here k.rows + suc (slots_of shape.bounds (terms_in row)) ≤ room
+    → Offer level reach ≡ kept_reply (whole shape) k (ask_for wanted) → row_in row ≡ new_kept (held_terms wanted level reach)
+    → most_places shape.bounds k.here k.rows + suc (slots_of shape.bounds (terms_in row)) + suc shape.best ≤ room
     → IsSound shape room (kept_after shape k (ask_for wanted) (Offer level reach))
 sound-held shape room k wanted level reach row fits sound offered same enough =
     sound-reserve shape room room k wanted.chan wanted.contract wanted.kind wanted.delay wanted.up_reach wanted.first wanted.next (Offer level reach) fits sound offered (omega arith)

@@ -22,6 +22,9 @@ pub mod SoundSetup
 pub mod SoundTaking
 pub mod SoundSources
 pub mod SoundService
+pub mod PourFacts
+pub mod SoundBest
+pub mod SoundServed
 pub mod SoundTick
 pub mod SoundNumbers
 pub mod SoundServes

@@ -22,6 +22,10 @@ pub held-passing : (lead : ℕ) (packets : List HeldPacket) → length (passing 
 unfolding held_packets
 held-passing lead packets = sym (ap length (here-passing (has_lead lead) packets) ∙ length-map (passing (has_lead lead) packets) arrival_in)
 
+-- how many pass a test
+pub count-passing : (test : Arrival → Bool) (packets : List HeldPacket) → length (passing test packets) ≡ length (filter test (here_in packets))
+count-passing test packets = sym (ap length (here-passing test packets) ∙ length-map (passing test packets) arrival_in)
+
 -- ---- the packets from the last to the first
 
 -- the last packets, which were read from the last on, in their order

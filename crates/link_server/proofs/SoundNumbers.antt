@@ -7,18 +7,17 @@ use Rattle.traffic_contract.specs.Admission.{total}
 use Rattle.traffic_contract.specs.Eligible.{newest}
 use Rattle.link_steps.specs.declared.shape.LinkShape.{LinkShape}
 use Rattle.link_steps.specs.Buffer.{slots_of}
-use Rattle.link_steps.specs.Kept.{Kept, KeptRow, kept_stays, kept_step, kept_packet, kept_packets, held_rows, brought}
+use Rattle.link_steps.specs.Kept.{Kept, KeptRow, kept_stays, kept_waiting, kept_best, from_sources, brought}
 use Rattle.link_steps.specs.Lists.{Each}
 use Rattle.link_steps.specs.Rows.{SourcePacket}
 use Rattle.link_steps.specs.Service.{Arrival}
-use Rattle.link_steps.specs.Sources.{SourceStep, Rests, Brings, Loses, taken_by}
 use Rattle.link_steps.proofs.ListFacts.{Each-if}
 use Rattle.link_server.specs.Planned.{IsFrom}
 use Rattle.link_server.specs.Sources.{IsReady}
-use Rattle.link_server.specs.Sound.{places_of, all_places_of, places, most_places, AreAhead, late_packets, IsSoundRow, IsSound}
+use Rattle.link_server.specs.Sound.{of_channels, places_of, all_places_of, places, most_places, AreAhead, late_packets, IsSoundRow, IsSound}
 use Rattle.link_server.proofs.SoundPackets.{late-upto}
-use Rattle.link_server.proofs.SourceFacts.{packet-length}
-use Rattle.link_server.proofs.SoundSources.{IsStep, AreSteps, kept_steps-are, held-sound}
+use Rattle.link_server.proofs.SoundBest.{both-count, waits-count, kept_best-is, best-fits}
+use Rattle.link_server.proofs.SoundSources.{brought-places, from_best}
 
 -- ---- places
 
@@ -30,39 +29,25 @@ rows-places bounds here (row ∷ rows) = omega (arith, rows-places bounds here r
 -- the packets here and the rows together are no more than the places
 pub rows-upto : (shape : LinkShape) (room : ℕ) (k : Kept) → IsSound shape room k → length k.here + length k.rows ≤ room
 unfolding places
-rows-upto shape room k sound = omega (arith, sound.fits, rows-places shape.bounds k.here k.rows)
+rows-upto shape room k sound = omega (arith, sound.fits, sound.best_few, both-count shape.bounds k.here, rows-places shape.bounds (of_channels shape.bounds k.here) k.rows)
 
--- what a source brings is one of the row's places, and one more is left
-step-upto : (bounds : List ℕ) (here : List Arrival) (row : KeptRow) (step : SourceStep) → IsStep bounds here row step → suc (taken_by step) ≤ places_of bounds here row
-step-upto bounds here row (Brings size) is = omega (arith, is.0)
-step-upto bounds here row Rests is = omega arith
-step-upto bounds here row Loses is = omega arith
-
-sources-upto : (bounds : List ℕ) (here : List Arrival) (t taken : ℕ) (rows : List KeptRow) → AreSteps bounds here t rows → length (kept_packets bounds here t taken rows) + length rows ≤ total (places_of bounds here) rows
-unfolding kept_packets
-sources-upto bounds here t taken [] steps = omega arith
-sources-upto bounds here t taken (row ∷ rows) steps =
-    let step : SourceStep = kept_step bounds here t row in
-    let behind : List Arrival = kept_packets bounds here t (taken + taken_by (kept_step bounds here t row)) rows in
-    let rest = sources-upto bounds here t (taken + taken_by step) rows steps.1 in
-    omega (arith, rest, step-upto bounds here row step steps.0, packet-length step t (suc taken) row, length-append (kept_packet step t (suc taken) row) behind)
-
-Each-front : {X : Type 0} (P : X → Type 0) (xs ys : List X) → Each P (xs ++ ys) → Each P xs
-Each-front P [] ys each = tt
-Each-front P (x ∷ xs) ys each = (each.0, Each-front P xs ys each.1)
-
--- when the first of the rows have brought their packets, a place is left for each of the others
-front-room : (shape : LinkShape) (room : ℕ) (k : Kept) (front back : List KeptRow) → IsSound shape room k → held_rows shape k ≡ front ++ back → length k.here + length (kept_packets shape.bounds k.here k.clock k.taken front) + length back ≤ room
-unfolding places
-front-room shape room k front back sound same =
-    let steps = kept_steps-are shape.bounds k.here (length shape.bounds) k.clock k.taken (held_rows shape k) (held-sound shape room k sound) in
-    let first = sources-upto shape.bounds k.here k.clock k.taken front (Each-front _ front back (subst (AreSteps shape.bounds k.here k.clock) same steps)) in
-    let both : total (places_of shape.bounds k.here) (held_rows shape k) ≡ total (places_of shape.bounds k.here) front + total (places_of shape.bounds k.here) back = ap (total (places_of shape.bounds k.here)) same ∙ total-append (places_of shape.bounds k.here) front back in
-    omega (arith, first, both, rows-places shape.bounds k.here back, total-filter-le (places_of shape.bounds k.here) (kept_stays shape.bounds k.clock) k.rows, sound.fits)
-
--- and there is room for all that the sources bring
+-- there is room for all that comes in a tick
 pub brought-room : (shape : LinkShape) (room : ℕ) (k : Kept) → IsSound shape room k → length k.here + length (brought shape k) ≤ room
-brought-room shape room k sound = omega (arith, front-room shape room k (held_rows shape k) [] sound (sym (append-nil (held_rows shape k))))
+unfolding places
+brought-room shape room k sound =
+    let few = best-fits shape k (suc (k.taken + length (from_sources shape k))) k.clock (kept_best shape k) (kept_best-is shape k sound.best_ahead) sound.numbered sound.packets sound.best_few in
+    omega (arith, brought-places shape room k sound, total-filter-le (places_of shape.bounds (of_channels shape.bounds k.here)) (kept_stays shape.bounds k.clock) k.rows, sound.fits, both-count shape.bounds k.here, few, length-append (from_sources shape k) (from_best shape k))
+
+-- for the sources' packets
+pub sources-room : (shape : LinkShape) (room : ℕ) (k : Kept) → IsSound shape room k → length k.here + length (from_sources shape k) ≤ room
+sources-room shape room k sound = omega (arith, brought-room shape room k sound, length-append (from_sources shape k) (from_best shape k))
+
+-- and for a best-effort packet behind them, where fewer wait than may
+pub best-room : (shape : LinkShape) (room : ℕ) (k : Kept) → IsSound shape room k → kept_waiting shape k < shape.best → length k.here + length (from_sources shape k) < room
+unfolding places kept_waiting
+best-room shape room k sound free =
+    let few = waits-count shape.bounds k.here k.on (length shape.bounds) k.taken sound.numbered sound.packets in
+    omega (arith, brought-places shape room k sound, total-filter-le (places_of shape.bounds (of_channels shape.bounds k.here)) (kept_stays shape.bounds k.clock) k.rows, sound.fits, both-count shape.bounds k.here, few, free)
 
 -- ---- counts
 
@@ -77,7 +62,7 @@ brought-small shape room k early few sound = omega (arith, sound.taken_most, bro
 -- ---- a row in a tick
 
 -- nothing is planned for an earlier tick
-ahead-from : (t u : ℕ) (plan : List SourcePacket) → t ≤ u → AreAhead u plan → Each (IsFrom t) plan
+pub ahead-from : (t u : ℕ) (plan : List SourcePacket) → t ≤ u → AreAhead u plan → Each (IsFrom t) plan
 ahead-from t u [] from ahead = tt
 ahead-from t u (p ∷ plan) from ahead = (omega (arith, ahead.0), ahead-from t (suc p.tick) plan (omega (arith, ahead.0)) ahead.2)
 

@@ -59,7 +59,7 @@ count-taken test lead place here before p behind none passes =
     omega (arith, one, e))
     (cases_eq lead 0)
 
-count-upto : (test : Arrival → Bool) (here : List Arrival) → length (filter test here) ≤ length here
+pub count-upto : (test : Arrival → Bool) (here : List Arrival) → length (filter test here) ≤ length here
 count-upto test [] = omega arith
 count-upto test (p ∷ here) =
     let rest = count-upto test here in

@@ -13,7 +13,7 @@ use Rattle.link_steps.specs.Service.{Arrival, Start, leaves_at, first_in_line}
 use Rattle.link_steps.proofs.ChangeFacts.{Each-passes}
 use Rattle.link_steps.proofs.ListFacts.{Each-both, Each-filter, Each-if, filter-all}
 use Rattle.link_steps.proofs.ServiceFacts.{first_in_line-fact}
-use Rattle.link_steps.proofs.WindowWork.{ceil_quotient-some}
+use Rattle.traffic_contract.proofs.LoadFacts.{ceil_quotient-some}
 use Rattle.link_server.specs.Sound.{places_of, places, AreNumbered, IsApartFrom, AreApart, IsSoundPacket, is_at, IsRunning, is_late, late_packets, IsSoundRow, IsSound}
 use Rattle.link_server.proofs.SoundPackets.{HasLead, packets-lead, numbered-above, numbered-filter}
 
@@ -65,20 +65,20 @@ served-running shape levels taken t here None numbered each running =
 -- ---- the packet that leaves
 
 -- of these packets the others are left when at most one leaves, which has this lead
-record LeavesOne (here others : List Arrival) : Type 0 where
-  lead : ℕ
-  count : ℕ
-  most : count ≤ 1
-  has_lead : count ≤ lead
-  fewer : length others + count ≡ length here
-  held : (l : ℕ) → held_packets l here ≤ held_packets l others + cond (nat_eq lead l) count 0
+pub record LeavesOne (here others : List Arrival) : Type 0 where
+  pub lead : ℕ
+  pub count : ℕ
+  pub most : count ≤ 1
+  pub has_lead : count ≤ lead
+  pub fewer : length others + count ≡ length here
+  pub held : (l : ℕ) → held_packets l here ≤ held_packets l others + cond (nat_eq lead l) count 0
 
 -- packets of larger arrival numbers are others
 above-others : (start : Start) (p : Arrival) (here : List Arrival) → start.packet.place ≡ p.place → Each (λ q. p.place < q.place) here → filter (is_other start) here ≡ here
 above-others start p here same above =
     filter-all (is_other start) here (Each-if (λ q. p.place < q.place) (λ q. is_other start q ≡ true) here (λ q later. ap not (ne_eqb start.packet.place q.place (λ e. absurd (omega (arith, same, later, e))))) above)
 
-one-leaves : (start : Start) (low : ℕ) (here : List Arrival) (high : ℕ) → AreNumbered low here high → Each HasLead here → LeavesOne here (filter (is_other start) here)
+pub one-leaves : (start : Start) (low : ℕ) (here : List Arrival) (high : ℕ) → AreNumbered low here high → Each HasLead here → LeavesOne here (filter (is_other start) here)
 unfolding held_packets
 one-leaves start low [] high numbered leads = record {
   lead = 0;
@@ -146,7 +146,7 @@ total-le-both f g h [] less = omega arith
 total-le-both f g h (x ∷ xs) less = omega (arith, less x, total-le-both f g h xs less)
 
 -- so the places are enough for the packets that are left
-left-places : (bounds : List ℕ) (here others : List Arrival) (rows : List KeptRow) → AreApart rows → LeavesOne here others → places bounds others rows ≤ places bounds here rows
+pub left-places : (bounds : List ℕ) (here others : List Arrival) (rows : List KeptRow) → AreApart rows → LeavesOne here others → places bounds others rows ≤ places bounds here rows
 unfolding places
 left-places bounds here others rows apart leaves =
     let gained = gain-one leaves.lead leaves.count rows leaves.has_lead apart in
@@ -156,10 +156,10 @@ left-places bounds here others rows apart leaves =
 -- ---- packets that are eligible late
 
 -- a packet of the arrival number of the one that leaves is eligible by then
-abbrev IsEarly : Start → ℕ → Arrival → Type 0
+abbrev pub IsEarly : Start → ℕ → Arrival → Type 0
 IsEarly start t p = start.packet.place ≡ p.place → p.eligible ≤ t
 
-early-at : (rate clock taken t : ℕ) (here : List Arrival) (start : Start) → AreNumbered 0 here taken → IsRunning rate clock here start → start.packet.eligible ≤ t → Each (IsEarly start t) here
+pub early-at : (rate clock taken t : ℕ) (here : List Arrival) (start : Start) → AreNumbered 0 here taken → IsRunning rate clock here start → start.packet.eligible ≤ t → Each (IsEarly start t) here
 early-at rate clock taken t here start numbered running early =
     Each-if (IsFound here) (IsEarly start t) here
     (λ p found same.
@@ -182,7 +182,7 @@ late-stays start lead t (p ∷ here) early =
     ]
 
 -- a row stays sound without the packet
-left-row : (levels clock taken : ℕ) (here : List Arrival) (start : Start) (row : KeptRow) → ((t : ℕ) → 2 ^ 62 ≤ t → Each (IsEarly start t) here) → IsSoundRow levels clock taken here row → IsSoundRow levels clock taken (filter (is_other start) here) row
+pub left-row : (levels clock taken : ℕ) (here : List Arrival) (start : Start) (row : KeptRow) → ((t : ℕ) → 2 ^ 62 ≤ t → Each (IsEarly start t) here) → IsSoundRow levels clock taken here row → IsSoundRow levels clock taken (filter (is_other start) here) row
 left-row levels clock taken here start row early sound = record {
   contract = sound.contract;
   level_most = sound.level_most;
@@ -197,59 +197,3 @@ left-row levels clock taken here start row early sound = record {
       omega (arith, times, sound.paced t late);
   ahead = sound.ahead;
 }
-
--- ---- the account
-
--- the account with another clock, other packets here, and another that occupies the link
-abbrev with_service : Kept → ℕ → List Arrival → Option Start → Kept
-with_service k clock here on = record k { clock = clock; here = here; on = on }
-
--- no packet occupies the link
-serves-none : (shape : LinkShape) (room : ℕ) (k : Kept) → IsSound shape room k → Each (IsSoundRow (length shape.bounds) (suc k.clock) k.taken k.here) k.rows → IsSound shape room (with_service k (suc k.clock) k.here None)
-serves-none shape room k sound later = record {
-  taken_most = omega (arith, sound.taken_most);
-  numbered = sound.numbered;
-  packets = sound.packets;
-  apart = sound.apart;
-  rows = later;
-  fits = sound.fits;
-  running = λ start some. cc;
-}
-
--- the one that occupies it stays
-serves-on : (shape : LinkShape) (room : ℕ) (k : Kept) (start : Start) → IsSound shape room k → Each (IsSoundRow (length shape.bounds) (suc k.clock) k.taken k.here) k.rows → IsRunning shape.rate k.clock k.here start → suc k.clock < leaves_at shape.rate start → IsSound shape room (with_service k (suc k.clock) k.here (Some start))
-serves-on shape room k start sound later running goes = record {
-  taken_most = omega (arith, sound.taken_most);
-  numbered = sound.numbered;
-  packets = sound.packets;
-  apart = sound.apart;
-  rows = later;
-  fits = sound.fits;
-  running = λ other same. subst (IsRunning shape.rate (suc k.clock) k.here) (same_Some start other same) (record { is_here = running.is_here; eligible = running.eligible; begun = omega (arith, running.begun); leaves_later = goes });
-}
-
--- or it leaves
-serves-last : (shape : LinkShape) (room : ℕ) (k : Kept) (start : Start) → k.clock < 2 ^ 61 → IsSound shape room k → Each (IsSoundRow (length shape.bounds) (suc k.clock) k.taken k.here) k.rows → IsRunning shape.rate k.clock k.here start → IsSound shape room (with_service k (suc k.clock) (filter (is_other start) k.here) None)
-serves-last shape room k start early sound later running =
-    let levels : ℕ = length shape.bounds in
-    let leaves = one-leaves start 0 k.here k.taken sound.numbered (packets-lead levels k.taken k.here sound.packets) in
-    record {
-      taken_most = omega (arith, sound.taken_most, leaves.fewer, leaves.most);
-      numbered = numbered-filter (is_other start) 0 k.here k.taken sound.numbered;
-      packets = Each-filter (IsSoundPacket levels k.taken) (is_other start) k.here sound.packets;
-      apart = sound.apart;
-      rows = Each-if (IsSoundRow levels (suc k.clock) k.taken k.here) (IsSoundRow levels (suc k.clock) k.taken (filter (is_other start) k.here)) k.rows
-          (λ row each. left-row levels (suc k.clock) k.taken k.here start row (λ t late. early-at shape.rate k.clock k.taken t k.here start sound.numbered running (omega (arith, running.eligible, running.begun))) each)
-          later;
-      fits = omega (arith, left-places shape.bounds k.here (filter (is_other start) k.here) k.rows sound.apart leaves, sound.fits);
-      running = λ other some. cc;
-    }
-
-serves-start : (shape : LinkShape) (room : ℕ) (k : Kept) (start : Start) (by : Bool) → k.clock < 2 ^ 61 → IsSound shape room k → Each (IsSoundRow (length shape.bounds) (suc k.clock) k.taken k.here) k.rows → IsRunning shape.rate k.clock k.here start → leaves_by shape.rate k.clock start ≡ by → IsSound shape room (with_service k (suc k.clock) (cond by (filter (is_other start) k.here) k.here) (cond by None (Some start)))
-serves-start shape room k start true early sound later running by = serves-last shape room k start early sound later running
-serves-start shape room k start false early sound later running by = serves-on shape room k start sound later running (leb-false (leaves_at shape.rate start) (suc k.clock) by)
-
--- the tick is over for the packets here and the one that occupies the link in it
-pub service-sound : (shape : LinkShape) (room : ℕ) (k : Kept) (on : Option Start) → k.clock < 2 ^ 61 → IsSound shape room k → Each (IsSoundRow (length shape.bounds) (suc k.clock) k.taken k.here) k.rows → ForSome on (IsRunning shape.rate k.clock k.here) → IsSound shape room (with_service k (suc k.clock) (still_here shape.rate k.clock on k.here) (still_on shape.rate k.clock on))
-service-sound shape room k None early sound later running = serves-none shape room k sound later
-service-sound shape room k (Some start) early sound later running = serves-start shape room k start (leaves_by shape.rate k.clock start) early sound later (running start refl) refl

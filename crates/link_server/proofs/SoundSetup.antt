@@ -1,5 +1,5 @@
 -- A sound account stays sound through a reserve, a relax, a deny, a submit and a release.
-use Rattle.std.proofs.Common.{◌≡◌, ℕ, ◌+◌, ◌≤◌, Bool, true, List, [], ◌∷◌, ◌++◌, length, map, Option, Some, refl, sym, ap, ◌∙◌, arith}
+use Rattle.std.proofs.Common.{◌≡◌, ℕ, suc, ◌+◌, ◌≤◌, Bool, true, List, [], ◌∷◌, ◌++◌, length, map, Option, Some, refl, sym, ap, ◌∙◌, arith}
 use Rattle.std.specs.Prelude.{find}
 use Rattle.std.specs.Option.{option_map}
 use Rattle.net_units.proofs.BoundFacts.{bound_at-rising}
@@ -12,12 +12,15 @@ use Rattle.net_units.specs.declared.numbers.LinkNo.{LinkNo}
 use Rattle.traffic_contract.proofs.AdmissionFacts.{total-le}
 use Rattle.traffic_contract.proofs.LongerWindows.{most_in-mono}
 use Rattle.traffic_contract.specs.Contract.{Terms, IsContract, most_in}
-use Rattle.link_steps.specs.declared.asks.Ask.TheVariants.{Reserve, Relax, Deny, Submit, Release}
+use Rattle.link_steps.specs.declared.asks.Ask.TheVariants.{Reserve, Relax, Deny, Submit, Release, Pour}
 use Rattle.link_steps.specs.declared.replies.Phase.TheVariants.{Committed}
 use Rattle.link_steps.specs.declared.replies.Reply.{Reply}
 use Rattle.link_steps.specs.declared.replies.Reply.TheVariants as Is
 use Rattle.link_steps.specs.declared.shape.LinkShape.{LinkShape}
 use Rattle.link_steps.specs.Buffer.{slots_of, stay_in, held_packets}
+use Rattle.link_steps.specs.Split.{whole}
+use Rattle.link_steps.specs.Room.{room_of}
+use Rattle.link_steps.specs.Replies.{reserve_reply}
 use Rattle.link_steps.specs.Kept.{Kept, KeptRow, nothing_kept, with_kept_rows, kept_terms, is_kept_of, is_kept_at_hop, kept_relaxed, kept_planned, kept_closed, new_kept, kept_submit, kept_release, kept_reply, kept_after}
 use Rattle.link_steps.specs.Legal.{ReserveFits, RelaxFits, SubmitFits}
 use Rattle.link_steps.specs.Lists.{change_first, without_first, Each}
@@ -28,23 +31,26 @@ use Rattle.link_steps.specs.Scan.{names_first_hop}
 use Rattle.link_steps.specs.Service.{Arrival}
 use Rattle.link_steps.proofs.ChangeFacts.{Each-change_found}
 use Rattle.link_steps.proofs.ListFacts.{Each-append, Each-find, Each-without_first, find-map, total-change_first-le, total-without_first-le}
-use Rattle.link_steps.proofs.ReplyFacts.{offer-tells, FitsOffer, relax-tells, submit-tells, release-tells}
+use Rattle.link_steps.proofs.ReplyFacts.{whole-offer-may, may-reach, FitsOffer, relax-tells, submit-tells, release-tells, pour-tells}
 use Rattle.link_server.specs.Asks.{IsOffer}
-use Rattle.link_server.specs.Sound.{places_of, all_places_of, places, most_places, AreAhead, AreApart, IsSoundRow, IsSound}
+use Rattle.link_server.specs.Sound.{of_channels, best_count, places_of, all_places_of, places, most_places, AreAhead, AreApart, IsSoundRow, IsSound}
+use Rattle.link_server.proofs.SoundBest.{both-count}
 use Rattle.link_server.proofs.SoundRows.{AreApart-without_first, AreApart-push, AreApart-changed, planned-ahead}
 
 -- ---- nothing, and more room
 
 -- what is kept of no history is sound
-pub nothing-sound : (shape : LinkShape) (room : ℕ) → IsSound shape room nothing_kept
-unfolding places
-nothing-sound shape room = record {
+pub nothing-sound : (shape : LinkShape) (room : ℕ) → suc shape.best ≤ room → IsSound shape room nothing_kept
+unfolding places of_channels best_count
+nothing-sound shape room enough = record {
   taken_most = omega arith;
   numbered = omega arith;
   packets = tt;
   apart = tt;
   rows = tt;
-  fits = omega arith;
+  fits = omega (arith, enough);
+  best_few = omega arith;
+  best_ahead = tt;
   running = λ start some. cc;
 }
 
@@ -57,6 +63,8 @@ sound-larger shape room larger k more sound = record {
   apart = sound.apart;
   rows = sound.rows;
   fits = omega (arith, sound.fits);
+  best_few = sound.best_few;
+  best_ahead = sound.best_ahead;
   running = sound.running;
 }
 
@@ -67,7 +75,7 @@ abbrev pub AreSoundRows : LinkShape → Kept → List KeptRow → Type 0
 AreSoundRows shape k rows = Each (IsSoundRow (length shape.bounds) k.clock k.taken k.here) rows
 
 -- the account with other rows
-pub sound-rows : (shape : LinkShape) (room larger : ℕ) (k : Kept) (rows : List KeptRow) → IsSound shape room k → AreApart rows → AreSoundRows shape k rows → places shape.bounds k.here rows ≤ larger → IsSound shape larger (with_kept_rows k rows)
+pub sound-rows : (shape : LinkShape) (room larger : ℕ) (k : Kept) (rows : List KeptRow) → IsSound shape room k → AreApart rows → AreSoundRows shape k rows → places shape.bounds (of_channels shape.bounds k.here) rows + suc shape.best ≤ larger → IsSound shape larger (with_kept_rows k rows)
 sound-rows shape room larger k rows sound apart each fits = record {
   taken_most = sound.taken_most;
   numbered = sound.numbered;
@@ -75,6 +83,8 @@ sound-rows shape room larger k rows sound apart each fits = record {
   apart = apart;
   rows = each;
   fits = fits;
+  best_few = sound.best_few;
+  best_ahead = sound.best_ahead;
   running = sound.running;
 }
 
@@ -85,7 +95,7 @@ sound-changed shape room k test change sound same each fewer =
     sound-rows shape room room k (change_first test change k.rows) sound
     (AreApart-changed test change same k.rows sound.apart)
     (Each-change_found (IsSoundRow (length shape.bounds) k.clock k.taken k.here) test change k.rows each sound.rows)
-    (let less = total-change_first-le (places_of shape.bounds k.here) test change k.rows (λ row found. (let slots = fewer row found in let e : held_packets (change row).lead k.here ≡ held_packets row.lead k.here = ap (λ lead. held_packets lead k.here) (same row) in omega (arith, slots, e))) in
+    (let less = total-change_first-le (places_of shape.bounds (of_channels shape.bounds k.here)) test change k.rows (λ row found. (let slots = fewer row found in let e : held_packets (change row).lead (of_channels shape.bounds k.here) ≡ held_packets row.lead (of_channels shape.bounds k.here) = ap (λ lead. held_packets lead (of_channels shape.bounds k.here)) (same row) in omega (arith, slots, e))) in
     omega (arith, less, sound.fits))
 
 -- ---- a deny
@@ -96,13 +106,13 @@ sound-deny shape room k chan Is.Denied sound =
     sound-rows shape room room k (without_first (is_kept_of chan) k.rows) sound
     (AreApart-without_first (is_kept_of chan) k.rows sound.apart)
     (Each-without_first (IsSoundRow (length shape.bounds) k.clock k.taken k.here) (is_kept_of chan) k.rows sound.rows)
-    (omega (arith, total-without_first-le (places_of shape.bounds k.here) (is_kept_of chan) k.rows, sound.fits))
+    (omega (arith, total-without_first-le (places_of shape.bounds (of_channels shape.bounds k.here)) (is_kept_of chan) k.rows, sound.fits))
 sound-deny shape room k chan _ sound = sound
 
 -- ---- a relax
 
 -- the reply is that of the row of the channel
-relax-found : (shape : LinkShape) (k : Kept) (chan : ChanNo) (level : Level) (up_bound : ℕ) (row : KeptRow) → find (is_kept_of chan) k.rows ≡ Some row → kept_reply shape k (Relax chan level up_bound) ≡ relax_reply k.clock level up_bound (Some row.terms)
+relax-found : (shape : LinkShape) (k : Kept) (chan : ChanNo) (level : Level) (up_bound : ℕ) (row : KeptRow) → find (is_kept_of chan) k.rows ≡ Some row → kept_reply (whole shape) k (Relax chan level up_bound) ≡ relax_reply k.clock level up_bound (Some row.terms)
 unfolding kept_reply
 relax-found shape k chan level up_bound row found =
     ap (relax_reply k.clock level up_bound) (find-map kept_terms (is_kept_of chan) (is_of chan) (λ r. refl) k.rows ∙ ap (option_map kept_terms) found)
@@ -115,7 +125,7 @@ relax-slots shape terms level up_bound valid within fits =
     let stay : stay_in terms.phase shape.bounds terms ≡ terms.up_reach + bound_at shape.bounds (level_number terms.reach) = ap (λ phase. stay_in phase shape.bounds terms) fits.phase in
     rw stay (most_in-mono terms.contract (up_bound + bound_at shape.bounds (level_number level)) (terms.up_reach + bound_at shape.bounds (level_number terms.reach)) valid (omega (arith, bound, fits.bound_most)))
 
-pub sound-relax : (shape : LinkShape) (room : ℕ) (k : Kept) (chan : ChanNo) (level : Level) (up_bound : ℕ) (reply : Reply) → RelaxFits (length shape.bounds) (level_number level) up_bound → IsSound shape room k → reply ≡ kept_reply shape k (Relax chan level up_bound) → IsSound shape room (kept_after shape k (Relax chan level up_bound) reply)
+pub sound-relax : (shape : LinkShape) (room : ℕ) (k : Kept) (chan : ChanNo) (level : Level) (up_bound : ℕ) (reply : Reply) → RelaxFits (length shape.bounds) (level_number level) up_bound → IsSound shape room k → reply ≡ kept_reply (whole shape) k (Relax chan level up_bound) → IsSound shape room (kept_after shape k (Relax chan level up_bound) reply)
 unfolding kept_after
 sound-relax shape room k chan level up_bound (Is.Relaxed clock) fits sound same =
     sound-changed shape room k (is_kept_of chan) (kept_relaxed level up_bound) sound (λ row. refl)
@@ -137,7 +147,7 @@ sound-relax shape room k chan level up_bound _ fits sound same = sound
 
 -- ---- a submit
 
-submit-found : (shape : LinkShape) (k : Kept) (chan : ChanNo) (count gap size : ℕ) (row : KeptRow) → find (is_kept_at_hop chan true) k.rows ≡ Some row → kept_reply shape k (Submit chan count gap size) ≡ submit_reply k.clock size row.terms (length row.left)
+submit-found : (shape : LinkShape) (k : Kept) (chan : ChanNo) (count gap size : ℕ) (row : KeptRow) → find (is_kept_at_hop chan true) k.rows ≡ Some row → kept_reply (whole shape) k (Submit chan count gap size) ≡ submit_reply k.clock size row.terms (length row.left)
 unfolding kept_reply
 submit-found shape k chan count gap size row found = ap (kept_submit k.clock size) found
 
@@ -146,7 +156,7 @@ submit-ahead : (t count gap size : ℕ) (left : List SourcePacket) → SubmitFit
 submit-ahead t count gap size [] fits none = planned-ahead t t gap size count (omega arith) fits.gap_least fits.size_least fits.size_most
 submit-ahead t count gap size (p ∷ left) fits none = absurd (omega arith)
 
-pub sound-submit : (shape : LinkShape) (room : ℕ) (k : Kept) (chan : ChanNo) (count gap size : ℕ) (reply : Reply) → SubmitFits count gap size → IsSound shape room k → reply ≡ kept_reply shape k (Submit chan count gap size) → IsSound shape room (kept_after shape k (Submit chan count gap size) reply)
+pub sound-submit : (shape : LinkShape) (room : ℕ) (k : Kept) (chan : ChanNo) (count gap size : ℕ) (reply : Reply) → SubmitFits count gap size → IsSound shape room k → reply ≡ kept_reply (whole shape) k (Submit chan count gap size) → IsSound shape room (kept_after shape k (Submit chan count gap size) reply)
 unfolding kept_after
 sound-submit shape room k chan count gap size (Is.Planned clock) fits sound same =
     sound-changed shape room k (is_kept_at_hop chan true) (kept_planned k.clock count gap size) sound (λ row. refl)
@@ -164,9 +174,26 @@ sound-submit shape room k chan count gap size (Is.Planned clock) fits sound same
     (λ row found. omega arith)
 sound-submit shape room k chan count gap size _ fits sound same = sound
 
+-- ---- a pour
+
+pub sound-pour : (shape : LinkShape) (room : ℕ) (k : Kept) (count gap size : ℕ) (reply : Reply) → SubmitFits count gap size → IsSound shape room k → reply ≡ kept_reply (whole shape) k (Pour count gap size) → IsSound shape room (kept_after shape k (Pour count gap size) reply)
+unfolding kept_after kept_reply
+sound-pour shape room k count gap size (Is.Planned clock) fits sound same = record {
+  taken_most = sound.taken_most;
+  numbered = sound.numbered;
+  packets = sound.packets;
+  apart = sound.apart;
+  rows = sound.rows;
+  fits = sound.fits;
+  best_few = sound.best_few;
+  best_ahead = submit-ahead k.clock count gap size k.best_left fits (pour-tells k.clock shape.cap size (length k.best_left) clock same).0;
+  running = sound.running;
+}
+sound-pour shape room k count gap size _ fits sound same = sound
+
 -- ---- a release
 
-release-found : (shape : LinkShape) (k : Kept) (chan : ChanNo) (upstream : Option ℕ) (row : KeptRow) → find (is_kept_at_hop chan (names_first_hop upstream)) k.rows ≡ Some row → kept_reply shape k (Release chan upstream) ≡ release_reply upstream row.terms row.taken (length row.left)
+release-found : (shape : LinkShape) (k : Kept) (chan : ChanNo) (upstream : Option ℕ) (row : KeptRow) → find (is_kept_at_hop chan (names_first_hop upstream)) k.rows ≡ Some row → kept_reply (whole shape) k (Release chan upstream) ≡ release_reply upstream row.terms row.taken (length row.left)
 unfolding kept_reply
 release-found shape k chan upstream row found = ap (kept_release upstream) found
 
@@ -175,7 +202,7 @@ release-slots : (bounds : List ℕ) (count : ℕ) (terms : Reservation) → term
 unfolding slots_of
 release-slots bounds count terms phase = ap (most_in terms.contract) (ap (λ p. stay_in p bounds terms) (sym phase))
 
-pub sound-release : (shape : LinkShape) (room : ℕ) (k : Kept) (chan : ChanNo) (upstream : Option ℕ) (reply : Reply) → IsSound shape room k → reply ≡ kept_reply shape k (Release chan upstream) → IsSound shape room (kept_after shape k (Release chan upstream) reply)
+pub sound-release : (shape : LinkShape) (room : ℕ) (k : Kept) (chan : ChanNo) (upstream : Option ℕ) (reply : Reply) → IsSound shape room k → reply ≡ kept_reply (whole shape) k (Release chan upstream) → IsSound shape room (kept_after shape k (Release chan upstream) reply)
 unfolding kept_after
 sound-release shape room k chan upstream (Is.Closing count cancelled) sound same =
     sound-changed shape room k (is_kept_at_hop chan (names_first_hop upstream)) (kept_closed count) sound (λ row. refl)
@@ -198,9 +225,9 @@ sound-release shape room k chan upstream _ sound same = sound
 -- ---- a reserve
 
 -- all slots are at least the free ones
-places-most : (bounds : List ℕ) (here : List Arrival) (rows : List KeptRow) → places bounds here rows ≤ most_places bounds here rows
+places-most : (bounds : List ℕ) (here : List Arrival) (rows : List KeptRow) → places bounds (of_channels bounds here) rows ≤ most_places bounds here rows
 unfolding places most_places
-places-most bounds here rows = omega (arith, total-le (places_of bounds here) (all_places_of bounds) rows (λ k d inside. omega arith))
+places-most bounds here rows = omega (arith, both-count bounds here, total-le (places_of bounds (of_channels bounds here)) (all_places_of bounds) rows (λ k d inside. omega arith))
 
 -- a new row is sound
 new-sound : (levels clock taken : ℕ) (here : List Arrival) (chan : ChanNo) (contract : Terms) (kind : Kind) (first : Bool) (next : Option LinkNo) (up_reach : ℕ) (level reach : Level) → ReserveFits contract up_reach first → level_number level ≤ levels → level_number reach ≤ levels → IsSoundRow levels clock taken here (new_kept (tentative chan contract kind first next up_reach level reach))
@@ -216,13 +243,13 @@ new-sound levels clock taken here chan contract kind first next up_reach level r
   ahead = tt;
 }
 
-pub sound-reserve : (shape : LinkShape) (room larger : ℕ) (k : Kept) (chan : ChanNo) (contract : Terms) (kind : Kind) (delay up_reach : ℕ) (first : Bool) (next : Option LinkNo) (reply : Reply) → ReserveFits contract up_reach first → IsSound shape room k → reply ≡ kept_reply shape k (Reserve chan contract kind delay up_reach first next) → room ≤ larger → (IsOffer reply → most_places shape.bounds (kept_after shape k (Reserve chan contract kind delay up_reach first next) reply).here (kept_after shape k (Reserve chan contract kind delay up_reach first next) reply).rows ≤ larger) → IsSound shape larger (kept_after shape k (Reserve chan contract kind delay up_reach first next) reply)
-unfolding kept_after kept_reply
+pub sound-reserve : (shape : LinkShape) (room larger : ℕ) (k : Kept) (chan : ChanNo) (contract : Terms) (kind : Kind) (delay up_reach : ℕ) (first : Bool) (next : Option LinkNo) (reply : Reply) → ReserveFits contract up_reach first → IsSound shape room k → reply ≡ kept_reply (whole shape) k (Reserve chan contract kind delay up_reach first next) → room ≤ larger → (IsOffer reply → most_places shape.bounds (kept_after shape k (Reserve chan contract kind delay up_reach first next) reply).here (kept_after shape k (Reserve chan contract kind delay up_reach first next) reply).rows + suc shape.best ≤ larger) → IsSound shape larger (kept_after shape k (Reserve chan contract kind delay up_reach first next) reply)
+unfolding kept_after kept_reply reserve_reply room_of
 sound-reserve shape room larger k chan contract kind delay up_reach first next (Is.Offer level reach) fits sound same more enough =
-    let tells = offer-tells shape (map kept_terms k.rows) chan contract delay up_reach level reach same in
+    let may = whole-offer-may (whole shape) (map kept_terms k.rows) chan contract delay up_reach level reach same in
     let row : KeptRow = new_kept (tentative chan contract kind first next up_reach level reach) in
     sound-rows shape room larger k (k.rows ++ row ∷ []) sound
     (AreApart-push k.rows row refl sound.apart)
-    (Each-append (IsSoundRow (length shape.bounds) k.clock k.taken k.here) k.rows (row ∷ []) sound.rows (new-sound (length shape.bounds) k.clock k.taken k.here chan contract kind first next up_reach level reach fits tells.1 tells.2, tt))
+    (Each-append (IsSoundRow (length shape.bounds) k.clock k.taken k.here) k.rows (row ∷ []) sound.rows (new-sound (length shape.bounds) k.clock k.taken k.here chan contract kind first next up_reach level reach fits may.level_most (may-reach shape (map kept_terms k.rows) chan contract delay up_reach level reach may), tt))
     (omega (arith, places-most shape.bounds k.here (k.rows ++ row ∷ []), enough tt))
 sound-reserve shape room larger k chan contract kind delay up_reach first next _ fits sound same more enough = sound-larger shape room larger k more sound

@@ -1,19 +1,21 @@
 -- In a tick rows expire, and the sources of the others bring their packets: the account stays sound, and has room.
-use Rattle.std.proofs.Common.{◌≡◌, ℕ, suc, ◌+◌, ◌^◌, ◌<◌, ◌≤◌, Bool, true, false, List, [], ◌∷◌, ◌++◌, length, Option, Some, None, ⊎_elim, refl, sym, subst, arith, append_assoc, length-append}
+use Rattle.std.proofs.Common.{◌≡◌, ℕ, suc, ◌+◌, ◌^◌, ◌<◌, ◌≤◌, Bool, true, false, List, [], ◌∷◌, ◌++◌, length, Option, Some, None, ⊎_elim, refl, sym, ap, ◌∙◌, subst, arith, append_assoc, length-append}
 use Rattle.std.proofs.lemmas.Bool.{cases_eq, ltb-true}
 use Rattle.std.specs.Prelude.{find}
 use Rattle.traffic_contract.proofs.AdmissionFacts.{total-filter-le}
 use Rattle.traffic_contract.specs.Admission.{total}
 use Rattle.link_steps.specs.declared.shape.LinkShape.{LinkShape}
+use Rattle.link_steps.specs.BestEffort.{best_packet}
 use Rattle.link_steps.specs.Buffer.{slots_of, has_slot, held_packets}
-use Rattle.link_steps.specs.Kept.{Kept, KeptRow, kept_stays, kept_step, kept_tick, kept_packet, past_tick, kept_after_step, kept_packets, kept_rows_after, held_rows, brought, present}
+use Rattle.link_steps.specs.Kept.{Kept, KeptRow, kept_stays, kept_step, kept_tick, kept_packet, past_tick, kept_after_step, kept_packets, kept_rows_after, held_rows, from_sources, kept_waiting, kept_best, brought, present}
 use Rattle.link_steps.specs.Lists.{Each}
-use Rattle.link_steps.specs.Rows.{SourcePacket, is_for}
+use Rattle.link_steps.specs.Rows.{SourcePacket, is_for, left_at}
 use Rattle.link_steps.specs.Service.{Arrival}
 use Rattle.link_steps.specs.Sources.{SourceStep, Rests, Brings, Loses, lead_with, source_step, taken_by}
 use Rattle.link_steps.proofs.ListFacts.{Each-append, Each-filter, Each-find, Each-if}
-use Rattle.link_server.specs.Sound.{places_of, places, AreNumbered, HasSize, AreAhead, IsApartFrom, AreApart, IsSoundPacket, IsSoundRow, IsSound, with_brought}
+use Rattle.link_server.specs.Sound.{places_of, places, of_channels, best_count, AreNumbered, HasSize, AreAhead, IsApartFrom, AreApart, IsSoundPacket, IsSoundRow, IsSound, with_brought}
 use Rattle.link_server.proofs.SoundPackets.{HasLead, packets-lead, numbered-append, held-more, held-taken, late-taken}
+use Rattle.link_server.proofs.SoundBest.{IsChannels, held-channels, channels-more, channels-lead, best-more, kept_best-is, best-numbered, best-sound, best-channels, best-upto, best-fits}
 use Rattle.link_server.proofs.SoundRows.{AreApart-filter, apart-lead_with, lead_with-first, lead_with-later, ahead-earlier, ahead-sizes, left-ahead}
 use Rattle.link_server.proofs.SourceFacts.{packet-length}
 use Rattle.link_server.proofs.SoundTaking.{lead_with-most, taken-sound, more-sound, packets-more, packet-sound, places-taken, running-more}
@@ -44,11 +46,11 @@ packet-numbered Rests t taken row = omega arith
 packet-numbered Loses t taken row = omega arith
 
 -- its place is one of the row's free slots
-step-places : (bounds : List ℕ) (here before behind : List Arrival) (t place : ℕ) (row : KeptRow) (step : SourceStep) → Each HasLead here → IsStep bounds here row step → taken_by step + places_of bounds (here ++ (before ++ (kept_packet step t place row ++ behind))) (kept_after_step step t place row) ≤ places_of bounds here row
-step-places bounds here before behind t place row (Brings size) leads is =
-    omega (arith, places-taken bounds here (here ++ (before ++ (kept_packet (Brings size) t place row ++ behind))) place (kept_tick row t) row is.0 (held-taken row.lead place here before _ behind leads refl))
-step-places bounds here before behind t place row Rests leads is = omega (arith, held-more row.lead here (before ++ behind))
-step-places bounds here before behind t place row Loses leads is = omega (arith, held-more row.lead here (before ++ behind))
+step-places : (bounds : List ℕ) (here chans before behind : List Arrival) (t place : ℕ) (row : KeptRow) (step : SourceStep) → ((l : ℕ) → held_packets l chans ≤ held_packets l here) → Each HasLead chans → IsStep bounds here row step → taken_by step + places_of bounds (chans ++ (before ++ (kept_packet step t place row ++ behind))) (kept_after_step step t place row) ≤ places_of bounds chans row
+step-places bounds here chans before behind t place row (Brings size) less leads is =
+    omega (arith, places-taken bounds chans (chans ++ (before ++ (kept_packet (Brings size) t place row ++ behind))) place (kept_tick row t) row (omega (arith, is.0, less row.lead)) (held-taken row.lead place chans before _ behind leads refl))
+step-places bounds here chans before behind t place row Rests less leads is = omega (arith, held-more row.lead chans (before ++ behind))
+step-places bounds here chans before behind t place row Loses less leads is = omega (arith, held-more row.lead chans (before ++ behind))
 
 -- the row without what was planned for the tick
 past-sound : (levels t taken : ℕ) (here : List Arrival) (row : KeptRow) → IsSoundRow levels t taken here row → IsSoundRow levels (suc t) taken here (past_tick t row)
@@ -106,15 +108,15 @@ kept_steps-are bounds here levels t taken rows each =
     Each-if (IsSoundRow levels t taken here) (λ row. IsStep bounds here row (kept_step bounds here t row)) rows (λ row sound. kept_step-is bounds here t t row sound.ahead) each
 
 -- the packets brought take places of their rows
-pub sources-places : (bounds : List ℕ) (here before : List Arrival) (t taken : ℕ) (rows : List KeptRow) → Each HasLead here → AreSteps bounds here t rows → length (kept_packets bounds here t taken rows) + total (places_of bounds (here ++ (before ++ kept_packets bounds here t taken rows))) (kept_rows_after bounds here t taken rows) ≤ total (places_of bounds here) rows
+pub sources-places : (bounds : List ℕ) (here chans before : List Arrival) (t taken : ℕ) (rows : List KeptRow) → ((l : ℕ) → held_packets l chans ≤ held_packets l here) → Each HasLead chans → AreSteps bounds here t rows → length (kept_packets bounds here t taken rows) + total (places_of bounds (chans ++ (before ++ kept_packets bounds here t taken rows))) (kept_rows_after bounds here t taken rows) ≤ total (places_of bounds chans) rows
 unfolding kept_packets kept_rows_after
-sources-places bounds here before t taken [] leads steps = omega arith
-sources-places bounds here before t taken (row ∷ rows) leads steps =
+sources-places bounds here chans before t taken [] less leads steps = omega arith
+sources-places bounds here chans before t taken (row ∷ rows) less leads steps =
     let step : SourceStep = kept_step bounds here t row in
     let packet : List Arrival = kept_packet (kept_step bounds here t row) t (suc taken) row in
     let behind : List Arrival = kept_packets bounds here t (taken + taken_by (kept_step bounds here t row)) rows in
-    let first = step-places bounds here before behind t (suc taken) row step leads steps.0 in
-    let rest = rw (append_assoc before packet behind) at (sources-places bounds here (before ++ packet) t (taken + taken_by (kept_step bounds here t row)) rows leads steps.1) in
+    let first = step-places bounds here chans before behind t (suc taken) row step less leads steps.0 in
+    let rest = rw (append_assoc before packet behind) at (sources-places bounds here chans (before ++ packet) t (taken + taken_by (kept_step bounds here t row)) rows less leads steps.1) in
     omega (arith, first, rest, length-append packet behind, packet-length step t (suc taken) row)
 
 -- they have the next arrival numbers
@@ -189,17 +191,43 @@ sources-apart bounds here t taken (row ∷ rows) most apart =
 pub held-sound : (shape : LinkShape) (room : ℕ) (k : Kept) → IsSound shape room k → Each (IsSoundRow (length shape.bounds) k.clock k.taken k.here) (held_rows shape k)
 held-sound shape room k sound = Each-filter (IsSoundRow (length shape.bounds) k.clock k.taken k.here) (kept_stays shape.bounds k.clock) k.rows sound.rows
 
+-- the sources' packets are of channels
+sources-channels : (bounds : List ℕ) (here : List Arrival) (levels t before_all taken : ℕ) (rows : List KeptRow) → levels ≤ length bounds → Each (IsSoundRow levels t before_all here) rows → Each (IsChannels bounds) (kept_packets bounds here t taken rows)
+unfolding kept_packets
+sources-channels bounds here levels t before_all taken [] less each = tt
+sources-channels bounds here levels t before_all taken (row ∷ rows) less each =
+    Each-append (IsChannels bounds) (kept_packet (kept_step bounds here t row) t (suc taken) row) (kept_packets bounds here t (taken + taken_by (kept_step bounds here t row)) rows)
+    (one (kept_step bounds here t row))
+    (sources-channels bounds here levels t before_all (taken + taken_by (kept_step bounds here t row)) rows less each.1) where
+  one : (step : SourceStep) → Each (IsChannels bounds) (kept_packet step t (suc taken) row)
+  one (Brings size) = (omega (arith, less, each.0.level_most), tt)
+  one Rests = tt
+  one Loses = tt
+
+pub brought-channels : (shape : LinkShape) (room : ℕ) (k : Kept) → IsSound shape room k → Each (IsChannels shape.bounds) (from_sources shape k)
+brought-channels shape room k sound = sources-channels shape.bounds k.here (length shape.bounds) k.clock k.taken k.taken (held_rows shape k) (omega arith) (held-sound shape room k sound)
+
 -- the places of the packets that are brought were places of those rows
-pub brought-places : (shape : LinkShape) (room : ℕ) (k : Kept) → IsSound shape room k → length (brought shape k) + total (places_of shape.bounds (present shape k)) (kept_rows_after shape.bounds k.here k.clock k.taken (held_rows shape k)) ≤ total (places_of shape.bounds k.here) (held_rows shape k)
+pub brought-places : (shape : LinkShape) (room : ℕ) (k : Kept) → IsSound shape room k → length (from_sources shape k) + total (places_of shape.bounds (of_channels shape.bounds k.here ++ from_sources shape k)) (kept_rows_after shape.bounds k.here k.clock k.taken (held_rows shape k)) ≤ total (places_of shape.bounds (of_channels shape.bounds k.here)) (held_rows shape k)
 brought-places shape room k sound =
-    sources-places shape.bounds k.here [] k.clock k.taken (held_rows shape k) (packets-lead (length shape.bounds) k.taken k.here sound.packets)
+    sources-places shape.bounds k.here (of_channels shape.bounds k.here) [] k.clock k.taken (held_rows shape k) (held-channels shape.bounds k.here) (channels-lead shape.bounds k.here (packets-lead (length shape.bounds) k.taken k.here sound.packets))
     (kept_steps-are shape.bounds k.here (length shape.bounds) k.clock k.taken (held_rows shape k) (held-sound shape room k sound))
+
+-- the best-effort packet of the tick
+abbrev pub from_best : LinkShape → Kept → List Arrival
+from_best shape k = best_packet (kept_best shape k) shape.bounds (suc (k.taken + length (from_sources shape k))) k.clock
 
 -- the rows lie ahead of the next tick
 pub brought-rows : (shape : LinkShape) (room : ℕ) (k : Kept) → k.clock < 2 ^ 61 → IsSound shape room k → Each (IsSoundRow (length shape.bounds) (suc k.clock) (k.taken + length (brought shape k)) (present shape k)) (kept_rows_after shape.bounds k.here k.clock k.taken (held_rows shape k))
 brought-rows shape room k early sound =
-    sources-rows (length shape.bounds) k.clock k.taken k.taken (k.taken + length (brought shape k)) shape.bounds k.here [] (held_rows shape k) early (omega arith) (omega arith)
-    (packets-lead (length shape.bounds) k.taken k.here sound.packets) (held-sound shape room k sound)
+    let levels : ℕ = length shape.bounds in
+    let src : List Arrival = from_sources shape k in
+    let best : List Arrival = from_best shape k in
+    let some = sources-rows levels k.clock k.taken k.taken (k.taken + length src) shape.bounds k.here [] (held_rows shape k) early (omega arith) (omega arith)
+    (packets-lead levels k.taken k.here sound.packets) (held-sound shape room k sound) in
+    subst (λ all. Each (IsSoundRow levels (suc k.clock) (k.taken + length (brought shape k)) all) (kept_rows_after shape.bounds k.here k.clock k.taken (held_rows shape k))) (append_assoc k.here src best)
+    (Each-if (IsSoundRow levels (suc k.clock) (k.taken + length src) (k.here ++ src)) (IsSoundRow levels (suc k.clock) (k.taken + length (brought shape k)) ((k.here ++ src) ++ best)) _
+    (λ row each. more-sound levels (suc k.clock) (k.taken + length src) (k.taken + length (brought shape k)) (k.here ++ src) best row (omega (arith, length-append src best)) each) some)
 
 -- a row that lies ahead of the next tick lies ahead of this one
 row-earlier : (levels t taken : ℕ) (here : List Arrival) (row : KeptRow) → IsSoundRow levels (suc t) taken here row → IsSoundRow levels t taken here row
@@ -215,24 +243,39 @@ row-earlier levels t taken here row sound = record {
   ahead = ahead-earlier (suc t) t row.left (omega arith) sound.ahead;
 }
 
--- once the sources have brought their packets the account is sound
+-- once the sources have brought their packets, and the best-effort packet has come, the account is sound
 pub brought-sound : (shape : LinkShape) (room : ℕ) (k : Kept) → k.clock < 2 ^ 61 → IsSound shape room k → IsSound shape room (with_brought shape k)
 unfolding with_brought places
 brought-sound shape room k early sound =
     let levels : ℕ = length shape.bounds in
     let rows : List KeptRow = held_rows shape k in
+    let src : List Arrival = from_sources shape k in
+    let best : List Arrival = from_best shape k in
+    let chans : List Arrival = of_channels shape.bounds k.here in
     let more : ℕ = k.taken + length (brought shape k) in
     let held = held-sound shape room k sound in
     let longer = length-append k.here (brought shape k) in
+    let parts = length-append src best in
+    let is = kept_best-is shape k sound.best_ahead in
+    let of_chans = brought-channels shape room k sound in
+    let front : of_channels shape.bounds (present shape k) ≡ chans ++ src =
+    ap (of_channels shape.bounds) (sym (append_assoc k.here src best)) ∙ best-channels (kept_best shape k) shape.bounds (k.here ++ src) (suc (k.taken + length src)) k.clock ∙ channels-more shape.bounds k.here src of_chans in
+    let counted : best_count shape.bounds (present shape k) ≡ best_count shape.bounds ((k.here ++ src) ++ best) = ap (best_count shape.bounds) (sym (append_assoc k.here src best)) in
     record {
       taken_most = omega (arith, sound.taken_most, longer);
-      numbered = numbered-append 0 k.taken more k.here (brought shape k) sound.numbered (sources-numbered shape.bounds k.here k.clock k.taken rows);
+      numbered = numbered-append 0 k.taken more k.here (brought shape k) sound.numbered
+          (subst (AreNumbered k.taken (brought shape k)) (omega (arith, parts))
+          (numbered-append k.taken (k.taken + length src) (k.taken + length src + length best) src best (sources-numbered shape.bounds k.here k.clock k.taken rows) (best-numbered (kept_best shape k) shape.bounds (k.taken + length src) k.clock)));
       packets = Each-append (IsSoundPacket levels more) k.here (brought shape k) (packets-more levels k.taken more k.here (omega arith) sound.packets)
-          (sources-packets levels k.clock k.taken k.taken more shape.bounds k.here rows (omega arith) (omega arith) (kept_steps-are shape.bounds k.here levels k.clock k.taken rows held) held);
+          (Each-append (IsSoundPacket levels more) src best
+          (sources-packets levels k.clock k.taken k.taken more shape.bounds k.here rows (omega arith) (omega (arith, parts)) (kept_steps-are shape.bounds k.here levels k.clock k.taken rows held) held)
+          (best-sound (kept_best shape k) shape.bounds (kept_waiting shape k) shape.best (k.taken + length src) more k.clock is (omega (arith, parts))));
       apart = sources-apart shape.bounds k.here k.clock k.taken rows
           (Each-if (IsSoundRow levels k.clock k.taken k.here) (λ row. row.lead ≤ k.taken) rows (λ row each. each.lead_most) held)
           (AreApart-filter (kept_stays shape.bounds k.clock) k.rows sound.apart);
       rows = Each-if (IsSoundRow levels (suc k.clock) more (present shape k)) (IsSoundRow levels k.clock more (present shape k)) _ (row-earlier levels k.clock more (present shape k)) (brought-rows shape room k early sound);
-      fits = omega (arith, brought-places shape room k sound, total-filter-le (places_of shape.bounds k.here) (kept_stays shape.bounds k.clock) k.rows, longer, sound.fits);
+      fits = rw front (omega (arith, brought-places shape room k sound, total-filter-le (places_of shape.bounds chans) (kept_stays shape.bounds k.clock) k.rows, length-append chans src, sound.fits));
+      best_few = omega (arith, counted, best-upto (kept_best shape k) shape.bounds (k.here ++ src) (suc (k.taken + length src)) k.clock, best-more shape.bounds k.here src of_chans, best-fits shape k (suc (k.taken + length src)) k.clock (kept_best shape k) is sound.numbered sound.packets sound.best_few);
+      best_ahead = ahead-earlier (suc k.clock) k.clock (left_at (suc k.clock) k.best_left) (omega arith) (left-ahead k.clock (suc k.clock) k.best_left sound.best_ahead);
       running = λ start on. running-more shape.rate k.clock k.here (brought shape k) start (sound.running start on);
     }

@@ -20,6 +20,7 @@ use Rattle.link_steps.specs.declared.replies.Reply.{Reply}
 use Rattle.link_steps.specs.declared.replies.Reply.TheVariants as Is
 use Rattle.link_steps.specs.declared.shape.LinkShape.{LinkShape}
 use Rattle.link_steps.specs.Buffer.{slots_of, held_packets}
+use Rattle.link_steps.specs.Split.{whole}
 use Rattle.link_steps.specs.Kept.{Kept, KeptRow, recent_of, kept_with, is_kept_of, kept_arrive, kept_arrived_tick, kept_arrived_row, kept_arrived, kept_with_arrival, kept_reply, kept_after}
 use Rattle.link_steps.specs.Legal.{PacketFits}
 use Rattle.link_steps.specs.Lists.{change_first, Each}
@@ -29,8 +30,9 @@ use Rattle.link_steps.specs.Service.{Arrival, Start}
 use Rattle.link_steps.specs.Sources.{lead_with, arrival_at}
 use Rattle.link_steps.proofs.ListFacts.{Each-append, Each-find, Each-if}
 use Rattle.link_steps.proofs.ReplyFacts.{arrive-tells}
-use Rattle.link_server.specs.Sound.{places_of, places, IsSoundPacket, is_at, IsRunning, late_packets, IsSoundRow, IsSound}
+use Rattle.link_server.specs.Sound.{places_of, places, of_channels, IsSoundPacket, is_at, IsRunning, late_packets, IsSoundRow, IsSound}
 use Rattle.link_server.proofs.SoundPackets.{packets-lead, numbered-append, held-more, late-more, held-taken, late-taken}
+use Rattle.link_server.proofs.SoundBest.{held-channels, channels-more, channels-lead, best-more}
 use Rattle.link_server.proofs.SoundRows.{AreApart-taken, lead_with-first, lead_with-later}
 
 -- ---- the eligible tick
@@ -138,7 +140,7 @@ packet-sound levels clock taken more here place number size t e row less some up
   size_least = least;
   size_most = most;
   level_least = row.terms.level.least;
-  level_most = sound.level_most;
+  level_most = omega (arith, sound.level_most);
 }
 
 -- it takes one of the row's free slots
@@ -203,7 +205,8 @@ arrival-sound shape room k packet clock eligible (Some row) early fits sound fou
     let leads = packets-lead levels k.taken k.here sound.packets in
     let one = Each-find (IsSoundRow levels k.clock k.taken k.here) (is_kept_of packet.chan) k.rows row sound.rows found in
     let tells = arrive-tells shape.bounds k.clock packet row.terms row.taken (held_packets row.lead k.here) (kept_arrived_tick k.clock packet row) clock eligible same in
-    let held = held-taken row.lead place k.here [] new [] leads refl in
+    let chans : List Arrival = of_channels shape.bounds k.here in
+    let held = held-taken row.lead place chans [] new [] (channels-lead shape.bounds k.here leads) refl in
     record {
       taken_most = omega (arith, sound.taken_most, longer);
       numbered = numbered-append 0 k.taken place k.here (new ∷ []) sound.numbered (omega arith, omega arith);
@@ -218,12 +221,14 @@ arrival-sound shape room k packet clock eligible (Some row) early fits sound fou
           (λ x past. subst (λ q. suc (late_packets q.lead x k.here) ≤ late_packets (lead_with q.lead place) x all) same_row (late-taken row.lead place x k.here [] new [] leads refl (subst (λ q. x < eligible_next q.terms q.recent k.clock packet.due) (sym same_row) past)))
           each)
           sound.rows;
-      fits = (let drop = total-change_drop (places_of shape.bounds k.here) (places_of shape.bounds all) (is_kept_of packet.chan) (kept_arrived_row k.clock place packet) row k.rows (places-more shape.bounds k.here (new ∷ [])) found (places-taken shape.bounds k.here all place (kept_arrived_tick k.clock packet row) row tells.free held) in
-          omega (arith, drop, longer, sound.fits));
+      fits = (let drop = total-change_drop (places_of shape.bounds chans) (places_of shape.bounds (chans ++ new ∷ [])) (is_kept_of packet.chan) (kept_arrived_row k.clock place packet) row k.rows (places-more shape.bounds chans (new ∷ [])) found (places-taken shape.bounds chans (chans ++ new ∷ []) place (kept_arrived_tick k.clock packet row) row (omega (arith, tells.free, held-channels shape.bounds k.here row.lead)) held) in
+          rw (channels-more shape.bounds k.here (new ∷ []) (one.level_most, tt)) (omega (arith, drop, length_push chans new, sound.fits)));
+      best_few = omega (arith, best-more shape.bounds k.here (new ∷ []) (one.level_most, tt), sound.best_few);
+      best_ahead = sound.best_ahead;
       running = λ start on. running-more shape.rate k.clock k.here (new ∷ []) start (sound.running start on);
     }
 
-pub sound-arrive : (shape : LinkShape) (room : ℕ) (k : Kept) (packet : Packet) (reply : Reply) → k.clock < 2 ^ 61 → PacketFits packet → IsSound shape room k → reply ≡ kept_reply shape k (Arrive packet) → IsSound shape room (kept_after shape k (Arrive packet) reply)
+pub sound-arrive : (shape : LinkShape) (room : ℕ) (k : Kept) (packet : Packet) (reply : Reply) → k.clock < 2 ^ 61 → PacketFits packet → IsSound shape room k → reply ≡ kept_reply (whole shape) k (Arrive packet) → IsSound shape room (kept_after shape k (Arrive packet) reply)
 unfolding kept_after kept_reply
 sound-arrive shape room k packet (Is.Taken clock eligible) early fits sound same =
     arrival-sound shape room k packet clock eligible (find (is_kept_of packet.chan) k.rows) early fits sound refl same

@@ -1,15 +1,19 @@
 -- What the account says of a step, every history that the link stands for says.
-use Rattle.std.proofs.Common.{◌≡◌, List, [], ◌∷◌, map, ◌∙◌, sym, ap, subst}
+use Rattle.std.proofs.Common.{◌≡◌, true, false, List, [], ◌∷◌, map, ◌∙◌, sym, ap, subst}
 use Rattle.std.specs.Prelude.{Result, Ok, Err, IfOk, OnErr}
 use Rattle.link_steps.specs.declared.asks.Ask.{Ask}
 use Rattle.link_steps.specs.declared.replies.Entry.{Entry}
 use Rattle.link_steps.specs.declared.replies.Reply.{Reply}
 use Rattle.link_steps.specs.declared.shape.LinkShape.{LinkShape}
+use Rattle.link_steps.specs.Split.{whole}
 use Rattle.link_steps.specs.Kept.{HasContract, StandsFor, Kept, kept_reply, kept_after}
 use Rattle.link_steps.specs.Lists.{Each}
+use Rattle.link_steps.specs.Scan.{clock_of, scan_of}
 use Rattle.link_steps.specs.Replies.{reply_to}
 use Rattle.link_steps.specs.HopGuarantee.{HopGuarantee}
-use Rattle.link_steps.specs.Legal.{AskFits, IsLegal}
+use Rattle.link_steps.specs.Admissible.{IsAdmissible}
+use Rattle.link_steps.proofs.LegalAdmissible.{may-answer, whole-fits}
+use Rattle.link_steps.specs.Legal.{AskFits}
 use Rattle.link_steps.proofs.HopHolds.{hop-guarantee}
 use Rattle.link_steps.proofs.Account.{stands-reply, stands-entry}
 use Rattle.link_server.specs.declared.held_row.HeldRow.{HeldRow}
@@ -22,8 +26,8 @@ rows-have [] = tt
 rows-have (row ∷ rows) = (row.is_contract, rows-have rows)
 
 -- the reply of the account is the legal one
-pub step-legal : (shape : LinkShape) (k : Kept) (ask asked : Ask) (reply : Reply) → Each HasContract k.rows → ask ≡ asked → reply ≡ kept_reply shape k asked → (h : List Entry) → StandsFor shape k h → reply ≡ reply_to shape h ask
-step-legal shape k ask asked reply each is same h stands = same ∙ ap (kept_reply shape k) (sym is) ∙ stands-reply shape k h ask each stands
+pub step-legal : (shape : LinkShape) (k : Kept) (ask asked : Ask) (reply : Reply) → Each HasContract k.rows → ask ≡ asked → reply ≡ kept_reply (whole shape) k asked → (h : List Entry) → StandsFor shape k h → reply ≡ reply_to (whole shape) h ask
+step-legal shape k ask asked reply each is same h stands = same ∙ ap (kept_reply (whole shape) k) (sym is) ∙ stands-reply (whole shape) k h ask each stands
 
 -- and the next account stands for the history with the entry
 pub step-entered : (shape new : LinkShape) (k next : Kept) (ask asked : Ask) (reply : Reply) → Each HasContract k.rows → ask ≡ asked → new ≡ shape → next ≡ kept_after shape k asked reply → (h : List Entry) → StandsFor shape k h → StandsFor new next (record { ask = ask; reply = reply } ∷ h)
@@ -31,7 +35,7 @@ step-entered shape new k next ask asked reply each is unchanged same h stands =
     rw unchanged (same ∙ ap (λ a. kept_after shape k a reply) (sym is) ∙ stands-entry shape k h ask reply each stands)
 
 -- the same of a step that may want memory
-pub reserve-legal : {E : Type 0} (shape : LinkShape) (k : Kept) (ask asked : Ask) (r : Result Reply E) → Each HasContract k.rows → ask ≡ asked → IfOk r (λ reply. reply ≡ kept_reply shape k asked) → IfOk r (λ reply. (h : List Entry) → StandsFor shape k h → reply ≡ reply_to shape h ask)
+pub reserve-legal : {E : Type 0} (shape : LinkShape) (k : Kept) (ask asked : Ask) (r : Result Reply E) → Each HasContract k.rows → ask ≡ asked → IfOk r (λ reply. reply ≡ kept_reply (whole shape) k asked) → IfOk r (λ reply. (h : List Entry) → StandsFor shape k h → reply ≡ reply_to (whole shape) h ask)
 reserve-legal shape k ask asked (Ok reply) each is same = step-legal shape k ask asked reply each is same
 reserve-legal shape k ask asked (Err e) each is same = tt
 
@@ -40,16 +44,16 @@ reserve-entered shape new k next ask asked (Ok reply) each is unchanged same = s
 reserve-entered shape new k next ask asked (Err e) each is unchanged same = tt
 
 -- where memory is wanted the legal reply is an offer
-pub reserve-instead : {E : Type 0} (shape : LinkShape) (k : Kept) (ask asked : Ask) (r : Result Reply E) → Each HasContract k.rows → ask ≡ asked → OnErr r (IsOffer (kept_reply shape k asked)) → OnErr r ((h : List Entry) → StandsFor shape k h → IsOffer (reply_to shape h ask))
+pub reserve-instead : {E : Type 0} (shape : LinkShape) (k : Kept) (ask asked : Ask) (r : Result Reply E) → Each HasContract k.rows → ask ≡ asked → OnErr r (IsOffer (kept_reply (whole shape) k asked)) → OnErr r ((h : List Entry) → StandsFor shape k h → IsOffer (reply_to (whole shape) h ask))
 reserve-instead shape k ask asked (Ok reply) each is offer = tt
 reserve-instead shape k ask asked (Err e) each is offer =
-    λ h stands. subst IsOffer (ap (kept_reply shape k) (sym is) ∙ stands-reply shape k h ask each stands) offer
+    λ h stands. subst IsOffer (ap (kept_reply (whole shape) k) (sym is) ∙ stands-reply (whole shape) k h ask each stands) offer
 
 -- where the history is legal, the next one has the hop guarantee
-pub step-guaranteed : (shape : LinkShape) (ask : Ask) (reply : Reply) (k : Kept) → AskFits shape ask → ((h : List Entry) → StandsFor shape k h → reply ≡ reply_to shape h ask) → (h : List Entry) → StandsFor shape k h → IsLegal shape h → HopGuarantee shape (record { ask = ask; reply = reply } ∷ h)
-unfolding IsLegal
-step-guaranteed shape ask reply k fits answered h stands legal = hop-guarantee shape (record { ask = ask; reply = reply } ∷ h) (legal, record { fits = fits; answered = answered h stands })
+pub step-guaranteed : (shape : LinkShape) (ask : Ask) (reply : Reply) (k : Kept) → AskFits shape ask → ((h : List Entry) → StandsFor shape k h → reply ≡ reply_to (whole shape) h ask) → (h : List Entry) → StandsFor shape k h → IsAdmissible shape h → HopGuarantee shape (record { ask = ask; reply = reply } ∷ h)
+unfolding IsAdmissible reply_to
+step-guaranteed shape ask reply k fits answered h stands legal = hop-guarantee shape (record { ask = ask; reply = reply } ∷ h) (legal, record { fits = fits; answered = may-answer (whole shape) (clock_of h) (scan_of shape h) ask reply (whole-fits shape) (λ splits. absurd (let none : false ≡ true = splits in cc)) (answered h stands) })
 
-pub reserve-guaranteed : {E : Type 0} (shape : LinkShape) (ask : Ask) (k : Kept) (r : Result Reply E) → AskFits shape ask → IfOk r (λ reply. (h : List Entry) → StandsFor shape k h → reply ≡ reply_to shape h ask) → IfOk r (λ reply. (h : List Entry) → StandsFor shape k h → IsLegal shape h → HopGuarantee shape (record { ask = ask; reply = reply } ∷ h))
+pub reserve-guaranteed : {E : Type 0} (shape : LinkShape) (ask : Ask) (k : Kept) (r : Result Reply E) → AskFits shape ask → IfOk r (λ reply. (h : List Entry) → StandsFor shape k h → reply ≡ reply_to (whole shape) h ask) → IfOk r (λ reply. (h : List Entry) → StandsFor shape k h → IsAdmissible shape h → HopGuarantee shape (record { ask = ask; reply = reply } ∷ h))
 reserve-guaranteed shape ask k (Ok reply) fits answered = step-guaranteed shape ask reply k fits answered
 reserve-guaranteed shape ask k (Err e) fits answered = tt

@@ -33,8 +33,8 @@ tick-answered regulator terms t due e hop same kind value =
     ∙ ap (eligible terms.contract regulator.recent) (earliest-tick-waits terms.kind terms.first t due hop)
 
 -- the packet with that tick and the row's lead is the one that the account takes
-abbrev packet-of : Reservation → ℕ → ℕ → ℕ → ℕ → ℕ → ℕ → Arrival
-packet-of terms lead place number size t e = record {
+abbrev packet-of : Reservation → ℕ → ℕ → ℕ → ℕ → ℕ → ℕ → ℕ → Arrival
+packet-of terms level lead place number size t e = record {
   place = place;
   lead = lead;
   chan = terms.chan;
@@ -42,14 +42,14 @@ packet-of terms lead place number size t e = record {
   size = size;
   at = t;
   eligible = e;
-  level = level_number terms.level;
+  level = level;
   next = terms.next;
 }
 
-pub packet-taken : (terms : Reservation) (lead new_lead place taken size t e answered : ℕ) → new_lead ≡ lead_with lead place → answered ≡ e → packet-of terms new_lead place (taken + 1) size t answered ≡ arrival_at terms lead place (suc taken) size t e
-packet-taken terms lead new_lead place taken size t e answered same tick =
+pub packet-taken : (terms : Reservation) (level lead new_lead place taken size t e answered : ℕ) → level ≡ level_number terms.level → new_lead ≡ lead_with lead place → answered ≡ e → packet-of terms level new_lead place (taken + 1) size t answered ≡ arrival_at terms lead place (suc taken) size t e
+packet-taken terms level lead new_lead place taken size t e answered at_level same tick =
     let more : taken + 1 ≡ suc taken = omega arith in
-    rw (more, same, tick) refl
+    rw (more, same, tick, at_level) refl
 
 -- and so is the row
 abbrev row-of : Reservation → ℕ → ℕ → List ℕ → List SourcePacket → KeptRow

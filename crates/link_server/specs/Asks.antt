@@ -1,6 +1,6 @@
 -- A reserve alone takes memory, and want of it comes in the place of an offer.
 use Rattle.link_steps.specs.declared.asks.Ask.{Ask}
-use Rattle.link_steps.specs.declared.asks.Ask.TheVariants.{Reserve, Relax, Deny, Submit, Release, Arrive, Tick}
+use Rattle.link_steps.specs.declared.asks.Ask.TheVariants.{Reserve, Relax, Deny, Submit, Release, Arrive, Tick, Pour}
 use Rattle.link_steps.specs.declared.replies.Reply.{Reply}
 use Rattle.link_steps.specs.declared.replies.Reply.TheVariants as Is
 
@@ -13,6 +13,7 @@ TakesNone (Submit chan count gap size) = Unit {0}
 TakesNone (Release chan upstream) = Unit {0}
 TakesNone (Arrive packet) = Unit {0}
 TakesNone Tick = Unit {0}
+TakesNone (Pour count gap size) = Unit {0}
 
 -- the reply is an offer
 abbrev pub IsOffer : Reply → Type 0
@@ -22,5 +23,5 @@ IsOffer Is.Denied = ⊥
 IsOffer (Is.Planned clock) = ⊥
 IsOffer (Is.Closing count cancelled) = ⊥
 IsOffer (Is.Taken clock eligible) = ⊥
-IsOffer (Is.Ticked clock lost sent) = ⊥
+IsOffer (Is.Ticked clock lost sent best_sent best_lost) = ⊥
 IsOffer (Is.Refused refusal) = ⊥

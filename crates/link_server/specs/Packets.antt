@@ -1,7 +1,6 @@
 -- The packets at a link as its account has them: how many it has taken, those that are here in the order of their
 -- arrival, and the one that occupies it.
 use Rattle.std.specs.Prelude.{Option, Some, None, List, map}
-use Rattle.net_units.specs.Numbers.{level_number}
 use Rattle.link_steps.specs.Service.{Arrival, Start}
 use Rattle.link_server.specs.declared.packets.HeldPacket.{HeldPacket}
 use Rattle.link_server.specs.declared.packets.Running.{Running}
@@ -16,7 +15,7 @@ arrival_in packet = record {
   size = packet.size;
   at = packet.at;
   eligible = packet.eligible;
-  level = level_number packet.level;
+  level = packet.level;
   next = packet.next;
 }
 

@@ -5,17 +5,18 @@
 -- eligible tick is past tick 2^62 by at most an interval for each of its packets here that are eligible so late. What a
 -- row plans lies ahead, in order of time. The packet that occupies the link is one of those here, was eligible when it
 -- started, and hasn't left.
-use Rattle.std.specs.Prelude.{◌≡◌, ℕ, suc, ◌+◌, ◌-◌, ◌*◌, ◌^◌, ◌<◌, ◌≤◌, Bool, nat_eq, nat_lt, ◌&&◌, Some, List, [], ◌∷◌, length, filter, find}
+use Rattle.std.specs.Prelude.{◌≡◌, ℕ, suc, ◌+◌, ◌-◌, ◌*◌, ◌^◌, ◌<◌, ◌≤◌, Bool, nat_eq, nat_lt, ◌&&◌, not, Some, List, [], ◌∷◌, length, filter, find}
 use Rattle.std.specs.Option.{ForSome}
 use Rattle.net_units.specs.Numbers.{level_number}
 use Rattle.traffic_contract.specs.Admission.{total}
 use Rattle.traffic_contract.specs.Contract.{IsContract}
 use Rattle.traffic_contract.specs.Eligible.{newest}
 use Rattle.link_steps.specs.declared.shape.LinkShape.{LinkShape}
+use Rattle.link_steps.specs.BestEffort.{is_best}
 use Rattle.link_steps.specs.Buffer.{slots_of, has_lead, held_packets}
 use Rattle.link_steps.specs.Kept.{Kept, KeptRow, kept_rows_after, held_rows, brought, present}
 use Rattle.link_steps.specs.Lists.{Each}
-use Rattle.link_steps.specs.Rows.{SourcePacket}
+use Rattle.link_steps.specs.Rows.{SourcePacket, left_at}
 use Rattle.link_steps.specs.Service.{Arrival, Start, leaves_at}
 
 -- ---- room
@@ -40,6 +41,15 @@ places bounds here rows = length here + total (places_of bounds here) rows
 unfoldable pub most_places : List ℕ → List Arrival → List KeptRow → ℕ
 most_places bounds here rows = length here + total (all_places_of bounds) rows
 
+-- ---- best-effort packets
+
+-- the packets of channels, and how many best-effort packets there are
+unfoldable pub of_channels : List ℕ → List Arrival → List Arrival
+of_channels bounds here = filter (λ p. not (is_best bounds p)) here
+
+unfoldable pub best_count : List ℕ → List Arrival → ℕ
+best_count bounds here = length (filter (is_best bounds) here)
+
 -- ---- packets
 
 -- the arrival numbers of the packets rise, from above `low` to at most `high`
@@ -54,7 +64,7 @@ pub record IsSoundPacket (levels taken : ℕ) (p : Arrival) : Type 0 where
   pub size_least : 1 ≤ p.size
   pub size_most : p.size ≤ 65536
   pub level_least : 1 ≤ p.level
-  pub level_most : p.level ≤ levels
+  pub level_most : p.level ≤ suc levels
 
 -- whether a packet has this arrival number
 abbrev pub is_at : ℕ → Arrival → Bool
@@ -118,7 +128,9 @@ pub record IsSound (shape : LinkShape) (room : ℕ) (k : Kept) : Type 0 where
   pub packets : Each (IsSoundPacket (length shape.bounds) k.taken) k.here
   pub apart : AreApart k.rows
   pub rows : Each (IsSoundRow (length shape.bounds) k.clock k.taken k.here) k.rows
-  pub fits : places shape.bounds k.here k.rows ≤ room
+  pub fits : places shape.bounds (of_channels shape.bounds k.here) k.rows + suc shape.best ≤ room
+  pub best_few : best_count shape.bounds k.here ≤ suc shape.best
+  pub best_ahead : AreAhead k.clock k.best_left
   pub running : ForSome k.on (IsRunning shape.rate k.clock k.here)
 
 -- the account in the tick of its clock, once rows have expired and the sources have brought their packets: it is served so
@@ -127,4 +139,5 @@ with_brought shape k = record k {
   taken = k.taken + length (brought shape k);
   rows = kept_rows_after shape.bounds k.here k.clock k.taken (held_rows shape k);
   here = present shape k;
+  best_left = left_at (suc k.clock) k.best_left;
 }

@@ -51,4 +51,4 @@ IsSoundRow-prop levels clock taken here row = Prim.hlevel (le_prop, AreAhead-pro
 -- ---- the account
 
 pub IsSound-prop : (shape : LinkShape) (room : ℕ) (k : Kept) → IsProp (IsSound shape room k)
-IsSound-prop shape room k = Prim.hlevel (le_prop, AreNumbered-prop, Each-prop, AreApart-prop, IsSoundPacket-prop, IsSoundRow-prop, IsRunning-prop)
+IsSound-prop shape room k = Prim.hlevel (le_prop, AreAhead-prop, AreNumbered-prop, Each-prop, AreApart-prop, IsSoundPacket-prop, IsSoundRow-prop, IsRunning-prop)

@@ -1,11 +1,13 @@
 //! The asks by which a link carries packets: submit, release, arrive and tick.
 ghost use Rattle.std.specs.Prelude.{◌≡◌, ◌^◌, ◌<◌, suc};
-ghost use Rattle.link_steps.specs.declared.asks.Ask.TheVariants.{Submit as AskSubmit, Release as AskRelease, Arrive as AskArrive, Tick as AskTick};
+ghost use Rattle.link_steps.specs.declared.asks.Ask.TheVariants.{Submit as AskSubmit, Release as AskRelease, Arrive as AskArrive, Tick as AskTick, Pour as AskPour};
+ghost use Rattle.link_steps.specs.Split.{whole};
 ghost use Rattle.link_steps.specs.Kept.{kept_reply, kept_after};
 ghost use Rattle.link_steps.specs.Legal.{SubmitFits, PacketFits};
 ghost use Rattle.link_server.specs.State.{kept_in};
 
 use crate::expiry::expire;
+use crate::held_row::busy_with;
 use crate::link_state::LinkState;
 use crate::planned::Planned;
 use crate::rows::{place_at_hop, place_of};
@@ -20,7 +22,7 @@ impl LinkState {
         requires early { self.old.clock < 2 ^ 61 }
         ensures shape { self.new.shape ≡ self.old.shape }
         ensures clock { self.new.clock ≡ self.old.clock }
-        ensures reply { result ≡ kept_reply self.old.shape (kept_in self.old) (AskSubmit chan count gap size) }
+        ensures reply { result ≡ kept_reply (whole self.old.shape) (kept_in self.old) (AskSubmit chan count gap size) }
         ensures kept { kept_in self.new ≡ kept_after self.old.shape (kept_in self.old) (AskSubmit chan count gap size) result }
     {
         let Some(place) = place_at_hop(&self.rows, chan, true) else {
@@ -48,7 +50,7 @@ impl LinkState {
     pub(crate) fn release(&mut self, chan: ChanNo, upstream: Option<u64>) -> Reply
         ensures shape { self.new.shape ≡ self.old.shape }
         ensures clock { self.new.clock ≡ self.old.clock }
-        ensures reply { result ≡ kept_reply self.old.shape (kept_in self.old) (AskRelease chan upstream) }
+        ensures reply { result ≡ kept_reply (whole self.old.shape) (kept_in self.old) (AskRelease chan upstream) }
         ensures kept { kept_in self.new ≡ kept_after self.old.shape (kept_in self.old) (AskRelease chan upstream) result }
     {
         let Some(place) = place_at_hop(&self.rows, chan, upstream.is_none()) else {
@@ -69,7 +71,7 @@ impl LinkState {
         requires early { self.old.clock < 2 ^ 61 }
         ensures shape { self.new.shape ≡ self.old.shape }
         ensures clock { self.new.clock ≡ self.old.clock }
-        ensures reply { result ≡ kept_reply self.old.shape (kept_in self.old) (AskArrive packet.now) }
+        ensures reply { result ≡ kept_reply (whole self.old.shape) (kept_in self.old) (AskArrive packet.now) }
         ensures kept { kept_in self.new ≡ kept_after self.old.shape (kept_in self.old) (AskArrive packet.now) result }
     {
         let Some(place) = place_of(&self.rows, packet.chan) else {
@@ -92,22 +94,57 @@ impl LinkState {
         }
     }
 
-    // Makes a tick: rows whose hold has ended expire, the source packets that are planned for it arrive, and the link
-    // serves the packets here.
+    // Plans best-effort packets, the first at the clock.
+    pub(crate) fn pour(&mut self, count: u64, gap: u64, size: u32) -> Reply
+        requires fits { SubmitFits count gap size }
+        requires early { self.old.clock < 2 ^ 61 }
+        ensures shape { self.new.shape ≡ self.old.shape }
+        ensures clock { self.new.clock ≡ self.old.clock }
+        ensures reply { result ≡ kept_reply (whole self.old.shape) (kept_in self.old) (AskPour count gap size) }
+        ensures kept { kept_in self.new ≡ kept_after self.old.shape (kept_in self.old) (AskPour count gap size) result }
+    {
+        if let Some(refusal) = busy_with(self.packets.best.count) {
+            return Reply::Refused(refusal);
+        }
+        if size > self.shape.cap {
+            return Reply::Refused(Refusal::TooBig {
+                size: u64::from(size),
+                smax: u64::from(self.shape.cap),
+            });
+        }
+        self.packets.best = Planned {
+            tick: self.clock,
+            gap,
+            size,
+            count,
+        };
+        Reply::Planned { clock: self.clock }
+    }
+
+    // Makes a tick: rows whose hold has ended expire, the source packets that are planned for it arrive, then the
+    // best-effort packet, and the link serves the packets here.
     pub(crate) fn tick(&mut self) -> Reply
         requires early { self.old.clock < 2 ^ 61 }
         ensures shape { self.new.shape ≡ self.old.shape }
         ensures clock { self.new.clock ≡ suc self.old.clock }
-        ensures reply { result ≡ kept_reply self.old.shape (kept_in self.old) AskTick }
+        ensures reply { result ≡ kept_reply (whole self.old.shape) (kept_in self.old) AskTick }
         ensures kept { kept_in self.new ≡ kept_after self.old.shape (kept_in self.old) AskTick result }
     {
         let clock = self.clock;
         let shape = self.shape;
         let bounds = shape.bounds;
         expire(&mut self.rows, &mut self.sums, &bounds, clock);
+        let waiting = self.packets.waiting(&bounds);
         let full = take_source_packets(&mut self.rows, &mut self.packets, &bounds, clock);
-        let sent = self.packets.serve(&shape, clock);
+        let best_lost = self.packets.take_best(waiting, &shape, clock);
+        let left = self.packets.serve(&shape, clock);
         self.clock += 1;
-        Reply::Ticked { clock, full, sent }
+        Reply::Ticked {
+            clock,
+            full,
+            sent: left.sent,
+            best_sent: left.best_sent,
+            best_lost,
+        }
     }
 }

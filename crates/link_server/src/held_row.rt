@@ -312,7 +312,7 @@ impl HeldRow {
             size,
             at: clock,
             eligible,
-            level: self.level,
+            level: self.level.get(),
             next: self.next,
         }
     }
@@ -373,7 +373,7 @@ fn lead_with(lead: u64, place: u64) -> u64
 }
 
 // The refusal where so many planned packets are left.
-fn busy_with(left: u64) -> Option<Refusal>
+pub(crate) fn busy_with(left: u64) -> Option<Refusal>
     ensures { result ≡ busy left }
 {
     if left == 0 {

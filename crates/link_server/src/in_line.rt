@@ -1,19 +1,40 @@
 //! Which of the packets at a link are whose, and which of them is served first.
-ghost use Rattle.std.specs.Prelude.{◌≡◌, filter};
+ghost use Rattle.std.specs.Prelude.{◌≡◌, Some, filter, length};
 ghost use Rattle.std.specs.Option.{option_map};
 ghost use Rattle.std.specs.Vec.{vec_capacity};
+ghost use Rattle.link_steps.specs.BestEffort.{is_best};
 ghost use Rattle.link_steps.specs.Buffer.{held_packets};
-ghost use Rattle.link_steps.specs.Kept.{is_eligible_by, is_other};
+ghost use Rattle.link_steps.specs.Kept.{is_eligible_by, is_other, waits_here};
 ghost use Rattle.link_steps.specs.Service.{goes_before, sooner, first_in_line};
 ghost use Rattle.link_server.specs.Packets.{arrival_in, start_in, here_in};
 
 use crate::packets::{HeldPacket, Running};
+use net_units::Bounds;
 
 // How many of these packets are of the reservation whose first packet had this place.
 pub(crate) fn held(packets: &[HeldPacket], lead: u64) -> usize
     ensures { result ≡ held_packets lead (here_in packets.now) }
 {
     packets.iter().filter(|packet| packet.lead == lead).count()
+}
+
+// How many of these packets are best-effort packets.
+pub(crate) fn best_here(packets: &[HeldPacket], bounds: &Bounds) -> usize
+    ensures { result ≡ length (filter (is_best bounds.now) (here_in packets.now)) }
+{
+    let levels = bounds.len();
+    packets.iter().filter(|packet| packet.level > levels).count()
+}
+
+// How many are, but for the one that occupies the link.
+pub(crate) fn best_here_but(packets: &[HeldPacket], bounds: &Bounds, running: &Running) -> usize
+    ensures { result ≡ length (filter (waits_here bounds.now (Some (start_in running.now))) (here_in packets.now)) }
+{
+    let levels = bounds.len();
+    packets
+        .iter()
+        .filter(|packet| packet.level > levels && packet.place != running.packet.place)
+        .count()
 }
 
 // The packet that goes before all others that are eligible by this tick.
@@ -50,8 +71,8 @@ fn sooner(packet: &HeldPacket, other: Option<HeldPacket>) -> HeldPacket
 fn goes_before(packet: &HeldPacket, other: &HeldPacket) -> bool
     ensures { result ≡ goes_before (arrival_in packet.now) (arrival_in other.now) }
 {
-    let rank = (packet.level.get(), packet.eligible, packet.place);
-    rank < (other.level.get(), other.eligible, other.place)
+    let rank = (packet.level, packet.eligible, packet.place);
+    rank < (other.level, other.eligible, other.place)
 }
 
 // Takes the packet that has been on the link out of those here.

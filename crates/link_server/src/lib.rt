@@ -5,6 +5,7 @@
 //! A reserve alone takes memory.
 #![tactic(auto)]
 
+mod best_effort;
 mod carrying;
 mod expiry;
 mod held_row;

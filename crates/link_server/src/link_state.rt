@@ -26,7 +26,8 @@ pub struct LinkState {
     pub(crate) rows: Vec<HeldRow>,
     pub(crate) packets: Packets,
     pub(crate) sums: LevelSums,
-    // How many packets there is room for at least: those that are here, one in each free slot, and one more a row.
+    // How many packets there is room for at least: those of channels that are here, one in each free slot, one more a
+    // row, and the best-effort packets that may be here.
     pub(crate) room: u64,
     ghost admitted: { AreAdmitted sums },
     ghost same_server: { sums.server ≡ server_of shape },
@@ -40,21 +41,24 @@ pub struct LinkState {
 impl LinkState {
     ghost use Rattle.link_server.specs.State.{Stands};
 
-    /// A link of this shape that has made no step.
+    /// A link of this shape that has made no step. It takes the memory of the best-effort packets that may be here.
     pub fn new(alloc: Global, shape: LinkShape) -> Result<LinkState, OutOfMemory>
         ensures shape { IfOk result (λ link. link.shape ≡ shape) }
         ensures clock { IfOk result (λ link. link.clock ≡ 0) }
         ensures stands { IfOk result (λ link. Stands link []) }
     {
         let blocking = shape.blocking();
+        let places = shape.best + 1;
+        let mut packets = Packets::new(alloc);
+        packets.reserve(places as usize)?;
         Ok(LinkState {
             alloc,
-            sums: LevelSums::new(alloc, shape.bounds, shape.rate, blocking),
+            sums: LevelSums::new(alloc, shape.bounds, shape.rate, blocking, shape.test),
             shape,
             clock: 0,
             rows: Vec::new(alloc),
-            packets: Packets::new(alloc),
-            room: 0,
+            packets,
+            room: u64::from(places),
         })
     }
 }
@@ -62,13 +66,14 @@ impl LinkState {
 impl LinkStep for LinkState {
     ghost use Rattle.link_steps.specs.declared.replies.Entry.{Entry};
     ghost use Rattle.link_steps.specs.HopGuarantee.{HopGuarantee};
-    ghost use Rattle.link_steps.specs.Legal.{IsLegal};
+    ghost use Rattle.link_steps.specs.Admissible.{IsAdmissible};
     ghost use Rattle.link_steps.specs.Replies.{reply_to};
+    ghost use Rattle.link_steps.specs.Split.{whole};
     ghost use Rattle.link_steps.specs.Scan.{clock_with};
     ghost use Rattle.link_server.specs.Asks.{TakesNone, IsOffer};
     ghost use Rattle.link_server.specs.State.{Stands, stands-clock};
 
-    ghost shape_of = { λ link. link.shape };
+    ghost link_of = { λ link. whole link.shape };
 
     ghost clock_at = { λ link. link.clock };
 
@@ -91,17 +96,17 @@ impl LinkStep for LinkState {
     fn step(&mut self, ask: &Ask) -> Result<Reply, OutOfMemory>
         requires fits { AskFits self.old.shape ask.now }
         requires early { self.old.clock < 2 ^ 61 }
-        ensures shape { self.new.shape ≡ self.old.shape }
-        ensures legal { IfOk result (λ reply. (h : List Entry) → Stands self.old h → reply ≡ reply_to self.old.shape h ask.now) }
+        ensures same { whole self.new.shape ≡ whole self.old.shape }
+        ensures legal { IfOk result (λ reply. (h : List Entry) → Stands self.old h → reply ≡ reply_to (whole self.old.shape) h ask.now) }
         ensures entered { IfOk result (λ reply. (h : List Entry) → Stands self.old h → Stands self.new (record { ask = ask.now; reply = reply } ∷ h)) }
         ensures memory { OnErr result ((h : List Entry) → Stands self.old h → Stands self.new h) }
         ensures ticked { IfOk result (λ _. self.new.clock ≡ clock_with ask.now self.old.clock) }
         ensures stopped { OnErr result (self.new.clock ≡ self.old.clock) }
 
         // The hop guarantee, and want of memory.
-        ensures guaranteed { IfOk result (λ reply. (h : List Entry) → Stands self.old h → IsLegal self.old.shape h → HopGuarantee self.old.shape (record { ask = ask.now; reply = reply } ∷ h)) }
+        ensures guaranteed { IfOk result (λ reply. (h : List Entry) → Stands self.old h → IsAdmissible self.old.shape h → HopGuarantee self.old.shape (record { ask = ask.now; reply = reply } ∷ h)) }
         ensures sure { TakesNone ask.now → IsOk result }
-        ensures instead { OnErr result ((h : List Entry) → Stands self.old h → IsOffer (reply_to self.old.shape h ask.now)) }
+        ensures instead { OnErr result ((h : List Entry) → Stands self.old h → IsOffer (reply_to (whole self.old.shape) h ask.now)) }
     {
         match ask {
             Ask::Reserve {
@@ -136,6 +141,7 @@ impl LinkStep for LinkState {
             Ask::Release { chan, upstream } => Ok(self.release(*chan, *upstream)),
             Ask::Arrive { packet } => Ok(self.arrive(packet)),
             Ask::Tick => Ok(self.tick()),
+            Ask::Pour { count, gap, size } => Ok(self.pour(*count, *gap, *size)),
         }
     }
 

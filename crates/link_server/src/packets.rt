@@ -1,11 +1,12 @@
 //! The packets at a link: those that it has taken and that haven't departed, and the one that occupies it.
-ghost use Rattle.std.specs.Prelude.{◌≡◌, ◌+◌, ◌^◌, ◌<◌, ◌≤◌, ◌∷◌, ◌++◌, [], length, IsOk, OnOk};
+ghost use Rattle.std.specs.Prelude.{◌≡◌, ◌+◌, ◌^◌, ◌<◌, ◌≤◌, ◌∷◌, ◌++◌, [], suc, nat_eq, filter, if◌then◌else◌, length, IsOk, OnOk};
 ghost use Rattle.std.specs.Vec.{vec_capacity};
-ghost use Rattle.net_units.specs.Numbers.{level_number};
 
-use crate::in_line::{first_in_line, take_out};
+use crate::best_effort::best_packet;
+use crate::in_line::{best_here, best_here_but, first_in_line, take_out};
+use crate::planned::Planned;
 use link_steps::{LinkShape, Packet, Sent};
-use net_units::{ChanNo, Level, LinkNo, OutOfMemory, ceil_div};
+use net_units::{Bounds, ChanNo, Level, LinkNo, OutOfMemory, ceil_div};
 use std::alloc::Global;
 
 // A packet that the link has taken.
@@ -22,10 +23,12 @@ pub(crate) struct HeldPacket {
     // The ticks at which it arrived and is eligible.
     pub(crate) at: u64,
     pub(crate) eligible: u64,
-    pub(crate) level: Level,
+    // The number of its level, or one more than the last level's for a best-effort packet.
+    pub(crate) level: u8,
     // The link behind this one, where there is one.
     pub(crate) next: Option<LinkNo>,
     ghost has_size: { 1 ≤ size },
+    ghost has_level: { 1 ≤ level },
 }
 
 // A packet that has started, and the tick at which it did.
@@ -45,9 +48,20 @@ pub(crate) struct Packets {
     pub(crate) here: Vec<HeldPacket>,
     // The one that occupies the link: it is one of those here.
     pub(crate) on: Option<Running>,
+    // The best-effort packets that are planned and left.
+    pub(crate) best: Planned,
+}
+
+// What leaves a link at the end of a tick: a packet of a channel, or a best-effort packet, if any.
+#[derive(Drop)]
+pub(crate) struct Left {
+    pub(crate) sent: Option<Sent>,
+    pub(crate) best_sent: bool,
 }
 
 impl Running {
+    ghost use Rattle.std.specs.Prelude.{None, Some};
+    ghost use Rattle.link_steps.specs.BestEffort.{is_best};
     ghost use Rattle.link_steps.specs.Replies.{sent_of};
     ghost use Rattle.link_steps.specs.Service.{leaves_at};
     ghost use Rattle.link_server.specs.Packets.{start_in};
@@ -61,16 +75,26 @@ impl Running {
         self.tick + ceil_div(u64::from(self.packet.size), u64::from(rate))
     }
 
-    // The packet as it leaves the link.
-    fn sent(&self, shape: &LinkShape) -> Sent
-        requires at_level { level_number self.now.packet.level ≤ length shape.now.bounds }
-        requires early { self.now.packet.eligible < 2 ^ 61 }
-        ensures { result ≡ sent_of shape.now (start_in self.now) }
+    // Whether it is a best-effort packet.
+    fn is_best(&self, bounds: &Bounds) -> bool
+        ensures { result ≡ is_best bounds.now (start_in self.now).packet }
     {
+        self.packet.level > bounds.len()
+    }
+
+    // The packet as it leaves the link, if it is one of a channel.
+    fn sent(&self, shape: &LinkShape) -> Option<Sent>
+        requires early { self.now.packet.eligible < 2 ^ 61 }
+        ensures { result ≡ (if is_best shape.now.bounds (start_in self.now).packet then None else Some (sent_of shape.now (start_in self.now))) }
+    {
+        if self.is_best(&shape.bounds) {
+            return None;
+        }
         let packet = &self.packet;
-        let bound = u64::from(shape.bounds.at(packet.level));
+        let level = Level::new(packet.level)?;
+        let bound = u64::from(shape.bounds.at(level));
         let prop = u64::from(shape.prop);
-        Sent {
+        Some(Sent {
             packet: Packet {
                 chan: packet.chan,
                 number: packet.number,
@@ -81,12 +105,16 @@ impl Running {
             eligible: packet.eligible,
             arrives: self.leaves_at(shape.rate) + prop,
             next: packet.next,
-        }
+        })
     }
 }
 
 impl Packets {
-    ghost use Rattle.link_steps.specs.Kept.{served, departs, still_on, still_here};
+    ghost use Rattle.link_steps.specs.BestEffort.{best_packet, best_step};
+    ghost use Rattle.link_steps.specs.Kept.{served, departs, best_departs, still_on, still_here, waits_here};
+    ghost use Rattle.link_steps.specs.Rows.{left_at};
+    ghost use Rattle.link_steps.specs.Sources.{taken_by, lost_by};
+    ghost use Rattle.link_server.specs.Planned.{left_in, IsAhead};
     ghost use Rattle.link_server.specs.Packets.{here_in, on_in};
     ghost use Rattle.link_server.specs.Serving.{CanServe};
 
@@ -95,11 +123,13 @@ impl Packets {
         ensures taken { result.taken ≡ 0 }
         ensures here { result.here.items ≡ [] }
         ensures on { result.on ≡ None }
+        ensures best { left_in result.best ≡ [] }
     {
         Packets {
             taken: 0,
             here: Vec::new(alloc),
             on: None,
+            best: Planned::NONE,
         }
     }
 
@@ -111,6 +141,7 @@ impl Packets {
         ensures taken { self.new.taken ≡ self.old.taken }
         ensures here { self.new.here.items ≡ self.old.here.items }
         ensures on { self.new.on ≡ self.old.on }
+        ensures best { self.new.best ≡ self.old.best }
     {
         self.here.reserve(more)?;
         Ok(())
@@ -123,6 +154,7 @@ impl Packets {
         ensures taken { self.new.taken ≡ self.old.taken + 1 }
         ensures here { self.new.here.items ≡ self.old.here.items ++ packet ∷ [] }
         ensures on { self.new.on ≡ self.old.on }
+        ensures best { self.new.best ≡ self.old.best }
         ensures capacity { vec_capacity self.new.here ≡ vec_capacity self.old.here }
     {
         self.here.push_reserved(packet);
@@ -141,12 +173,48 @@ impl Packets {
         Some(Running { packet, tick })
     }
 
+    // How many best-effort packets are here and haven't started.
+    pub(crate) fn waiting(&self, bounds: &Bounds) -> usize
+        ensures { result ≡ length (filter (waits_here bounds.now (on_in self.now.on)) (here_in self.now.here.items)) }
+    {
+        match &self.on {
+            None => best_here(&self.here, bounds),
+            Some(running) => best_here_but(&self.here, bounds, running),
+        }
+    }
+
+    // Takes the best-effort packet that is planned for this tick, if there is one, where so many wait. It answers whether
+    // that found no place, and so was lost. It takes no memory.
+    pub(crate) fn take_best(&mut self, waiting: usize, shape: &LinkShape, clock: u64) -> bool
+        requires ahead { IsAhead clock self.old.best }
+        requires room { waiting < shape.now.best → length self.old.here.items < vec_capacity self.old.here }
+        requires countable { self.old.taken + 1 < 2 ^ 64 }
+        ensures lost { result ≡ nat_eq (lost_by (best_step waiting shape.now.best clock (left_in self.old.best))) 1 }
+        ensures here { here_in self.new.here.items ≡ here_in self.old.here.items ++ best_packet (best_step waiting shape.now.best clock (left_in self.old.best)) shape.now.bounds (suc self.old.taken) clock }
+        ensures taken { self.new.taken ≡ self.old.taken + taken_by (best_step waiting shape.now.best clock (left_in self.old.best)) }
+        ensures best { left_in self.new.best ≡ left_at (clock + 1) (left_in self.old.best) }
+        ensures on { self.new.on ≡ self.old.on }
+        ensures capacity { vec_capacity self.new.here ≡ vec_capacity self.old.here }
+    {
+        let Some(size) = self.best.take_at(clock) else {
+            return false;
+        };
+        if waiting as u64 >= u64::from(shape.best) {
+            return true;
+        }
+        let place = self.taken + 1;
+        self.push(best_packet(&shape.bounds, place, size, clock));
+        false
+    }
+
     // Serves the tick of the clock: a packet that is on goes on, or else one starts. The answer is the packet whose last
     // tick this is, which departs at its end. It takes no memory.
-    pub(crate) fn serve(&mut self, shape: &LinkShape, clock: u64) -> Option<Sent>
+    pub(crate) fn serve(&mut self, shape: &LinkShape, clock: u64) -> Left
         requires early { clock < 2 ^ 61 }
-        requires serves { CanServe shape.now clock (here_in self.old.here.items) (on_in self.old.on) }
-        ensures sent { result ≡ departs shape.now clock (served clock (here_in self.old.here.items) (on_in self.old.on)) }
+        requires serves { CanServe shape.now clock (on_in self.old.on) }
+        ensures sent { result.sent ≡ departs shape.now clock (served clock (here_in self.old.here.items) (on_in self.old.on)) }
+        ensures best_sent { result.best_sent ≡ best_departs shape.now clock (served clock (here_in self.old.here.items) (on_in self.old.on)) }
+        ensures best { self.new.best ≡ self.old.best }
         ensures here { here_in self.new.here.items ≡ still_here shape.now.rate clock (served clock (here_in self.old.here.items) (on_in self.old.on)) (here_in self.old.here.items) }
         ensures on { on_in self.new.on ≡ still_on shape.now.rate clock (served clock (here_in self.old.here.items) (on_in self.old.on)) }
         ensures taken { self.new.taken ≡ self.old.taken }
@@ -154,13 +222,24 @@ impl Packets {
     {
         let occupant = self.occupant(clock);
         self.on = occupant;
-        let running = occupant?;
+        let Some(running) = occupant else {
+            return Left {
+                sent: None,
+                best_sent: false,
+            };
+        };
         if running.leaves_at(shape.rate) > clock + 1 {
-            return None;
+            return Left {
+                sent: None,
+                best_sent: false,
+            };
         }
         self.on = None;
         take_out(&mut self.here, &running);
-        Some(running.sent(shape))
+        Left {
+            sent: running.sent(shape),
+            best_sent: running.is_best(&shape.bounds),
+        }
     }
 }
 

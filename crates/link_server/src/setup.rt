@@ -7,6 +7,7 @@ ghost use Rattle.rcsp_admission.specs.Sums.{rows_of};
 ghost use Rattle.link_steps.specs.declared.asks.Ask.TheVariants.{Relax as AskRelax, Deny as AskDeny};
 ghost use Rattle.link_steps.specs.declared.replies.Reply.TheVariants.{Offer};
 ghost use Rattle.link_steps.specs.Buffer.{slots_of};
+ghost use Rattle.link_steps.specs.Split.{whole};
 ghost use Rattle.link_steps.specs.Kept.{kept_reply, kept_after};
 ghost use Rattle.link_steps.specs.Legal.{ReserveFits, RelaxFits};
 ghost use Rattle.link_server.specs.Asks.{IsOffer};
@@ -28,10 +29,10 @@ impl LinkState {
         requires fits { ReserveFits wanted.now.contract wanted.now.up_reach wanted.now.first }
         ensures shape { self.new.shape ≡ self.old.shape }
         ensures clock { self.new.clock ≡ self.old.clock }
-        ensures reply { IfOk result (λ reply. reply ≡ kept_reply self.old.shape (kept_in self.old) (ask_for wanted.now)) }
+        ensures reply { IfOk result (λ reply. reply ≡ kept_reply (whole self.old.shape) (kept_in self.old) (ask_for wanted.now)) }
         ensures kept { IfOk result (λ reply. kept_in self.new ≡ kept_after self.old.shape (kept_in self.old) (ask_for wanted.now) reply) }
         ensures memory { OnErr result (kept_in self.new ≡ kept_in self.old) }
-        ensures instead { OnErr result (IsOffer (kept_reply self.old.shape (kept_in self.old) (ask_for wanted.now))) }
+        ensures instead { OnErr result (IsOffer (kept_reply (whole self.old.shape) (kept_in self.old) (ask_for wanted.now))) }
     {
         match self.offer(wanted) {
             Ok(offer) => {
@@ -48,7 +49,7 @@ impl LinkState {
     // The offer that a reserve gets, or its refusal.
     fn offer(&self, wanted: &Wanted) -> Result<Offered, Refusal>
         requires fits { ReserveFits wanted.now.contract wanted.now.up_reach wanted.now.first }
-        ensures reply { reply_of result ≡ kept_reply self.now.shape (kept_in self.now) (ask_for wanted.now) }
+        ensures reply { reply_of result ≡ kept_reply (whole self.now.shape) (kept_in self.now) (ask_for wanted.now) }
         ensures new { OnOk result (IsAbsent wanted.now.chan self.now.rows.items) }
         ensures level { IfOk result (λ offer. level_number offer.level ≤ length self.now.shape.bounds) }
         ensures reach { IfOk result (λ offer. level_number offer.reach ≤ length self.now.shape.bounds) }
@@ -90,7 +91,7 @@ impl LinkState {
         requires level { level_number offer.now.level ≤ length self.old.shape.bounds }
         requires reach { level_number offer.now.reach ≤ length self.old.shape.bounds }
         requires passes { Passes self.old.sums.server (with_row (rows_of self.old.sums.rows) wanted.now.contract (level_number offer.now.level)) }
-        requires offered { Offer offer.now.level offer.now.reach ≡ kept_reply self.old.shape (kept_in self.old) (ask_for wanted.now) }
+        requires offered { Offer offer.now.level offer.now.reach ≡ kept_reply (whole self.old.shape) (kept_in self.old) (ask_for wanted.now) }
         ensures shape { self.new.shape ≡ self.old.shape }
         ensures clock { self.new.clock ≡ self.old.clock }
         ensures kept { OnOk result (kept_in self.new ≡ kept_after self.old.shape (kept_in self.old) (ask_for wanted.now) (Offer offer.now.level offer.now.reach)) }
@@ -114,12 +115,13 @@ impl LinkState {
         ensures taken { self.new.packets.taken ≡ self.old.packets.taken }
         ensures here { self.new.packets.here.items ≡ self.old.packets.here.items }
         ensures on { self.new.packets.on ≡ self.old.packets.on }
+        ensures best { self.new.packets.best ≡ self.old.packets.best }
         ensures row_fits { OnOk result (length self.new.rows.items < vec_capacity self.new.rows) }
         ensures sum_fits { OnOk result (1 ≤ self.new.sums.spare) }
-        ensures packets_fit { OnOk result (most_places self.new.shape.bounds (here_in self.new.packets.here.items) (map row_in self.new.rows.items) + suc (slots_of self.new.shape.bounds (terms_in row.now)) ≤ self.new.room) }
+        ensures packets_fit { OnOk result (most_places self.new.shape.bounds (here_in self.new.packets.here.items) (map row_in self.new.rows.items) + suc (slots_of self.new.shape.bounds (terms_in row.now)) + suc self.new.shape.best ≤ self.new.room) }
     {
         let bounds = self.shape.bounds;
-        let places = places_of(&bounds, &self.rows) + 1 + row.slots(&bounds);
+        let places = places_of(&bounds, &self.rows) + 1 + row.slots(&bounds) + u64::from(self.shape.best) + 1;
         let room = self.packets.here.len() as u64 + places;
         if room > u64::from(u32::MAX) {
             return Err(OutOfMemory);
@@ -136,7 +138,7 @@ impl LinkState {
         requires fits { RelaxFits (length self.old.shape.bounds) (level_number level) up_bound }
         ensures shape { self.new.shape ≡ self.old.shape }
         ensures clock { self.new.clock ≡ self.old.clock }
-        ensures reply { result ≡ kept_reply self.old.shape (kept_in self.old) (AskRelax chan level up_bound) }
+        ensures reply { result ≡ kept_reply (whole self.old.shape) (kept_in self.old) (AskRelax chan level up_bound) }
         ensures kept { kept_in self.new ≡ kept_after self.old.shape (kept_in self.old) (AskRelax chan level up_bound) result }
     {
         let Some(place) = place_of(&self.rows, chan) else {
@@ -157,7 +159,7 @@ impl LinkState {
     pub(crate) fn deny(&mut self, chan: ChanNo) -> Reply
         ensures shape { self.new.shape ≡ self.old.shape }
         ensures clock { self.new.clock ≡ self.old.clock }
-        ensures reply { result ≡ kept_reply self.old.shape (kept_in self.old) (AskDeny chan) }
+        ensures reply { result ≡ kept_reply (whole self.old.shape) (kept_in self.old) (AskDeny chan) }
         ensures kept { kept_in self.new ≡ kept_after self.old.shape (kept_in self.old) (AskDeny chan) result }
     {
         let Some(place) = place_of(&self.rows, chan) else {

@@ -30,6 +30,7 @@ pub(crate) fn take_source_packets(
     ensures here { here_in packets.new.here.items ≡ here_in packets.old.here.items ++ brought_by bounds.now (here_in packets.old.here.items) clock packets.old.taken rows.old }
     ensures taken { packets.new.taken ≡ packets.old.taken + length (brought_by bounds.now (here_in packets.old.here.items) clock packets.old.taken rows.old) }
     ensures on { packets.new.on ≡ packets.old.on }
+    ensures best { packets.new.best ≡ packets.old.best }
     ensures capacity { vec_capacity packets.new.here ≡ vec_capacity packets.old.here }
     ensures summed { map summed rows.new ≡ map summed rows.old }
     ensures levels { AreWithin (length bounds.now) rows.new }
@@ -64,6 +65,7 @@ fn take_source_packet(
     ensures here { here_in packets.new.here.items ≡ here_in packets.old.here.items ++ kept_packet (step_in bounds.now (take before (here_in packets.old.here.items)) clock row.old) clock (suc packets.old.taken) (row_in row.old) }
     ensures taken { packets.new.taken ≡ packets.old.taken + taken_by (step_in bounds.now (take before (here_in packets.old.here.items)) clock row.old) }
     ensures on { packets.new.on ≡ packets.old.on }
+    ensures best { packets.new.best ≡ packets.old.best }
     ensures capacity { vec_capacity packets.new.here ≡ vec_capacity packets.old.here }
 {
     let Some(size) = row.next_planned(clock) else {

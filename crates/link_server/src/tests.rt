@@ -7,13 +7,13 @@ use link_steps::{Ask, LinkShape, LinkStep, Packet, Reply};
 use net_units::{Bounds, ChanNo, Kind, Level, LinkNo};
 use std::alloc::Global;
 use std::test::Fail;
-use traffic_contract::Contract;
+use traffic_contract::{Contract, Test};
 
 // A link of a unit a tick, with packets of up to 4 units and levels with bounds of 10, 20 and 40 ticks.
 fn open(alloc: Global, buffer: u32) -> Result<LinkState, Fail> {
     let number = LinkNo::new(0).ok_or("link")?;
     let bounds = Bounds::new(&[10, 20, 40]).ok_or("bounds")?;
-    let shape = LinkShape::new(number, 1, 4, 2, buffer, bounds)?;
+    let shape = LinkShape::new(number, 1, 4, 2, buffer, bounds, Test::Whole, 1)?;
     Ok(LinkState::new(alloc, shape)?)
 }
 

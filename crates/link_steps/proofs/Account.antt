@@ -1,5 +1,6 @@
 -- The account of a link gives the legal reply to each ask, and goes on with each entry.
-use Rattle.std.proofs.Common.{◌≡◌, ℕ, suc, ◌+◌, ◌≤◌, Bool, true, List, [], ◌∷◌, ◌++◌, length, map, Option, Some, None, refl, sym, ap, ◌∙◌, subst, arith, add-one, length-append}
+use Rattle.std.proofs.lemmas.Bool.{le-leb, eqb-true}
+use Rattle.std.proofs.Common.{◌≡◌, ℕ, suc, ◌+◌, ◌≤◌, Bool, true, List, [], ◌∷◌, ◌++◌, length, map, Option, Some, None, refl, sym, ap, ◌∙◌, subst, arith, add-one, length-append, append_assoc, ◌<◌, nat_eq, nat_lt}
 use Rattle.std.proofs.Math.Seq.{take-nil}
 use Rattle.std.proofs.lemmas.List.{map-append, length_push}
 use Rattle.std.specs.Prelude.{filter, find}
@@ -7,26 +8,29 @@ use Rattle.std.specs.Option.{option_map}
 use Rattle.net_units.specs.declared.numbers.ChanNo.{ChanNo}
 use Rattle.traffic_contract.specs.Contract.{burst_of}
 use Rattle.link_steps.specs.declared.asks.Ask.{Ask}
-use Rattle.link_steps.specs.declared.asks.Ask.TheVariants.{Reserve, Relax, Deny, Submit, Release, Arrive, Tick}
+use Rattle.link_steps.specs.declared.asks.Ask.TheVariants.{Reserve, Relax, Deny, Submit, Release, Arrive, Tick, Pour}
 use Rattle.link_steps.specs.declared.asks.Packet.{Packet}
 use Rattle.link_steps.specs.declared.replies.Entry.{Entry}
 use Rattle.link_steps.specs.declared.replies.Reply.{Reply}
 use Rattle.link_steps.specs.declared.replies.Reply.TheVariants as Is
 use Rattle.link_steps.specs.declared.shape.LinkShape.{LinkShape}
+use Rattle.link_steps.specs.Split.{Link}
 use Rattle.link_steps.specs.Buffer.{held_packets}
 use Rattle.link_steps.specs.Hold.{stays}
-use Rattle.link_steps.specs.Kept.{HasContract, HasContracts, StandsFor, nothing_kept, Kept, KeptRow, kept_row, start_on, new_kept, with_kept_rows, kept_at, kept_of, kept_terms, held_rows, brought, present, occupies, departs, kept_lost, kept_rows_after, kept_after_tick, kept_tick_reply, is_kept_of, is_kept_at_hop, kept_submit, kept_release, kept_arrive, kept_reply, kept_relaxed, kept_planned, kept_closed, kept_arrived_row, kept_arrived, kept_with_arrival, kept_after}
+use Rattle.link_steps.specs.Kept.{HasContract, HasContracts, StandsFor, nothing_kept, Kept, KeptRow, kept_row, start_on, new_kept, with_kept_rows, kept_at, kept_of, kept_terms, held_rows, brought, present, occupies, kept_lost, kept_rows_after, kept_after_tick, kept_tick_reply, is_kept_of, is_kept_at_hop, kept_submit, kept_release, kept_arrive, kept_reply, kept_relaxed, kept_planned, kept_closed, kept_arrived_row, kept_arrived, kept_with_arrival, kept_after, from_sources, kept_best, kept_waiting, waits_here}
 use Rattle.link_steps.specs.Lists.{Each}
 use Rattle.link_steps.specs.Replies.{submit_to, release_to, arrive_to, arrive_reply, tick_reply, reply_at, reply_to}
 use Rattle.link_steps.specs.Reservation.{Reservation, tentative}
-use Rattle.link_steps.specs.Scan.{Scan, clock_with, clock_of, is_row_of, is_row_at_hop, names_first_hop, relax_row, plan_row, close_row, with_rows, arrived_tick, arrived_row, arrived_packet, with_arrival, without_expired, with_sources, after_tick, after, scan_of}
+use Rattle.link_steps.specs.Scan.{Scan, clock_with, clock_of, is_row_of, is_row_at_hop, names_first_hop, relax_row, plan_row, close_row, with_rows, arrived_tick, arrived_row, arrived_packet, with_arrival, without_expired, with_sources, with_best, best_step_at, after_tick, after, scan_of}
 use Rattle.link_steps.specs.Service.{Arrival, starts_below, here_at}
-use Rattle.link_steps.specs.Rows.{Row, row_terms, new_row}
-use Rattle.link_steps.specs.Sources.{lost_in, source_packets}
-use Rattle.link_steps.proofs.AccountOfRows.{RowHasContract, eligible-recent, left-planned, left-cancelled, held-kept, kept-packet, packets-kept, rows-kept, lost-kept, eligible-from, source_packets-above, source_packets-upto, source_packets-from}
-use Rattle.link_steps.proofs.AccountOfService.{IsUpTo, ShowsTick, here_at-append, shows-tick-append}
-use Rattle.link_steps.proofs.ListFacts.{Each-append, Each-filter, Each-if, Each-find, Each-mapped, find-map, map-change_first, map-without_first}
-use Rattle.link_steps.proofs.ServiceFacts.{starts_below-append}
+use Rattle.link_steps.specs.Rows.{Row, SourcePacket, row_terms, new_row, is_for, is_from, left_at}
+use Rattle.link_steps.specs.Sources.{SourceStep, Rests, Brings, Loses, source_step, lost_by, lost_in, source_packets}
+use Rattle.link_steps.specs.BestEffort.{best_packet, best_step}
+use Rattle.link_steps.specs.declared.replies.Sent.{Sent}
+use Rattle.link_steps.proofs.AccountOfRows.{RowHasContract, left-left, eligible-recent, left-planned, left-cancelled, held-kept, kept-packet, packets-kept, rows-kept, lost-kept, eligible-from, source_packets-above, source_packets-upto, source_packets-from}
+use Rattle.link_steps.proofs.AccountOfService.{IsUpTo, IsAbove, waiting-kept, ShowsTick, here_at-append, shows-tick-append}
+use Rattle.link_steps.proofs.ListFacts.{find-filter, Each-append, Each-filter, Each-if, Each-find, Each-mapped, find-map, map-change_first, map-without_first}
+use Rattle.link_steps.proofs.ServiceFacts.{IsFrom, starts_below-append}
 
 -- ---- arrival numbers
 
@@ -44,8 +48,23 @@ unfolding with_arrival
 numbered-arrival t packet scan None before = before
 numbered-arrival t packet scan (Some row) before = numbered-append scan.packets (arrived_packet t (suc (length scan.packets)) packet row ∷ []) before (omega arith, tt)
 
+best-numbered : (bounds : List ℕ) (t n : ℕ) (step : SourceStep) → Each (IsUpTo (n + length (best_packet step bounds (suc n) t))) (best_packet step bounds (suc n) t)
+best-numbered bounds t n Rests = tt
+best-numbered bounds t n Loses = tt
+best-numbered bounds t n (Brings size) = (omega arith, tt)
+
+best-above : (bounds : List ℕ) (t n place : ℕ) (step : SourceStep) → n < place → Each (IsAbove n) (best_packet step bounds place t)
+best-above bounds t n place Rests above = tt
+best-above bounds t n place Loses above = tt
+best-above bounds t n place (Brings size) above = (omega (arith, above), tt)
+
+best-from : (bounds : List ℕ) (t place : ℕ) (step : SourceStep) → Each (IsFrom t) (best_packet step bounds place t)
+best-from bounds t place Rests = tt
+best-from bounds t place Loses = tt
+best-from bounds t place (Brings size) = (omega arith, tt)
+
 numbered-after : (shape : LinkShape) (t : ℕ) (scan : Scan) (ask : Ask) (reply : Reply) → IsNumbered scan → IsNumbered (after shape t scan ask reply)
-unfolding after after_tick with_sources without_expired
+unfolding after after_tick with_best with_sources without_expired
 numbered-after shape t scan (Reserve chan contract kind delay up_reach first next) (Is.Offer level reach) before = before
 numbered-after shape t scan (Relax chan level up_bound) (Is.Relaxed clock) before = before
 numbered-after shape t scan (Deny chan) Is.Denied before = before
@@ -53,7 +72,10 @@ numbered-after shape t scan (Submit chan count gap size) (Is.Planned clock) befo
 numbered-after shape t scan (Release chan upstream) (Is.Closing count cancelled) before = before
 numbered-after shape t scan (Arrive packet) (Is.Taken clock eligible) before = numbered-arrival t packet scan (find (is_row_of packet.chan) scan.rows) before
 numbered-after shape t scan Tick reply before =
-    numbered-append scan.packets _ before (source_packets-upto shape.bounds (here_at shape.rate scan.packets t) t (length scan.packets) _)
+    numbered-append (scan.packets ++ source_packets shape.bounds (here_at shape.rate scan.packets t) t (length scan.packets) (filter (stays shape.bounds t) scan.rows)) (best_packet (best_step_at shape t scan) shape.bounds (suc (length (scan.packets ++ source_packets shape.bounds (here_at shape.rate scan.packets t) t (length scan.packets) (filter (stays shape.bounds t) scan.rows)))) t)
+    (numbered-append scan.packets _ before (source_packets-upto shape.bounds (here_at shape.rate scan.packets t) t (length scan.packets) (filter (stays shape.bounds t) scan.rows)))
+    (best-numbered shape.bounds t (length (scan.packets ++ source_packets shape.bounds (here_at shape.rate scan.packets t) t (length scan.packets) (filter (stays shape.bounds t) scan.rows))) (best_step_at shape t scan))
+numbered-after shape t scan (Pour count gap size) (Is.Planned clock) before = before
 numbered-after shape t scan _ _ before = before
 
 -- the packets of every history are numbered so
@@ -72,23 +94,47 @@ HaveContracts scan = Each RowHasContract scan.rows
 abbrev held_in : LinkShape → ℕ → Scan → List Row
 held_in shape t scan = filter (stays shape.bounds t) scan.rows
 
-abbrev new_in : LinkShape → ℕ → Scan → List Arrival
-new_in shape t scan = source_packets shape.bounds (here_at shape.rate scan.packets t) t (length scan.packets) (held_in shape t scan)
+abbrev sources_in : LinkShape → ℕ → Scan → List Arrival
+sources_in shape t scan = source_packets shape.bounds (here_at shape.rate scan.packets t) t (length scan.packets) (held_in shape t scan)
 
-brought-tick : (shape : LinkShape) (t : ℕ) (scan : Scan) → HaveContracts scan → brought shape (kept_at shape t scan) ≡ new_in shape t scan
+abbrev new_in : LinkShape → ℕ → Scan → List Arrival
+new_in shape t scan = sources_in shape t scan ++ best_packet (best_step_at shape t scan) shape.bounds (suc (length scan.packets + length (sources_in shape t scan))) t
+
+sources-tick : (shape : LinkShape) (t : ℕ) (scan : Scan) → HaveContracts scan → from_sources shape (kept_at shape t scan) ≡ sources_in shape t scan
 unfolding kept_at
-brought-tick shape t scan each =
+sources-tick shape t scan each =
     rw (held-kept shape.bounds t scan.rows each)
     (packets-kept shape.bounds (here_at shape.rate scan.packets t) t (length scan.packets) (held_in shape t scan) (Each-filter RowHasContract (stays shape.bounds t) scan.rows each))
+
+-- the one planned for t is left at t
+find-planned : (t : ℕ) (plan : List SourcePacket) → find (is_for t) (left_at t plan) ≡ find (is_for t) plan
+find-planned t plan = find-filter (is_for t) (is_from t) (λ p now. (let e = eqb-true p.tick t now in le-leb t p.tick (omega (arith, e)))) plan
+
+best-tick : (shape : LinkShape) (t : ℕ) (scan : Scan) → kept_best shape (kept_at shape t scan) ≡ best_step_at shape t scan
+unfolding kept_at kept_best best_step_at best_step kept_waiting
+best-tick shape t scan =
+    ap (λ found. source_step (nat_lt (length (filter (waits_here shape.bounds (start_on shape.rate (starts_below shape.rate scan.packets t) t)) (here_at shape.rate scan.packets t))) shape.best) found) (find-planned t scan.best_plan)
+    ∙ ap (λ n. source_step (nat_lt n shape.best) (find (is_for t) scan.best_plan)) (sym (waiting-kept shape.bounds shape.rate t scan.packets))
+
+brought-tick : (shape : LinkShape) (t : ℕ) (scan : Scan) → HaveContracts scan → brought shape (kept_at shape t scan) ≡ new_in shape t scan
+brought-tick shape t scan each =
+    ap (λ all. all ++ best_packet (kept_best shape (kept_at shape t scan)) shape.bounds (suc ((kept_at shape t scan).taken + length all)) (kept_at shape t scan).clock) (sources-tick shape t scan each)
+    ∙ (unfold kept_at in ap (λ step. sources_in shape t scan ++ best_packet step shape.bounds (suc (length scan.packets + length (sources_in shape t scan))) t) (best-tick shape t scan))
+
+packets-tick : (shape : LinkShape) (t : ℕ) (scan : Scan) → (after_tick shape t scan).packets ≡ scan.packets ++ new_in shape t scan
+unfolding after_tick with_best with_sources without_expired
+packets-tick shape t scan =
+    ap (λ n. (scan.packets ++ sources_in shape t scan) ++ best_packet (best_step_at shape t scan) shape.bounds (suc n) t) (length-append scan.packets (sources_in shape t scan))
+    ∙ append_assoc scan.packets (sources_in shape t scan) (best_packet (best_step_at shape t scan) shape.bounds (suc (length scan.packets + length (sources_in shape t scan))) t)
 
 -- the starts after the tick show what the account says of it
 shows-after : (shape : LinkShape) (t : ℕ) (scan : Scan) → HaveContracts scan → IsNumbered scan → ShowsTick shape t (after_tick shape t scan).packets (present shape (kept_at shape t scan)) (occupies shape (kept_at shape t scan)) (starts_below shape.rate (after_tick shape t scan).packets (suc t))
 shows-after shape t scan each numbered =
-    rw (brought-tick shape t scan each)
-    (unfold after_tick with_sources without_expired kept_at in
+    rw (brought-tick shape t scan each, packets-tick shape t scan)
+    (unfold kept_at in
     shows-tick-append shape t (length scan.packets) scan.packets (new_in shape t scan) numbered
-    (source_packets-above shape.bounds (here_at shape.rate scan.packets t) t (length scan.packets) (held_in shape t scan))
-    (source_packets-from shape.bounds (here_at shape.rate scan.packets t) t (length scan.packets) (held_in shape t scan)))
+    (Each-append (IsAbove (length scan.packets)) (sources_in shape t scan) _ (source_packets-above shape.bounds (here_at shape.rate scan.packets t) t (length scan.packets) (held_in shape t scan)) (best-above shape.bounds t (length scan.packets) _ (best_step_at shape t scan) (omega arith)))
+    (Each-append (IsFrom t) (sources_in shape t scan) _ (source_packets-from shape.bounds (here_at shape.rate scan.packets t) t (length scan.packets) (held_in shape t scan)) (best-from shape.bounds t _ (best_step_at shape t scan))))
 
 lost-tick : (shape : LinkShape) (t : ℕ) (scan : Scan) → HaveContracts scan → lost_in shape.bounds (here_at shape.rate scan.packets t) t (without_expired shape.bounds t scan).rows ≡ kept_lost shape.bounds (kept_at shape t scan).here (kept_at shape t scan).clock (held_rows shape (kept_at shape t scan))
 unfolding kept_at without_expired
@@ -97,11 +143,11 @@ lost-tick shape t scan each =
 
 -- the parts of the account after the tick, and the reply
 taken-tick : (shape : LinkShape) (t : ℕ) (scan : Scan) → HaveContracts scan → (kept_at shape (suc t) (after_tick shape t scan)).taken ≡ (kept_at shape t scan).taken + length (brought shape (kept_at shape t scan))
-unfolding kept_at after_tick with_sources without_expired
-taken-tick shape t scan each = length-append scan.packets (new_in shape t scan) ∙ ap (λ all. length scan.packets + length all) (sym (brought-tick shape t scan each))
+unfolding kept_at
+taken-tick shape t scan each = ap length (packets-tick shape t scan) ∙ length-append scan.packets (new_in shape t scan) ∙ ap (λ all. length scan.packets + length all) (sym (brought-tick shape t scan each))
 
 rows-tick : (shape : LinkShape) (t : ℕ) (scan : Scan) → HaveContracts scan → (kept_at shape (suc t) (after_tick shape t scan)).rows ≡ kept_rows_after shape.bounds (kept_at shape t scan).here (kept_at shape t scan).clock (kept_at shape t scan).taken (held_rows shape (kept_at shape t scan))
-unfolding kept_at after_tick with_sources without_expired
+unfolding kept_at after_tick with_best with_sources without_expired
 rows-tick shape t scan each =
     rw (held-kept shape.bounds t scan.rows each)
     (sym (rows-kept shape.bounds (here_at shape.rate scan.packets t) t (length scan.packets) (held_in shape t scan) (Each-filter RowHasContract (stays shape.bounds t) scan.rows each)))
@@ -109,20 +155,22 @@ rows-tick shape t scan each =
 reply-tick : (shape : LinkShape) (t : ℕ) (scan : Scan) → HaveContracts scan → IsNumbered scan → tick_reply shape t scan ≡ kept_tick_reply shape (kept_at shape t scan)
 unfolding kept_tick_reply kept_at
 reply-tick shape t scan each numbered =
-    ap (λ sent. Is.Ticked t (lost_in shape.bounds (here_at shape.rate scan.packets t) t (without_expired shape.bounds t scan).rows) sent) (shows-after shape t scan each numbered).departure
-    ∙ ap (λ lost. Is.Ticked t lost (departs shape t (occupies shape (kept_at shape t scan)))) (lost-tick shape t scan each)
+    let shows = shows-after shape t scan each numbered in
+    same-ticked t _ _ _ _ _ _ _ _ (lost-tick shape t scan each) shows.departure shows.best_departure (ap (λ step. nat_eq (lost_by step) 1) (sym (best-tick shape t scan))) where
+      same-ticked : (t full other : ℕ) (sent left : Option Sent) (best gone lost missing : Bool) → full ≡ other → sent ≡ left → best ≡ gone → lost ≡ missing → Is.Ticked t full sent best lost ≡ Is.Ticked t other left gone missing
+      same-ticked t full other sent left best gone lost missing a b c d = λ i. Is.Ticked t (a i) (b i) (c i) (d i)
 
 -- accounts with the same parts
-pub same-kept : (k other : Kept) → k.clock ≡ other.clock → k.taken ≡ other.taken → k.rows ≡ other.rows → k.here ≡ other.here → k.on ≡ other.on → k ≡ other
-same-kept k other clock taken rows here on = λ i. record { clock = clock i; taken = taken i; rows = rows i; here = here i; on = on i }
+pub same-kept : (k other : Kept) → k.clock ≡ other.clock → k.taken ≡ other.taken → k.rows ≡ other.rows → k.here ≡ other.here → k.on ≡ other.on → k.best_left ≡ other.best_left → k ≡ other
+same-kept k other clock taken rows here on left = λ i. record { clock = clock i; taken = taken i; rows = rows i; here = here i; on = on i; best_left = left i }
 
 -- so the account of the scan after the tick is the one that the account goes on to
 after-tick : (shape : LinkShape) (t : ℕ) (scan : Scan) → HaveContracts scan → IsNumbered scan → kept_at shape (suc t) (after_tick shape t scan) ≡ kept_after_tick shape (kept_at shape t scan)
-unfolding kept_at kept_after_tick here_at after_tick
+unfolding kept_at kept_after_tick here_at after_tick with_best with_sources without_expired
 after-tick shape t scan each numbered =
     let shows = shows-after shape t scan each numbered in
     same-kept (kept_at shape (suc t) (after_tick shape t scan)) (kept_after_tick shape (kept_at shape t scan))
-    refl (taken-tick shape t scan each) (rows-tick shape t scan each) shows.next_here shows.next_on
+    refl (taken-tick shape t scan each) (rows-tick shape t scan each) shows.next_here shows.next_on (sym (left-left t (suc t) scan.best_plan (omega arith)))
 
 -- ---- the other asks
 
@@ -152,18 +200,19 @@ arrive-kept shape t packets packet (Some row) each =
     (sym (eligible-recent row.terms row.ticks t packet.due (each row refl)))
 
 -- the reply of the scan is that of the account
-reply-at : (shape : LinkShape) (t : ℕ) (scan : Scan) (ask : Ask) → HaveContracts scan → IsNumbered scan → reply_at shape t scan ask ≡ kept_reply shape (kept_at shape t scan) ask
+reply-at : (link : Link) (t : ℕ) (scan : Scan) (ask : Ask) → HaveContracts scan → IsNumbered scan → reply_at link t scan ask ≡ kept_reply link (kept_at link.shape t scan) ask
 unfolding reply_at kept_reply kept_at
-reply-at shape t scan (Reserve chan contract kind delay up_reach first next) each numbered = rw (terms-kept t scan.rows) refl
-reply-at shape t scan (Relax chan level up_bound) each numbered = rw (terms-kept t scan.rows) refl
-reply-at shape t scan (Deny chan) each numbered = rw (terms-kept t scan.rows) refl
-reply-at shape t scan (Submit chan count gap size) each numbered = rw (find-kept-hop t chan true scan.rows) (submit-kept t size (find (is_row_at_hop chan true) scan.rows))
-reply-at shape t scan (Release chan upstream) each numbered =
+reply-at link t scan (Reserve chan contract kind delay up_reach first next) each numbered = rw (terms-kept t scan.rows) refl
+reply-at link t scan (Relax chan level up_bound) each numbered = rw (terms-kept t scan.rows) refl
+reply-at link t scan (Deny chan) each numbered = rw (terms-kept t scan.rows) refl
+reply-at link t scan (Submit chan count gap size) each numbered = rw (find-kept-hop t chan true scan.rows) (submit-kept t size (find (is_row_at_hop chan true) scan.rows))
+reply-at link t scan (Release chan upstream) each numbered =
     rw (find-kept-hop t chan (names_first_hop upstream) scan.rows) (release-kept t upstream (find (is_row_at_hop chan (names_first_hop upstream)) scan.rows))
-reply-at shape t scan (Arrive packet) each numbered =
+reply-at link t scan (Arrive packet) each numbered =
     rw (find-kept t packet.chan scan.rows)
-    (arrive-kept shape t scan.packets packet (find (is_row_of packet.chan) scan.rows) (λ row found. Each-find RowHasContract (is_row_of packet.chan) scan.rows row each found))
-reply-at shape t scan Tick each numbered = reply-tick shape t scan each numbered
+    (arrive-kept link.shape t scan.packets packet (find (is_row_of packet.chan) scan.rows) (λ row found. Each-find RowHasContract (is_row_of packet.chan) scan.rows row each found))
+reply-at link t scan Tick each numbered = reply-tick link.shape t scan each numbered
+reply-at link t scan (Pour count gap size) each numbered = refl
 
 -- ---- the account goes on
 
@@ -188,6 +237,7 @@ arrival-kept shape t packet scan (Some row) one each numbered =
     (here_at-append shape.rate t (length scan.packets) scan.packets (arrived_packet t (suc (length scan.packets)) packet row ∷ []) numbered (omega arith, tt) (later, tt)
     ∙ ap (λ p. here_at shape.rate scan.packets t ++ p ∷ []) same)
     (ap (λ starts. start_on shape.rate starts t) (starts_below-append shape.rate scan.packets (arrived_packet t (suc (length scan.packets)) packet row ∷ []) t (later, tt)))
+    refl
 
 -- a change of the rows alone
 rows-kept-at : (shape : LinkShape) (t : ℕ) (scan : Scan) (rows : List Row) (kept : List KeptRow) → map (kept_row t) rows ≡ kept → kept_at shape t (with_rows scan rows) ≡ with_kept_rows (kept_at shape t scan) kept
@@ -224,12 +274,14 @@ after-at shape t scan (Arrive packet) (Is.Taken clock eligible) each numbered =
     arrival-kept shape t packet scan (find (is_row_of packet.chan) scan.rows) (λ row found. Each-find RowHasContract (is_row_of packet.chan) scan.rows row each found) each numbered
     ∙ ap (λ found. kept_with_arrival packet (kept_at shape t scan) found) (sym (find-kept t packet.chan scan.rows))
 after-at shape t scan Tick reply each numbered = after-tick shape t scan each numbered
+after-at shape t scan (Pour count gap size) (Is.Planned clock) each numbered = ap (λ left. record (kept_at shape t scan) { best_left = left }) (left-planned t count gap size scan.best_plan)
 after-at shape t scan (Reserve _ _ _ _ _ _ _) _ each numbered = refl
 after-at shape t scan (Relax _ _ _) _ each numbered = refl
 after-at shape t scan (Deny _) _ each numbered = refl
 after-at shape t scan (Submit _ _ _ _) _ each numbered = refl
 after-at shape t scan (Release _ _) _ each numbered = refl
 after-at shape t scan (Arrive _) _ each numbered = refl
+after-at shape t scan (Pour _ _ _) _ each numbered = refl
 
 -- ---- every history
 
@@ -239,9 +291,9 @@ unfolding kept_at
 contracts-scan shape h each = Each-mapped HasContract (kept_row (clock_of h)) (scan_of shape h).rows each
 
 -- the legal reply after a history is that of its account
-pub reply_to-account : (shape : LinkShape) (h : List Entry) (ask : Ask) → HasContracts (kept_of shape h) → reply_to shape h ask ≡ kept_reply shape (kept_of shape h) ask
+pub reply_to-account : (link : Link) (h : List Entry) (ask : Ask) → HasContracts (kept_of link.shape h) → reply_to link h ask ≡ kept_reply link (kept_of link.shape h) ask
 unfolding reply_to
-reply_to-account shape h ask each = reply-at shape (clock_of h) (scan_of shape h) ask (contracts-scan shape h each) (scan-numbered shape h)
+reply_to-account link h ask each = reply-at link (clock_of h) (scan_of link.shape h) ask (contracts-scan link.shape h each) (scan-numbered link.shape h)
 
 -- and the account with one more entry is the next of the account before
 pub kept_of-entry : (shape : LinkShape) (h : List Entry) (e : Entry) → HasContracts (kept_of shape h) → kept_of shape (e ∷ h) ≡ kept_after shape (kept_of shape h) e.ask e.reply
@@ -256,9 +308,9 @@ unfolding kept_at clock_of scan_of here_at starts_below
 nothing-stands shape = refl
 
 -- a link that stands for a history gives the legal reply from what it keeps
-pub stands-reply : (shape : LinkShape) (k : Kept) (h : List Entry) (ask : Ask) → HasContracts k → StandsFor shape k h → kept_reply shape k ask ≡ reply_to shape h ask
-stands-reply shape k h ask each stands =
-    ap (λ kept. kept_reply shape kept ask) stands ∙ sym (reply_to-account shape h ask (subst HasContracts stands each))
+pub stands-reply : (link : Link) (k : Kept) (h : List Entry) (ask : Ask) → HasContracts k → StandsFor link.shape k h → kept_reply link k ask ≡ reply_to link h ask
+stands-reply link k h ask each stands =
+    ap (λ kept. kept_reply link kept ask) stands ∙ sym (reply_to-account link h ask (subst HasContracts stands each))
 
 -- and stands for it with the entry added, once it keeps what follows
 pub stands-entry : (shape : LinkShape) (k : Kept) (h : List Entry) (ask : Ask) (reply : Reply) → HasContracts k → StandsFor shape k h → StandsFor shape (kept_after shape k ask reply) (record { ask = ask; reply = reply } ∷ h)

@@ -58,7 +58,7 @@ eligible-from terms ticks t due =
 -- ---- planned packets
 
 -- what is left later is left of what is left
-left-left : (t u : ℕ) (plan : List SourcePacket) → t ≤ u → left_at u (left_at t plan) ≡ left_at u plan
+pub left-left : (t u : ℕ) (plan : List SourcePacket) → t ≤ u → left_at u (left_at t plan) ≡ left_at u plan
 left-left t u plan later =
     filter-filter (is_from u) (is_from t) plan ∙ filter-same (λ p. is_from t p && is_from u p) (is_from u) plan (Each-from _ plan both) where
       both : (p : SourcePacket) → (is_from t p && is_from u p) ≡ is_from u p

@@ -1,13 +1,14 @@
 -- The packets here and the one that occupies the link are all that service needs of the past.
-use Rattle.std.proofs.Common.{◌≡◌, ℕ, suc, ◌<◌, ◌≤◌, Bool, true, false, not, cond, ◌&&◌, ◌||◌, List, [], ◌∷◌, ◌++◌, Option, Some, None, refl, sym, ap, ◌∙◌, ⊎_elim, arith}
+use Rattle.std.proofs.Common.{◌≡◌, ℕ, suc, ◌<◌, ◌≤◌, Bool, true, false, not, cond, ◌&&◌, ◌||◌, List, [], ◌∷◌, ◌++◌, Option, Some, None, refl, sym, ap, ◌∙◌, ⊎_elim, arith, length}
 use Rattle.std.proofs.Math.Bool.{and_comm, and-true}
 use Rattle.std.proofs.lemmas.Bool.{le-leb, lt-leb, ltb-true, lt-ltb, le-ltb, ne_eqb, cases_lt}
 use Rattle.std.proofs.lemmas.List.Elements.{filter-append}
 use Rattle.std.specs.Prelude.{filter, nat_le, nat_lt}
 use Rattle.link_steps.specs.declared.shape.LinkShape.{LinkShape}
-use Rattle.link_steps.specs.Kept.{start_on, is_eligible_by, start_at, served, still_on, departs, is_other, still_here}
+use Rattle.link_steps.specs.Kept.{waits_here, best_departs, start_on, is_eligible_by, start_at, served, still_on, departs, is_other, still_here}
 use Rattle.link_steps.specs.Lists.{Each}
-use Rattle.link_steps.specs.Replies.{sent_at}
+use Rattle.link_steps.specs.Replies.{sent_at, best_sent_at}
+use Rattle.link_steps.specs.BestEffort.{is_best, waits_best, waiting_best}
 use Rattle.link_steps.specs.Service.{Arrival, Start, leaves_at, first_in_line, is_start_of, has_started, is_waiting, is_busy, add_start, serve_tick, starts_below, has_departed, is_here, here_at}
 use Rattle.link_steps.proofs.ListFacts.{Each-from, Each-if, filter-same, filter-all, filter-filter}
 use Rattle.link_steps.proofs.ServiceFacts.{IsFrom, HasLeft, FollowEachOther, HasBegun, starts_below-append, starts-begun, left-idle, starts-follow, starts-fact}
@@ -40,6 +41,7 @@ waits-here rate t starts packets left =
 pub record ShowsTick (shape : LinkShape) (t : ℕ) (packets here : List Arrival) (on : Option Start) (starts : List Start) : Type 0 where
   pub next_on : start_on shape.rate starts (suc t) ≡ still_on shape.rate t on
   pub departure : sent_at shape (suc t) starts ≡ departs shape t on
+  pub best_departure : best_sent_at shape (suc t) starts ≡ best_departs shape t on
   pub next_here : filter (is_here shape.rate starts (suc t)) packets ≡ still_here shape.rate t on here
 
 -- the packet that started last, where those before it have left
@@ -68,10 +70,11 @@ next-here rate t packets start earlier false same left =
 
 -- a packet on the link, whose start is the newest
 shows-on : (shape : LinkShape) (t : ℕ) (packets : List Arrival) (start : Start) (earlier : List Start) → Each (HasLeft shape.rate t) earlier → ShowsTick shape t packets (filter (is_here shape.rate earlier t) packets) (Some start) (start ∷ earlier)
-unfolding sent_at
+unfolding sent_at best_sent_at
 shows-on shape t packets start earlier left = record {
   next_on = still-on (leaves_at shape.rate start) (suc t);
   departure = refl;
+  best_departure = refl;
   next_here = next-here shape.rate t packets start earlier (nat_le (leaves_at shape.rate start) (suc t)) refl left;
 } where
   still-on : (leaves next : ℕ) → cond (nat_lt next leaves) (Some start) None ≡ cond (nat_le leaves next) None (Some start)
@@ -82,10 +85,11 @@ shows-on shape t packets start earlier left = record {
 
 -- nobody on the link, where all that have started have left
 shows-none : (shape : LinkShape) (t : ℕ) (packets : List Arrival) (starts : List Start) → Each (HasLeft shape.rate t) starts → ShowsTick shape t packets (filter (is_here shape.rate starts t) packets) None starts
-unfolding sent_at
+unfolding sent_at best_sent_at
 shows-none shape t packets starts left = record {
   next_on = idle starts left;
   departure = none starts left;
+  best_departure = best_none starts left;
   next_here = filter-same (is_here shape.rate starts (suc t)) (is_here shape.rate starts t) packets (Each-from _ packets (λ p. ap not (departed-later shape.rate t starts p left)));
 } where
   idle : (starts : List Start) → Each (HasLeft shape.rate t) starts → start_on shape.rate starts (suc t) ≡ None
@@ -95,6 +99,10 @@ shows-none shape t packets starts left = record {
   none : (starts : List Start) → Each (HasLeft shape.rate t) starts → sent_at shape (suc t) starts ≡ None
   none [] left = refl
   none (start ∷ earlier) left = rw (ne_eqb (leaves_at shape.rate start) (suc t) (λ same. absurd (omega (arith, left.0, same)))) refl
+
+  best_none : (starts : List Start) → Each (HasLeft shape.rate t) starts → best_sent_at shape (suc t) starts ≡ false
+  best_none [] left = refl
+  best_none (start ∷ earlier) left = rw (ne_eqb (leaves_at shape.rate start) (suc t) (λ same. absurd (omega (arith, left.0, same)))) refl
 
 -- when no packet occupies the link
 idle-on : (rate t : ℕ) (starts : List Start) → is_busy rate starts t ≡ false → start_on rate starts t ≡ None
@@ -165,3 +173,38 @@ shows-tick-append shape t n packets new upto above later =
     let here = here-append shape.rate t n packets new upto above in
     rw (starts_below-append shape.rate packets new t later)
     (rw here at (shows-tick shape t (packets ++ new) (starts_below shape.rate packets t) (starts-follow shape.rate packets t) (starts-begun shape.rate packets t)))
+
+-- ---- the best-effort packets that wait
+
+-- neither started before nor now
+one-on : (best one before : Bool) → (best && not (one || before)) ≡ (not before && (best && not one))
+one-on true true true = refl
+one-on true true false = refl
+one-on true false true = refl
+one-on true false false = refl
+one-on false one true = refl
+one-on false one false = refl
+
+-- they are those here but the one on the link
+waits-best : (bounds : List ℕ) (rate t : ℕ) (packets : List Arrival) (starts : List Start) → FollowEachOther rate starts → Each (HasBegun t) starts → filter (waits_best bounds starts) packets ≡ filter (waits_here bounds (start_on rate starts t)) (filter (is_here rate starts t) packets)
+waits-best bounds rate t packets starts follow begun = by-busy starts follow begun (is_busy rate starts t) refl where
+  by-busy : (starts : List Start) → FollowEachOther rate starts → Each (HasBegun t) starts → (busy : Bool) → is_busy rate starts t ≡ busy → filter (waits_best bounds starts) packets ≡ filter (waits_here bounds (start_on rate starts t)) (filter (is_here rate starts t) packets)
+  by-busy [] follow begun true same = cc
+  by-busy (start ∷ earlier) follow begun true same =
+      let later : t < leaves_at rate start = ltb-true t (leaves_at rate start) same in
+      let left = Each-if (HasLeft rate start.tick) (HasLeft rate t) earlier (λ other left. omega (arith, begun.0)) follow.0 in
+      rw (same, here-busy rate t packets start earlier later)
+      (filter-same (waits_best bounds (start ∷ earlier)) (λ p. is_here rate earlier t p && (is_best bounds p && is_other start p)) packets
+      (Each-from _ packets (λ p. rw (departed-started rate t earlier p left) (one-on (is_best bounds p) (is_start_of p start) (has_started earlier p))))
+      ∙ sym (filter-filter (λ p. is_best bounds p && is_other start p) (is_here rate earlier t) packets))
+  by-busy starts follow begun false same =
+      let left = left-idle rate t starts follow same in
+      rw (idle-on rate t starts same)
+      (filter-same (waits_best bounds starts) (λ p. is_here rate starts t p && is_best bounds p) packets
+      (Each-from _ packets (λ p. rw (departed-started rate t starts p left) (and_comm (is_best bounds p) (not (has_started starts p)))))
+      ∙ sym (filter-filter (is_best bounds) (is_here rate starts t) packets))
+
+-- so many
+pub waiting-kept : (bounds : List ℕ) (rate t : ℕ) (packets : List Arrival) → waiting_best bounds (starts_below rate packets t) packets ≡ length (filter (waits_here bounds (start_on rate (starts_below rate packets t) t)) (here_at rate packets t))
+unfolding waiting_best here_at
+waiting-kept bounds rate t packets = ap length (waits-best bounds rate t packets (starts_below rate packets t) (starts-follow rate packets t) (starts-begun rate packets t))

@@ -1,9 +1,9 @@
--- In every legal history the held rows pass the admission test after every entry.
+-- In every admissible history the held rows pass the admission test after every entry.
 use Rattle.std.proofs.Common.{◌≡◌, ℕ, suc, ◌+◌, ◌≤◌, Bool, true, List, [], ◌∷◌, ◌++◌, map, Option, Some, None, refl, sym, ap, ◌∙◌, subst, arith}
 use Rattle.std.proofs.lemmas.List.{map-append}
 use Rattle.std.specs.Prelude.{filter, find}
 use Rattle.std.specs.Option.{option_map}
-use Rattle.net_units.proofs.BoundFacts.{bounds_parts, bound_at-rising}
+use Rattle.net_units.proofs.BoundFacts.{bound_at-rising}
 use Rattle.net_units.specs.Numbers.{level_number}
 use Rattle.net_units.specs.Quotient.{ceil_quotient}
 use Rattle.net_units.specs.LevelBounds.{bound_at}
@@ -11,29 +11,29 @@ use Rattle.net_units.specs.declared.Kind.{Kind}
 use Rattle.net_units.specs.declared.numbers.ChanNo.{ChanNo}
 use Rattle.net_units.specs.declared.numbers.Level.{Level}
 use Rattle.net_units.specs.declared.numbers.LinkNo.{LinkNo}
-use Rattle.traffic_contract.specs.Admission.{Row as Admitted, total, work_up_to, load, Passes, with_row, best_level}
+use Rattle.traffic_contract.specs.Admission.{Row as Admitted, total, work_up_to, load, Passes, with_row}
 use Rattle.traffic_contract.specs.Contract.{Terms}
-use Rattle.traffic_contract.proofs.AdmissionFacts.{Passes-le, Passes-nil, total-map, total-filter-le, work_up_to-le, best_level-is}
+use Rattle.traffic_contract.proofs.AdmissionFacts.{Passes-le, Passes-nil, total-map, total-filter-le, work_up_to-le, Decides-admits}
 use Rattle.link_steps.specs.declared.asks.Ask.{Ask}
-use Rattle.link_steps.specs.declared.asks.Ask.TheVariants.{Reserve, Relax, Deny, Submit, Release, Arrive, Tick}
+use Rattle.link_steps.specs.declared.asks.Ask.TheVariants.{Reserve, Relax, Deny, Submit, Release, Arrive, Tick, Pour}
 use Rattle.link_steps.specs.declared.asks.Packet.{Packet}
 use Rattle.link_steps.specs.declared.replies.Entry.{Entry}
 use Rattle.link_steps.specs.declared.replies.Reply.{Reply}
 use Rattle.link_steps.specs.declared.replies.Reply.TheVariants as Is
 use Rattle.link_steps.specs.declared.shape.LinkShape.{LinkShape}
+use Rattle.link_steps.specs.Admissible.{MayOffer, MayAnswer, IsAdmissible}
 use Rattle.link_steps.specs.HopGuarantee.{AfterEach, HeldRowsPass}
-use Rattle.link_steps.specs.Legal.{IsLegal}
 use Rattle.link_steps.specs.Lists.{change_first}
-use Rattle.link_steps.specs.Replies.{reserve_reply, relax_reply, reply_at, reply_to}
+use Rattle.link_steps.specs.Replies.{relax_reply, reply_at}
 use Rattle.link_steps.specs.Reservation.{tentative, admitted, is_of}
-use Rattle.link_steps.specs.Scan.{Scan, is_row_of, is_row_at_hop, names_first_hop, relax_row, plan_row, close_row, with_arrival, without_expired, with_sources, after_tick, after, scan_of}
+use Rattle.link_steps.specs.Scan.{Scan, is_row_of, is_row_at_hop, names_first_hop, relax_row, plan_row, close_row, with_arrival, without_expired, with_sources, with_best, after_tick, after, scan_of}
 use Rattle.link_steps.specs.Service.{Arrival}
 use Rattle.link_steps.specs.Shape.{server_of}
 use Rattle.link_steps.specs.Rows.{Row, row_terms, new_row}
 use Rattle.link_steps.specs.Sources.{SourceStep, Rests, Brings, Loses, step_of, row_after, rows_after, taken_by}
-use Rattle.link_steps.proofs.LevelFacts.{level_of-number}
 use Rattle.link_steps.proofs.ListFacts.{find-map, map-change_first-same, total-change_first-le, total-without_first-le}
-use Rattle.link_steps.proofs.ReplyFacts.{offer-best, relax-tells}
+use Rattle.traffic_contract.proofs.LoadFacts.{ceil_quotient-some}
+use Rattle.link_steps.proofs.ReplyFacts.{relax-tells}
 
 -- what a row adds to the load of the levels up to m in a window of w ticks
 abbrev pub row_load : ℕ → ℕ → ℕ → Row → ℕ
@@ -55,11 +55,10 @@ total-as_admitted rate m w rows =
 Pass-lighter : (shape : LinkShape) (rows others : List Row) → ((m w : ℕ) → total (row_load shape.rate m w) others ≤ total (row_load shape.rate m w) rows) → Pass shape rows → Pass shape others
 unfolding load
 Pass-lighter shape rows others lighter =
-    Passes-le (server_of shape) (as_admitted rows) (as_admitted others) (λ m.
-    let w : ℕ = bound_at shape.bounds m in
-    let e = total-as_admitted shape.rate m (bound_at shape.bounds m) rows in
-    let f = total-as_admitted shape.rate m (bound_at shape.bounds m) others in
-    let g = lighter m (bound_at shape.bounds m) in
+    Passes-le (server_of shape) (as_admitted rows) (as_admitted others) (λ m w.
+    let e = total-as_admitted shape.rate m w rows in
+    let f = total-as_admitted shape.rate m w others in
+    let g = lighter m w in
     omega (arith, e, f, g))
 
 -- rows with the same terms pass alike
@@ -71,7 +70,7 @@ Pass-same shape rows others same pass = subst (λ all. Passes (server_of shape) 
 -- the blocking is at most the first bound, and so at most each
 Pass-none : (shape : LinkShape) → Pass shape []
 Pass-none shape =
-    Passes-nil (server_of shape) (λ m from upto.
+    Passes-nil (server_of shape) (ceil_quotient-some shape.cap shape.rate shape.rate_least shape.cap_least) (λ m from upto.
     let least = bound_at-rising shape.bounds 1 m shape.bounds_rise (omega arith) from upto in
     let first : ceil_quotient shape.cap shape.rate ≤ bound_at shape.bounds 1 = shape.blocking_fits in
     omega (arith, least, first))
@@ -79,17 +78,12 @@ Pass-none shape =
 -- ---- a reserve
 
 -- the rows with the one reserved pass
-Pass-reserved : (shape : LinkShape) (rows : List Row) (chan : ChanNo) (contract : Terms) (kind : Kind) (first : Bool) (next : Option LinkNo) (delay up_reach : ℕ) (level reach : Level) → Is.Offer level reach ≡ reserve_reply shape (map row_terms rows) chan contract delay up_reach → Pass shape (rows ++ new_row (tentative chan contract kind first next up_reach level reach) ∷ [])
-unfolding reserve_reply
-Pass-reserved shape rows chan contract kind first next delay up_reach level reach same =
-    let found = offer-best shape (map row_terms rows) chan contract delay up_reach (best_level (server_of shape) (as_admitted rows) contract) level reach same in
-    let best = best_level-is (server_of shape) (as_admitted rows) contract found.0 found.1 in
-    let most = (bounds_parts shape.bounds shape.bounds_rise).most in
-    let n : level_number level ≡ found.0 = ap level_number found.2 ∙ level_of-number found.0 best.from (omega (arith, best.upto)) in
+Pass-reserved : (shape : LinkShape) (rows : List Row) (chan : ChanNo) (contract : Terms) (kind : Kind) (first : Bool) (next : Option LinkNo) (delay up_reach : ℕ) (level reach : Level) → MayOffer shape (map row_terms rows) chan contract delay up_reach level reach → Pass shape (rows ++ new_row (tentative chan contract kind first next up_reach level reach) ∷ [])
+Pass-reserved shape rows chan contract kind first next delay up_reach level reach may =
     let row : Row = new_row (tentative chan contract kind first next up_reach level reach) in
     let e : as_admitted (rows ++ row ∷ []) ≡ with_row (as_admitted rows) contract (level_number level) =
     ap (λ all. map admitted all) (map-append row_terms rows (row ∷ [])) ∙ map-append admitted (map row_terms rows) (row.terms ∷ []) in
-    subst (Passes (server_of shape)) (sym (e ∙ ap (λ m. with_row (as_admitted rows) contract m) n)) best.passes
+    subst (Passes (server_of shape)) (sym e) ((Decides-admits (server_of shape) (as_admitted rows) contract (level_number level)).0 may.passes)
 
 -- ---- a relax moves a row to a level that is no smaller
 
@@ -119,7 +113,7 @@ rows_after-terms bounds here t taken (row ∷ rows) =
       row_after-terms Loses t place row = refl
 
 Pass-tick : (shape : LinkShape) (t : ℕ) (scan : Scan) → Pass shape scan.rows → Pass shape (after_tick shape t scan).rows
-unfolding after_tick with_sources without_expired
+unfolding after_tick with_best with_sources without_expired
 Pass-tick shape t scan pass =
     Pass-same shape (filter _ scan.rows) _ (rows_after-terms _ _ _ _ (filter _ scan.rows))
     (Pass-lighter shape scan.rows (filter _ scan.rows) (λ m w. total-filter-le (row_load shape.rate m w) _ scan.rows) pass)
@@ -137,8 +131,8 @@ Pass-closed shape t count test rows =
 
 -- ---- one entry
 
-Pass-after : (shape : LinkShape) (t : ℕ) (scan : Scan) (ask : Ask) (reply : Reply) → reply ≡ reply_at shape t scan ask → Pass shape scan.rows → Pass shape (after shape t scan ask reply).rows
-unfolding after reply_at
+Pass-after : (shape : LinkShape) (t : ℕ) (scan : Scan) (ask : Ask) (reply : Reply) → MayAnswer shape t scan ask reply → Pass shape scan.rows → Pass shape (after shape t scan ask reply).rows
+unfolding after MayAnswer reply_at
 Pass-after shape t scan (Reserve chan contract kind delay up_reach first next) (Is.Offer level reach) same pass =
     Pass-reserved shape scan.rows chan contract kind first next delay up_reach level reach same
 Pass-after shape t scan (Relax chan level up_bound) (Is.Relaxed clock) same pass =
@@ -152,6 +146,7 @@ Pass-after shape t scan (Release chan upstream) (Is.Closing count cancelled) sam
 Pass-after shape t scan (Arrive packet) (Is.Taken clock eligible) same pass =
     Pass-arrival shape t packet scan (find (is_row_of packet.chan) scan.rows) pass
 Pass-after shape t scan Tick reply same pass = Pass-tick shape t scan pass
+Pass-after shape t scan (Pour count gap size) (Is.Planned clock) same pass = pass
 Pass-after shape t scan _ _ same pass = pass
 
 -- ---- every entry
@@ -161,9 +156,9 @@ pub last-pass : (shape : LinkShape) (h : List Entry) → AfterEach (HeldRowsPass
 last-pass shape [] each = each
 last-pass shape (e ∷ past) each = each.1
 
--- so in a legal history the rows held pass after every entry
-pub held_rows-pass : (shape : LinkShape) (h : List Entry) → IsLegal shape h → AfterEach (HeldRowsPass shape) h
-unfolding IsLegal scan_of reply_to
+-- so in an admissible history the rows held pass after every entry
+pub held_rows-pass : (shape : LinkShape) (h : List Entry) → IsAdmissible shape h → AfterEach (HeldRowsPass shape) h
+unfolding IsAdmissible scan_of
 held_rows-pass shape [] legal = Pass-none shape
 held_rows-pass shape (e ∷ past) legal =
     let before = held_rows-pass shape past legal.0 in

@@ -3,7 +3,7 @@
 use Rattle.std.proofs.Common.{◌≡◌, ℕ, zero, suc, ◌+◌, ◌-◌, ◌<◌, ◌≤◌, true, false, List, [], ◌∷◌, Option, Some, None, inl, inr, ⊎_elim, refl, sym, ◌∙◌, subst, arith}
 use Rattle.std.proofs.lemmas.Bool.{cases_lt, leb-true, le-leb, eq-eqb, eqb-true, and_parts, and_from, or_cases, or_left, or_right, or_parts, true≢false, cond_both}
 use Rattle.std.specs.Prelude.{filter, nat_eq}
-use Rattle.link_steps.specs.BusyPeriod.{IsClear, IsGone, HasWork, FitsWindow}
+use Rattle.link_steps.specs.BusyPeriod.{IsClear, IsGone, HasWork, FitsWithin}
 use Rattle.link_steps.specs.Lists.{Each}
 use Rattle.link_steps.specs.Service.{Arrival, Start, leaves_at, first_in_line, is_start_of, has_started, is_waiting, is_busy, add_start, serve_tick, starts_below, is_departure_by, has_departed}
 use Rattle.link_steps.proofs.BusyPeriods.{busy_period-ends, add-departed, departed-has-started, waits-fresh}
@@ -25,19 +25,20 @@ clear-first : (rate : ℕ) (packets : List Arrival) (m : ℕ) → IsClear rate p
 clear-first rate packets m = Each-from (IsGone rate (starts_below rate packets 0) m 0) packets (λ p upto before. absurd (omega arith))
 
 -- from one clear tick to the next, in k steps at most, beyond e
-clear-from : (rate blocking : ℕ) (packets : List Arrival) (m w : ℕ) → Each (HasWork rate blocking) packets → ((u : ℕ) → FitsWindow rate blocking packets m u w) → (k u e : ℕ) → IsClear rate packets m u → u ≤ e → e < u + k → ClearAfter rate packets m e w
+clear-from : (rate blocking : ℕ) (packets : List Arrival) (m w : ℕ) → Each (HasWork rate blocking) packets → ((u : ℕ) → FitsWithin rate blocking packets m u w) → (k u e : ℕ) → IsClear rate packets m u → u ≤ e → e < u + k → ClearAfter rate packets m e w
 clear-from rate blocking packets m w works fits zero u e clear upto near = absurd (omega arith)
 clear-from rate blocking packets m w works fits (suc k) u e clear upto near =
-    let next = busy_period-ends rate blocking packets m u w works clear (fits u) in
+    let room = fits u in
+    let next = busy_period-ends rate blocking packets m u room.window works clear room.fits in
     let after = next.after in
-    let within = next.within in
+    let within : next.end ≤ u + w = omega (arith, next.within, room.upto) in
     ⊎_elim
     (λ (behind : e < next.end). record { tick = next.end; after = behind; within = omega (arith, within); clear = next.clear })
     (λ (before : next.end ≤ e). clear-from rate blocking packets m w works fits k next.end e next.clear before (omega (arith, after)))
     (cases_lt e next.end)
 
 -- behind every tick there is a clear one
-pub clear-after : (rate blocking : ℕ) (packets : List Arrival) (m w : ℕ) → Each (HasWork rate blocking) packets → ((u : ℕ) → FitsWindow rate blocking packets m u w) → (e : ℕ) → ClearAfter rate packets m e w
+pub clear-after : (rate blocking : ℕ) (packets : List Arrival) (m w : ℕ) → Each (HasWork rate blocking) packets → ((u : ℕ) → FitsWithin rate blocking packets m u w) → (e : ℕ) → ClearAfter rate packets m e w
 clear-after rate blocking packets m w works fits e =
     clear-from rate blocking packets m w works fits (suc e) 0 e (clear-first rate packets m) (omega arith) (omega arith)
 
@@ -50,7 +51,7 @@ pub record DepartsWithin (rate : ℕ) (packets : List Arrival) (w : ℕ) (p : Ar
   pub departed : has_departed rate (starts_below rate packets tick) tick p ≡ true
 
 -- the clear tick behind a packet's eligible tick is one by which it has departed
-pub departs-within : (rate blocking : ℕ) (packets : List Arrival) (w : ℕ) (p : Arrival) → Each (HasWork rate blocking) packets → ((u : ℕ) → FitsWindow rate blocking packets p.level u w) → Among p packets → DepartsWithin rate packets w p
+pub departs-within : (rate blocking : ℕ) (packets : List Arrival) (w : ℕ) (p : Arrival) → Each (HasWork rate blocking) packets → ((u : ℕ) → FitsWithin rate blocking packets p.level u w) → Among p packets → DepartsWithin rate packets w p
 departs-within rate blocking packets w p works fits among =
     let next = clear-after rate blocking packets p.level w works fits p.eligible in
     let gone = Each-among (IsGone rate (starts_below rate packets next.tick) p.level next.tick) p packets next.clear among in

@@ -25,14 +25,11 @@ use Rattle.link_steps.specs.declared.replies.Phase.TheVariants.{Tentative, Commi
 use Rattle.link_steps.specs.declared.shape.LinkShape.{LinkShape}
 use Rattle.link_steps.specs.Buffer.{slots_of, stay_in}
 use Rattle.link_steps.specs.HopGuarantee.{HasLeftInTime}
+use Rattle.link_steps.specs.Belonging.{eligible_of}
 use Rattle.link_steps.specs.Lists.{Each}
 use Rattle.link_steps.specs.Regulator.{waits_until, eligible_next}
 use Rattle.link_steps.specs.Reservation.{Reservation}
 use Rattle.link_steps.specs.Service.{Arrival, Start, is_here, has_departed}
-
--- the tick at which a packet is eligible
-abbrev pub eligible_of : Arrival → ℕ
-eligible_of p = p.eligible
 
 -- ---- a list that keeps a contract with t
 
@@ -66,25 +63,25 @@ source-now terms ticks t first follows =
 -- ---- the packets here
 
 -- a packet that is here was eligible less than its level's bound before t
-here-late : (shape : LinkShape) (starts : List Start) (t level : ℕ) (p : Arrival) → p.level ≡ level → is_here shape.rate starts t p ≡ true → HasLeftInTime shape t starts p → suc t - bound_at shape.bounds level ≤ p.eligible
-here-late shape starts t level p is here left =
+here-late : (shape : LinkShape) (starts : List Start) (t level : ℕ) (p : Arrival) → level ≤ length shape.bounds → p.level ≡ level → is_here shape.rate starts t p ≡ true → HasLeftInTime shape t starts p → suc t - bound_at shape.bounds level ≤ p.eligible
+here-late shape starts t level p upto is here left =
     elim (cases_lt t (p.eligible + bound_at shape.bounds p.level)) [
       | inl late ↦ (let e : bound_at shape.bounds p.level ≡ bound_at shape.bounds level = ap (bound_at shape.bounds) is in omega (arith, late, e))
-      | inr reached ↦ absurd (away (has_departed shape.rate starts t p) (left.gone reached) here)
+      | inr reached ↦ absurd (away (has_departed shape.rate starts t p) (left.gone (omega (arith, is, upto)) reached) here)
     ] where
       away : (departed : Bool) → departed ≡ true → not departed ≡ true → ⊥
       away true departed stays = cc
       away false departed stays = cc
 
 -- those here are among those eligible in a window as long as the bound
-count-here : (shape : LinkShape) (starts : List Start) (t level : ℕ) (own : List Arrival) → Each (λ p. p.level ≡ level) own → Each (HasLeftInTime shape t starts) own → Each (λ e. e < t) (map eligible_of own) → length (filter (is_here shape.rate starts t) own) ≤ count_in (map eligible_of own) (suc t - bound_at shape.bounds level) (bound_at shape.bounds level)
+count-here : (shape : LinkShape) (starts : List Start) (t level : ℕ) (own : List Arrival) → level ≤ length shape.bounds → Each (λ p. p.level ≡ level) own → Each (HasLeftInTime shape t starts) own → Each (λ e. e < t) (map eligible_of own) → length (filter (is_here shape.rate starts t) own) ≤ count_in (map eligible_of own) (suc t - bound_at shape.bounds level) (bound_at shape.bounds level)
 unfolding count_in
-count-here shape starts t level [] levels left before = omega arith
-count-here shape starts t level (p ∷ own) levels left before =
-    let rest = count-here shape starts t level own levels.1 left.1 before.1 in
+count-here shape starts t level [] upto levels left before = omega arith
+count-here shape starts t level (p ∷ own) upto levels left before =
+    let rest = count-here shape starts t level own upto levels.1 left.1 before.1 in
     let early = before.0 in
     elim (cases_Bool (is_here shape.rate starts t p)) [
-      | inl here ↦ (let from = here-late shape starts t level p levels.0 here left.0 in rw (here, le-leb (suc t - bound_at shape.bounds level) p.eligible from, lt-ltb p.eligible (suc t - bound_at shape.bounds level + bound_at shape.bounds level) (omega (arith, early))) (omega (arith, rest)))
+      | inl here ↦ (let from = here-late shape starts t level p upto levels.0 here left.0 in rw (here, le-leb (suc t - bound_at shape.bounds level) p.eligible from, lt-ltb p.eligible (suc t - bound_at shape.bounds level + bound_at shape.bounds level) (omega (arith, early))) (omega (arith, rest)))
       | inr away ↦ rw away (more (is_in_window (suc t - bound_at shape.bounds level) (bound_at shape.bounds level) p.eligible) (length (filter (is_here shape.rate starts t) own)) (filter (is_in_window (suc t - bound_at shape.bounds level) (bound_at shape.bounds level)) (map eligible_of own)) rest)
     ] where
       more : (b : Bool) (n : ℕ) (inside : List ℕ) → n ≤ length inside → n ≤ length (cond b (p.eligible ∷ inside) inside)
@@ -115,7 +112,7 @@ slots-most bounds terms valid settled =
 pub slot-free : (shape : LinkShape) (starts : List Start) (t : ℕ) (terms : Reservation) (own : List Arrival) → IsContract terms.contract → (terms.phase ≡ Tentative → ⊥) → 1 ≤ level_number terms.level → level_number terms.level ≤ length shape.bounds → Each (λ p. p.level ≡ level_number terms.level) own → Each (HasLeftInTime shape t starts) own → Each (λ e. e < t) (map eligible_of own) → Keeps terms.contract (map eligible_of own ++ t ∷ []) → length (filter (is_here shape.rate starts t) own) < slots_of shape.bounds terms
 slot-free shape starts t terms own valid settled least most levels left before kept =
     let some = bound_least shape.bounds (level_number terms.level) shape.bounds_rise least most in
-    let here = count-here shape starts t (level_number terms.level) own levels left before in
+    let here = count-here shape starts t (level_number terms.level) own most levels left before in
     let one = count-push (map eligible_of own) t (suc t - bound_at shape.bounds (level_number terms.level)) (bound_at shape.bounds (level_number terms.level)) (omega (arith, some)) (omega arith) in
     let fits = count_in-le terms.contract (map eligible_of own ++ t ∷ []) (suc t - bound_at shape.bounds (level_number terms.level)) (bound_at shape.bounds (level_number terms.level)) valid kept in
     let slots = slots-most shape.bounds terms valid settled in

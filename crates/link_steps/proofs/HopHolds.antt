@@ -1,16 +1,16 @@
--- In every legal history each packet leaves the link within the bound of its level of its eligible tick, and later than
+-- In every admissible history each packet leaves the link within the bound of its level of its eligible tick, and later than
 -- that tick.
-use Rattle.std.proofs.Common.{ℕ, ◌<◌, ◌≤◌, List, [], ◌∷◌, ⊎_elim, arith}
+use Rattle.std.proofs.Common.{ℕ, ◌<◌, ◌≤◌, List, [], ◌∷◌, length, ⊎_elim, arith}
 use Rattle.std.proofs.lemmas.Bool.{cases_lt}
 use Rattle.net_units.specs.LevelBounds.{bound_at}
 use Rattle.traffic_contract.proofs.ContractFacts.{burst-least}
 use Rattle.traffic_contract.proofs.NewestFirst.{Decides-keeps_newest_first}
 use Rattle.link_steps.specs.declared.replies.Entry.{Entry}
 use Rattle.link_steps.specs.declared.shape.LinkShape.{LinkShape}
+use Rattle.link_steps.specs.Admissible.{IsAdmissible}
 use Rattle.link_steps.specs.BusyPeriod.{HasWork}
 use Rattle.link_steps.specs.HopGuarantee.{LeavesInTime, HasLeftInTime, IsGuaranteed, HopGuarantee}
 use Rattle.link_steps.specs.Laws.{KeepsItsContract, RowsKeep}
-use Rattle.link_steps.specs.Legal.{IsLegal}
 use Rattle.link_steps.specs.Lists.{Each}
 use Rattle.link_steps.specs.Rows.{Row}
 use Rattle.link_steps.specs.Scan.{clock_of, scan_of, starts_of}
@@ -25,44 +25,45 @@ use Rattle.link_steps.proofs.ListFacts.{Among, Each-among, Each-if}
 use Rattle.link_steps.proofs.ServiceFacts.{starts-fact}
 use Rattle.link_steps.proofs.WindowFits.{packets-have_work, window-fits}
 
--- a packet departs within the bound of its level
+-- a packet of one of the levels departs within its bound
 abbrev DepartsInTime : LinkShape → List Arrival → Arrival → Type 0
-DepartsInTime shape packets p = DepartsWithin shape.rate packets (bound_at shape.bounds p.level) p
+DepartsInTime shape packets p = p.level ≤ length shape.bounds → DepartsWithin shape.rate packets (bound_at shape.bounds p.level) p
 
--- each packet of a legal history does
-packets-depart : (shape : LinkShape) (h : List Entry) → IsLegal shape h → Each (DepartsInTime shape (scan_of shape h).packets) (scan_of shape h).packets
+-- each packet of an admissible history does
+packets-depart : (shape : LinkShape) (h : List Entry) → IsAdmissible shape h → Each (DepartsInTime shape (scan_of shape h).packets) (scan_of shape h).packets
 packets-depart shape h legal =
-    Each-from_among (DepartsInTime shape (scan_of shape h).packets) (scan_of shape h).packets (λ p among.
+    Each-from_among (DepartsInTime shape (scan_of shape h).packets) (scan_of shape h).packets (λ p among upto.
     let carried = Each-among (IsCarried shape) p (scan_of shape h).packets (legal-order shape h legal).carried among in
     departs-within shape.rate (blocking_of shape) (scan_of shape h).packets (bound_at shape.bounds p.level) p (packets-have_work shape h legal)
-    (λ u. window-fits shape h p.level u legal carried.level_least carried.level_most) among)
+    (λ u. window-fits shape h p.level u legal carried.level_least upto) among)
 
 -- a packet whose bound the clock has reached has departed
 has-left : (shape : LinkShape) (clock : ℕ) (packets : List Arrival) (p : Arrival) → DepartsInTime shape packets p → HasLeftInTime shape clock (starts_below shape.rate packets clock) p
-has-left shape clock packets p departs = (let within = departs.within in record {
-  gone = λ reached. departed-at shape.rate packets departs.tick departs.tick clock clock p (omega (arith, within, reached)) (omega (arith, within, reached)) departs.departed;
-})
+has-left shape clock packets p departs = record {
+  gone = λ upto reached. (let d = departs upto in let within = d.within in departed-at shape.rate packets d.tick d.tick clock clock p (omega (arith, within, reached)) (omega (arith, within, reached)) d.departed);
+}
 
 -- a packet that departs does so in time
 leaves : (shape : LinkShape) (clock : ℕ) (packets : List Arrival) (start : Start) → Among start (starts_below shape.rate packets clock) → DepartsInTime shape packets start.packet → HasWork shape.rate (blocking_of shape) start.packet → LeavesInTime shape clock start
 leaves shape clock packets start among departs work =
     let eligible = Each-among IsEligibleStart start (starts_below shape.rate packets clock) (starts-eligible shape.rate packets clock) among in
     let least = work.least in
-    let within = departs.within in
     record {
       after = λ by. omega (arith, eligible, least);
-      within = λ by.
+      within = λ upto by.
+          let d = departs upto in
+          let within = d.within in
           ⊎_elim
-          (λ (later : clock < departs.tick). omega (arith, by, later, within))
-          (λ (reached : departs.tick ≤ clock).
-          let left = leaves-once shape.rate departs.tick (starts_below shape.rate packets clock) start (starts-once shape.rate packets clock) among
-          (departed-at shape.rate packets departs.tick departs.tick departs.tick clock start.packet (omega arith) reached departs.departed) in
+          (λ (later : clock < d.tick). omega (arith, by, later, within))
+          (λ (reached : d.tick ≤ clock).
+          let left = leaves-once shape.rate d.tick (starts_below shape.rate packets clock) start (starts-once shape.rate packets clock) among
+          (departed-at shape.rate packets d.tick d.tick d.tick clock start.packet (omega arith) reached d.departed) in
           omega (arith, left, within))
-          (cases_lt clock departs.tick);
+          (cases_lt clock d.tick);
     }
 
--- after a legal history
-pub guaranteed : (shape : LinkShape) (h : List Entry) → IsLegal shape h → IsGuaranteed shape h
+-- after an admissible history
+pub guaranteed : (shape : LinkShape) (h : List Entry) → IsAdmissible shape h → IsGuaranteed shape h
 guaranteed shape h legal =
     let departs = packets-depart shape h legal in
     let work = packets-have_work shape h legal in
@@ -76,8 +77,8 @@ guaranteed shape h legal =
     }
 
 -- after each of its entries
-pub hop-guarantee : (shape : LinkShape) (h : List Entry) → IsLegal shape h → HopGuarantee shape h
-unfolding IsLegal
+pub hop-guarantee : (shape : LinkShape) (h : List Entry) → IsAdmissible shape h → HopGuarantee shape h
+unfolding IsAdmissible
 hop-guarantee shape [] legal = guaranteed shape [] legal
 hop-guarantee shape (e ∷ past) legal = (hop-guarantee shape past legal.0, guaranteed shape (e ∷ past) legal)
 
@@ -87,8 +88,8 @@ hop-guarantee shape (e ∷ past) legal = (hop-guarantee shape past legal.0, guar
 row-keeps : (shape : LinkShape) (clock : ℕ) (row : Row) → IsInOrder shape clock row → KeepsItsContract row
 row-keeps shape clock row order = (Decides-keeps_newest_first row.terms.contract row.ticks (burst-least row.terms.contract order.contract)).0 order.keeps
 
--- the rows of a legal history keep their contracts
-pub rows-keep : (shape : LinkShape) (h : List Entry) → IsLegal shape h → RowsKeep shape h
+-- the rows of an admissible history keep their contracts
+pub rows-keep : (shape : LinkShape) (h : List Entry) → IsAdmissible shape h → RowsKeep shape h
 rows-keep shape h legal = (let order = legal-order shape h legal in record {
   held = Each-if (IsInOrder shape (clock_of h)) KeepsItsContract (scan_of shape h).rows (row-keeps shape (clock_of h)) order.held;
   gone = Each-if (IsInOrder shape (clock_of h)) KeepsItsContract (scan_of shape h).gone (row-keeps shape (clock_of h)) order.gone;

@@ -1,4 +1,4 @@
--- In a legal history no two held rows are of one channel: the row that a rule finds first is the only one.
+-- In an admissible history no two held rows are of one channel: the row that a rule finds first is the only one.
 use Rattle.std.proofs.Common.{◌≡◌, ℕ, suc, ◌≢◌, Bool, true, List, [], ◌∷◌, ◌++◌, length, map, Option, Some, None, refl, sym, ap, ◌∙◌, subst, inl, inr}
 use Rattle.std.proofs.lemmas.Bool.{cases_Bool, eqb-false, cond_both}
 use Rattle.std.proofs.lemmas.List.{map-append}
@@ -9,23 +9,21 @@ use Rattle.net_units.specs.declared.numbers.ChanNo.{ChanNo}
 use Rattle.net_units.specs.declared.numbers.Level.{Level}
 use Rattle.traffic_contract.specs.Contract.{Terms}
 use Rattle.link_steps.specs.declared.asks.Ask.{Ask}
-use Rattle.link_steps.specs.declared.asks.Ask.TheVariants.{Reserve, Relax, Deny, Submit, Release, Arrive, Tick}
+use Rattle.link_steps.specs.declared.asks.Ask.TheVariants.{Reserve, Relax, Deny, Submit, Release, Arrive, Tick, Pour}
 use Rattle.link_steps.specs.declared.asks.Packet.{Packet}
 use Rattle.link_steps.specs.declared.replies.Entry.{Entry}
 use Rattle.link_steps.specs.declared.replies.Reply.{Reply}
 use Rattle.link_steps.specs.declared.replies.Reply.TheVariants as Is
 use Rattle.link_steps.specs.declared.shape.LinkShape.{LinkShape}
+use Rattle.link_steps.specs.Admissible.{MayOffer, MayAnswer, IsAdmissible}
 use Rattle.link_steps.specs.Hold.{stays}
-use Rattle.link_steps.specs.Legal.{IsLegal}
 use Rattle.link_steps.specs.Lists.{Each, change_first, without_first}
-use Rattle.link_steps.specs.Refusals.{twice}
-use Rattle.link_steps.specs.Replies.{reserve_reply, reply_at, reply_to}
+use Rattle.link_steps.specs.Replies.{reply_at}
 use Rattle.link_steps.specs.Reservation.{Reservation, is_of, tentative}
 use Rattle.link_steps.specs.Rows.{Row, row_terms, new_row}
-use Rattle.link_steps.specs.Scan.{Scan, clock_of, is_row_of, is_row_at_hop, names_first_hop, relax_row, plan_row, close_row, arrived_row, with_arrival, without_expired, with_sources, after_tick, after, scan_of}
+use Rattle.link_steps.specs.Scan.{Scan, clock_of, is_row_of, is_row_at_hop, names_first_hop, relax_row, plan_row, close_row, arrived_row, with_arrival, without_expired, with_sources, with_best, after_tick, after, scan_of}
 use Rattle.link_steps.proofs.AdmissionHolds.{rows_after-terms}
 use Rattle.link_steps.proofs.ListFacts.{Each-append, map-change_first-same}
-use Rattle.link_steps.proofs.RefusalFacts.{kept-rule}
 
 abbrev channel_of : Row → ℕ
 channel_of row = channel_number row.terms.chan
@@ -89,16 +87,9 @@ others-found chan (row ∷ rows) none =
       | inr failed ↦ (eqb-false (channel_of row) (channel_number chan) failed, others-found chan rows (rw failed at none))
     ]
 
-not-twice : (found : Option Reservation) → twice found ≡ None → found ≡ None
-not-twice None none = refl
-not-twice (Some terms) none = cc
-
-differ-reserved : (shape : LinkShape) (rows : List Row) (chan : ChanNo) (contract : Terms) (delay up_reach : ℕ) (level reach : Level) (row : Row) → channel_of row ≡ channel_number chan → Is.Offer level reach ≡ reserve_reply shape (map row_terms rows) chan contract delay up_reach → DifferInChannel rows → DifferInChannel (rows ++ row ∷ [])
-unfolding reserve_reply
-differ-reserved shape rows chan contract delay up_reach level reach row is same differ =
-    let wide = kept-rule _ _ (Is.Offer level reach) tt same in
-    let new = kept-rule _ _ (Is.Offer level reach) tt wide.1 in
-    let others = others-found chan rows (not-twice _ new.0) in
+differ-reserved : (shape : LinkShape) (rows : List Row) (chan : ChanNo) (contract : Terms) (delay up_reach : ℕ) (level reach : Level) (row : Row) → channel_of row ≡ channel_number chan → MayOffer shape (map row_terms rows) chan contract delay up_reach level reach → DifferInChannel rows → DifferInChannel (rows ++ row ∷ [])
+differ-reserved shape rows chan contract delay up_reach level reach row is may differ =
+    let others = others-found chan rows may.new in
     subst AreApart (sym (map-append channel_of rows (row ∷ []))) (apart-push (channel_of row) (map channel_of rows) differ (subst (λ n. Each (λ m. m ≢ n) (map channel_of rows)) (sym is) others))
 
 differ-arrival : (t : ℕ) (packet : Packet) (scan : Scan) (found : Option Row) → DifferInChannel scan.rows → DifferInChannel (with_arrival t packet scan found).rows
@@ -106,8 +97,8 @@ unfolding with_arrival
 differ-arrival t packet scan None differ = differ
 differ-arrival t packet scan (Some row) differ = differ-change (is_row_of packet.chan) (arrived_row t (suc (length scan.packets)) packet) scan.rows (λ r. refl) differ
 
-differ-after : (shape : LinkShape) (t : ℕ) (scan : Scan) (ask : Ask) (reply : Reply) → reply ≡ reply_at shape t scan ask → DifferInChannel scan.rows → DifferInChannel (after shape t scan ask reply).rows
-unfolding after reply_at after_tick with_sources without_expired
+differ-after : (shape : LinkShape) (t : ℕ) (scan : Scan) (ask : Ask) (reply : Reply) → MayAnswer shape t scan ask reply → DifferInChannel scan.rows → DifferInChannel (after shape t scan ask reply).rows
+unfolding after MayAnswer reply_at after_tick with_best with_sources without_expired
 differ-after shape t scan (Reserve chan contract kind delay up_reach first next) (Is.Offer level reach) same differ =
     differ-reserved shape scan.rows chan contract delay up_reach level reach (new_row (tentative chan contract kind first next up_reach level reach)) refl same differ
 differ-after shape t scan (Relax chan level up_bound) (Is.Relaxed clock) same differ = differ-change (is_row_of chan) (relax_row level up_bound) scan.rows (λ row. refl) differ
@@ -117,10 +108,11 @@ differ-after shape t scan (Release chan upstream) (Is.Closing count cancelled) s
 differ-after shape t scan (Arrive packet) (Is.Taken clock eligible) same differ = differ-arrival t packet scan (find (is_row_of packet.chan) scan.rows) differ
 differ-after shape t scan Tick reply same differ =
     differ-same (filter (stays shape.bounds t) scan.rows) _ (rows_after-terms shape.bounds _ t (length scan.packets) (filter (stays shape.bounds t) scan.rows)) (differ-filter (stays shape.bounds t) scan.rows differ)
+differ-after shape t scan (Pour count gap size) (Is.Planned clock) same differ = differ
 differ-after shape t scan _ _ same differ = differ
 
--- the rows held after a legal history are of different channels
-pub legal-channels : (shape : LinkShape) (h : List Entry) → IsLegal shape h → DifferInChannel (scan_of shape h).rows
-unfolding IsLegal scan_of reply_to
+-- the rows held after an admissible history are of different channels
+pub legal-channels : (shape : LinkShape) (h : List Entry) → IsAdmissible shape h → DifferInChannel (scan_of shape h).rows
+unfolding IsAdmissible scan_of
 legal-channels shape [] legal = tt
 legal-channels shape (e ∷ past) legal = differ-after shape (clock_of past) (scan_of shape past) e.ask e.reply legal.1.answered (legal-channels shape past legal.0)

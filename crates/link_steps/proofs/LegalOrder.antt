@@ -1,6 +1,6 @@
--- After every entry of a legal history its rows, held or gone, are in order, its packets are ones that the link
+-- After every entry of an admissible history its rows, held or gone, are in order, its packets are ones that the link
 -- carries, and the hold of the rows that are gone has ended.
-use Rattle.std.proofs.Common.{◌≡◌, ℕ, suc, ◌+◌, ◌<◌, ◌≤◌, Bool, true, false, ◌&&◌, List, [], ◌∷◌, length, map, get_or, Option, Some, None, ⊎_elim, refl, sym, ap, ◌∙◌, arith}
+use Rattle.std.proofs.Common.{nat_lt, ◌≡◌, ℕ, suc, ◌+◌, ◌<◌, ◌≤◌, Bool, true, false, ◌&&◌, List, [], ◌∷◌, ◌++◌, length, map, get_or, Option, Some, None, ⊎_elim, refl, sym, ap, ◌∙◌, arith}
 use Rattle.std.proofs.lemmas.Bool.{leb-true, eqb-true, and_parts, or_cases}
 use Rattle.std.specs.Prelude.{filter, find, nat_eq, nat_le}
 use Rattle.net_units.specs.LevelBounds.{last_bound}
@@ -13,34 +13,36 @@ use Rattle.traffic_contract.specs.Eligible.{newest}
 use Rattle.traffic_contract.specs.Keeping.{keeps_newest_first}
 use Rattle.traffic_contract.proofs.EligibleFacts.{get_or-le-newest}
 use Rattle.link_steps.specs.declared.asks.Ask.{Ask}
-use Rattle.link_steps.specs.declared.asks.Ask.TheVariants.{Reserve, Relax, Deny, Submit, Release, Arrive, Tick}
+use Rattle.link_steps.specs.declared.asks.Ask.TheVariants.{Reserve, Relax, Deny, Submit, Release, Arrive, Tick, Pour}
 use Rattle.link_steps.specs.declared.asks.Packet.{Packet}
 use Rattle.link_steps.specs.declared.replies.Entry.{Entry}
 use Rattle.link_steps.specs.declared.replies.Phase.TheVariants.{Closing}
 use Rattle.link_steps.specs.declared.replies.Reply.{Reply}
 use Rattle.link_steps.specs.declared.replies.Reply.TheVariants as Is
 use Rattle.link_steps.specs.declared.shape.LinkShape.{LinkShape}
+use Rattle.link_steps.specs.Admissible.{MayOffer, MayAnswer, IsAdmissible}
 use Rattle.link_steps.specs.Hold.{hold_ended, expires, stays}
-use Rattle.link_steps.specs.Legal.{AskFits, PacketFits, IsLegal}
+use Rattle.link_steps.specs.Legal.{AskFits, PacketFits}
 use Rattle.link_steps.specs.Lists.{Each}
-use Rattle.link_steps.specs.Replies.{reserve_reply, submit_to, release_to, arrive_to, reply_at, reply_to}
+use Rattle.link_steps.specs.Replies.{submit_to, release_to, arrive_to, reply_at}
 use Rattle.link_steps.specs.Reservation.{is_phase, tentative}
 use Rattle.link_steps.specs.Rows.{Row, SourcePacket, row_terms, new_row, is_for, left_at}
-use Rattle.link_steps.specs.Scan.{Scan, clock_with, clock_of, is_row_of, is_row_at_hop, names_first_hop, relax_row, plan_row, close_row, arrived_row, with_arrival, without_expired, with_sources, after_tick, after, scan_of}
-use Rattle.link_steps.specs.Service.{Arrival, here_at}
+use Rattle.link_steps.specs.Scan.{Scan, clock_with, clock_of, is_row_of, is_row_at_hop, names_first_hop, relax_row, plan_row, close_row, arrived_row, with_arrival, without_expired, with_sources, with_best, best_step_at, after_tick, after, scan_of}
+use Rattle.link_steps.specs.Service.{Arrival, starts_below, here_at}
 use Rattle.link_steps.specs.Sources.{source_step, step_of, packet_of, source_packets, taken_by}
+use Rattle.link_steps.specs.BestEffort.{level_below, best_packet, best_step, waiting_best}
 use Rattle.link_steps.specs.Buffer.{has_slot}
 use Rattle.link_steps.proofs.ChangeFacts.{Each-change_found, Each-passes}
-use Rattle.link_steps.proofs.LegalRowFacts.{SizeFits, IsInOrder, order-packet, order-later, order-rows_after, order-relaxed, order-planned, order-closed}
+use Rattle.link_steps.proofs.LegalRowFacts.{planned-sizes, SizeFits, IsInOrder, order-packet, order-later, order-rows_after, order-relaxed, order-planned, order-closed}
 use Rattle.link_steps.proofs.ListFacts.{Each-append, Each-both, Each-filter, Each-find, Each-if, Each-without_first}
-use Rattle.link_steps.proofs.ReplyFacts.{phase-is, offer-tells, submit-tells, release-tells, arrive-tells}
+use Rattle.link_steps.proofs.ReplyFacts.{may-reach, pour-tells, phase-is, submit-tells, release-tells, arrive-tells}
 
 -- a packet that the link carries, at one of its levels
 pub record IsCarried (shape : LinkShape) (p : Arrival) : Type 0 where
   pub size_least : 1 ≤ p.size
   pub size_most : p.size ≤ shape.cap
   pub level_least : 1 ≤ p.level
-  pub level_most : p.level ≤ length shape.bounds
+  pub level_most : p.level ≤ level_below shape.bounds
 
 -- each packet of the row was eligible for as long as the largest bound by the last tick made
 abbrev pub HasExpired : LinkShape → ℕ → Row → Type 0
@@ -52,11 +54,12 @@ pub record ScanInOrder (shape : LinkShape) (clock : ℕ) (scan : Scan) : Type 0 
   pub gone : Each (IsInOrder shape clock) scan.gone
   pub expired : Each (HasExpired shape clock) scan.gone
   pub carried : Each (IsCarried shape) scan.packets
+  pub poured : Each (SizeFits shape.cap) scan.best_plan
 
 -- ---- expiry
 
 -- each tick is at most the newest
-upto-newest : (n : ℕ) (ticks : List ℕ) → ((k : ℕ) → get_or ticks k 0 ≤ n) → Each (λ e. e ≤ n) ticks
+pub upto-newest : (n : ℕ) (ticks : List ℕ) → ((k : ℕ) → get_or ticks k 0 ≤ n) → Each (λ e. e ≤ n) ticks
 upto-newest n [] most = tt
 upto-newest n (e ∷ ticks) most = (most 0, upto-newest n ticks (λ k. most (suc k)))
 
@@ -88,7 +91,7 @@ carried-source shape t place row true (Some p) is order =
     let size = Each-find (SizeFits row.terms.contract.smax) (is_for t) row.plan p order.planned is in
     let narrow = order.narrow in
     let most = size.size_most in
-    (record { size_least = size.size_least; size_most = omega (arith, narrow, most); level_least = order.level_least; level_most = order.level_most }, tt)
+    (record { size_least = size.size_least; size_most = omega (arith, narrow, most); level_least = order.level_least; level_most = (let own = order.level_most in omega (arith, own)) }, tt)
 
 -- and those that all sources bring in a tick
 carried-sources : (shape : LinkShape) (here : List Arrival) (t taken : ℕ) (rows : List Row) → Each (IsInOrder shape t) rows → Each (IsCarried shape) (source_packets shape.bounds here t taken rows)
@@ -99,11 +102,22 @@ carried-sources shape here t taken (row ∷ rows) each =
     (carried-source shape t (suc taken) row (has_slot shape.bounds row.terms row.lead here) (find (is_for t) row.plan) refl each.0)
     (carried-sources shape here t (taken + taken_by (source_step (has_slot shape.bounds row.terms row.lead here) (find (is_for t) row.plan))) rows each.1)
 
+-- and a best-effort packet
+carried-best : (shape : LinkShape) (t place waiting most : ℕ) (plan : List SourcePacket) → Each (SizeFits shape.cap) plan → Each (IsCarried shape) (best_packet (best_step waiting most t plan) shape.bounds place t)
+unfolding best_step
+carried-best shape t place waiting most plan poured = by-step (nat_lt waiting most) (find (is_for t) plan) refl where
+  by-step : (slot : Bool) (found : Option SourcePacket) → find (is_for t) plan ≡ found → Each (IsCarried shape) (best_packet (source_step slot found) shape.bounds place t)
+  by-step slot None is = tt
+  by-step false (Some p) is = tt
+  by-step true (Some p) is =
+      let size = Each-find (SizeFits shape.cap) (is_for t) plan p poured is in
+      (record { size_least = size.size_least; size_most = size.size_most; level_least = omega arith; level_most = omega arith }, tt)
+
 -- ---- one entry
 
 -- a tick: rows expire, and the sources of the others bring their packets
 order-tick : (shape : LinkShape) (t : ℕ) (scan : Scan) → ScanInOrder shape t scan → ScanInOrder shape (suc t) (after_tick shape t scan)
-unfolding after_tick with_sources without_expired
+unfolding after_tick with_best best_step_at with_sources without_expired
 order-tick shape t scan order =
     let held = Each-filter (IsInOrder shape t) (stays shape.bounds t) scan.rows order.held in
     let ended = Each-filter (IsInOrder shape t) (expires shape.bounds t) scan.rows order.held in
@@ -114,12 +128,15 @@ order-tick shape t scan order =
           (Each-if (HasExpired shape t) (HasExpired shape (suc t)) scan.gone (λ row by. Each-if (λ e. e + last_bound shape.bounds < t) (λ e. e + last_bound shape.bounds < suc t) row.ticks (λ e before. omega arith) by) order.expired)
           (Each-if (λ row. IsInOrder shape t row × (expires shape.bounds t row ≡ true)) (HasExpired shape (suc t)) _ (λ row both. expired-row shape t row both.0 both.1)
           (Each-both (IsInOrder shape t) (λ row. expires shape.bounds t row ≡ true) _ ended (Each-passes (expires shape.bounds t) scan.rows)));
-      carried = Each-append (IsCarried shape) scan.packets _ order.carried (carried-sources shape (here_at shape.rate scan.packets t) t (length scan.packets) (filter (stays shape.bounds t) scan.rows) held);
+      carried = Each-append (IsCarried shape) (scan.packets ++ source_packets shape.bounds (here_at shape.rate scan.packets t) t (length scan.packets) (filter (stays shape.bounds t) scan.rows)) _
+          (Each-append (IsCarried shape) scan.packets _ order.carried (carried-sources shape (here_at shape.rate scan.packets t) t (length scan.packets) (filter (stays shape.bounds t) scan.rows) held))
+          (carried-best shape t _ (waiting_best shape.bounds (starts_below shape.rate scan.packets t) scan.packets) shape.best scan.best_plan order.poured);
+      poured = order.poured;
     }
 
 -- the same packets and gone rows, with other rows
 order-with : (shape : LinkShape) (t : ℕ) (scan : Scan) (rows : List Row) → Each (IsInOrder shape t) rows → ScanInOrder shape t scan → ScanInOrder shape t (record scan { rows = rows })
-order-with shape t scan rows held order = record { held = held; gone = order.gone; expired = order.expired; carried = order.carried }
+order-with shape t scan rows held order = record { held = held; gone = order.gone; expired = order.expired; carried = order.carried; poured = order.poured }
 
 -- an arrive that is taken
 order-arrival : (shape : LinkShape) (t : ℕ) (packet : Packet) (scan : Scan) (found : Option Row) (clock e : ℕ) → find (is_row_of packet.chan) scan.rows ≡ found → PacketFits packet → Is.Taken clock e ≡ arrive_to shape t scan.packets packet found → ScanInOrder shape t scan → ScanInOrder shape t (with_arrival t packet scan found)
@@ -136,29 +153,29 @@ order-arrival shape t packet scan (Some row) clock e is fits same order =
           order-packet shape t t (suc (length scan.packets)) packet.due r taken.settled taken.counts r-order) order.held;
       gone = order.gone;
       expired = order.expired;
-      carried = Each-append (IsCarried shape) scan.packets _ order.carried (record { size_least = fits.size_least; size_most = omega (arith, narrow, most); level_least = own.level_least; level_most = own.level_most }, tt);
+      carried = Each-append (IsCarried shape) scan.packets _ order.carried (record { size_least = fits.size_least; size_most = omega (arith, narrow, most); level_least = own.level_least; level_most = (let upto = own.level_most in omega (arith, upto)) }, tt);
+      poured = order.poured;
     }
 
 -- a new row
-order-reserved : (shape : LinkShape) (t : ℕ) (rows : List Row) (chan : ChanNo) (contract : Terms) (kind : Kind) (first : Bool) (next : Option LinkNo) (delay up_reach : ℕ) (level reach : Level) → IsContract contract → Is.Offer level reach ≡ reserve_reply shape (map row_terms rows) chan contract delay up_reach → IsInOrder shape t (new_row (tentative chan contract kind first next up_reach level reach))
+order-reserved : (shape : LinkShape) (t : ℕ) (rows : List Row) (chan : ChanNo) (contract : Terms) (kind : Kind) (first : Bool) (next : Option LinkNo) (delay up_reach : ℕ) (level reach : Level) → IsContract contract → MayOffer shape (map row_terms rows) chan contract delay up_reach level reach → IsInOrder shape t (new_row (tentative chan contract kind first next up_reach level reach))
 unfolding keeps_newest_first
-order-reserved shape t rows chan contract kind first next delay up_reach level reach is same =
-    let tells = offer-tells shape (map row_terms rows) chan contract delay up_reach level reach same in
-    record {
-      contract = is;
-      narrow = tells.0;
-      level_least = level.least;
-      level_most = tells.1;
-      keeps = refl;
-      planned = tt;
-      fresh = λ _. (refl, refl);
-      counted = λ closes. cc;
-      cancelled = λ closes. tt;
-    }
+order-reserved shape t rows chan contract kind first next delay up_reach level reach is may = record {
+  contract = is;
+  narrow = may.narrow;
+  level_least = level.least;
+  level_most = may.level_most;
+  reach_most = may-reach shape (map row_terms rows) chan contract delay up_reach level reach may;
+  keeps = refl;
+  planned = tt;
+  fresh = λ _. (refl, refl);
+  counted = λ closes. cc;
+  cancelled = λ closes. tt;
+}
 
 -- each kind of entry keeps the order
-order-after : (shape : LinkShape) (t : ℕ) (scan : Scan) (ask : Ask) (reply : Reply) → AskFits shape ask → reply ≡ reply_at shape t scan ask → ScanInOrder shape t scan → ScanInOrder shape (clock_with ask t) (after shape t scan ask reply)
-unfolding after reply_at
+order-after : (shape : LinkShape) (t : ℕ) (scan : Scan) (ask : Ask) (reply : Reply) → AskFits shape ask → MayAnswer shape t scan ask reply → ScanInOrder shape t scan → ScanInOrder shape (clock_with ask t) (after shape t scan ask reply)
+unfolding after MayAnswer reply_at
 order-after shape t scan (Reserve chan contract kind delay up_reach first next) (Is.Offer level reach) fits same order =
     order-with shape t scan _ (Each-append (IsInOrder shape t) scan.rows _ order.held (order-reserved shape t scan.rows chan contract kind first next delay up_reach level reach fits.is_contract same, tt)) order
 order-after shape t scan (Relax chan level up_bound) (Is.Relaxed clock) fits same order =
@@ -175,10 +192,19 @@ order-after shape t scan (Release chan upstream) (Is.Closing count cancelled) fi
 order-after shape t scan (Arrive packet) (Is.Taken clock eligible) fits same order =
     order-arrival shape t packet scan (find (is_row_of packet.chan) scan.rows) clock eligible refl fits same order
 order-after shape t scan Tick reply fits same order = order-tick shape t scan order
+order-after shape t scan (Pour count gap size) (Is.Planned clock) fits same order =
+    let tells = pour-tells t shape.cap size (length (left_at t scan.best_plan)) clock same in
+    record {
+      held = order.held;
+      gone = order.gone;
+      expired = order.expired;
+      carried = order.carried;
+      poured = Each-append (SizeFits shape.cap) scan.best_plan _ order.poured (planned-sizes shape.cap t gap size count fits.1.size_least tells.1);
+    }
 order-after shape t scan _ _ fits same order = order
 
--- and so does a legal history
-pub legal-order : (shape : LinkShape) (h : List Entry) → IsLegal shape h → ScanInOrder shape (clock_of h) (scan_of shape h)
-unfolding IsLegal scan_of clock_of reply_to
-legal-order shape [] legal = record { held = tt; gone = tt; expired = tt; carried = tt }
+-- and so does an admissible history
+pub legal-order : (shape : LinkShape) (h : List Entry) → IsAdmissible shape h → ScanInOrder shape (clock_of h) (scan_of shape h)
+unfolding IsAdmissible scan_of clock_of
+legal-order shape [] legal = record { held = tt; gone = tt; expired = tt; carried = tt; poured = tt }
 legal-order shape (e ∷ past) legal = order-after shape (clock_of past) (scan_of shape past) e.ask e.reply legal.1.fits legal.1.answered (legal-order shape past legal.0)

@@ -1,4 +1,4 @@
--- The rows of a legal history, held or gone, are in order: each has a contract that its eligible ticks keep, no larger
+-- The rows of an admissible history, held or gone, are in order: each has a contract that its eligible ticks keep, no larger
 -- packets than the link carries, and one of the link's levels. A row that isn't committed yet has no packets. One that
 -- is closing has taken no more than its count, and nothing is planned for it any more.
 use Rattle.std.proofs.Common.{◌≡◌, ℕ, zero, suc, ◌+◌, ◌-◌, ◌<◌, ◌≤◌, Bool, true, false, List, [], ◌∷◌, length, max, Option, Some, None, inl, inr, refl, sym, ap, ◌∙◌, subst, arith}
@@ -38,6 +38,7 @@ pub record IsInOrder (shape : LinkShape) (clock : ℕ) (row : Row) : Type 0 wher
   pub narrow : row.terms.contract.smax ≤ shape.cap
   pub level_least : 1 ≤ level_number row.terms.level
   pub level_most : level_number row.terms.level ≤ length shape.bounds
+  pub reach_most : level_number row.terms.reach ≤ length shape.bounds
   pub keeps : keeps_newest_first row.terms.contract row.ticks ≡ true
   pub planned : Each (SizeFits row.terms.contract.smax) row.plan
   pub fresh : row.terms.phase ≡ Tentative → (row.ticks ≡ []) × (row.plan ≡ [])
@@ -63,6 +64,7 @@ order-packet shape clock t place due row settled counts order = record {
   narrow = order.narrow;
   level_least = order.level_least;
   level_most = order.level_most;
+  reach_most = order.reach_most;
   keeps = keeps-more row.terms.contract row.ticks (waits_until row.terms.kind row.terms.first t due) order.contract order.keeps;
   planned = order.planned;
   fresh = λ tentative. absurd (settled tentative);
@@ -79,6 +81,7 @@ order-later shape t row order = record {
   narrow = order.narrow;
   level_least = order.level_least;
   level_most = order.level_most;
+  reach_most = order.reach_most;
   keeps = order.keeps;
   planned = order.planned;
   fresh = order.fresh;
@@ -120,6 +123,7 @@ order-source shape t place row false (Some p) is order = (let later = order-late
   narrow = later.narrow;
   level_least = later.level_least;
   level_most = later.level_most;
+  reach_most = later.reach_most;
   keeps = later.keeps;
   planned = later.planned;
   fresh = later.fresh;
@@ -143,6 +147,7 @@ order-relaxed shape t up_bound level row most order = record {
   narrow = order.narrow;
   level_least = level.least;
   level_most = most;
+  reach_most = order.reach_most;
   keeps = order.keeps;
   planned = order.planned;
   fresh = λ tentative. cc;
@@ -151,7 +156,7 @@ order-relaxed shape t up_bound level row most order = record {
 }
 
 -- packets that are planned have the size of the submit
-planned-sizes : (most u gap size count : ℕ) → 1 ≤ size → size ≤ most → Each (SizeFits most) (planned_from u gap size count)
+pub planned-sizes : (most u gap size count : ℕ) → 1 ≤ size → size ≤ most → Each (SizeFits most) (planned_from u gap size count)
 unfolding planned_from
 planned-sizes most u gap size zero least fits = tt
 planned-sizes most u gap size (suc count) least fits = (record { size_least = least; size_most = fits }, planned-sizes most (u + gap) gap size count least fits)
@@ -163,6 +168,7 @@ order-planned shape t count gap size row is least most order = record {
   narrow = order.narrow;
   level_least = order.level_least;
   level_most = order.level_most;
+  reach_most = order.reach_most;
   keeps = order.keeps;
   planned = Each-append _ row.plan _ order.planned (planned-sizes row.terms.contract.smax t gap size count least most);
   fresh = λ tentative. absurd (let h : Committed ≡ Tentative = sym is ∙ tentative in cc);
@@ -177,6 +183,7 @@ order-closed shape t count row counts order = record {
   narrow = order.narrow;
   level_least = order.level_least;
   level_most = order.level_most;
+  reach_most = order.reach_most;
   keeps = order.keeps;
   planned = Each-filter _ (is_before t) row.plan order.planned;
   fresh = λ tentative. cc;

@@ -4,6 +4,8 @@ pub mod WorkedSetup
 pub mod WorkedPackets
 pub mod WorkedLaterHop
 pub mod WorkedSources
+pub mod WorkedSplit
+pub mod WorkedBest
 pub mod LevelFacts
 pub mod ListFacts
 pub mod RefusalFacts
@@ -20,9 +22,16 @@ pub mod LegalChannels
 pub mod ChangeFacts
 pub mod LegalRowFacts
 pub mod LegalOrder
+pub mod NewPackets
 pub mod WindowWork
 pub mod WindowFits
 pub mod HopHolds
+pub mod SumAfter
+pub mod AtMostOnce
+pub mod UnitsHeld
+pub mod Shares
+pub mod SplitFacts
+pub mod LegalAdmissible
 pub mod Departures
 pub mod PlanFacts
 pub mod FreeSlots
@@ -30,3 +39,8 @@ pub mod RowPackets
 pub mod RowsStanding
 pub mod SourcesServed
 pub mod SourceHistory
+pub mod PacketRows
+pub mod SlotsHeld
+pub mod TogetherHeld
+pub mod TicksBounded
+pub mod JournalFacts

@@ -6,15 +6,12 @@ use Rattle.std.proofs.lemmas.List.{length_push}
 use Rattle.std.proofs.lemmas.List.Elements.{filter-append}
 use Rattle.std.specs.Prelude.{filter, nat_eq}
 use Rattle.link_steps.specs.Buffer.{has_lead}
+use Rattle.link_steps.specs.Belonging.{own_packets}
 use Rattle.link_steps.specs.Lists.{Each}
 use Rattle.link_steps.specs.Rows.{Row}
 use Rattle.link_steps.specs.Service.{Arrival}
 use Rattle.link_steps.specs.Sources.{SourceStep, Rests, Brings, Loses, arrival_at, lead_with, source_tick, step_of, packet_of, row_after, taken_by, source_packets, rows_after}
 use Rattle.link_steps.proofs.ListFacts.{Each-append, Each-both, Each-if, filter-none}
-
--- the packets of a row
-abbrev pub own_packets : Row → List Arrival → List Arrival
-own_packets row packets = filter (has_lead row.lead) packets
 
 -- the lead of a packet is an arrival number up to `taken`
 pub record IsLedUpTo (taken : ℕ) (p : Arrival) : Type 0 where
@@ -51,7 +48,7 @@ pub record RowsStand (P Q : Row → List Arrival → Type 0) (packets : List Arr
 -- ---- own packets
 
 -- the lead with a packet is that of its arrival number where there was none, and the same where there was one
-lead-cases : (lead place : ℕ) → ((lead ≡ 0) × (lead_with lead place ≡ place)) ⊎ ((1 ≤ lead) × (lead_with lead place ≡ lead))
+pub lead-cases : (lead place : ℕ) → ((lead ≡ 0) × (lead_with lead place ≡ place)) ⊎ ((1 ≤ lead) × (lead_with lead place ≡ lead))
 lead-cases lead place =
     elim (cases_Bool (nat_eq lead 0)) [
       | inl none ↦ inl (eqb-true lead 0 none, rw none refl)
@@ -63,7 +60,7 @@ lead-cases lead place =
 own-more : (n : ℕ) (packets : List Arrival) (p : Arrival) → p.lead ≡ n → filter (has_lead n) (packets ++ p ∷ []) ≡ filter (has_lead n) packets ++ p ∷ []
 own-more n packets p same = filter-append (has_lead n) packets (p ∷ []) ∙ rw (eq-eqb p.lead n same) refl
 
-own-same : (n : ℕ) (packets : List Arrival) (p : Arrival) → p.lead ≢ n → filter (has_lead n) (packets ++ p ∷ []) ≡ filter (has_lead n) packets
+pub own-same : (n : ℕ) (packets : List Arrival) (p : Arrival) → p.lead ≢ n → filter (has_lead n) (packets ++ p ∷ []) ≡ filter (has_lead n) packets
 own-same n packets p other = filter-append (has_lead n) packets (p ∷ []) ∙ rw (ne_eqb p.lead n other) (append-nil (filter (has_lead n) packets))
 
 own-none : (n : ℕ) (packets : List Arrival) → Each (λ p. p.lead ≢ n) packets → filter (has_lead n) packets ≡ []

@@ -1,16 +1,18 @@
 -- What stands of the rows and their packets stands through each change of the rows: as they expire, are reserved, denied
 -- and changed, and as one of them takes a packet from elsewhere.
-use Rattle.std.proofs.Common.{◌≡◌, suc, Bool, true, false, cond, not, List, [], ◌∷◌, ◌++◌, length, Some, inl, inr, refl, sym, ap, ◌∙◌, subst, arith}
+use Rattle.std.proofs.lemmas.List.{length_push}
+use Rattle.std.proofs.Common.{◌≡◌, suc, Bool, true, false, cond, not, List, [], ◌∷◌, ◌++◌, length, Some, inl, inr, refl, sym, ap, ◌∙◌, subst, arith, ◌+◌}
 use Rattle.std.proofs.lemmas.Bool.{cases_Bool, cond_both}
 use Rattle.std.proofs.lemmas.Option.{same_Some}
 use Rattle.std.specs.Prelude.{filter, find}
 use Rattle.link_steps.specs.Buffer.{has_lead}
+use Rattle.link_steps.specs.Belonging.{own_packets}
 use Rattle.link_steps.specs.Lists.{Each, change_first, without_first}
 use Rattle.link_steps.specs.Rows.{Row}
 use Rattle.link_steps.specs.Service.{Arrival}
 use Rattle.link_steps.specs.Sources.{lead_with}
 use Rattle.link_steps.proofs.ListFacts.{Each-append, Each-both, Each-filter, Each-if, Each-without_first}
-use Rattle.link_steps.proofs.RowPackets.{own_packets, own-new, IsApart, LeadsApart, IsHeld, IsBeside, RowsStand, stand-takes, takes-apart, stand-rests, rests-apart, stand-back}
+use Rattle.link_steps.proofs.RowPackets.{own-new, IsApart, LeadsApart, IsHeld, IsBeside, RowsStand, stand-takes, takes-apart, stand-rests, rests-apart, stand-back, own-same, IsLedUpTo}
 
 -- what follows of each row, beside the others or held
 pub stand-if : (P Q R S : Row → List Arrival → Type 0) (A B : Row → Type 0) (packets : List Arrival) (others rows : List Row) → ((row : Row) → A row → P row (own_packets row packets) → R row (own_packets row packets)) → ((row : Row) → B row → Q row (own_packets row packets) → S row (own_packets row packets)) → Each A others → Each B rows → RowsStand P Q packets others rows → RowsStand R S packets others rows
@@ -116,3 +118,25 @@ stand-arrives P test change packets p row lead is keeps (r ∷ rows) others foun
       | inr failed ↦ (let rest = stand-arrives P test change packets p row lead is keeps rows (r ∷ others) (rw failed at found) (stand-rests P P packets others rows r r refl stand.held.0.fact stand) in
           rw failed (stand-back P (packets ++ p ∷ []) others (change_first test change rows) r (rests-apart P P packets others rows r r refl stand) rest))
     ]
+
+-- ---- a packet of no row
+
+-- a packet with a lead of its own
+pub stand-apart : (P : Row → List Arrival → Type 0) (packets : List Arrival) (others rows : List Row) (p : Arrival) → p.lead ≡ suc (length packets) → RowsStand P P packets others rows → RowsStand P P (packets ++ p ∷ []) others rows
+stand-apart P packets others rows p own stand =
+    let more : length (packets ++ p ∷ []) ≡ length packets + 1 = length_push packets p in
+    record {
+      leads = Each-append (IsLedUpTo (length (packets ++ p ∷ []))) packets (p ∷ [])
+          (Each-if (IsLedUpTo (length packets)) (IsLedUpTo (length (packets ++ p ∷ []))) packets (λ q led. record { some = led.some; upto = (let h = led.upto in omega (arith, h, more)) }) stand.leads)
+          (record { some = omega (arith, own); upto = omega (arith, own, more) }, tt);
+      beside = Each-if (IsBeside P packets rows) (IsBeside P (packets ++ p ∷ []) rows) others (λ row beside. record {
+        fact = subst (P row) (sym (own-same row.lead packets p (λ same. (let under = beside.upto in omega (arith, own, same, under))))) beside.fact;
+        upto = (let under = beside.upto in omega (arith, under, more));
+        apart = beside.apart;
+      }) stand.beside;
+      held = Each-if (IsHeld P packets) (IsHeld P (packets ++ p ∷ [])) rows (λ row held. record {
+        fact = subst (P row) (sym (own-same row.lead packets p (λ same. (let under = held.upto in omega (arith, own, same, under))))) held.fact;
+        upto = (let under = held.upto in omega (arith, under, more));
+      }) stand.held;
+      apart = stand.apart;
+    }

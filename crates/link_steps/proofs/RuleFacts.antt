@@ -1,8 +1,8 @@
 -- That the rules say what they are meant to, where a definition takes a short way.
-use Rattle.std.proofs.Common.{◌≡◌, ℕ, suc, ◌+◌, ◌≤◌, Bool, false, List, [], ◌∷◌, length, map, Option, Some, None, refl, sym, ap, ◌∙◌, arith}
+use Rattle.std.proofs.Common.{◌≡◌, ℕ, suc, ◌+◌, ◌≤◌, Bool, false, List, [], ◌∷◌, ◌++◌, length, map, Option, Some, None, refl, sym, ap, ◌∙◌, arith}
 use Rattle.std.proofs.Math.Bool.{or-false}
 use Rattle.std.proofs.lemmas.Bool.{le-ltb}
-use Rattle.std.specs.Prelude.{find, nat_lt}
+use Rattle.std.specs.Prelude.{filter, find, nat_lt}
 use Rattle.std.specs.List.{list_any}
 use Rattle.net_units.specs.Numbers.{level_number}
 use Rattle.net_units.specs.declared.Kind.{Kind}
@@ -11,19 +11,22 @@ use Rattle.net_units.specs.declared.numbers.Level.{Level}
 use Rattle.net_units.specs.declared.numbers.LinkNo.{LinkNo}
 use Rattle.traffic_contract.specs.Contract.{Terms}
 use Rattle.link_steps.specs.declared.asks.Ask.{Ask}
-use Rattle.link_steps.specs.declared.asks.Ask.TheVariants.{Reserve, Relax, Deny, Submit, Release, Arrive, Tick}
+use Rattle.link_steps.specs.declared.asks.Ask.TheVariants.{Reserve, Relax, Deny, Submit, Release, Arrive, Tick, Pour}
 use Rattle.link_steps.specs.declared.asks.Packet.{Packet}
 use Rattle.link_steps.specs.declared.replies.Entry.{Entry}
 use Rattle.link_steps.specs.declared.replies.Reply.{Reply}
 use Rattle.link_steps.specs.declared.replies.Reply.TheVariants as Is
 use Rattle.link_steps.specs.declared.shape.LinkShape.{LinkShape}
+use Rattle.link_steps.specs.Split.{Link}
+use Rattle.link_steps.specs.BestEffort.{best_packet}
+use Rattle.link_steps.specs.Hold.{stays}
 use Rattle.link_steps.specs.Buffer.{need_of, kept_units}
 use Rattle.link_steps.specs.Legal.{AskFits, IsLegal}
 use Rattle.link_steps.specs.Lists.{Each}
 use Rattle.link_steps.specs.Replies.{reply_to}
 use Rattle.link_steps.specs.Reservation.{tentative}
 use Rattle.link_steps.specs.Rows.{Row}
-use Rattle.link_steps.specs.Scan.{Scan, clock_of, is_row_of, with_arrival, without_expired, with_sources, after_tick, after, scan_of}
+use Rattle.link_steps.specs.Scan.{Scan, clock_of, is_row_of, with_arrival, without_expired, with_sources, with_best, best_step_at, after_tick, after, scan_of}
 use Rattle.link_steps.specs.Service.{Arrival, Start, leaves_at, is_busy, here_at}
 use Rattle.link_steps.specs.Sources.{SourceStep, Rests, Brings, Loses, step_of, packet_of, taken_by, source_packets}
 use Rattle.link_steps.proofs.AccountOfRows.{eligible-from}
@@ -33,7 +36,7 @@ use Rattle.link_steps.proofs.ServiceFacts.{HasLeft, HasBegun, FollowEachOther}
 
 -- ---- a new reservation keeps what it needed
 
-need-kept : (bounds : List ℕ) (chan : ChanNo) (contract : Terms) (kind : Kind) (first : Bool) (next : Option LinkNo) (up_reach : ℕ) (level reach : Level) → kept_units bounds (tentative chan contract kind first next up_reach level reach) ≡ need_of bounds contract up_reach (level_number reach)
+pub need-kept : (bounds : List ℕ) (chan : ChanNo) (contract : Terms) (kind : Kind) (first : Bool) (next : Option LinkNo) (up_reach : ℕ) (level reach : Level) → kept_units bounds (tentative chan contract kind first next up_reach level reach) ≡ need_of bounds contract up_reach (level_number reach)
 unfolding kept_units need_of
 need-kept bounds chan contract kind first next up_reach level reach = refl
 
@@ -74,15 +77,21 @@ unfolding with_arrival
 arrival-patient t packet scan None before = before
 arrival-patient t packet scan (Some row) before = Each-append IsPatient scan.packets _ before (eligible-from row.terms row.ticks t packet.due, tt)
 
+best-patient : (bounds : List ℕ) (t place : ℕ) (step : SourceStep) → Each IsPatient (best_packet step bounds place t)
+best-patient bounds t place Rests = tt
+best-patient bounds t place Loses = tt
+best-patient bounds t place (Brings size) = (omega arith, tt)
+
 after-patient : (shape : LinkShape) (t : ℕ) (scan : Scan) (ask : Ask) (reply : Reply) → Each IsPatient scan.packets → Each IsPatient (after shape t scan ask reply).packets
-unfolding after after_tick with_sources without_expired
+unfolding after after_tick with_best with_sources without_expired
 after-patient shape t scan (Reserve chan contract kind delay up_reach first next) (Is.Offer level reach) before = before
 after-patient shape t scan (Relax chan level up_bound) (Is.Relaxed clock) before = before
 after-patient shape t scan (Deny chan) Is.Denied before = before
 after-patient shape t scan (Submit chan count gap size) (Is.Planned clock) before = before
 after-patient shape t scan (Release chan upstream) (Is.Closing count cancelled) before = before
 after-patient shape t scan (Arrive packet) (Is.Taken clock eligible) before = arrival-patient t packet scan (find (is_row_of packet.chan) scan.rows) before
-after-patient shape t scan Tick reply before = Each-append IsPatient scan.packets _ before (source_packets-patient shape.bounds (here_at shape.rate scan.packets t) t (length scan.packets) _)
+after-patient shape t scan Tick reply before = Each-append IsPatient (scan.packets ++ source_packets shape.bounds (here_at shape.rate scan.packets t) t (length scan.packets) (filter (stays shape.bounds t) scan.rows)) _ (Each-append IsPatient scan.packets _ before (source_packets-patient shape.bounds (here_at shape.rate scan.packets t) t (length scan.packets) (filter (stays shape.bounds t) scan.rows))) (best-patient shape.bounds t _ (best_step_at shape t scan))
+after-patient shape t scan (Pour count gap size) (Is.Planned clock) before = before
 after-patient shape t scan _ _ before = before
 
 -- so it is for every packet of a history
@@ -93,22 +102,22 @@ scan-patient shape (e ∷ past) = after-patient shape (clock_of past) (scan_of s
 
 -- ---- a legal history goes on with every ask that meets the conditions, and its asks determine it
 
-pub legal-answered : (shape : LinkShape) (past : List Entry) (ask : Ask) → IsLegal shape past → AskFits shape ask → IsLegal shape (answered shape past ask ∷ past)
+pub legal-answered : (link : Link) (past : List Entry) (ask : Ask) → IsLegal link past → AskFits link.shape ask → IsLegal link (answered link past ask ∷ past)
 unfolding IsLegal
-legal-answered shape past ask legal fits = (legal, record { fits = fits; answered = refl })
+legal-answered link past ask legal fits = (legal, record { fits = fits; answered = refl })
 
 abbrev ask_of : Entry → Ask
 ask_of e = e.ask
 
-pub legal-determined : (shape : LinkShape) (h other : List Entry) → IsLegal shape h → IsLegal shape other → map ask_of h ≡ map ask_of other → h ≡ other
+pub legal-determined : (link : Link) (h other : List Entry) → IsLegal link h → IsLegal link other → map ask_of h ≡ map ask_of other → h ≡ other
 unfolding IsLegal
-legal-determined shape [] [] legal other_legal same = refl
-legal-determined shape [] (e ∷ other) legal other_legal same = cc
-legal-determined shape (d ∷ h) [] legal other_legal same = cc
-legal-determined shape (d ∷ h) (e ∷ other) legal other_legal same =
-    let past = legal-determined shape h other legal.0 other_legal.0 (tails d.ask e.ask _ _ same) in
+legal-determined link [] [] legal other_legal same = refl
+legal-determined link [] (e ∷ other) legal other_legal same = cc
+legal-determined link (d ∷ h) [] legal other_legal same = cc
+legal-determined link (d ∷ h) (e ∷ other) legal other_legal same =
+    let past = legal-determined link h other legal.0 other_legal.0 (tails d.ask e.ask _ _ same) in
     let ask = heads d.ask e.ask _ _ same in
-    let reply : d.reply ≡ e.reply = legal.1.answered ∙ ap (λ p. reply_to shape p d.ask) past ∙ ap (λ a. reply_to shape other a) ask ∙ sym other_legal.1.answered in
+    let reply : d.reply ≡ e.reply = legal.1.answered ∙ ap (λ p. reply_to link p d.ask) past ∙ ap (λ a. reply_to link other a) ask ∙ sym other_legal.1.answered in
     ap (λ es. d ∷ es) past ∙ ap (λ first. first ∷ other) (entries d e ask reply) where
       heads : (a b : Ask) (more others : List Ask) → a ∷ more ≡ b ∷ others → a ≡ b
       heads a b more others same = cc

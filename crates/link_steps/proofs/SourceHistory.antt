@@ -1,6 +1,6 @@
--- The sources of a legal history after each of its entries: those that keep their contract have lost nothing. From this
+-- The sources of an admissible history after each of its entries: those that keep their contract have lost nothing. From this
 -- and the hop guarantee, the source guarantee.
-use Rattle.std.proofs.Common.{◌≡◌, ℕ, suc, ◌≤◌, true, false, List, [], ◌∷◌, ◌++◌, length, map, Option, Some, None, refl, sym, ap, ◌∙◌, subst, arith}
+use Rattle.std.proofs.Common.{◌≡◌, ℕ, suc, ◌≤◌, true, false, List, [], ◌∷◌, ◌++◌, length, map, Option, Some, None, refl, sym, ap, ◌∙◌, subst, arith, append-nil}
 use Rattle.std.proofs.Math.Bool.{and_comm}
 use Rattle.std.proofs.lemmas.Bool.{eq-eqb, and_parts}
 use Rattle.std.specs.Option.{option_map}
@@ -8,35 +8,38 @@ use Rattle.std.specs.Prelude.{filter, find, reverse}
 use Rattle.net_units.specs.Numbers.{level_number}
 use Rattle.net_units.specs.declared.numbers.Level.{Level}
 use Rattle.link_steps.specs.declared.asks.Ask.{Ask}
-use Rattle.link_steps.specs.declared.asks.Ask.TheVariants.{Reserve, Relax, Deny, Submit, Release, Arrive, Tick}
+use Rattle.link_steps.specs.declared.asks.Ask.TheVariants.{Reserve, Relax, Deny, Submit, Release, Arrive, Tick, Pour}
 use Rattle.link_steps.specs.declared.asks.Packet.{Packet}
 use Rattle.link_steps.specs.declared.replies.Entry.{Entry}
 use Rattle.link_steps.specs.declared.replies.Phase.TheVariants.{Closing}
 use Rattle.link_steps.specs.declared.replies.Reply.{Reply}
 use Rattle.link_steps.specs.declared.replies.Reply.TheVariants as Is
 use Rattle.link_steps.specs.declared.shape.LinkShape.{LinkShape}
+use Rattle.link_steps.specs.Admissible.{MayAnswer, IsAdmissible}
+use Rattle.link_steps.specs.BestEffort.{best_packet, best_arrival}
+use Rattle.link_steps.specs.Sources.{SourceStep, Rests, Brings, Loses}
 use Rattle.link_steps.specs.Buffer.{has_lead, held_packets}
 use Rattle.link_steps.specs.HopGuarantee.{LeavesInTime, HasLeftInTime}
 use Rattle.link_steps.specs.Hold.{hold_ended, expires, stays}
-use Rattle.link_steps.specs.Legal.{AskFits, IsLegal}
+use Rattle.link_steps.specs.Legal.{AskFits}
+use Rattle.link_steps.specs.Belonging.{eligible_of, own_packets}
 use Rattle.link_steps.specs.Lists.{Each}
-use Rattle.link_steps.specs.Replies.{relax_reply, submit_to, arrive_to, reply_at, reply_to}
+use Rattle.link_steps.specs.Replies.{relax_reply, submit_to, arrive_to, reply_at}
 use Rattle.link_steps.specs.Reservation.{Reservation, is_phase, tentative}
 use Rattle.link_steps.specs.Rows.{Row, row_terms, new_row, is_before, left_at, tick_of}
-use Rattle.link_steps.specs.Scan.{Scan, clock_with, clock_of, is_row_of, is_row_at_hop, names_first_hop, relax_row, plan_row, close_row, arrived_packet, arrived_row, with_arrival, without_expired, with_sources, after_tick, after, scan_of, starts_of}
+use Rattle.link_steps.specs.Scan.{Scan, clock_with, clock_of, is_row_of, is_row_at_hop, names_first_hop, relax_row, plan_row, close_row, arrived_packet, arrived_row, with_arrival, without_expired, with_sources, with_best, best_step_at, after_tick, after, scan_of, starts_of}
 use Rattle.link_steps.specs.Service.{Arrival, starts_below, here_at, is_here}
 use Rattle.link_steps.specs.SourceGuarantee.{arrival_of, IsEligibleAtOnce, LeavesPromptly, HasLeftPromptly, KeepingIsServed, SourceGuarantee}
 use Rattle.link_steps.proofs.AdmissionHolds.{find-terms}
 use Rattle.link_steps.proofs.ChangeFacts.{Each-passes, Each-if_passes}
-use Rattle.link_steps.proofs.FreeSlots.{eligible_of}
 use Rattle.link_steps.proofs.HopHolds.{guaranteed}
 use Rattle.link_steps.proofs.LegalOrder.{ScanInOrder, legal-order}
 use Rattle.link_steps.proofs.LegalRowFacts.{IsInOrder, IsMade}
 use Rattle.link_steps.proofs.ListFacts.{Each-append, Each-both, Each-filter, Each-find, Each-from, Each-if, map-same, filter-same, filter-filter}
 use Rattle.link_steps.proofs.PlanFacts.{rises-submitted, made-submitted, rises-filter, made-closed}
 use Rattle.link_steps.proofs.ReplyFacts.{phase-is, relax-tells, submit-tells, arrive-tells}
-use Rattle.link_steps.proofs.RowPackets.{own_packets, IsHeld, IsBeside, RowsStand, stand-sources}
-use Rattle.link_steps.proofs.RowsStanding.{stand-if, stand-expired, stand-reserved, stand-denied, stand-changed, stand-arrives}
+use Rattle.link_steps.proofs.RowPackets.{IsHeld, IsBeside, RowsStand, stand-sources}
+use Rattle.link_steps.proofs.RowsStanding.{stand-apart, stand-if, stand-expired, stand-reserved, stand-denied, stand-changed, stand-arrives}
 use Rattle.link_steps.proofs.ServiceFacts.{starts-fact}
 use Rattle.link_steps.proofs.SourcesServed.{HasSource, IsReady, served-same, source-later, ticks-more, source-step}
 
@@ -52,7 +55,7 @@ pub record ScanServed (clock : ℕ) (scan : Scan) : Type 0 where
 -- ---- a tick
 
 -- the packets of a row that are here
-held-here : (shape : LinkShape) (packets : List Arrival) (t lead : ℕ) → held_packets lead (here_at shape.rate packets t) ≡ length (filter (is_here shape.rate (starts_below shape.rate packets t) t) (filter (has_lead lead) packets))
+pub held-here : (shape : LinkShape) (packets : List Arrival) (t lead : ℕ) → held_packets lead (here_at shape.rate packets t) ≡ length (filter (is_here shape.rate (starts_below shape.rate packets t) t) (filter (has_lead lead) packets))
 unfolding held_packets here_at
 held-here shape packets t lead =
     ap length (filter-filter (has_lead lead) (is_here shape.rate (starts_below shape.rate packets t) t) packets
@@ -64,8 +67,14 @@ expired-made : (shape : LinkShape) (t : ℕ) (row : Row) → IsInOrder shape t r
 unfolding hold_ended
 expired-made shape t row order ended = order.cancelled (phase-is row.terms.phase Closing (and_parts (is_phase row.terms.phase Closing) _ ended).0)
 
+-- a best-effort packet is none of a row's
+pub stand-best : (P : Row → List Arrival → Type 0) (bounds : List ℕ) (t : ℕ) (step : SourceStep) (packets : List Arrival) (others rows : List Row) → RowsStand P P packets others rows → RowsStand P P (packets ++ best_packet step bounds (suc (length packets)) t) others rows
+stand-best P bounds t Rests packets others rows stand = rw (append-nil packets) stand
+stand-best P bounds t Loses packets others rows stand = rw (append-nil packets) stand
+stand-best P bounds t (Brings size) packets others rows stand = stand-apart P packets others rows (best_arrival bounds (suc (length packets)) size t) refl stand
+
 served-tick : (shape : LinkShape) (t : ℕ) (scan : Scan) → ScanInOrder shape t scan → Each (HasLeftInTime shape t (starts_below shape.rate scan.packets t)) scan.packets → ScanServed t scan → ScanServed (suc t) (after_tick shape t scan)
-unfolding after_tick with_sources without_expired
+unfolding after_tick with_best with_sources without_expired
 served-tick shape t scan order left served =
     let made : Each (AllMade t) (scan.gone ++ filter (expires shape.bounds t) scan.rows) =
     Each-append (AllMade t) scan.gone (filter (expires shape.bounds t) scan.rows) served.made
@@ -82,10 +91,11 @@ served-tick shape t scan order left served =
     })
     made (Each-filter (IsInOrder shape t) (stays shape.bounds t) scan.rows order.held)
     (stand-expired (HasSource t) (expires shape.bounds t) scan.packets scan.gone scan.rows served.stand) in
+    let stand = stand-sources (HasSource (suc t)) (IsReady shape (starts_below shape.rate scan.packets t) (here_at shape.rate scan.packets t) t) shape.bounds (here_at shape.rate scan.packets t) t
+    (λ row own place is. source-step shape (starts_below shape.rate scan.packets t) (here_at shape.rate scan.packets t) t row own place is)
+    (filter (stays shape.bounds t) scan.rows) (scan.gone ++ filter (expires shape.bounds t) scan.rows) scan.packets (length scan.packets) refl ready in
     record {
-      stand = stand-sources (HasSource (suc t)) (IsReady shape (starts_below shape.rate scan.packets t) (here_at shape.rate scan.packets t) t) shape.bounds (here_at shape.rate scan.packets t) t
-          (λ row own place is. source-step shape (starts_below shape.rate scan.packets t) (here_at shape.rate scan.packets t) t row own place is)
-          (filter (stays shape.bounds t) scan.rows) (scan.gone ++ filter (expires shape.bounds t) scan.rows) scan.packets (length scan.packets) refl ready;
+      stand = stand-best (HasSource (suc t)) shape.bounds t (best_step_at shape t scan) _ _ _ stand;
       made = Each-if (AllMade t) (AllMade (suc t)) (scan.gone ++ filter (expires shape.bounds t) scan.rows)
           (λ row all. Each-if (IsMade t) (IsMade (suc t)) row.plan (λ p before. omega (arith, before)) all) made;
     }
@@ -155,8 +165,8 @@ served-arrival shape t packet scan (Some row) clock e is same served =
       made = served.made;
     }
 
-served-after : (shape : LinkShape) (t : ℕ) (scan : Scan) (ask : Ask) (reply : Reply) → AskFits shape ask → reply ≡ reply_at shape t scan ask → ScanInOrder shape t scan → Each (HasLeftInTime shape t (starts_below shape.rate scan.packets t)) scan.packets → ScanServed t scan → ScanServed (clock_with ask t) (after shape t scan ask reply)
-unfolding after reply_at
+served-after : (shape : LinkShape) (t : ℕ) (scan : Scan) (ask : Ask) (reply : Reply) → AskFits shape ask → MayAnswer shape t scan ask reply → ScanInOrder shape t scan → Each (HasLeftInTime shape t (starts_below shape.rate scan.packets t)) scan.packets → ScanServed t scan → ScanServed (clock_with ask t) (after shape t scan ask reply)
+unfolding after MayAnswer reply_at
 served-after shape t scan (Reserve chan contract kind delay up_reach first next) (Is.Offer level reach) fits same order left served =
     served-with t scan _ (stand-reserved (HasSource t) scan.packets scan.gone scan.rows (new_row (tentative chan contract kind first next up_reach level reach)) refl (source-new t (tentative chan contract kind first next up_reach level reach)) served.stand) served
 served-after shape t scan (Relax chan level up_bound) (Is.Relaxed clock) fits same order left served =
@@ -175,22 +185,30 @@ served-after shape t scan (Release chan upstream) (Is.Closing count cancelled) f
 served-after shape t scan (Arrive packet) (Is.Taken clock eligible) fits same order left served =
     served-arrival shape t packet scan (find (is_row_of packet.chan) scan.rows) clock eligible refl same served
 served-after shape t scan Tick reply fits same order left served = served-tick shape t scan order left served
+served-after shape t scan (Pour count gap size) (Is.Planned clock) fits same order left served = record { stand = served.stand; made = served.made }
 served-after shape t scan _ _ fits same order left served = served
 
--- after a legal history
-pub legal-served : (shape : LinkShape) (h : List Entry) → IsLegal shape h → ScanServed (clock_of h) (scan_of shape h)
-unfolding IsLegal scan_of clock_of reply_to
+-- after an admissible history
+pub legal-served : (shape : LinkShape) (h : List Entry) → IsAdmissible shape h → ScanServed (clock_of h) (scan_of shape h)
+unfolding IsAdmissible scan_of clock_of
 legal-served shape [] legal = record { stand = record { leads = tt; beside = tt; held = tt; apart = tt }; made = tt }
 legal-served shape (e ∷ past) legal =
     served-after shape (clock_of past) (scan_of shape past) e.ask e.reply legal.1.fits legal.1.answered (legal-order shape past legal.0) (guaranteed shape past legal.0).in_time (legal-served shape past legal.0)
 
 -- ---- the guarantee
 
+-- a packet of the row is of one of the levels
+record IsOfLevels (shape : LinkShape) (row : Row) (p : Arrival) : Type 0 where
+  upto : p.lead ≡ row.lead → p.level ≤ length shape.bounds
+
 -- a row whose source keeps the contract is served promptly
-row-served : (shape : LinkShape) (h : List Entry) → IsLegal shape h → (row : Row) → HasSource (clock_of h) row (own_packets row (scan_of shape h).packets) → KeepingIsServed shape h row
-row-served shape h legal row source kept =
+row-served : (shape : LinkShape) (h : List Entry) → IsAdmissible shape h → (row : Row) → IsInOrder shape (clock_of h) row → HasSource (clock_of h) row (own_packets row (scan_of shape h).packets) → KeepingIsServed shape h row
+row-served shape h legal row order source kept =
     let prompt = source.served kept in
     let hop = guaranteed shape h legal in
+    let level : Each (IsOfLevels shape row) (scan_of shape h).packets =
+    Each-if (λ p. has_lead row.lead p ≡ true → p.level ≡ level_number row.terms.level) (IsOfLevels shape row) (scan_of shape h).packets (λ p same. record { upto = λ led. (let e = same (eq-eqb p.lead row.lead led) in let most = order.level_most in omega (arith, e, most)) })
+    (Each-if_passes (λ p. p.level ≡ level_number row.terms.level) (has_lead row.lead) (scan_of shape h).packets source.levels) in
     let at_once : Each (IsEligibleAtOnce row) (scan_of shape h).packets =
     Each-if (λ p. has_lead row.lead p ≡ true → p.eligible ≡ p.at) (IsEligibleAtOnce row) (scan_of shape h).packets (λ p same. record { at_once = λ led. same (eq-eqb p.lead row.lead led) })
     (Each-if_passes (λ p. p.eligible ≡ p.at) (has_lead row.lead) (scan_of shape h).packets prompt.at_once) in
@@ -199,19 +217,22 @@ row-served shape h legal row source kept =
       taken = sym (map-same eligible_of arrival_of (own_packets row (scan_of shape h).packets) prompt.at_once) ∙ sym source.eligible ∙ prompt.as_offered;
       as_offered = prompt.as_offered;
       at_once = at_once;
-      departed = Each-if (λ start. IsEligibleAtOnce row start.packet × LeavesInTime shape (clock_of h) start) (LeavesPromptly shape (clock_of h) row) (starts_of shape h)
-          (λ start both. record { within = λ led by. (let same = both.0.at_once led in let leaves = both.1.within by in omega (arith, same, leaves)) })
-          (Each-both (λ start. IsEligibleAtOnce row start.packet) (LeavesInTime shape (clock_of h)) (starts_of shape h) (starts-fact (IsEligibleAtOnce row) shape.rate (scan_of shape h).packets (clock_of h) at_once) hop.departed);
-      in_time = Each-if (λ p. IsEligibleAtOnce row p × HasLeftInTime shape (clock_of h) (starts_of shape h) p) (HasLeftPromptly shape (clock_of h) (starts_of shape h) row) (scan_of shape h).packets
-          (λ p both. record { gone = λ led by. both.1.gone (let same = both.0.at_once led in omega (arith, same, by)) })
-          (Each-both (IsEligibleAtOnce row) (HasLeftInTime shape (clock_of h) (starts_of shape h)) (scan_of shape h).packets at_once hop.in_time);
+      departed = Each-if (λ start. (IsOfLevels shape row start.packet × IsEligibleAtOnce row start.packet) × LeavesInTime shape (clock_of h) start) (LeavesPromptly shape (clock_of h) row) (starts_of shape h)
+          (λ start both. record { within = λ led by. (let same = both.0.1.at_once led in let leaves = both.1.within (both.0.0.upto led) by in omega (arith, same, leaves)) })
+          (Each-both (λ start. IsOfLevels shape row start.packet × IsEligibleAtOnce row start.packet) (LeavesInTime shape (clock_of h)) (starts_of shape h) (starts-fact (λ p. IsOfLevels shape row p × IsEligibleAtOnce row p) shape.rate (scan_of shape h).packets (clock_of h) (Each-both (IsOfLevels shape row) (IsEligibleAtOnce row) (scan_of shape h).packets level at_once)) hop.departed);
+      in_time = Each-if (λ p. (IsOfLevels shape row p × IsEligibleAtOnce row p) × HasLeftInTime shape (clock_of h) (starts_of shape h) p) (HasLeftPromptly shape (clock_of h) (starts_of shape h) row) (scan_of shape h).packets
+          (λ p both. record { gone = λ led by. both.1.gone (both.0.0.upto led) (let same = both.0.1.at_once led in omega (arith, same, by)) })
+          (Each-both (λ p. IsOfLevels shape row p × IsEligibleAtOnce row p) (HasLeftInTime shape (clock_of h) (starts_of shape h)) (scan_of shape h).packets (Each-both (IsOfLevels shape row) (IsEligibleAtOnce row) (scan_of shape h).packets level at_once) hop.in_time);
     }
 
--- each row of a legal history, held or gone
-pub source-guarantee : (shape : LinkShape) (h : List Entry) → IsLegal shape h → SourceGuarantee shape h
+-- each row of an admissible history, held or gone
+pub source-guarantee : (shape : LinkShape) (h : List Entry) → IsAdmissible shape h → SourceGuarantee shape h
 source-guarantee shape h legal =
     let stand = (legal-served shape h legal).stand in
+    let order = legal-order shape h legal in
     record {
-      held = Each-if (IsHeld (HasSource (clock_of h)) (scan_of shape h).packets) (KeepingIsServed shape h) (scan_of shape h).rows (λ row held. row-served shape h legal row held.fact) stand.held;
-      gone = Each-if (IsBeside (HasSource (clock_of h)) (scan_of shape h).packets (scan_of shape h).rows) (KeepingIsServed shape h) (scan_of shape h).gone (λ row beside. row-served shape h legal row beside.fact) stand.beside;
+      held = Each-if (λ row. IsInOrder shape (clock_of h) row × IsHeld (HasSource (clock_of h)) (scan_of shape h).packets row) (KeepingIsServed shape h) (scan_of shape h).rows (λ row both. row-served shape h legal row both.0 both.1.fact)
+          (Each-both (IsInOrder shape (clock_of h)) (IsHeld (HasSource (clock_of h)) (scan_of shape h).packets) (scan_of shape h).rows order.held stand.held);
+      gone = Each-if (λ row. IsInOrder shape (clock_of h) row × IsBeside (HasSource (clock_of h)) (scan_of shape h).packets (scan_of shape h).rows row) (KeepingIsServed shape h) (scan_of shape h).gone (λ row both. row-served shape h legal row both.0 both.1.fact)
+          (Each-both (IsInOrder shape (clock_of h)) (IsBeside (HasSource (clock_of h)) (scan_of shape h).packets (scan_of shape h).rows) (scan_of shape h).gone order.gone stand.beside);
     }

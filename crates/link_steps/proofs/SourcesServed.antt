@@ -1,4 +1,4 @@
--- In every legal history a source that keeps its contract finds a slot for each packet, and each is eligible in the tick
+-- In every admissible history a source that keeps its contract finds a slot for each packet, and each is eligible in the tick
 -- in which it arrives.
 use Rattle.std.proofs.Common.{◌≡◌, ℕ, suc, ◌<◌, Bool, true, false, List, [], ◌∷◌, ◌++◌, length, map, Option, Some, None, refl, sym, ap, ◌∙◌, subst, arith, append-nil}
 use Rattle.std.proofs.lemmas.Bool.{lt-ltb}
@@ -10,12 +10,13 @@ use Rattle.traffic_contract.proofs.ContractFacts.{burst-least}
 use Rattle.link_steps.specs.declared.shape.LinkShape.{LinkShape}
 use Rattle.link_steps.specs.Buffer.{has_slot, held_packets, slots_of}
 use Rattle.link_steps.specs.HopGuarantee.{HasLeftInTime}
+use Rattle.link_steps.specs.Belonging.{eligible_of}
 use Rattle.link_steps.specs.Lists.{Each}
 use Rattle.link_steps.specs.Rows.{Row, SourcePacket, is_for, offered_by, tick_of}
 use Rattle.link_steps.specs.Service.{Arrival, Start, is_here}
 use Rattle.link_steps.specs.SourceGuarantee.{SourceKeeps}
 use Rattle.link_steps.specs.Sources.{source_step, source_tick, step_of, packet_of, row_after}
-use Rattle.link_steps.proofs.FreeSlots.{eligible_of, keeps-parts, source-now, slot-free}
+use Rattle.link_steps.proofs.FreeSlots.{keeps-parts, source-now, slot-free}
 use Rattle.link_steps.proofs.LegalRowFacts.{IsInOrder, IsMade, source-settled}
 use Rattle.link_steps.proofs.ListFacts.{Each-append}
 use Rattle.link_steps.proofs.PlanFacts.{Rises, made-rests, made-next, made-before, made-all}

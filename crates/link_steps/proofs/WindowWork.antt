@@ -1,8 +1,7 @@
--- What the packets of a legal history bring into a window is at most what the eligible ticks of its rows, held or gone,
+-- What the packets of an admissible history bring into a window is at most what the eligible ticks of its rows, held or gone,
 -- bring: each of these ticks in the window is one packet of the row's level, no larger than the contract's largest.
-use Rattle.std.proofs.Common.{◌≡◌, ℕ, suc, ◌+◌, ◌*◌, ◌<◌, ◌≤◌, Bool, true, false, cond, ◌&&◌, List, [], ◌∷◌, ◌++◌, length, map, Option, Some, None, ⊎_elim, refl, ap, ◌∙◌, arith, length-append}
-use Rattle.std.proofs.lemmas.Bool.{cases_lt}
-use Rattle.std.proofs.lemmas.Grind.{div_ceil_times}
+use Rattle.std.proofs.Common.{◌≡◌, ℕ, suc, ◌+◌, ◌*◌, ◌≤◌, Bool, true, false, cond, ◌&&◌, List, [], ◌∷◌, ◌++◌, length, map, Option, Some, None, refl, ap, ◌∙◌, arith, length-append}
+use Rattle.std.proofs.lemmas.Bool.{lt-leb}
 use Rattle.std.proofs.lemmas.List.{reverse-append}
 use Rattle.std.proofs.lemmas.List.Elements.{filter-append}
 use Rattle.std.proofs.Math.Nat.{mul-le-mul_right}
@@ -21,43 +20,30 @@ use Rattle.traffic_contract.proofs.LongerWindows.{ceil_quotient-mono}
 use Rattle.traffic_contract.proofs.NewestFirst.{Decides-keeps_newest_first}
 use Rattle.traffic_contract.proofs.WindowFacts.{count_in-le}
 use Rattle.link_steps.specs.declared.asks.Ask.{Ask}
-use Rattle.link_steps.specs.declared.asks.Ask.TheVariants.{Reserve, Relax, Deny, Submit, Release, Arrive, Tick}
+use Rattle.link_steps.specs.declared.asks.Ask.TheVariants.{Reserve, Relax, Deny, Submit, Release, Arrive, Tick, Pour}
 use Rattle.link_steps.specs.declared.asks.Packet.{Packet}
 use Rattle.link_steps.specs.declared.replies.Entry.{Entry}
 use Rattle.link_steps.specs.declared.replies.Reply.{Reply}
 use Rattle.link_steps.specs.declared.replies.Reply.TheVariants as Is
 use Rattle.link_steps.specs.declared.shape.LinkShape.{LinkShape}
+use Rattle.link_steps.specs.Admissible.{MayAnswer, IsAdmissible}
 use Rattle.link_steps.specs.BusyPeriod.{window_work}
+use Rattle.link_steps.specs.BestEffort.{level_below, best_packet}
 use Rattle.link_steps.specs.Buffer.{has_slot}
 use Rattle.link_steps.specs.Hold.{expires, stays}
-use Rattle.link_steps.specs.Legal.{IsLegal}
 use Rattle.link_steps.specs.Lists.{Each, change_first, without_first}
-use Rattle.link_steps.specs.Replies.{relax_reply, deny_reply, arrive_to, reply_at, reply_to}
+use Rattle.link_steps.specs.Replies.{relax_reply, deny_reply, arrive_to, reply_at}
 use Rattle.link_steps.specs.Reservation.{is_of, tentative, admitted}
 use Rattle.link_steps.specs.Rows.{Row, SourcePacket, row_terms, new_row, is_for}
-use Rattle.link_steps.specs.Scan.{Scan, clock_of, is_row_of, is_row_at_hop, names_first_hop, relax_row, plan_row, close_row, arrived_tick, arrived_row, arrived_packet, with_arrival, without_expired, with_sources, after_tick, after, scan_of}
+use Rattle.link_steps.specs.Scan.{Scan, clock_of, is_row_of, is_row_at_hop, names_first_hop, relax_row, plan_row, close_row, arrived_tick, arrived_row, arrived_packet, with_arrival, without_expired, with_sources, with_best, best_step_at, after_tick, after, scan_of}
 use Rattle.link_steps.specs.Service.{Arrival, here_at}
-use Rattle.link_steps.specs.Sources.{arrival_at, with_packet, source_step, source_tick, step_of, packet_of, row_after, source_packets, rows_after, taken_by}
+use Rattle.link_steps.specs.Sources.{SourceStep, Rests, Brings, Loses, arrival_at, with_packet, source_step, source_tick, step_of, packet_of, row_after, source_packets, rows_after, taken_by}
 use Rattle.link_steps.proofs.AdmissionHolds.{find-terms}
 use Rattle.link_steps.proofs.ChangeFacts.{total-change_first-more, total-change_first-ge, total-without_first-ge, total-filter-both}
 use Rattle.link_steps.proofs.LegalOrder.{ScanInOrder, legal-order}
 use Rattle.link_steps.proofs.LegalRowFacts.{SizeFits, IsInOrder}
 use Rattle.link_steps.proofs.ListFacts.{Each-find, Each-filter}
 use Rattle.link_steps.proofs.ReplyFacts.{relax-tells, deny-tells, arrive-tells}
-
--- ---- the ticks of a packet
-
--- a packet of a unit or more takes a tick or more
-pub ceil_quotient-some : (a rate : ℕ) → 1 ≤ rate → 1 ≤ a → 1 ≤ ceil_quotient a rate
-ceil_quotient-some a rate some least =
-    let times = div_ceil_times a rate some in
-    ⊎_elim
-    (λ (none : ceil_quotient a rate < 1).
-    let zeroth : ceil_quotient a rate ≡ 0 = omega arith in
-    let nothing : ceil_quotient a rate * rate ≡ 0 = rw zeroth (omega arith) in
-    absurd (omega (arith, times.0, nothing)))
-    (λ (more : 1 ≤ ceil_quotient a rate). more)
-    (cases_lt (ceil_quotient a rate) 1)
 
 -- ---- the work of a row's ticks
 
@@ -115,17 +101,25 @@ work-sources shape m u w here t taken (row ∷ rows) each =
 pub record CountsWork (shape : LinkShape) (m u w : ℕ) (scan : Scan) : Type 0 where
   pub most : total (window_work shape.rate m u w) scan.packets ≤ total (row_work shape.rate m u w) scan.rows + total (row_work shape.rate m u w) scan.gone
 
+-- a best-effort packet is of no level up to the last
+best-no_work : (shape : LinkShape) (m u w t place : ℕ) (step : SourceStep) → m ≤ length shape.bounds → total (window_work shape.rate m u w) (best_packet step shape.bounds place t) ≡ 0
+best-no_work shape m u w t place Rests upto = refl
+best-no_work shape m u w t place Loses upto = refl
+best-no_work shape m u w t place (Brings size) upto = rw (lt-leb (level_below shape.bounds) m (omega (arith, upto))) refl
+
 -- a tick, in which expired rows go on to count among those gone
-work-tick : (shape : LinkShape) (m u w t : ℕ) (scan : Scan) → ScanInOrder shape t scan → CountsWork shape m u w scan → CountsWork shape m u w (after_tick shape t scan)
-unfolding after_tick with_sources without_expired
-work-tick shape m u w t scan order counts =
+work-tick : (shape : LinkShape) (m u w t : ℕ) (scan : Scan) → m ≤ length shape.bounds → ScanInOrder shape t scan → CountsWork shape m u w scan → CountsWork shape m u w (after_tick shape t scan)
+unfolding after_tick with_best with_sources without_expired
+work-tick shape m u w t scan upto order counts =
     let held = Each-filter (IsInOrder shape t) (stays shape.bounds t) scan.rows order.held in
     let brought = work-sources shape m u w (here_at shape.rate scan.packets t) t (length scan.packets) (filter (stays shape.bounds t) scan.rows) held in
     let split = total-filter-both (row_work shape.rate m u w) (expires shape.bounds t) scan.rows in
     let gone = total-append (row_work shape.rate m u w) scan.gone (filter (expires shape.bounds t) scan.rows) in
     let packets = total-append (window_work shape.rate m u w) scan.packets (source_packets shape.bounds (here_at shape.rate scan.packets t) t (length scan.packets) (filter (stays shape.bounds t) scan.rows)) in
     let before = counts.most in
-    record { most = omega (arith, brought, split, gone, packets, before) }
+    let all = total-append (window_work shape.rate m u w) (scan.packets ++ source_packets shape.bounds (here_at shape.rate scan.packets t) t (length scan.packets) (filter (stays shape.bounds t) scan.rows)) (best_packet (best_step_at shape t scan) shape.bounds (suc (length (scan.packets ++ source_packets shape.bounds (here_at shape.rate scan.packets t) t (length scan.packets) (filter (stays shape.bounds t) scan.rows)))) t) in
+    let best = best-no_work shape m u w t (suc (length (scan.packets ++ source_packets shape.bounds (here_at shape.rate scan.packets t) t (length scan.packets) (filter (stays shape.bounds t) scan.rows)))) (best_step_at shape t scan) upto in
+    record { most = omega (arith, brought, split, gone, packets, before, all, best) }
 
 -- rows that bring no less
 work-with : (shape : LinkShape) (m u w : ℕ) (scan : Scan) (rows : List Row) → total (row_work shape.rate m u w) scan.rows ≤ total (row_work shape.rate m u w) rows → CountsWork shape m u w scan → CountsWork shape m u w (record scan { rows = rows })
@@ -162,29 +156,30 @@ work-denied shape m u w t chan rows same order =
     row_work-fresh shape.rate m u w row (own.fresh tentative).0)
 
 -- each kind of entry
-work-after : (shape : LinkShape) (m u w t : ℕ) (scan : Scan) (ask : Ask) (reply : Reply) → reply ≡ reply_at shape t scan ask → ScanInOrder shape t scan → CountsWork shape m u w scan → CountsWork shape m u w (after shape t scan ask reply)
-unfolding after reply_at
-work-after shape m u w t scan (Reserve chan contract kind delay up_reach first next) (Is.Offer level reach) same order counts =
+work-after : (shape : LinkShape) (m u w t : ℕ) (scan : Scan) (ask : Ask) (reply : Reply) → m ≤ length shape.bounds → MayAnswer shape t scan ask reply → ScanInOrder shape t scan → CountsWork shape m u w scan → CountsWork shape m u w (after shape t scan ask reply)
+unfolding after MayAnswer reply_at
+work-after shape m u w t scan (Reserve chan contract kind delay up_reach first next) (Is.Offer level reach) upto same order counts =
     (let more = total-append (row_work shape.rate m u w) scan.rows (new_row (tentative chan contract kind first next up_reach level reach) ∷ []) in work-with shape m u w scan _ (omega (arith, more)) counts)
-work-after shape m u w t scan (Relax chan level up_bound) (Is.Relaxed clock) same order counts =
+work-after shape m u w t scan (Relax chan level up_bound) (Is.Relaxed clock) upto same order counts =
     work-with shape m u w scan _ (work-relaxed shape m u w t up_bound clock level chan scan.rows same order.held) counts
-work-after shape m u w t scan (Deny chan) Is.Denied same order counts =
+work-after shape m u w t scan (Deny chan) Is.Denied upto same order counts =
     work-with shape m u w scan _ (work-denied shape m u w t chan scan.rows same order.held) counts
-work-after shape m u w t scan (Submit chan count gap size) (Is.Planned clock) same order counts =
+work-after shape m u w t scan (Submit chan count gap size) (Is.Planned clock) upto same order counts =
     work-with shape m u w scan _ (total-change_first-ge (row_work shape.rate m u w) (is_row_at_hop chan true) (plan_row t count gap size) scan.rows (λ row found. omega arith)) counts
-work-after shape m u w t scan (Release chan upstream) (Is.Closing count cancelled) same order counts =
+work-after shape m u w t scan (Release chan upstream) (Is.Closing count cancelled) upto same order counts =
     work-with shape m u w scan _ (total-change_first-ge (row_work shape.rate m u w) (is_row_at_hop chan (names_first_hop upstream)) (close_row t count) scan.rows (λ row found. omega arith)) counts
-work-after shape m u w t scan (Arrive packet) (Is.Taken clock eligible) same order counts =
+work-after shape m u w t scan (Arrive packet) (Is.Taken clock eligible) upto same order counts =
     work-arrival shape m u w t packet scan (find (is_row_of packet.chan) scan.rows) clock eligible refl same counts
-work-after shape m u w t scan Tick reply same order counts = work-tick shape m u w t scan order counts
-work-after shape m u w t scan _ _ same order counts = counts
+work-after shape m u w t scan Tick reply upto same order counts = work-tick shape m u w t scan upto order counts
+work-after shape m u w t scan (Pour count gap size) (Is.Planned clock) upto same order counts = record { most = counts.most }
+work-after shape m u w t scan _ _ upto same order counts = counts
 
--- after every legal history the packets bring no more into a window than the ticks of the rows, held or gone
-pub legal-work : (shape : LinkShape) (h : List Entry) (m u w : ℕ) → IsLegal shape h → CountsWork shape m u w (scan_of shape h)
-unfolding IsLegal scan_of reply_to
-legal-work shape [] m u w legal = record { most = omega arith }
-legal-work shape (e ∷ past) m u w legal =
-    work-after shape m u w (clock_of past) (scan_of shape past) e.ask e.reply legal.1.answered (legal-order shape past legal.0) (legal-work shape past m u w legal.0)
+-- after every admissible history the packets bring no more into a window than the ticks of the rows, held or gone
+pub legal-work : (shape : LinkShape) (h : List Entry) (m u w : ℕ) → m ≤ length shape.bounds → IsAdmissible shape h → CountsWork shape m u w (scan_of shape h)
+unfolding IsAdmissible scan_of
+legal-work shape [] m u w upto legal = record { most = omega arith }
+legal-work shape (e ∷ past) m u w upto legal =
+    work-after shape m u w (clock_of past) (scan_of shape past) e.ask e.reply upto legal.1.answered (legal-order shape past legal.0) (legal-work shape past m u w upto legal.0)
 
 -- ---- what the contract lets a row bring
 

@@ -10,6 +10,7 @@ use Rattle.link_steps.specs.declared.replies.Refusal.TheVariants.{Twice, Full, S
 use Rattle.link_steps.specs.declared.replies.Reply.TheVariants.{Relaxed, Closing, Taken, Ticked, Refused}
 use Rattle.link_steps.specs.declared.replies.Why.TheVariants.{FirstHop, Uncommitted, WrongNumber, PastCount, Big}
 use Rattle.link_steps.specs.Levels.{level_of}
+use Rattle.link_steps.specs.Split.{whole}
 use Rattle.link_steps.proofs.Play.{legal_replies, replied, replied-legal}
 use Rattle.link_steps.proofs.WorkedLink.{shape_a, voice, chan1, chan2, reserve, offer, ticks, quiet, left, sends}
 
@@ -24,7 +25,7 @@ abbrev arrive : ChanNo → ℕ → ℕ → ℕ → Ask
 arrive chan number size due = Arrive (record { chan = chan; number = number; size = size; due = due })
 
 -- under delay-jitter control packets that arrive at 4 and 14 wait until 22 and 32, at which they are due
-waits-until-due : legal_replies shape_a []
+waits-until-due : legal_replies (whole shape_a) []
     ((reserve_behind chan1 Jitter ∷ relax_behind chan1 1 ∷ ticks 4)
     ++ (arrive chan1 1 2 22 ∷ ticks 10)
     ++ (arrive chan1 2 2 32 ∷ ticks 26))
@@ -34,11 +35,11 @@ waits-until-due : legal_replies shape_a []
     ++ (sends 23 (left chan1 1 2 4 22 24 10) ∷ quiet 24 9)
     ++ (sends 33 (left chan1 2 2 14 32 34 10) ∷ quiet 34 6)
 unfolding replied ticks quiet
-waits-until-due = replied-legal shape_a _ ∙ refl
+waits-until-due = replied-legal (whole shape_a) _ ∙ refl
 
 -- the reservation has 4 slots. Each cause for which a packet has no place here, and a release that is told a count
 -- of 5, more than are taken
-packets-without-a-place : legal_replies shape_a []
+packets-without-a-place : legal_replies (whole shape_a) []
     ((reserve chan2 voice 12
     ∷ arrive chan2 1 2 0
     ∷ reserve_behind chan1 Rate
@@ -71,17 +72,17 @@ packets-without-a-place : legal_replies shape_a []
     ∷ Refused NoSuch
     ∷ Refused NoSuch
     ∷ Closing 5 0
-    ∷ Ticked 0 0 None
+    ∷ Ticked 0 0 None false false
     ∷ sends 1 (left chan1 1 2 0 0 2 20)
     ∷ Taken 2 40
     ∷ Refused (Stray (PastCount 5))
     ∷ []
 unfolding replied ticks
-packets-without-a-place = replied-legal shape_a _ ∙ refl
+packets-without-a-place = replied-legal (whole shape_a) _ ∙ refl
 
 -- a release that is told a count of 1 while that packet is on its way: the reservation is held until the packet,
 -- which arrives at 4, has been eligible for the 40 ticks of the link's largest bound
-held-for-a-packet-on-its-way : legal_replies shape_a []
+held-for-a-packet-on-its-way : legal_replies (whole shape_a) []
     ((reserve_behind chan1 Rate ∷ relax_behind chan1 2 ∷ ticks 2)
     ++ (Release chan1 (Some 1) ∷ ticks 2)
     ++ (arrive chan1 1 2 22 ∷ ticks 40)
@@ -90,6 +91,6 @@ held-for-a-packet-on-its-way : legal_replies shape_a []
     ++ (Closing 1 0 ∷ quiet 2 2)
     ++ (Taken 4 4 ∷ quiet 4 1)
     ++ (sends 5 (left chan1 1 2 4 4 6 20) ∷ quiet 6 38)
-    ++ (Refused (Twice Is.Closing) ∷ Ticked 44 0 None ∷ offer 1 3 ∷ [])
+    ++ (Refused (Twice Is.Closing) ∷ Ticked 44 0 None false false ∷ offer 1 3 ∷ [])
 unfolding replied ticks quiet
-held-for-a-packet-on-its-way = replied-legal shape_a _ ∙ refl
+held-for-a-packet-on-its-way = replied-legal (whole shape_a) _ ∙ refl

@@ -1,7 +1,7 @@
 -- A link for worked histories: it sends a unit in a tick, carries packets of up to 4 units, propagates in 2 ticks,
 -- has 100 units of buffer, and levels with the bounds 10, 20 and 40. A contract for them: packets at least 5 ticks
 -- apart, 2 in any 20 ticks, of up to 2 units.
-use Rattle.std.proofs.Common.{ℕ, suc, zero, ◌+◌, ◌≤◌, true, List, [], ◌∷◌, None, Some, refl, lit≤, lit<}
+use Rattle.std.proofs.Common.{ℕ, suc, zero, ◌+◌, ◌≤◌, true, List, [], ◌∷◌, None, Some, refl, lit≤, lit<, false}
 use Rattle.net_units.specs.declared.Kind.TheVariants.{Rate}
 use Rattle.net_units.specs.declared.numbers.ChanNo.{ChanNo}
 use Rattle.net_units.specs.declared.numbers.LinkNo.{LinkNo}
@@ -11,6 +11,7 @@ use Rattle.link_steps.specs.declared.asks.Ask.TheVariants.{Reserve, Relax, Tick}
 use Rattle.link_steps.specs.declared.replies.Reply.{Reply}
 use Rattle.link_steps.specs.declared.replies.Reply.TheVariants.{Ticked, Offer}
 use Rattle.link_steps.specs.declared.replies.Sent.{Sent}
+use Rattle.traffic_contract.specs.declared.admission.Test.TheVariants.{Whole}
 use Rattle.link_steps.specs.declared.shape.LinkShape.{LinkShape}
 use Rattle.link_steps.specs.Levels.{level_of}
 
@@ -26,6 +27,9 @@ with_buffer units fits = record {
   prop = 2;
   buffer = units;
   bounds = 10 ∷ 20 ∷ 40 ∷ [];
+  test = Whole;
+  best = 0;
+  best_most = lit≤ tt;
   rate_least = lit≤ tt;
   rate_most = lit≤ tt;
   cap_least = lit≤ tt;
@@ -85,7 +89,7 @@ ticks (suc n) = Tick ∷ ticks n
 
 unfoldable pub quiet : ℕ → ℕ → List Reply
 quiet t zero = []
-quiet t (suc n) = Ticked t 0 None ∷ quiet (suc t) n
+quiet t (suc n) = Ticked t 0 None false false ∷ quiet (suc t) n
 
 -- a packet that leaves the last hop at this tick, after it arrived at the tick `at`, from a level with this bound
 abbrev pub left : ChanNo → ℕ → ℕ → ℕ → ℕ → ℕ → ℕ → Sent
@@ -99,4 +103,4 @@ left chan number size at eligible leaves bound = record {
 
 -- the reply of a tick in which no packet is dropped and this one leaves
 abbrev pub sends : ℕ → Sent → Reply
-sends t sent = Ticked t 0 (Some sent)
+sends t sent = Ticked t 0 (Some sent) false false

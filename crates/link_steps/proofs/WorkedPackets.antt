@@ -9,6 +9,7 @@ use Rattle.link_steps.specs.Reservation.{Reservation, tentative}
 use Rattle.link_steps.specs.Regulator.{eligible_next}
 use Rattle.traffic_contract.specs.Eligible.{first_from, eligible}
 use Rattle.traffic_contract.specs.Keeping.{may_follow}
+use Rattle.link_steps.specs.Split.{whole}
 use Rattle.link_steps.proofs.Play.{legal_replies, replied, replied-legal}
 use Rattle.link_steps.proofs.WorkedLink.{shape_a, voice, wide, chan1, chan2, chan3, reserve, relax, offer, ticks, quiet, left, sends}
 
@@ -43,16 +44,16 @@ eligible-when-due = refl
 
 -- a source that sends too fast: the packets of ticks 0, 2 and 4 are eligible at 0, 5 and 20, and that of tick 6
 -- finds both slots taken
-fast-source : legal_replies shape_a [] (reserve chan1 voice 12 ∷ relax chan1 1 ∷ Submit chan1 4 2 2 ∷ ticks 30)
+fast-source : legal_replies (whole shape_a) [] (reserve chan1 voice 12 ∷ relax chan1 1 ∷ Submit chan1 4 2 2 ∷ ticks 30)
     ≡ (offer 1 1 ∷ Relaxed 0 ∷ Planned 0 ∷ quiet 0 1)
     ++ (sends 1 (left chan1 1 2 0 0 2 10) ∷ quiet 2 4)
-    ++ (Ticked 6 1 (Some (left chan1 2 2 2 5 7 10)) ∷ quiet 7 14)
+    ++ (Ticked 6 1 (Some (left chan1 2 2 2 5 7 10)) false false ∷ quiet 7 14)
     ++ (sends 21 (left chan1 3 2 4 20 22 10) ∷ quiet 22 8)
 unfolding replied ticks quiet
-fast-source = replied-legal shape_a _ ∙ refl
+fast-source = replied-legal (whole shape_a) _ ∙ refl
 
 -- a packet of the third level has started when one of the first comes, and is not interrupted
-never-interrupted : legal_replies shape_a []
+never-interrupted : legal_replies (whole shape_a) []
     ((reserve chan2 wide 50
     ∷ relax chan2 3
     ∷ reserve chan1 voice 12
@@ -70,11 +71,11 @@ never-interrupted : legal_replies shape_a []
     ++ (sends 3 (left chan2 1 4 0 0 4 40) ∷ quiet 4 1)
     ++ (sends 5 (left chan1 1 2 1 1 6 10) ∷ quiet 6 14)
 unfolding replied ticks quiet
-never-interrupted = replied-legal shape_a _ ∙ refl
+never-interrupted = replied-legal (whole shape_a) _ ∙ refl
 
 -- while a packet of the third level is sent, one of the second level becomes eligible at 1 and one of the first at
 -- 2. The one of the first level starts first
-least-level-first : legal_replies shape_a []
+least-level-first : legal_replies (whole shape_a) []
     ((reserve chan3 wide 50
     ∷ relax chan3 3
     ∷ reserve chan1 voice 12
@@ -99,10 +100,10 @@ least-level-first : legal_replies shape_a []
     ++ (sends 5 (left chan1 1 2 2 2 6 10) ∷ quiet 6 1)
     ++ (sends 7 (left chan2 1 2 1 1 8 20) ∷ quiet 8 2)
 unfolding replied ticks quiet
-least-level-first = replied-legal shape_a _ ∙ refl
+least-level-first = replied-legal (whole shape_a) _ ∙ refl
 
 -- two packets of one level, eligible at the same tick, are served in the order in which their rows were reserved
-order-of-the-reserves : legal_replies shape_a []
+order-of-the-reserves : legal_replies (whole shape_a) []
     (reserve chan2 voice 22
     ∷ relax chan2 2
     ∷ reserve chan1 voice 22
@@ -120,11 +121,11 @@ order-of-the-reserves : legal_replies shape_a []
     ++ (sends 1 (left chan2 1 2 0 0 2 20) ∷ quiet 2 1)
     ++ (sends 3 (left chan1 1 2 0 0 4 20) ∷ quiet 4 1)
 unfolding replied ticks quiet
-order-of-the-reserves = replied-legal shape_a _ ∙ refl
+order-of-the-reserves = replied-legal (whole shape_a) _ ∙ refl
 
 -- a released reservation stays in the admission test until its last packet, eligible at 20, has been so for the 40
 -- ticks of the link's largest bound
-held-until-the-hold-ends : legal_replies shape_a []
+held-until-the-hold-ends : legal_replies (whole shape_a) []
     ((reserve chan1 voice 12 ∷ relax chan1 1 ∷ Submit chan1 3 10 2 ∷ ticks 30)
     ++ (Release chan1 None ∷ ticks 30)
     ++ (reserve chan2 voice 12 ∷ Deny chan2 ∷ Tick ∷ reserve chan2 voice 12 ∷ []))
@@ -133,16 +134,16 @@ held-until-the-hold-ends : legal_replies shape_a []
     ++ (sends 11 (left chan1 2 2 10 10 12 10) ∷ quiet 12 9)
     ++ (sends 21 (left chan1 3 2 20 20 22 10) ∷ quiet 22 8)
     ++ (Closing 3 0 ∷ quiet 30 30)
-    ++ (offer 2 2 ∷ Denied ∷ Ticked 60 0 None ∷ offer 1 1 ∷ [])
+    ++ (offer 2 2 ∷ Denied ∷ Ticked 60 0 None false false ∷ offer 1 1 ∷ [])
 unfolding replied ticks quiet
-held-until-the-hold-ends = replied-legal shape_a _ ∙ refl
+held-until-the-hold-ends = replied-legal (whole shape_a) _ ∙ refl
 
 -- a release at clock 5 cancels the packets planned for 10 and 20, which never arrive
-cancelled-packets-never-arrive : legal_replies shape_a []
+cancelled-packets-never-arrive : legal_replies (whole shape_a) []
     ((reserve chan1 voice 12 ∷ relax chan1 1 ∷ Submit chan1 3 10 2 ∷ ticks 5)
     ++ (Release chan1 None ∷ ticks 20))
     ≡ (offer 1 1 ∷ Relaxed 0 ∷ Planned 0 ∷ quiet 0 1)
     ++ (sends 1 (left chan1 1 2 0 0 2 10) ∷ quiet 2 3)
     ++ (Closing 1 2 ∷ quiet 5 20)
 unfolding replied ticks quiet
-cancelled-packets-never-arrive = replied-legal shape_a _ ∙ refl
+cancelled-packets-never-arrive = replied-legal (whole shape_a) _ ∙ refl

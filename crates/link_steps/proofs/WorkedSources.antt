@@ -6,6 +6,7 @@ use Rattle.std.proofs.Common.{◌≡◌, true, false, [], ◌∷◌, ◌++◌, S
 use Rattle.traffic_contract.specs.Keeping.{keeps, are_spaced}
 use Rattle.link_steps.specs.declared.asks.Ask.TheVariants.{Submit}
 use Rattle.link_steps.specs.declared.replies.Reply.TheVariants.{Relaxed, Planned, Ticked}
+use Rattle.link_steps.specs.Split.{whole}
 use Rattle.link_steps.proofs.Play.{legal_replies, replied, replied-legal}
 use Rattle.link_steps.proofs.WorkedLink.{shape_a, voice, chan1, chan2, reserve, relax, offer, ticks, quiet, left, sends}
 
@@ -17,7 +18,7 @@ second-source-keeps-its-contract : keeps voice (0 ∷ 10 ∷ 20 ∷ []) ≡ true
 unfolding keeps are_spaced
 second-source-keeps-its-contract = refl
 
-one-keeps-and-one-breaks : legal_replies shape_a []
+one-keeps-and-one-breaks : legal_replies (whole shape_a) []
     ((reserve chan1 voice 12
     ∷ relax chan1 1
     ∷ reserve chan2 voice 22
@@ -35,9 +36,9 @@ one-keeps-and-one-breaks : legal_replies shape_a []
     ∷ quiet 0 1)
     ++ (sends 1 (left chan1 1 2 0 0 2 10) ∷ quiet 2 1)
     ++ (sends 3 (left chan2 1 2 0 0 4 20) ∷ quiet 4 2)
-    ++ (Ticked 6 1 (Some (left chan1 2 2 2 5 7 10)) ∷ quiet 7 4)
+    ++ (Ticked 6 1 (Some (left chan1 2 2 2 5 7 10)) false false ∷ quiet 7 4)
     ++ (sends 11 (left chan2 2 2 10 10 12 20) ∷ quiet 12 9)
     ++ (sends 21 (left chan1 3 2 4 20 22 10) ∷ quiet 22 1)
     ++ (sends 23 (left chan2 3 2 20 20 24 20) ∷ [])
 unfolding replied ticks quiet
-one-keeps-and-one-breaks = replied-legal shape_a _ ∙ refl
+one-keeps-and-one-breaks = replied-legal (whole shape_a) _ ∙ refl

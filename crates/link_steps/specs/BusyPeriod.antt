@@ -42,3 +42,9 @@ pub record EndsWithin (rate : ℕ) (packets : List Arrival) (m t w : ℕ) : Type
 pub record FitsWindow (rate blocking : ℕ) (packets : List Arrival) (m t w : ℕ) : Type 0 where
   pub some : 1 ≤ w
   pub work : blocking + total (window_work rate m t w) packets ≤ w
+
+-- what they bring into some window of at most `most` ticks from t on does
+pub record FitsWithin (rate blocking : ℕ) (packets : List Arrival) (m t most : ℕ) : Type 0 where
+  pub window : ℕ
+  pub upto : window ≤ most
+  pub fits : FitsWindow rate blocking packets m t window

@@ -2,7 +2,7 @@
 -- has departed did so after its eligible tick, and at most the bound of its level later; and each packet whose
 -- eligible tick and bound the clock has reached has departed. It counts from the eligible tick, and so holds
 -- whatever a source does.
-use Rattle.std.specs.Prelude.{ℕ, ◌+◌, ◌<◌, ◌≤◌, IsTrue, List, [], ◌∷◌, map}
+use Rattle.std.specs.Prelude.{ℕ, ◌+◌, ◌<◌, ◌≤◌, IsTrue, List, [], ◌∷◌, length, map}
 use Rattle.net_units.specs.LevelBounds.{bound_at}
 use Rattle.traffic_contract.specs.Admission.{Passes}
 use Rattle.link_steps.specs.declared.replies.Entry.{Entry}
@@ -27,14 +27,15 @@ HeldRowsPass shape h = Passes (server_of shape) (map admitted (map row_terms (sc
 abbrev pub deadline_of : LinkShape → Arrival → ℕ
 deadline_of shape p = p.eligible + bound_at shape.bounds p.level
 
--- a packet that has started and departs by the tick `clock` does so after its eligible tick and within its bound
+-- a packet that has started and departs by the tick `clock` does so after its eligible tick and, where it is of one of the
+-- levels, within its bound
 pub record LeavesInTime (shape : LinkShape) (clock : ℕ) (start : Start) : Type 0 where
   pub after : leaves_at shape.rate start ≤ clock → start.packet.eligible < leaves_at shape.rate start
-  pub within : leaves_at shape.rate start ≤ clock → leaves_at shape.rate start ≤ deadline_of shape start.packet
+  pub within : start.packet.level ≤ length shape.bounds → leaves_at shape.rate start ≤ clock → leaves_at shape.rate start ≤ deadline_of shape start.packet
 
 -- a packet whose bound the clock has reached has departed
 pub record HasLeftInTime (shape : LinkShape) (clock : ℕ) (starts : List Start) (p : Arrival) : Type 0 where
-  pub gone : deadline_of shape p ≤ clock → IsTrue (has_departed shape.rate starts clock p)
+  pub gone : p.level ≤ length shape.bounds → deadline_of shape p ≤ clock → IsTrue (has_departed shape.rate starts clock p)
 
 -- the three facts after a history
 pub record IsGuaranteed (shape : LinkShape) (h : List Entry) : Type 0 where

@@ -3,13 +3,13 @@
 -- that occupies it. Of a row it keeps the terms, the lead, how many packets were taken, their newest eligible ticks,
 -- a burst of them, and the planned packets that are left. The account gives the reply to each ask, and the account
 -- after it: no rule needs more of the history.
-use Rattle.std.specs.Prelude.{◌≡◌, ℕ, suc, ◌+◌, Bool, true, not, nat_eq, nat_le, nat_lt, if◌then◌else◌, Option, Some, None, List, [], ◌∷◌, ◌++◌, length, map, filter, find, take}
+use Rattle.std.specs.Prelude.{◌≡◌, ℕ, suc, ◌+◌, Bool, true, false, not, ◌&&◌, nat_eq, nat_le, nat_lt, if◌then◌else◌, Option, Some, None, List, [], ◌∷◌, ◌++◌, length, map, filter, find, take}
 use Rattle.net_units.specs.declared.numbers.ChanNo.{ChanNo}
 use Rattle.net_units.specs.declared.numbers.Level.{Level}
 use Rattle.traffic_contract.specs.Contract.{Terms, IsContract, burst_of}
 use Rattle.traffic_contract.specs.Eligible.{newest}
 use Rattle.link_steps.specs.declared.asks.Ask.{Ask}
-use Rattle.link_steps.specs.declared.asks.Ask.TheVariants.{Reserve, Relax, Deny, Submit, Release, Arrive, Tick}
+use Rattle.link_steps.specs.declared.asks.Ask.TheVariants.{Reserve, Relax, Deny, Submit, Release, Arrive, Tick, Pour}
 use Rattle.link_steps.specs.declared.asks.Packet.{Packet}
 use Rattle.link_steps.specs.declared.replies.Entry.{Entry}
 use Rattle.link_steps.specs.declared.replies.Refusal.TheVariants.{NoSuch, Stray}
@@ -18,15 +18,17 @@ use Rattle.link_steps.specs.declared.replies.Reply.TheVariants as Is
 use Rattle.link_steps.specs.declared.replies.Sent.{Sent}
 use Rattle.link_steps.specs.declared.replies.Why.TheVariants.{NoRow}
 use Rattle.link_steps.specs.declared.shape.LinkShape.{LinkShape}
+use Rattle.link_steps.specs.BestEffort.{is_best, best_step, best_packet}
 use Rattle.link_steps.specs.Buffer.{has_slot, held_packets}
 use Rattle.link_steps.specs.Hold.{hold_ended}
 use Rattle.link_steps.specs.Lists.{change_first, without_first, Each}
-use Rattle.link_steps.specs.Replies.{reserve_reply, relax_reply, deny_reply, submit_reply, release_reply, arrive_reply, sent_of}
+use Rattle.link_steps.specs.Replies.{reserve_reply, relax_reply, deny_reply, submit_reply, release_reply, arrive_reply, pour_reply, sent_if}
 use Rattle.link_steps.specs.Reservation.{Reservation, tentative, committed, closing, is_of, is_at_hop}
 use Rattle.link_steps.specs.Scan.{Scan, clock_of, scan_of, names_first_hop}
 use Rattle.link_steps.specs.Service.{Arrival, Start, leaves_at, first_in_line, starts_below, here_at}
 use Rattle.link_steps.specs.Regulator.{eligible_next}
 use Rattle.link_steps.specs.Rows.{Row, SourcePacket, planned_from, is_for, left_at}
+use Rattle.link_steps.specs.Split.{Link}
 use Rattle.link_steps.specs.Sources.{SourceStep, Brings, lead_with, arrival_at, source_step, taken_by, lost_by}
 
 -- `taken` counts the row's packets, and `recent` are the newest of their eligible ticks, newest first
@@ -37,13 +39,15 @@ pub record KeptRow : Type 0 where
   pub recent : List ℕ
   pub left : List SourcePacket
 
--- `taken` counts the link's packets, and `on` is the start of the one that occupies it
+-- `taken` counts the link's packets, `on` is the start of the one that occupies it, and `best_left` are the planned
+-- best-effort packets that are left
 pub record Kept : Type 0 where
   pub clock : ℕ
   pub taken : ℕ
   pub rows : List KeptRow
   pub here : List Arrival
   pub on : Option Start
+  pub best_left : List SourcePacket
 
 -- ---- what is kept of a history
 
@@ -74,6 +78,7 @@ kept_at shape t scan = record {
   rows = map (kept_row t) scan.rows;
   here = here_at shape.rate scan.packets t;
   on = start_on shape.rate (starts_below shape.rate scan.packets t) t;
+  best_left = left_at t scan.best_plan;
 }
 
 -- what is kept of a history, at its clock
@@ -82,13 +87,13 @@ kept_of shape h = kept_at shape (clock_of h) (scan_of shape h)
 
 -- what is kept of no history
 abbrev pub nothing_kept : Kept
-nothing_kept = record { clock = 0; taken = 0; rows = []; here = []; on = None }
+nothing_kept = record { clock = 0; taken = 0; rows = []; here = []; on = None; best_left = [] }
 
 -- a link that keeps this stands for the history
 abbrev pub StandsFor : LinkShape → Kept → List Entry → Type 0
 StandsFor shape k h = k ≡ kept_of shape h
 
--- the rows have contracts, as those of every legal history do
+-- the rows have contracts, as those of every admissible history do
 abbrev pub HasContract : KeptRow → Type 0
 HasContract row = IsContract row.terms.contract
 
@@ -182,7 +187,12 @@ still_on rate t (Some start) = if leaves_by rate t start then None else Some sta
 -- the packet that departs at the end of tick t
 abbrev pub departs : LinkShape → ℕ → Option Start → Option Sent
 departs shape t None = None
-departs shape t (Some start) = if nat_eq (leaves_at shape.rate start) (suc t) then Some (sent_of shape start) else None
+departs shape t (Some start) = sent_if shape (nat_eq (leaves_at shape.rate start) (suc t)) start
+
+-- whether a best-effort packet does
+abbrev pub best_departs : LinkShape → ℕ → Option Start → Bool
+best_departs shape t None = false
+best_departs shape t (Some start) = nat_eq (leaves_at shape.rate start) (suc t) && is_best shape.bounds start.packet
 
 -- whether a packet is another than the one that started
 abbrev pub is_other : Start → Arrival → Bool
@@ -200,8 +210,24 @@ abbrev pub held_rows : LinkShape → Kept → List KeptRow
 held_rows shape k = filter (kept_stays shape.bounds k.clock) k.rows
 
 -- the packets that their sources bring
+abbrev pub from_sources : LinkShape → Kept → List Arrival
+from_sources shape k = kept_packets shape.bounds k.here k.clock k.taken (held_rows shape k)
+
+-- whether a best-effort packet that is here waits, where this one is on the link, and how many do
+abbrev pub waits_here : List ℕ → Option Start → Arrival → Bool
+waits_here bounds None p = is_best bounds p
+waits_here bounds (Some start) p = is_best bounds p && is_other start p
+
+unfoldable pub kept_waiting : LinkShape → Kept → ℕ
+kept_waiting shape k = length (filter (waits_here shape.bounds k.on) k.here)
+
+-- the step of the best-effort packet planned for the tick at hand
+unfoldable pub kept_best : LinkShape → Kept → SourceStep
+kept_best shape k = best_step (kept_waiting shape k) shape.best k.clock k.best_left
+
+-- all packets of the tick
 abbrev pub brought : LinkShape → Kept → List Arrival
-brought shape k = kept_packets shape.bounds k.here k.clock k.taken (held_rows shape k)
+brought shape k = from_sources shape k ++ best_packet (kept_best shape k) shape.bounds (suc (k.taken + length (from_sources shape k))) k.clock
 
 -- those here then
 abbrev pub present : LinkShape → Kept → List Arrival
@@ -219,6 +245,7 @@ kept_after_tick shape k = record {
   rows = kept_rows_after shape.bounds k.here k.clock k.taken (held_rows shape k);
   here = still_here shape.rate k.clock (occupies shape k) (present shape k);
   on = still_on shape.rate k.clock (occupies shape k);
+  best_left = left_at (suc k.clock) k.best_left;
 }
 
 -- and the reply to it
@@ -227,6 +254,8 @@ kept_tick_reply shape k =
     Is.Ticked k.clock
     (kept_lost shape.bounds k.here k.clock (held_rows shape k))
     (departs shape k.clock (occupies shape k))
+    (best_departs shape k.clock (occupies shape k))
+    (nat_eq (lost_by (kept_best shape k)) 1)
 
 -- ---- the reply to an ask
 
@@ -252,14 +281,15 @@ kept_arrive shape t here packet (Some row) =
     arrive_reply shape.bounds t packet row.terms row.taken (held_packets row.lead here) (eligible_next row.terms row.recent t packet.due)
 
 -- the reply of the account to an ask
-unfoldable pub kept_reply : LinkShape → Kept → Ask → Reply
-kept_reply shape k (Reserve chan contract kind delay up_reach first next) = reserve_reply shape (map kept_terms k.rows) chan contract delay up_reach
-kept_reply shape k (Relax chan level up_bound) = relax_reply k.clock level up_bound (find (is_of chan) (map kept_terms k.rows))
-kept_reply shape k (Deny chan) = deny_reply (find (is_of chan) (map kept_terms k.rows))
-kept_reply shape k (Submit chan count gap size) = kept_submit k.clock size (find (is_kept_at_hop chan true) k.rows)
-kept_reply shape k (Release chan upstream) = kept_release upstream (find (is_kept_at_hop chan (names_first_hop upstream)) k.rows)
-kept_reply shape k (Arrive packet) = kept_arrive shape k.clock k.here packet (find (is_kept_of packet.chan) k.rows)
-kept_reply shape k Tick = kept_tick_reply shape k
+unfoldable pub kept_reply : Link → Kept → Ask → Reply
+kept_reply link k (Reserve chan contract kind delay up_reach first next) = reserve_reply link (map kept_terms k.rows) chan contract delay up_reach
+kept_reply link k (Relax chan level up_bound) = relax_reply k.clock level up_bound (find (is_of chan) (map kept_terms k.rows))
+kept_reply link k (Deny chan) = deny_reply (find (is_of chan) (map kept_terms k.rows))
+kept_reply link k (Submit chan count gap size) = kept_submit k.clock size (find (is_kept_at_hop chan true) k.rows)
+kept_reply link k (Release chan upstream) = kept_release upstream (find (is_kept_at_hop chan (names_first_hop upstream)) k.rows)
+kept_reply link k (Arrive packet) = kept_arrive link.shape k.clock k.here packet (find (is_kept_of packet.chan) k.rows)
+kept_reply link k Tick = kept_tick_reply link.shape k
+kept_reply link k (Pour count gap size) = pour_reply k.clock link.shape.cap size (length k.best_left)
 
 -- ---- the account after an ask and its reply
 
@@ -313,4 +343,5 @@ kept_after shape k (Release chan upstream) (Is.Closing count cancelled) =
     with_kept_rows k (change_first (is_kept_at_hop chan (names_first_hop upstream)) (kept_closed count) k.rows)
 kept_after shape k (Arrive packet) (Is.Taken clock eligible) = kept_with_arrival packet k (find (is_kept_of packet.chan) k.rows)
 kept_after shape k Tick reply = kept_after_tick shape k
+kept_after shape k (Pour count gap size) (Is.Planned clock) = record k { best_left = k.best_left ++ planned_from k.clock gap size count }
 kept_after shape k _ _ = k

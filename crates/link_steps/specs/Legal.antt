@@ -7,11 +7,12 @@ use Rattle.std.specs.Prelude.{◌≡◌, ℕ, ◌^◌, ◌<◌, ◌≤◌, Bool,
 use Rattle.net_units.specs.Numbers.{level_number}
 use Rattle.traffic_contract.specs.Contract.{Terms, IsContract}
 use Rattle.link_steps.specs.declared.asks.Ask.{Ask}
-use Rattle.link_steps.specs.declared.asks.Ask.TheVariants.{Reserve, Relax, Deny, Submit, Release, Arrive, Tick}
+use Rattle.link_steps.specs.declared.asks.Ask.TheVariants.{Reserve, Relax, Deny, Submit, Release, Arrive, Tick, Pour}
 use Rattle.link_steps.specs.declared.asks.Packet.{Packet}
 use Rattle.link_steps.specs.declared.replies.Entry.{Entry}
 use Rattle.link_steps.specs.declared.shape.LinkShape.{LinkShape}
 use Rattle.link_steps.specs.Replies.{reply_to}
+use Rattle.link_steps.specs.Split.{Link}
 
 -- the conditions on a reserve, with this contract and this reach before it
 pub record ReserveFits (contract : Terms) (up_reach : ℕ) (first : Bool) : Type 0 where
@@ -48,13 +49,14 @@ AskFits shape (Submit chan count gap size) = SubmitFits count gap size
 AskFits shape (Release chan upstream) = Unit {0}
 AskFits shape (Arrive packet) = PacketFits packet
 AskFits shape Tick = Unit {0}
+AskFits shape (Pour count gap size) = (1 ≤ shape.best) × SubmitFits count gap size
 
 -- an entry is legal after the history before it
-pub record IsLegalAfter (shape : LinkShape) (past : List Entry) (e : Entry) : Type 0 where
-  pub fits : AskFits shape e.ask
-  pub answered : e.reply ≡ reply_to shape past e.ask
+pub record IsLegalAfter (link : Link) (past : List Entry) (e : Entry) : Type 0 where
+  pub fits : AskFits link.shape e.ask
+  pub answered : e.reply ≡ reply_to link past e.ask
 
--- the history, newest first, is legal at a link of this shape
-unfoldable pub IsLegal : LinkShape → List Entry → Type 0
-IsLegal shape [] = Unit {0}
-IsLegal shape (e ∷ past) = IsLegal shape past × IsLegalAfter shape past e
+-- the history, newest first, is legal at this link
+unfoldable pub IsLegal : Link → List Entry → Type 0
+IsLegal link [] = Unit {0}
+IsLegal link (e ∷ past) = IsLegal link past × IsLegalAfter link past e

@@ -1,5 +1,5 @@
--- Words on lists: the first element that passes a test changed, or taken out, and a fact of each element.
-use Rattle.std.specs.Prelude.{Bool, if◌then◌else◌, List, [], ◌∷◌}
+-- Words on lists: the first element that passes a test changed, or taken out, and a fact of each element, or of one.
+use Rattle.std.specs.Prelude.{Bool, if◌then◌else◌, List, [], ◌∷◌, ◌⊎◌}
 
 -- the list with the first element changed that passes a test
 unfoldable pub change_first : {X : Type 0} → (X → Bool) → (X → X) → List X → List X
@@ -15,3 +15,8 @@ without_first test (x ∷ xs) = if test x then xs else x ∷ without_first test 
 abbrev pub Each : {X : Type 0} → (X → Type 0) → List X → Type 0
 Each P [] = Unit {0}
 Each P (x ∷ xs) = P x × Each P xs
+
+-- P holds of an element
+abbrev pub Any : {X : Type 0} → (X → Type 0) → List X → Type 0
+Any P [] = ⊥
+Any P (x ∷ xs) = P x ⊎ Any P xs

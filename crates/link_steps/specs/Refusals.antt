@@ -2,9 +2,7 @@
 -- which it applies. A rule is named by its refusal: it gives it where it applies, and nothing elsewhere.
 use Rattle.std.specs.Prelude.{ℕ, Bool, not, nat_eq, nat_lt, nat_le, ◌&&◌, if◌then◌else◌, Option, Some, None, List, [], ◌∷◌}
 use Rattle.net_units.specs.Numbers.{level_number}
-use Rattle.net_units.specs.LevelBounds.{last_bound}
 use Rattle.net_units.specs.declared.numbers.Level.{Level}
-use Rattle.traffic_contract.specs.Admission.{Server, Row as Admitted, refused_sum}
 use Rattle.traffic_contract.specs.Contract.{Terms}
 use Rattle.link_steps.specs.declared.replies.Phase.{Phase}
 use Rattle.link_steps.specs.declared.replies.Phase.TheVariants.{Tentative, Closing}
@@ -42,10 +40,10 @@ abbrev pub twice : Option Reservation → Rule
 twice None = None
 twice (Some terms) = Some (Twice terms.phase)
 
--- no level admits the contract: the load of the last level with it there, and that level's bound
-abbrev pub no_level : Server → List Admitted → Terms → Option ℕ → Rule
-no_level server rows contract None = Some (NoLevel (refused_sum server rows contract) (last_bound server.bounds))
-no_level server rows contract (Some level) = None
+-- no level admits the contract: what the last level comes to with it there, and that level's bound
+abbrev pub no_level : Option ℕ → ℕ → ℕ → Rule
+no_level None sum bound = Some (NoLevel sum bound)
+no_level (Some level) sum bound = None
 
 -- the units that the new reservation would keep are more than are free
 abbrev pub no_buffer : ℕ → ℕ → Rule
@@ -68,6 +66,10 @@ busy left = unless (nat_eq left 0) (Busy left)
 -- its packets are larger than the contract allows
 abbrev pub too_big : Reservation → ℕ → Rule
 too_big terms size = unless (nat_le size terms.contract.smax) (TooBig size terms.contract.smax)
+
+-- of a pour: its packets are larger than the link carries
+abbrev pub too_big_for : ℕ → ℕ → Rule
+too_big_for cap size = unless (nat_le size cap) (TooBig size cap)
 
 -- of an arrive: this is the channel's first hop
 abbrev pub first_hop : Reservation → Rule

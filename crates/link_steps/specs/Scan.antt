@@ -6,7 +6,7 @@ use Rattle.std.specs.Prelude.{ℕ, suc, Bool, true, false, Option, Some, None, L
 use Rattle.net_units.specs.declared.numbers.ChanNo.{ChanNo}
 use Rattle.net_units.specs.declared.numbers.Level.{Level}
 use Rattle.link_steps.specs.declared.asks.Ask.{Ask}
-use Rattle.link_steps.specs.declared.asks.Ask.TheVariants.{Reserve, Relax, Deny, Submit, Release, Arrive, Tick}
+use Rattle.link_steps.specs.declared.asks.Ask.TheVariants.{Reserve, Relax, Deny, Submit, Release, Arrive, Tick, Pour}
 use Rattle.link_steps.specs.declared.asks.Packet.{Packet}
 use Rattle.link_steps.specs.declared.replies.Entry.{Entry}
 use Rattle.link_steps.specs.declared.replies.Reply.{Reply}
@@ -17,14 +17,16 @@ use Rattle.link_steps.specs.Lists.{change_first, without_first}
 use Rattle.link_steps.specs.Reservation.{tentative, committed, closing, is_of, is_at_hop}
 use Rattle.link_steps.specs.Service.{Arrival, Start, here_at, starts_below}
 use Rattle.link_steps.specs.Regulator.{eligible_next}
-use Rattle.link_steps.specs.Rows.{Row, new_row, planned_from, made_by}
-use Rattle.link_steps.specs.Sources.{arrival_at, with_packet, rows_after, source_packets}
+use Rattle.link_steps.specs.Rows.{Row, SourcePacket, new_row, planned_from, made_by}
+use Rattle.link_steps.specs.Sources.{SourceStep, arrival_at, with_packet, rows_after, source_packets}
+use Rattle.link_steps.specs.BestEffort.{best_packet, best_step, waiting_best}
 
--- the rows held, the rows gone, and the packets taken
+-- the rows held, the rows gone, the packets taken, best-effort ones among them, and the plan of these
 pub record Scan : Type 0 where
   pub rows : List Row
   pub gone : List Row
   pub packets : List Arrival
+  pub best_plan : List SourcePacket
 
 -- the clock one tick later, if the ask is a tick
 abbrev pub clock_with : Ask → ℕ → ℕ
@@ -95,9 +97,18 @@ with_sources bounds here t scan = record scan {
   packets = scan.packets ++ source_packets bounds here t (length scan.packets) scan.rows;
 }
 
+-- then the best-effort packet planned for tick t, where its step is this one
+unfoldable pub with_best : List ℕ → SourceStep → ℕ → Scan → Scan
+with_best bounds step t scan = record scan { packets = scan.packets ++ best_packet step bounds (suc (length scan.packets)) t }
+
+-- its step, from the scan as the tick begins
+unfoldable pub best_step_at : LinkShape → ℕ → Scan → SourceStep
+best_step_at shape t scan = best_step (waiting_best shape.bounds (starts_below shape.rate scan.packets t) scan.packets) shape.best t scan.best_plan
+
 -- the scan after tick t
 unfoldable pub after_tick : LinkShape → ℕ → Scan → Scan
-after_tick shape t scan = with_sources shape.bounds (here_at shape.rate scan.packets t) t (without_expired shape.bounds t scan)
+after_tick shape t scan =
+    with_best shape.bounds (best_step_at shape t scan) t (with_sources shape.bounds (here_at shape.rate scan.packets t) t (without_expired shape.bounds t scan))
 
 -- the scan after one ask at clock t, and its reply
 unfoldable pub after : LinkShape → ℕ → Scan → Ask → Reply → Scan
@@ -112,11 +123,12 @@ after shape t scan (Release chan upstream) (Is.Closing count cancelled) =
     with_rows scan (change_first (is_row_at_hop chan (names_first_hop upstream)) (close_row t count) scan.rows)
 after shape t scan (Arrive packet) (Is.Taken clock eligible) = with_arrival t packet scan (find (is_row_of packet.chan) scan.rows)
 after shape t scan Tick reply = after_tick shape t scan
+after shape t scan (Pour count gap size) (Is.Planned clock) = record scan { best_plan = scan.best_plan ++ planned_from t gap size count }
 after shape t scan _ _ = scan
 
 -- the scan of a history
 unfoldable pub scan_of : LinkShape → List Entry → Scan
-scan_of shape [] = record { rows = []; gone = []; packets = [] }
+scan_of shape [] = record { rows = []; gone = []; packets = []; best_plan = [] }
 scan_of shape (e ∷ past) = after shape (clock_of past) (scan_of shape past) e.ask e.reply
 
 -- the starts in the ticks made, newest first

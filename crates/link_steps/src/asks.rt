@@ -65,4 +65,11 @@ pub enum Ask {
     },
     /// Let one tick pass.
     Tick,
+    /// Plan `count` best-effort packets of `size` units, the first at the link's clock and then one each `gap` ticks. The
+    /// link takes best-effort packets, and the numbers have the limits of a submit.
+    Pour {
+        count: u64,
+        gap: u64,
+        size: u32,
+    },
 }

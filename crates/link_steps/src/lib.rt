@@ -11,10 +11,15 @@
 pub mod asks;
 pub mod laws;
 pub mod link_step;
+pub mod quota;
 pub mod replies;
+pub mod row_laws;
 pub mod shape;
+pub mod split;
 
 pub use asks::{Ask, Packet};
 pub use link_step::LinkStep;
+pub use quota::Quota;
 pub use replies::{Entry, Phase, Refusal, Reply, Sent, Why};
 pub use shape::{BadShape, LinkShape, ShapeField};
+pub use split::Split;

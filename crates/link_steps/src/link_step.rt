@@ -2,9 +2,9 @@
 ghost use Rattle.std.specs.Prelude.{◌≡◌, ℕ, ◌^◌, ◌<◌, List, ◌∷◌, IfOk, OnErr};
 ghost use Rattle.link_steps.specs.declared.asks.Ask.{Ask};
 ghost use Rattle.link_steps.specs.declared.replies.Entry.{Entry};
-ghost use Rattle.link_steps.specs.declared.shape.LinkShape.{LinkShape};
 ghost use Rattle.link_steps.specs.Legal.{AskFits};
 ghost use Rattle.link_steps.specs.Replies.{reply_to};
+ghost use Rattle.link_steps.specs.Split.{Link};
 ghost use Rattle.link_steps.specs.Scan.{clock_of, clock_with};
 
 use crate::asks::Ask;
@@ -18,8 +18,8 @@ use net_units::OutOfMemory;
 /// stands for, a step answers the legal reply at that point, and the link then stands for that history with the
 /// one entry added, newest first.
 pub trait LinkStep: Drop {
-    /// Its shape.
-    ghost shape_of: { Self → LinkShape };
+    /// The link as the rules see it: its shape, and how it is split.
+    ghost link_of: { Self → Link };
 
     /// The number of its next tick.
     ghost clock_at: { Self → ℕ };
@@ -29,7 +29,7 @@ pub trait LinkStep: Drop {
 
     /// Its shape, which never changes.
     fn shape(&self) -> LinkShape
-        ensures { result ≡ shape_of self.now };
+        ensures { result ≡ (link_of self.now).shape };
 
     /// The number of its next tick, which is the number of ticks that it has made.
     fn clock(&self) -> u64
@@ -38,10 +38,10 @@ pub trait LinkStep: Drop {
     /// Makes one step. The ask has to keep the limits of its numbers (`fits`), and the clock has to be below 2^61
     /// (`early`). A refusal among the replies leaves the link as it was, and so does want of memory.
     fn step(&mut self, ask: &Ask) -> Result<Reply, OutOfMemory>
-        requires fits { AskFits (shape_of self.old) ask.now }
+        requires fits { AskFits (link_of self.old).shape ask.now }
         requires early { clock_at self.old < 2 ^ 61 }
-        ensures shape { shape_of self.new ≡ shape_of self.old }
-        ensures legal { IfOk result (λ reply. (h : List Entry) → stands_for self.old h → reply ≡ reply_to (shape_of self.old) h ask.now) }
+        ensures same { link_of self.new ≡ link_of self.old }
+        ensures legal { IfOk result (λ reply. (h : List Entry) → stands_for self.old h → reply ≡ reply_to (link_of self.old) h ask.now) }
         ensures entered { IfOk result (λ reply. (h : List Entry) → stands_for self.old h → stands_for self.new (record { ask = ask.now; reply = reply } ∷ h)) }
         ensures memory { OnErr result ((h : List Entry) → stands_for self.old h → stands_for self.new h) }
 

@@ -62,6 +62,10 @@ pub enum Reply {
         clock: u64,
         full: u32,
         sent: Option<Sent>,
+        /// Whether a best-effort packet left.
+        best_sent: bool,
+        /// Whether one was lost.
+        best_lost: bool,
     },
     /// The ask was refused, and changed nothing.
     Refused(Refusal),

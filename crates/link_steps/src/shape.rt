@@ -4,6 +4,7 @@ ghost use Rattle.net_units.specs.Quotient.{ceil_quotient};
 ghost use Rattle.net_units.specs.LevelBounds.{are_bounds, bound_at};
 
 use net_units::{Bounds, Level, LinkNo, ceil_div};
+use traffic_contract::Test;
 
 /// A number of a link's shape, or its bounds.
 #[derive(Clone, Copy, Debug, PartialEq, Eq)]
@@ -16,6 +17,8 @@ pub enum ShapeField {
     Prop,
     /// The buffer, in units.
     Buffer,
+    /// The best-effort packets that may wait.
+    Best,
     /// The bounds of the levels, in ticks.
     Bounds,
 }
@@ -41,12 +44,17 @@ pub struct LinkShape {
     pub buffer: u32,
     /// The delay bounds of its levels, in ticks.
     pub bounds: Bounds,
+    /// In which window its admission test compares the load of a level.
+    pub test: Test,
+    /// The best-effort packets that may wait, up to 1,024; 0 where there are none.
+    pub best: u32,
     ghost rate_least: { 1 ≤ rate },
     ghost rate_most: { rate ≤ 65536 },
     ghost cap_least: { 1 ≤ cap },
     ghost cap_most: { cap ≤ 65536 },
     ghost prop_most: { prop ≤ 1048576 },
     ghost buffer_most: { buffer ≤ 262144 },
+    ghost best_most: { best ≤ 1024 },
     ghost bounds_rise: { IsTrue (are_bounds bounds) },
     ghost blocking_fits: { ceil_quotient cap rate ≤ bound_at bounds 1 },
 }
@@ -64,11 +72,13 @@ impl LinkShape {
         prop: u32,
         buffer: u32,
         bounds: Bounds,
+        test: Test,
+        best: u32,
     ) -> Result<LinkShape, BadShape>
         ensures refusal { MatchResult result
-            (λ _. first_bad_field rate cap prop buffer bounds ≡ None)
-            (λ bad. first_bad_field rate cap prop buffer bounds ≡ Some bad.field) }
-        ensures value { IfOk result (IsShapeOf link rate cap prop buffer bounds) }
+            (λ _. first_bad_field rate cap prop buffer best bounds ≡ None)
+            (λ bad. first_bad_field rate cap prop buffer best bounds ≡ Some bad.field) }
+        ensures value { IfOk result (IsShapeOf link rate cap prop buffer bounds test best) }
     {
         if !(1..=65_536).contains(&rate) {
             return Err(BadShape {
@@ -90,6 +100,11 @@ impl LinkShape {
                 field: ShapeField::Buffer,
             });
         }
+        if best > 1_024 {
+            return Err(BadShape {
+                field: ShapeField::Best,
+            });
+        }
         if ceil_div(u64::from(cap), u64::from(rate)) > u64::from(bounds.at(Level::LEAST)) {
             return Err(BadShape {
                 field: ShapeField::Bounds,
@@ -102,6 +117,8 @@ impl LinkShape {
             prop,
             buffer,
             bounds,
+            test,
+            best,
         })
     }
 
@@ -124,16 +141,17 @@ mod tests {
     fn shapes_and_their_blocking(rt: HostRuntime) -> Result<(), Fail> {
         let link = LinkNo::new(0).ok_or("no such link")?;
         let bounds = Bounds::new(&[10, 20, 40]).ok_or("no such bounds")?;
-        for (rate, cap, prop, buffer, want) in [
-            (1, 4, 2, 100, Ok(4)),
-            (125, 1250, 50, 65_536, Ok(10)),
-            (1, 11, 2, 100, Err(ShapeField::Bounds)),
-            (0, 0, 2, 100, Err(ShapeField::Rate)),
-            (1, 65_537, 2, 100, Err(ShapeField::Cap)),
-            (1, 4, 1_048_577, 262_145, Err(ShapeField::Prop)),
-            (1, 4, 2, 262_145, Err(ShapeField::Buffer)),
+        for (rate, cap, prop, buffer, best, want) in [
+            (1, 4, 2, 100, 0, Ok(4)),
+            (125, 1250, 50, 65_536, 1_024, Ok(10)),
+            (1, 11, 2, 100, 0, Err(ShapeField::Bounds)),
+            (0, 0, 2, 100, 0, Err(ShapeField::Rate)),
+            (1, 65_537, 2, 100, 0, Err(ShapeField::Cap)),
+            (1, 4, 1_048_577, 262_145, 0, Err(ShapeField::Prop)),
+            (1, 4, 2, 262_145, 1_025, Err(ShapeField::Buffer)),
+            (1, 11, 2, 100, 1_025, Err(ShapeField::Best)),
         ] {
-            let made = LinkShape::new(link, rate, cap, prop, buffer, bounds);
+            let made = LinkShape::new(link, rate, cap, prop, buffer, bounds, Test::Whole, best);
             let blocking = made.map(|shape| shape.blocking()).map_err(|bad| bad.field);
             assert_eq!(rt; blocking, want, "rate {rate}, cap {cap}");
         }

@@ -1,17 +1,19 @@
 -- What is kept of a link stays admitted through each change.
-use Rattle.std.proofs.Common.{◌≡◌, ◌≢◌, ℕ, zero, suc, ◌+◌, ◌<◌, ◌≤◌, ⊎_elim, Bool, true, false, cond, eqb, List, [], ◌∷◌, length, map, get_or, refl, sym, ap, ◌∙◌, subst, arith}
+use Rattle.std.proofs.Common.{◌≡◌, ◌≢◌, ℕ, zero, suc, ◌+◌, ◌-◌, ◌^◌, ◌<◌, ◌≤◌, ⊎_elim, Bool, true, false, cond, eqb, List, [], ◌∷◌, length, map, get_or, refl, sym, ap, ◌∙◌, subst, arith}
 use Rattle.std.proofs.lemmas.Bool.{eqb-true, eqb-false, ne_eqb, cases_order, cases_Bool}
 use Rattle.std.proofs.lemmas.List.{map_push, length-map, get_or-map, get_or_default}
 use Rattle.std.proofs.lemmas.List.Quantifiers.{all_pairs_push}
 use Rattle.std.proofs.lemmas.List.Kept.{AllPairs-filter}
-use Rattle.std.proofs.lemmas.List.Elements.{Contains-push_cases}
-use Rattle.std.specs.List.{filter}
+use Rattle.std.proofs.lemmas.List.Elements.{Contains-push_cases, All-nil, All-push, All-map, All-filter}
+use Rattle.std.specs.List.{filter, All}
 use Rattle.std.specs.Prelude.{Contains}
-use Rattle.net_units.proofs.BoundFacts.{bound_at-rising}
-use Rattle.traffic_contract.specs.Contract.{Terms}
-use Rattle.traffic_contract.specs.Admission.{Passes, with_row}
-use Rattle.traffic_contract.proofs.AdmissionFacts.{Passes-nil, Passes-kept, Passes-changed}
-use Rattle.rcsp_admission.specs.Sums.{Held, Sums, row_of, key_of, rows_of, held_at, has_key, Holds, HoldsUpTo, added, put_at, move_row, moved, has_other_key, without, IsDistinct, IsServer, AreAdmitted}
+use Rattle.net_units.specs.LevelBounds.{bound_at}
+use Rattle.net_units.proofs.BoundFacts.{bounds_parts, bound_least, bound_at-rising}
+use Rattle.traffic_contract.specs.Contract.{Terms, IsContract}
+use Rattle.traffic_contract.specs.Admission.{total, work_up_to, load, Passes, with_row}
+use Rattle.traffic_contract.proofs.AdmissionFacts.{window-of, counts-within, Passes-nil, Passes-kept, Passes-changed}
+use Rattle.traffic_contract.proofs.LoadFacts.{HasContract, total-most}
+use Rattle.rcsp_admission.specs.Sums.{Held, Sums, row_of, key_of, rows_of, held_at, has_key, Holds, HoldsUpTo, added, put_at, move_row, moved, has_other_key, without, IsDistinct, IsServer, HoldsContract, AreAdmitted}
 
 -- ---- a link without rows
 
@@ -19,7 +21,8 @@ use Rattle.rcsp_admission.specs.Sums.{Held, Sums, row_of, key_of, rows_of, held_
 pub AreAdmitted-new : (sums : Sums) → IsServer sums.server → sums.rows ≡ [] → AreAdmitted sums
 AreAdmitted-new sums server none = record {
   server = server;
-  passes = rw none (Passes-nil sums.server (λ m from upto. omega (arith, server.first, bound_at-rising sums.server.bounds 1 m server.bounds (omega arith) from upto)));
+  contracts = rw none (All-nil HoldsContract);
+  passes = rw none (Passes-nil sums.server server.blocking (λ m from upto. omega (arith, server.first, bound_at-rising sums.server.bounds 1 m server.bounds (omega arith) from upto)));
   distinct = rw none (record { apart = λ i j d h inside. absurd (omega arith) });
 }
 
@@ -30,9 +33,10 @@ keys_differ : (rows : List Held) (key : ℕ) → (Holds rows key → ⊥) → (k
 keys_differ rows key new k d inside same =
     new (k, omega (arith, length-map rows key_of), get_or-map key_of rows k d key inside ∙ same)
 
-pub AreAdmitted-added : (before after : Sums) (key : ℕ) (terms : Terms) (level : ℕ) → AreAdmitted before → (Holds before.rows key → ⊥) → Passes before.server (with_row (rows_of before.rows) terms level) → after.server ≡ before.server → after.rows ≡ added before.rows key terms level → AreAdmitted after
-AreAdmitted-added before after key terms level held new passed same rows = record {
+pub AreAdmitted-added : (before after : Sums) (key : ℕ) (terms : Terms) (level : ℕ) → AreAdmitted before → (Holds before.rows key → ⊥) → IsContract terms → Passes before.server (with_row (rows_of before.rows) terms level) → after.server ≡ before.server → after.rows ≡ added before.rows key terms level → AreAdmitted after
+AreAdmitted-added before after key terms level held new valid passed same rows = record {
   server = rw same held.server;
+  contracts = rw rows (All-push HoldsContract before.rows (held_at key terms level) held.contracts valid);
   passes = rw (same, rows, map_push row_of before.rows (held_at key terms level)) passed;
   distinct = rw rows (record { apart = all_pairs_push (λ one other. one.key ≢ other.key) before.rows (held_at key terms level) held.distinct.apart (keys_differ before.rows key new) });
 }
@@ -68,9 +72,16 @@ IsDistinct-moved rows key level distinct = record {
       λ same. distinct.apart i j d before (omega arith) (sym (at i (omega arith)) ∙ same ∙ at j (omega arith));
 }
 
+-- and rows keep their contracts
+contracts-moved : (rows : List Held) (key level : ℕ) → All HoldsContract rows → All HoldsContract (moved rows key level)
+contracts-moved rows key level contracts = All-map HoldsContract (move_row key level) rows (λ k d inside. kept (get_or rows k d) (contracts k d inside)) where
+  kept : (held : Held) → HoldsContract held → HoldsContract (move_row key level held)
+  kept held is = elim (has_key key held) as (λ b. HoldsContract (cond b (put_at level held) held)) [ true ↦ is | false ↦ is ]
+
 pub AreAdmitted-moved : (before after : Sums) (key level : ℕ) → AreAdmitted before → HoldsUpTo before.rows key level → after.server ≡ before.server → after.rows ≡ moved before.rows key level → AreAdmitted after
 AreAdmitted-moved before after key level held up same rows = record {
   server = rw same held.server;
+  contracts = rw rows (contracts-moved before.rows key level held.contracts);
   passes = rw (same, rows) (Passes-changed before.server row_of (move_row key level) before.rows (λ k d inside. move_row-up key level _ (all_up before.rows key level held.distinct up k d inside)) held.passes);
   distinct = rw rows (IsDistinct-moved before.rows key level held.distinct);
 }
@@ -80,6 +91,7 @@ AreAdmitted-moved before after key level held up same rows = record {
 pub AreAdmitted-without : (before after : Sums) (key : ℕ) → AreAdmitted before → after.server ≡ before.server → after.rows ≡ without before.rows key → AreAdmitted after
 AreAdmitted-without before after key held same rows = record {
   server = rw same held.server;
+  contracts = rw rows (All-filter (has_other_key key) HoldsContract before.rows held.contracts);
   passes = rw (same, rows) (Passes-kept before.server row_of (has_other_key key) before.rows held.passes);
   distinct = rw rows (record { apart = AllPairs-filter (λ one other. one.key ≢ other.key) (has_other_key key) before.rows held.distinct.apart });
 }
@@ -123,3 +135,25 @@ not_held-added before after key other level terms e apart new held =
     ⊎_elim new (λ same. apart (sym same)) (Contains-push_cases (map key_of before) other key (subst (λ keys. Contains keys key) (ap (map key_of) e ∙ map_push key_of before (held_at other terms level)) held))
 
 pub ruleset not_held = (not_held-none, not_held-added)
+
+-- ---- what the rows come to
+
+-- the rows that admission sums have contracts
+pub contracts-of : (rows : List Held) → All HoldsContract rows → All HasContract (rows_of rows)
+contracts-of rows contracts = All-map HasContract row_of rows contracts
+
+-- and so with a new one
+pub contracts-with : (rows : List Held) (terms : Terms) (level : ℕ) → All HoldsContract rows → IsContract terms → All HasContract (with_row (rows_of rows) terms level)
+contracts-with rows terms level contracts valid = All-push HasContract (rows_of rows) (record { terms = terms; level = level }) (contracts-of rows contracts) valid
+
+-- the work of admitted rows in a window of at most a bound is no large number
+pub work-small : (sums : Sums) (m w : ℕ) → AreAdmitted sums → 1 ≤ m → m ≤ length sums.server.bounds → w ≤ 1048576 → total (work_up_to sums.server.rate m w) (rows_of sums.rows) < 2 ^ 60
+unfolding load
+work-small sums m w admitted from upto most =
+    let passed = window-of sums.server (rows_of sums.rows) m (admitted.passes.each m from upto) in
+    let some = bound_least sums.server.bounds m admitted.server.bounds from upto in
+    let bound = ((bounds_parts sums.server.bounds admitted.server.bounds).each (m - 1) (omega (arith, from, upto))).1 in
+    let within = counts-within sums.server.test (bound_at sums.server.bounds m) passed.window some passed.counts in
+    let fits = passed.fits in
+    let few = total-most sums.server.rate m passed.window w (rows_of sums.rows) admitted.server.rate (contracts-of sums.rows admitted.contracts) within.0 most in
+    omega (arith, few, fits, within.1, bound)

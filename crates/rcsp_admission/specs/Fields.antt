@@ -7,7 +7,7 @@ use Rattle.rcsp_admission.specs.declared.level_sums.LevelSums.TheInside.{Inside}
 
 abbrev pub sums_of : Inside → Sums
 sums_of s = record {
-  server = server_of s.bounds s.rate s.blocking;
+  server = server_of s.bounds s.rate s.blocking s.test;
   rows = map held_of s.rows.items;
   spare = vec_capacity s.rows - vec_len s.rows;
 }

@@ -1,17 +1,19 @@
--- A level has room for a row of a new contract where its sum, with the work of that row, is still at most its
--- bound. A row at level m counts at every level from m on. So rows that pass still pass with a new one at every
--- level above the last that has no room, and at no other.
-use Rattle.std.specs.Prelude.{ℕ, ◌+◌, ◌<◌, ◌≤◌, List}
-use Rattle.net_units.specs.LevelBounds.{bound_at}
+-- A row at level m counts at every level from m on. So rows that pass still pass with a new one at every level above the
+-- last that has no room for it, and at no other.
+use Rattle.std.specs.Prelude.{ℕ, ◌<◌, ◌≤◌, List}
 use Rattle.traffic_contract.specs.Contract.{Terms}
-use Rattle.traffic_contract.specs.Admission.{Server, Row, level_sum, work_in}
+use Rattle.traffic_contract.specs.Admission.{Server, Row, load, with_row, HasRoom}
 
--- what level m comes to with a row of the contract at it
-abbrev pub sum_with : Server → List Row → Terms → ℕ → ℕ
-sum_with server rows terms m = level_sum server rows m + work_in server.rate terms (bound_at server.bounds m)
+-- the load of the levels up to m in a window of w ticks, with a row of the contract at m
+abbrev pub load_with : Server → List Row → Terms → ℕ → ℕ → ℕ
+load_with server rows terms m w = load server (with_row rows terms m) m w
+
+-- some window of a tick or more, up to a bound, fits that load
+abbrev pub FitsSome : Server → List Row → Terms → ℕ → ℕ → Type 0
+FitsSome server rows terms m bound = (w : ℕ) × (1 ≤ w) × (w ≤ bound) × (load_with server rows terms m w ≤ w)
 
 -- of the levels 1 to n, `full` is the last that has no room, or 0 where all have
 pub record IsLastFull (server : Server) (rows : List Row) (terms : Terms) (n full : ℕ) : Type 0 where
   pub upto : full ≤ n
-  pub no_room : 1 ≤ full → bound_at server.bounds full < sum_with server rows terms full
-  pub room : (m : ℕ) → full < m → m ≤ n → sum_with server rows terms m ≤ bound_at server.bounds m
+  pub no_room : 1 ≤ full → ¬ HasRoom server rows terms full
+  pub room : (m : ℕ) → full < m → m ≤ n → HasRoom server rows terms m

@@ -2,9 +2,10 @@
 -- which they were added. Adding puts a row at the end, moving a row changes its level alone, and taking one out
 -- leaves all others as they are. `spare` is the number of rows for which memory is at hand.
 use Rattle.std.specs.Prelude.{◌≡◌, ◌≢◌, ◌==◌, ℕ, ◌≤◌, Bool, not, if◌then◌else◌, IsTrue, List, [], ◌∷◌, ◌++◌, map, Contains}
-use Rattle.std.specs.List.{filter, Any, AllPairs}
+use Rattle.std.specs.List.{filter, All, Any, AllPairs}
 use Rattle.net_units.specs.LevelBounds.{are_bounds, bound_at}
-use Rattle.traffic_contract.specs.Contract.{Terms}
+use Rattle.traffic_contract.specs.Contract.{Terms, IsContract}
+use Rattle.traffic_contract.specs.declared.admission.Test.{Test}
 use Rattle.traffic_contract.specs.Admission.{Server, Row, Passes}
 
 -- an admitted channel: its row under its key
@@ -18,8 +19,8 @@ pub record Sums : Type 0 where
   pub rows : List Held
   pub spare : ℕ
 
-abbrev pub server_of : List ℕ → ℕ → ℕ → Server
-server_of bounds rate blocking = record { bounds = bounds; rate = rate; blocking = blocking }
+abbrev pub server_of : List ℕ → ℕ → ℕ → Test → Server
+server_of bounds rate blocking test = record { bounds = bounds; rate = rate; blocking = blocking; test = test }
 
 abbrev pub row_of : Held → Row
 row_of held = held.row
@@ -80,8 +81,13 @@ pub record IsServer (server : Server) : Type 0 where
   pub blocking : 1 ≤ server.blocking
   pub first : server.blocking ≤ bound_at server.bounds 1
 
--- what is kept always: the rows pass, and their keys differ
+-- a row that is held has a contract
+abbrev pub HoldsContract : Held → Type 0
+HoldsContract held = IsContract held.row.terms
+
+-- what is kept always: the rows have contracts and pass, and their keys differ
 pub record AreAdmitted (sums : Sums) : Type 0 where
   pub server : IsServer sums.server
+  pub contracts : All HoldsContract sums.rows
   pub passes : Passes sums.server (rows_of sums.rows)
   pub distinct : IsDistinct sums.rows

@@ -1,16 +1,18 @@
 //! The rows of a link and their sums at its levels.
-ghost use Rattle.std.specs.Prelude.{◌≡◌, ◌+◌, ◌<◌, ◌≤◌, ℕ, [], None, Some, IfOk, IfErr, OnOk, OnErr, MatchResult, IsOk, length};
+ghost use Rattle.std.specs.Prelude.{◌≡◌, ◌+◌, ◌<◌, ◌≤◌, ◌^◌, ◌↔◌, ℕ, [], IsTrue, None, Some, IfOk, IfErr, OnOk, OnErr, MatchResult, IsOk, length};
 ghost use Rattle.net_units.specs.Numbers.{level_number};
 ghost use Rattle.net_units.specs.LevelBounds.{bound_at, last_bound};
-ghost use Rattle.traffic_contract.specs.Admission.{Passes, IsBest, IsRefused, with_row, level_sum, best_level, refused_sum};
-ghost use Rattle.rcsp_admission.specs.Room.{IsLastFull, sum_with};
+ghost use Rattle.traffic_contract.specs.Admission.{load, Passes, HasRoom, IsBest, IsRefused, with_row, level_sum, best_level, refused_sum};
+ghost use Rattle.traffic_contract.specs.declared.admission.Test.{Test};
+ghost use Rattle.traffic_contract.specs.declared.admission.Test.TheVariants.{Whole};
+ghost use Rattle.rcsp_admission.specs.Room.{IsLastFull, load_with, FitsSome};
 ghost use Rattle.rcsp_admission.specs.Sums.{Holds, HoldsUpTo, AreAdmitted, server_of, rows_of, added, moved, without};
 
 use crate::rows::{KeptRow, move_in, work, work_of};
 use net_units::{Bounds, Level, OutOfMemory};
 use std::alloc::Global;
 use std::marker::Model;
-use traffic_contract::Contract;
+use traffic_contract::{Contract, Test};
 
 /// A new contract passes at no level: with its row at the last one, the sum there is over the bound.
 #[derive(Clone, Copy, Debug, PartialEq, Eq)]
@@ -23,14 +25,16 @@ pub struct NoLevel {
 
 /// The channels that a link has admitted, each as a row with its key, contract and level.
 ///
-/// The rows always pass: for every level m, the blocking and the work that the rows at levels 1 to m may bring in
-/// a window as long as the bound of m are together at most that bound. A contract sees the record `Sums`: the
+/// The rows always pass: for every level m, the blocking and the work that the rows at levels 1 to m may bring into
+/// some window are together at most that window, which is as long as the bound of m or, by the link's test, any up to
+/// it. A contract sees the record `Sums`: the
 /// link, the rows in the order in which they were added, and the number of rows for which memory is spare.
 #[derive(Drop)]
 pub struct LevelSums {
     bounds: Bounds,
     rate: u32,
     blocking: u32,
+    test: Test,
     rows: Vec<KeptRow>,
 }
 
@@ -49,11 +53,11 @@ impl Model for LevelSums {
 impl LevelSums {
     /// A link without rows. `rate` is in units a tick. `blocking` is the time in ticks that the link's largest
     /// packet takes, at most the first bound.
-    pub fn new(alloc: Global, bounds: Bounds, rate: u32, blocking: u32) -> LevelSums
+    pub fn new(alloc: Global, bounds: Bounds, rate: u32, blocking: u32, test: Test) -> LevelSums
         requires rate { 1 ≤ rate }
         requires blocking { 1 ≤ blocking }
         requires first { blocking ≤ bound_at bounds 1 }
-        ensures value { result ≡ record { server = server_of bounds rate blocking; rows = []; spare = 0 } }
+        ensures value { result ≡ record { server = server_of bounds rate blocking test; rows = []; spare = 0 } }
         ensures admitted { AreAdmitted result }
     {
         // `len` tells that the bounds rise, so the blocking fits all of them where it fits the first.
@@ -62,6 +66,7 @@ impl LevelSums {
             bounds,
             rate,
             blocking,
+            test,
             rows: Vec::new(alloc),
         }
     }
@@ -99,9 +104,10 @@ impl LevelSums {
         let full = self.last_full(contract);
         if full == levels {
             let last = level_at(levels);
+            let bound = u64::from(self.bounds.at(last));
             return Err(NoLevel {
-                sum: self.sum_with(contract, last),
-                bound: u64::from(self.bounds.at(last)),
+                sum: self.load_with(contract, last, bound),
+                bound,
             });
         }
         Ok(level_at(full + 1))
@@ -118,6 +124,8 @@ impl LevelSums {
         ensures spare { self.new.spare + 1 ≡ self.old.spare }
         ensures admitted { AreAdmitted self.new }
     {
+        // `burst` tells that this is a contract.
+        let _burst = contract.burst();
         self.rows.push_reserved(KeptRow {
             key,
             contract,
@@ -148,25 +156,66 @@ impl LevelSums {
         self.rows.retain(|row| row.key != key);
     }
 
-    /// What the test compares with the bound of a level, in ticks: the blocking, and the work of the rows at
-    /// this level and the smaller ones in a window as long as its bound. It is at most the bound.
+    /// The load of the levels up to this one in a window as long as its bound, in ticks: the blocking, and the work of
+    /// their rows. Where the test takes the whole bound it is at most that.
     pub fn sum(&self, level: Level) -> u64
         requires within { level_number level ≤ length self.now.server.bounds }
         ensures value { result ≡ level_sum self.now.server (rows_of self.now.rows) (level_number level) }
-        ensures fits { result ≤ bound_at self.now.server.bounds (level_number level) }
+        ensures fits { self.now.server.test ≡ Whole → result ≤ bound_at self.now.server.bounds (level_number level) }
         ensures admitted { AreAdmitted self.now }
     {
-        let window = u64::from(self.bounds.at(level));
+        self.load(level, u64::from(self.bounds.at(level)))
+    }
+
+    // The load of the levels up to this one in a window, in ticks.
+    fn load(&self, level: Level, window: u64) -> u64
+        requires within { level_number level ≤ length self.now.server.bounds }
+        requires window { window ≤ 1048576 }
+        ensures value { result ≡ load self.now.server (rows_of self.now.rows) (level_number level) window }
+        ensures small { result < 2 ^ 61 }
+    {
         u64::from(self.blocking) + work_of(&self.rows, self.rate, level, window)
     }
 
-    // What the level comes to with a row of this contract at it.
-    fn sum_with(&self, contract: &Contract, level: Level) -> u64
+    // The same with a row of this contract at the level.
+    fn load_with(&self, contract: &Contract, level: Level, window: u64) -> u64
         requires within { level_number level ≤ length self.now.server.bounds }
-        ensures { result ≡ sum_with self.now.server (rows_of self.now.rows) contract.now (level_number level) }
+        requires window { window ≤ 1048576 }
+        ensures { result ≡ load_with self.now.server (rows_of self.now.rows) contract.now (level_number level) window }
     {
-        let window = u64::from(self.bounds.at(level));
-        self.sum(level) + work(contract, self.rate, window)
+        self.load(level, window) + work(contract, self.rate, window)
+    }
+
+    // Whether some window up to the bound fits the load with a row of this contract at the level. Each window that
+    // does is at least the blocking, and at least the load in any window before it.
+    fn fits_some(&self, contract: &Contract, level: Level, bound: u64) -> bool
+        requires within { level_number level ≤ length self.now.server.bounds }
+        requires bound { bound ≤ 1048576 }
+        ensures { IsTrue result ↔ FitsSome self.now.server (rows_of self.now.rows) contract.now (level_number level) bound }
+    {
+        // `burst` tells that this is a contract.
+        let _burst = contract.burst();
+        let mut window = u64::from(self.blocking);
+        while window <= bound {
+            let load = self.load_with(contract, level, window);
+            if load <= window {
+                return true;
+            }
+            window = load;
+        }
+        false
+    }
+
+    // Whether the level passes with a row of this contract at it.
+    fn has_room(&self, contract: &Contract, level: Level) -> bool
+        requires within { level_number level ≤ length self.now.server.bounds }
+        ensures { IsTrue result ↔ HasRoom self.now.server (rows_of self.now.rows) contract.now (level_number level) }
+    {
+        let bound = u64::from(self.bounds.at(level));
+        match self.test {
+            Test::Whole => self.load_with(contract, level, bound) <= bound,
+            Test::Least => self.fits_some(contract, level, bound),
+        }
     }
 
     // The last level that has no room for a row of this contract, or 0.
@@ -176,7 +225,7 @@ impl LevelSums {
         let mut full = 0;
         for index in 0..self.bounds.len() {
             let level = level_at(index + 1);
-            if self.sum_with(contract, level) > u64::from(self.bounds.at(level)) {
+            if !self.has_room(contract, level) {
                 full = index + 1;
             }
         }
@@ -217,7 +266,7 @@ mod tests {
         let bounds = Bounds::new(&[10, 20, 40]).ok_or("bounds")?;
         assert_eq!(rt; bounds.len(), 3);
         let contract = Contract::new(5, 10, 20, 2)?;
-        let mut sums = LevelSums::new(rt.alloc(), bounds, 1, 4);
+        let mut sums = LevelSums::new(rt.alloc(), bounds, 1, 4, Test::Whole);
         sums.reserve(5)?;
         assert_eq!(rt; admit(&mut sums, 1, &contract)?, 1);
         assert_eq!(rt; admit(&mut sums, 2, &contract)?, 2);
@@ -239,13 +288,34 @@ mod tests {
         let bounds = Bounds::new(&[10, 20, 40]).ok_or("bounds")?;
         assert_eq!(rt; bounds.len(), 3);
         let contract = Contract::new(5, 10, 20, 2)?;
-        let mut sums = LevelSums::new(rt.alloc(), bounds, 1, 4);
+        let mut sums = LevelSums::new(rt.alloc(), bounds, 1, 4, Test::Whole);
         sums.reserve(1)?;
         assert_eq!(rt; admit(&mut sums, 7, &contract)?, 1);
         sums.move_to(7, level_at(3));
         assert_eq!(rt; (sums.sum(level_at(2)), sums.sum(level_at(3))), (4, 12));
         sums.remove(7);
         assert_eq!(rt; sums.sum(level_at(3)), 4);
+        Ok(())
+    }
+
+    // In 23 ticks four rows come to 28, and in 20 ticks to 20.
+    #[test]
+    #[tactic(auto, using(crate::proofs::SumsFacts::not_held))]
+    fn finds_a_window_before_the_bound(rt: HostRuntime) -> Result<(), Fail> {
+        let bounds = Bounds::new(&[23]).ok_or("bounds")?;
+        assert_eq!(rt; bounds.len(), 1);
+        let contract = Contract::new(5, 10, 20, 2)?;
+        let mut sums = LevelSums::new(rt.alloc(), bounds, 1, 4, Test::Least);
+        sums.reserve(4)?;
+        assert_eq!(rt; admit(&mut sums, 1, &contract)?, 1);
+        assert_eq!(rt; admit(&mut sums, 2, &contract)?, 1);
+        assert_eq!(rt; admit(&mut sums, 3, &contract)?, 1);
+        assert_eq!(rt; admit(&mut sums, 4, &contract)?, 1);
+        assert_eq!(rt;
+            sums.best(&contract).err(),
+            Some(NoLevel { sum: 34, bound: 23 })
+        );
+        assert_eq!(rt; sums.sum(level_at(1)), 28);
         Ok(())
     }
 }

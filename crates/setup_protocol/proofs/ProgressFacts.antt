@@ -77,7 +77,7 @@ denied-plain Denied denied = refl
 denied-plain (Planned clock) denied = refl
 denied-plain (Closing count cancelled) denied = refl
 denied-plain (Taken clock eligible) denied = refl
-denied-plain (Ticked clock full sent) denied = refl
+denied-plain (Ticked clock full sent best_sent best_lost) denied = refl
 denied-plain (Refused refusal) denied = refl
 
 relaxed-plain : (reply : Reply) → answers_relax reply ≡ true → is_offer reply ≡ false
@@ -87,7 +87,7 @@ relaxed-plain Denied relaxed = refl
 relaxed-plain (Planned clock) relaxed = refl
 relaxed-plain (Closing count cancelled) relaxed = refl
 relaxed-plain (Taken clock eligible) relaxed = refl
-relaxed-plain (Ticked clock full sent) relaxed = refl
+relaxed-plain (Ticked clock full sent best_sent best_lost) relaxed = refl
 relaxed-plain (Refused refusal) relaxed = refl
 
 -- one hop less is left to give its row back
@@ -138,7 +138,7 @@ reserved-advances request replies Denied fits none expected = absurd (let clash 
 reserved-advances request replies (Planned clock) fits none expected = absurd (let clash : false ≡ true = expected in cc)
 reserved-advances request replies (Closing count cancelled) fits none expected = absurd (let clash : false ≡ true = expected in cc)
 reserved-advances request replies (Taken clock eligible) fits none expected = absurd (let clash : false ≡ true = expected in cc)
-reserved-advances request replies (Ticked clock full sent) fits none expected = absurd (let clash : false ≡ true = expected in cc)
+reserved-advances request replies (Ticked clock full sent best_sent best_lost) fits none expected = absurd (let clash : false ≡ true = expected in cc)
 
 -- a reply on the way, with these replies behind the offers
 way-advances : (request : Request) (replies : List Reply) (reply : Reply) (rest : List Reply) → length (offers_in replies) < length request.route → behind_offers replies ≡ rest

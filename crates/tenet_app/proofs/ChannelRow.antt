@@ -13,18 +13,20 @@ use Rattle.link_steps.specs.Refusals.{not_in_phase, busy, too_big}
 use Rattle.link_steps.specs.Replies.{submit_reply, submit_to, release_to, reply_at}
 use Rattle.link_steps.specs.Reservation.{is_same, tentative}
 use Rattle.link_steps.specs.Rows.{Row, SourcePacket, new_row, planned_from, left_at, made_by}
-use Rattle.link_steps.specs.Scan.{Scan, is_row_of, is_row_at_hop, relax_row, plan_row, close_row, without_expired, with_sources, after_tick, after}
+use Rattle.link_steps.specs.Scan.{Scan, is_row_of, is_row_at_hop, relax_row, plan_row, close_row, without_expired, with_sources, with_best, best_step_at, after_tick, after}
 use Rattle.link_steps.specs.Service.{Arrival, here_at}
+use Rattle.link_steps.specs.Split.{whole}
+use Rattle.link_steps.specs.BestEffort.{best_packet, best_step}
 use Rattle.link_steps.specs.Sources.{SourceStep, Rests, Brings, Loses, lead_with, step_of, packet_of, row_after, taken_by, source_packets, rows_after}
 use Rattle.link_steps.specs.declared.asks.Ask.{Ask}
-use Rattle.link_steps.specs.declared.asks.Ask.TheVariants.{Reserve, Relax, Deny, Submit, Release, Arrive, Tick}
+use Rattle.link_steps.specs.declared.asks.Ask.TheVariants.{Reserve, Relax, Deny, Submit, Release, Arrive, Tick, Pour}
 use Rattle.link_steps.specs.declared.replies.Phase.TheVariants.{Committed}
 use Rattle.link_steps.specs.declared.replies.Refusal.TheVariants.{NoSuch}
 use Rattle.link_steps.specs.declared.replies.Reply.{Reply}
 use Rattle.link_steps.specs.declared.replies.Reply.TheVariants as Is
 use Rattle.link_steps.specs.declared.shape.LinkShape.{LinkShape}
 use Rattle.link_steps.proofs.ChangeFacts.{Each-passes}
-use Rattle.link_steps.proofs.FreeSlots.{eligible_of}
+use Rattle.link_steps.specs.Belonging.{eligible_of}
 use Rattle.link_steps.proofs.ListFacts.{Each-append, Each-if, find-filter}
 use Rattle.link_steps.proofs.RefusalFacts.{kept-rule}
 use Rattle.link_steps.proofs.SourcesServed.{ticks-more}
@@ -58,13 +60,14 @@ pub record IsRowOf (contract : Terms) (level : ℕ) (plan : List SourcePacket) (
   pub ticks : reverse row.ticks ≡ map eligible_of own
   pub new : row.lead ≡ 0 → own ≡ []
 
--- a channel has one row, and the packets of the channel are the row's
+-- a channel has one row, the packets of the channel are the row's, and no best-effort packet is planned
 pub record HasRow (n : ℕ) (contract : Terms) (level : ℕ) (plan : List SourcePacket) (scan : Scan) : Type 0 where
   pub row : Row
   pub only : IsOnly n row scan.rows scan.gone
   pub is : IsRowOf contract level plan (filter (is_packet_in n) scan.packets) row
+  pub unpoured : scan.best_plan ≡ []
 
--- an ask that neither sets the channel up nor denies it, nor brings a packet from a link before
+-- an ask that neither sets the channel up nor denies it, nor brings a packet from a link before or a best-effort one
 abbrev pub Spares : ℕ → Ask → Type 0
 Spares n (Reserve chan contract kind delay up_reach first next) = channel_number chan ≢ n
 Spares n (Relax chan level up_bound) = channel_number chan ≢ n
@@ -74,6 +77,7 @@ Spares n (Release chan None) = Unit {0}
 Spares n (Release chan (Some told)) = ⊥
 Spares n (Arrive packet) = ⊥
 Spares n Tick = Unit {0}
+Spares n (Pour count gap size) = ⊥
 
 -- with the same rows of the channel
 only-same : (n : ℕ) (row : Row) (rows others gone : List Row) → filter (is_row_in n) others ≡ filter (is_row_in n) rows → IsOnly n row rows gone → IsOnly n row others gone
@@ -82,7 +86,7 @@ only-same n row rows others gone same (IsGone none was) = IsGone (same ∙ none)
 
 -- other rows change
 with-others : (n : ℕ) (contract : Terms) (level : ℕ) (plan : List SourcePacket) (scan : Scan) (rows : List Row) → filter (is_row_in n) rows ≡ filter (is_row_in n) scan.rows → HasRow n contract level plan scan → HasRow n contract level plan (record scan { rows = rows })
-with-others n contract level plan scan rows same has = record { row = has.row; only = only-same n has.row scan.rows rows scan.gone same has.only; is = has.is }
+with-others n contract level plan scan rows same has = record { row = has.row; only = only-same n has.row scan.rows rows scan.gone same has.only; is = has.is; unpoured = has.unpoured }
 
 -- a row of another channel isn't this one's
 other-chan : (n : ℕ) (chan : ChanNo) (row : Row) → channel_number chan ≢ n → is_row_of chan row ≡ true → is_row_in n row ≡ false
@@ -156,6 +160,7 @@ has-planned n contract level plan scan t chan count gap size clock same answered
           ticks = has.is.ticks;
           new = has.is.new;
         };
+        unpoured = has.unpoured;
       }
       by-found (inr none) = absurd (not-planned (answered ∙ ap (submit_to t size) none))
 
@@ -180,6 +185,7 @@ has-closed n contract level plan scan t chan count cancelled same answered has =
           ticks = has.is.ticks;
           new = has.is.new;
         };
+        unpoured = has.unpoured;
       }
       by-found (inr none) = absurd (not-closing (answered ∙ ap (release_to t None) none))
 
@@ -295,7 +301,7 @@ step-is contract level plan own row t place (Brings size) is = record {
 -- the row is held as the sources make their steps
 held-step : (n : ℕ) (contract : Terms) (level : ℕ) (plan : List SourcePacket) (bounds : List ℕ) (here : List Arrival) (t : ℕ) (row : Row) (rows gone : List Row) (packets : List Arrival) → filter (is_row_in n) rows ≡ row ∷ [] → filter (is_row_in n) gone ≡ []
     → IsRowOf contract level plan (filter (is_packet_in n) packets) row
-    → HasRow n contract level plan (record { rows = rows_after bounds here t (length packets) rows; gone = gone; packets = packets ++ source_packets bounds here t (length packets) rows })
+    → HasRow n contract level plan (record { rows = rows_after bounds here t (length packets) rows; gone = gone; packets = packets ++ source_packets bounds here t (length packets) rows; best_plan = [] })
 held-step n contract level plan bounds here t row rows gone packets held none is =
     let makes = one-after n bounds here t (length packets) row rows held in
     record {
@@ -304,12 +310,13 @@ held-step n contract level plan bounds here t row rows gone packets held none is
       is = subst (λ own. IsRowOf contract level plan own (row_after (step_of bounds here t row) t (suc makes.place) row))
           (sym (filter-append (is_packet_in n) packets _ ∙ ap (λ new. filter (is_packet_in n) packets ++ new) makes.packets_are))
           (step-is contract level plan (filter (is_packet_in n) packets) row t makes.place (step_of bounds here t row) is);
+      unpoured = refl;
     }
 
 -- the row is gone
 gone-step : (n : ℕ) (contract : Terms) (level : ℕ) (plan : List SourcePacket) (bounds : List ℕ) (here : List Arrival) (t : ℕ) (row : Row) (rows gone : List Row) (packets : List Arrival) → filter (is_row_in n) rows ≡ [] → filter (is_row_in n) gone ≡ row ∷ []
     → IsRowOf contract level plan (filter (is_packet_in n) packets) row
-    → HasRow n contract level plan (record { rows = rows_after bounds here t (length packets) rows; gone = gone; packets = packets ++ source_packets bounds here t (length packets) rows })
+    → HasRow n contract level plan (record { rows = rows_after bounds here t (length packets) rows; gone = gone; packets = packets ++ source_packets bounds here t (length packets) rows; best_plan = [] })
 gone-step n contract level plan bounds here t row rows gone packets none was is =
     let rests = none-after n bounds here t (length packets) rows none in
     record {
@@ -317,39 +324,55 @@ gone-step n contract level plan bounds here t row rows gone packets none was is 
       only = IsGone rests.0 was;
       is = subst (λ own. IsRowOf contract level plan own row)
           (sym (filter-append (is_packet_in n) packets _ ∙ ap (λ new. filter (is_packet_in n) packets ++ new) rests.1 ∙ append-nil _)) is;
+      unpoured = refl;
     }
+
+-- a tick for which no best-effort packet is planned brings none
+no-best : (bounds : List ℕ) (waiting most t place : ℕ) (plan : List SourcePacket) → plan ≡ [] → best_packet (best_step waiting most t plan) bounds place t ≡ []
+unfolding best_step
+no-best bounds waiting most t place plan none = rw none refl
+
+with-no-best : (n : ℕ) (contract : Terms) (level : ℕ) (plan : List SourcePacket) (scan : Scan) (best : List Arrival) (best_plan : List SourcePacket) → best ≡ [] → best_plan ≡ [] → HasRow n contract level plan scan → HasRow n contract level plan (record scan { packets = scan.packets ++ best; best_plan = best_plan })
+with-no-best n contract level plan scan best best_plan none unpoured has = record {
+  row = has.row;
+  only = has.only;
+  is = rw (none, append-nil scan.packets) has.is;
+  unpoured = unpoured;
+}
 
 -- so the channel has one row behind a tick
 has-ticked : (n : ℕ) (contract : Terms) (level : ℕ) (plan : List SourcePacket) (shape : LinkShape) (t : ℕ) (scan : Scan) → HasRow n contract level plan scan → HasRow n contract level plan (after_tick shape t scan)
-unfolding after_tick with_sources without_expired
-has-ticked n contract level plan shape t scan has = by-place has.only where
-  stay : filter (is_row_in n) (filter (stays shape.bounds t) scan.rows) ≡ filter (stays shape.bounds t) (filter (is_row_in n) scan.rows)
-  stay = filter-swap (is_row_in n) (stays shape.bounds t) scan.rows
+unfolding after_tick with_best best_step_at with_sources without_expired
+has-ticked n contract level plan shape t scan has =
+    with-no-best n contract level plan _ _ scan.best_plan (no-best shape.bounds _ shape.best t _ scan.best_plan has.unpoured) has.unpoured (by-place has.only) where
+      stay : filter (is_row_in n) (filter (stays shape.bounds t) scan.rows) ≡ filter (stays shape.bounds t) (filter (is_row_in n) scan.rows)
+      stay = filter-swap (is_row_in n) (stays shape.bounds t) scan.rows
 
-  expire : filter (is_row_in n) (scan.gone ++ filter (expires shape.bounds t) scan.rows) ≡ filter (is_row_in n) scan.gone ++ filter (expires shape.bounds t) (filter (is_row_in n) scan.rows)
-  expire = filter-append (is_row_in n) scan.gone _ ∙ ap (λ rows. filter (is_row_in n) scan.gone ++ rows) (filter-swap (is_row_in n) (expires shape.bounds t) scan.rows)
+      expire : filter (is_row_in n) (scan.gone ++ filter (expires shape.bounds t) scan.rows) ≡ filter (is_row_in n) scan.gone ++ filter (expires shape.bounds t) (filter (is_row_in n) scan.rows)
+      expire = filter-append (is_row_in n) scan.gone _ ∙ ap (λ rows. filter (is_row_in n) scan.gone ++ rows) (filter-swap (is_row_in n) (expires shape.bounds t) scan.rows)
 
-  by-place : IsOnly n has.row scan.rows scan.gone
-      → HasRow n contract level plan (record {
-        rows = rows_after shape.bounds (here_at shape.rate scan.packets t) t (length scan.packets) (filter (stays shape.bounds t) scan.rows);
-        gone = scan.gone ++ filter (expires shape.bounds t) scan.rows;
-        packets = scan.packets ++ source_packets shape.bounds (here_at shape.rate scan.packets t) t (length scan.packets) (filter (stays shape.bounds t) scan.rows);
-      })
-  by-place (IsHeld held none) =
-      elim (cases_Bool (expires shape.bounds t has.row)) [
-        | inl ended ↦ gone-step n contract level plan shape.bounds (here_at shape.rate scan.packets t) t has.row (filter (stays shape.bounds t) scan.rows) (scan.gone ++ filter (expires shape.bounds t) scan.rows) scan.packets
-            (stay ∙ ap (filter (stays shape.bounds t)) held ∙ rw ended refl) (expire ∙ rw none (ap (filter (expires shape.bounds t)) held ∙ rw ended refl)) has.is
-        | inr still ↦ held-step n contract level plan shape.bounds (here_at shape.rate scan.packets t) t has.row (filter (stays shape.bounds t) scan.rows) (scan.gone ++ filter (expires shape.bounds t) scan.rows) scan.packets
-            (stay ∙ ap (filter (stays shape.bounds t)) held ∙ rw still refl) (expire ∙ rw none (ap (filter (expires shape.bounds t)) held ∙ rw still refl)) has.is
-      ]
-  by-place (IsGone none was) =
-      gone-step n contract level plan shape.bounds (here_at shape.rate scan.packets t) t has.row (filter (stays shape.bounds t) scan.rows) (scan.gone ++ filter (expires shape.bounds t) scan.rows) scan.packets
-      (stay ∙ ap (filter (stays shape.bounds t)) none) (expire ∙ rw was (ap (λ rows. has.row ∷ filter (expires shape.bounds t) rows) none)) has.is
+      by-place : IsOnly n has.row scan.rows scan.gone
+          → HasRow n contract level plan (record {
+            rows = rows_after shape.bounds (here_at shape.rate scan.packets t) t (length scan.packets) (filter (stays shape.bounds t) scan.rows);
+            gone = scan.gone ++ filter (expires shape.bounds t) scan.rows;
+            packets = scan.packets ++ source_packets shape.bounds (here_at shape.rate scan.packets t) t (length scan.packets) (filter (stays shape.bounds t) scan.rows);
+            best_plan = [];
+          })
+      by-place (IsHeld held none) =
+          elim (cases_Bool (expires shape.bounds t has.row)) [
+            | inl ended ↦ gone-step n contract level plan shape.bounds (here_at shape.rate scan.packets t) t has.row (filter (stays shape.bounds t) scan.rows) (scan.gone ++ filter (expires shape.bounds t) scan.rows) scan.packets
+                (stay ∙ ap (filter (stays shape.bounds t)) held ∙ rw ended refl) (expire ∙ rw none (ap (filter (expires shape.bounds t)) held ∙ rw ended refl)) has.is
+            | inr still ↦ held-step n contract level plan shape.bounds (here_at shape.rate scan.packets t) t has.row (filter (stays shape.bounds t) scan.rows) (scan.gone ++ filter (expires shape.bounds t) scan.rows) scan.packets
+                (stay ∙ ap (filter (stays shape.bounds t)) held ∙ rw still refl) (expire ∙ rw none (ap (filter (expires shape.bounds t)) held ∙ rw still refl)) has.is
+          ]
+      by-place (IsGone none was) =
+          gone-step n contract level plan shape.bounds (here_at shape.rate scan.packets t) t has.row (filter (stays shape.bounds t) scan.rows) (scan.gone ++ filter (expires shape.bounds t) scan.rows) scan.packets
+          (stay ∙ ap (filter (stays shape.bounds t)) none) (expire ∙ rw was (ap (λ rows. has.row ∷ filter (expires shape.bounds t) rows) none)) has.is
 
 -- ---- one entry
 
 -- and so behind each entry that spares it
-pub has-after : (n : ℕ) (contract : Terms) (level : ℕ) (plan : List SourcePacket) (shape : LinkShape) (t : ℕ) (scan : Scan) (ask : Ask) (reply : Reply) → Spares n ask → reply ≡ reply_at shape t scan ask → HasRow n contract level plan scan
+pub has-after : (n : ℕ) (contract : Terms) (level : ℕ) (plan : List SourcePacket) (shape : LinkShape) (t : ℕ) (scan : Scan) (ask : Ask) (reply : Reply) → Spares n ask → reply ≡ reply_at (whole shape) t scan ask → HasRow n contract level plan scan
     → HasRow n contract level (planned_after n t plan ask reply) (after shape t scan ask reply)
 unfolding after reply_at
 has-after n contract level plan shape t scan (Reserve chan its kind delay up_reach first next) (Is.Offer offered reach) spares same has =
@@ -379,5 +402,6 @@ has-after n contract level plan shape t scan (Release chan None) (Is.Closing cou
     ]
 has-after n contract level plan shape t scan (Release chan (Some told)) reply spares same has = absurd spares
 has-after n contract level plan shape t scan (Arrive packet) reply spares same has = absurd spares
+has-after n contract level plan shape t scan (Pour count gap size) reply spares same has = absurd spares
 has-after n contract level plan shape t scan Tick reply spares same has = has-ticked n contract level plan shape t scan has
 has-after n contract level plan shape t scan _ _ spares same has = has

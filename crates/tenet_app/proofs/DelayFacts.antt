@@ -4,31 +4,30 @@ use Rattle.std.proofs.lemmas.Bool.{cases_Bool, eqb-true, cond_both}
 use Rattle.std.specs.Prelude.{find, filter, nat_eq, unwrap_or}
 use Rattle.link_steps.specs.Legal.{IsLegal}
 use Rattle.link_steps.specs.Lists.{Each}
-use Rattle.link_steps.specs.Refusals.{Rule, first_refusal, too_wide, twice, no_level, no_buffer, not_in_phase, unfit, busy, too_big, first_hop, uncommitted, wrong_number, past_count, big, full}
-use Rattle.link_steps.specs.Replies.{reach_of, reserve_reply_at, reserve_reply, count_at_release, cancelled_at_release, relax_reply, deny_reply, submit_reply, submit_to, release_reply, release_to, arrive_reply, arrive_to, sent_at, reply_at, reply_to}
+use Rattle.link_steps.specs.Refusals.{Rule, first_refusal, not_in_phase, unfit, busy, too_big, too_big_for, first_hop, uncommitted, wrong_number, past_count, big, full}
+use Rattle.link_steps.specs.Replies.{reserve_rules, best_offer, reserve_reply_in, reserve_reply, count_at_release, cancelled_at_release, relax_reply, deny_reply, submit_reply, submit_to, release_reply, release_to, arrive_reply, arrive_to, pour_reply, sent_at, reply_at, reply_to}
 use Rattle.net_units.specs.declared.numbers.Level.{Level}
-use Rattle.link_steps.specs.Reservation.{Reservation, admitted, is_of}
-use Rattle.link_steps.specs.Shape.{server_of}
+use Rattle.link_steps.specs.Reservation.{Reservation, is_of}
+use Rattle.link_steps.specs.BestEffort.{is_best}
+use Rattle.link_steps.specs.Room.{Room, room_of}
 use Rattle.link_steps.specs.Regulator.{eligible_next}
-use Rattle.link_steps.specs.Buffer.{need_of, free_units, held_packets, slots_of}
-use Rattle.link_steps.specs.Levels.{level_of}
+use Rattle.link_steps.specs.Buffer.{held_packets, slots_of}
 use Rattle.net_units.specs.declared.numbers.ChanNo.{ChanNo}
-use Rattle.traffic_contract.specs.Admission.{best_level}
 use Rattle.traffic_contract.specs.Contract.{Terms}
 use Rattle.link_steps.specs.declared.replies.Phase.TheVariants.{Tentative, Committed}
 use Rattle.link_steps.specs.Rows.{Row, row_terms, left_at}
-use Rattle.link_steps.specs.Scan.{Scan, clock_with, clock_of, is_row_of, arrived_packet, with_arrival, without_expired, with_sources, after_tick, after, scan_of, starts_of}
+use Rattle.link_steps.specs.Scan.{Scan, clock_with, clock_of, after, scan_of, starts_of}
 use Rattle.link_steps.specs.Service.{Arrival, Start, leaves_at, first_in_line, is_waiting, is_busy, add_start, serve_tick, starts_below, here_at}
-use Rattle.link_steps.specs.Sources.{source_packets}
+use Rattle.link_steps.specs.Split.{whole}
 use Rattle.link_steps.specs.declared.asks.Ask.{Ask}
-use Rattle.link_steps.specs.declared.asks.Ask.TheVariants.{Reserve, Relax, Deny, Submit, Release, Arrive, Tick}
+use Rattle.link_steps.specs.declared.asks.Ask.TheVariants.{Reserve, Relax, Deny, Submit, Release, Arrive, Tick, Pour}
 use Rattle.link_steps.specs.declared.asks.Packet.{Packet}
 use Rattle.link_steps.specs.declared.replies.Entry.{Entry}
 use Rattle.link_steps.specs.declared.replies.Reply.{Reply}
 use Rattle.link_steps.specs.declared.replies.Reply.TheVariants as Is
 use Rattle.link_steps.specs.declared.replies.Sent.{Sent}
 use Rattle.link_steps.specs.declared.shape.LinkShape.{LinkShape}
-use Rattle.link_steps.proofs.AccountOfRows.{eligible-from, source_packets-from}
+use Rattle.link_steps.proofs.NewPackets.{packets-after}
 use Rattle.link_steps.proofs.ListFacts.{Each-append, Each-if}
 use Rattle.link_steps.proofs.ServiceFacts.{starts_below-append}
 use Rattle.tenet_app.specs.Channels.{sent_by, delay_of, delays_in}
@@ -49,15 +48,9 @@ none-within : (n most : ℕ) (sent : Option Sent) → sent ≡ None → Each (λ
 none-within n most None none = tt
 none-within n most (Some packet) none = cc
 
-reserve-quiet : (shape : LinkShape) (held : List Reservation) (chan : ChanNo) (contract : Terms) (delay up_reach : ℕ) (best : Option ℕ) → sent_by (reserve_reply_at shape held chan contract delay up_reach best) ≡ None
-reserve-quiet shape held chan contract delay up_reach best =
-    quiet-first
-    (too_wide contract shape.cap
-    ∷ twice (find (is_of chan) held)
-    ∷ no_level (server_of shape) (map admitted held) contract best
-    ∷ no_buffer (need_of shape.bounds contract up_reach (reach_of shape.bounds delay (unwrap_or best 0))) (free_units shape held)
-    ∷ [])
-    (Is.Offer (level_of (unwrap_or best 0)) (level_of (reach_of shape.bounds delay (unwrap_or best 0)))) refl
+reserve-quiet : (shape : LinkShape) (held : List Reservation) (chan : ChanNo) (contract : Terms) (delay up_reach : ℕ) (room : Room) → sent_by (reserve_reply_in shape held chan contract delay up_reach room) ≡ None
+reserve-quiet shape held chan contract delay up_reach room =
+    quiet-first (reserve_rules shape held chan contract delay up_reach room) (best_offer shape delay room) refl
 
 relax-quiet : (t : ℕ) (level : Level) (up_bound : ℕ) (found : Option Reservation) → sent_by (relax_reply t level up_bound found) ≡ None
 unfolding relax_reply
@@ -94,6 +87,10 @@ arrive-quiet shape t packets packet (Some row) =
     ∷ [])
     (Is.Taken t (eligible_next row.terms row.ticks t packet.due)) refl
 
+pour-quiet : (t cap size left : ℕ) → sent_by (pour_reply t cap size left) ≡ None
+unfolding pour_reply
+pour-quiet t cap size left = quiet-first (busy left ∷ too_big_for cap size ∷ []) (Is.Planned t) refl
+
 -- what a tick's reply sends is what has just departed
 sent-within : (shape : LinkShape) (n most t : ℕ) (starts : List Start) → Each (ArrivesWithin shape n most (suc t)) starts → Each (λ d. d ≤ most) (delay_of n (sent_at shape (suc t) starts))
 unfolding sent_at
@@ -101,19 +98,22 @@ sent-within shape n most t [] each = tt
 sent-within shape n most t (start ∷ earlier) each =
     elim (cases_Bool (nat_eq (leaves_at shape.rate start) (suc t))) [
       | inl now ↦ (let by = eqb-true (leaves_at shape.rate start) (suc t) now in
-          rw now (elim (cases_Bool (is_packet_in n start.packet)) [
-            | inl own ↦ (let within = each.0.within own (omega (arith, by)) in rw own (within, tt))
-            | inr other ↦ rw other tt
+          rw now (elim (cases_Bool (is_best shape.bounds start.packet)) [
+            | inl best ↦ rw best tt
+            | inr level ↦ rw level (elim (cases_Bool (is_packet_in n start.packet)) [
+              | inl own ↦ (let within = each.0.within own (omega (arith, by)) in rw own (within, tt))
+              | inr other ↦ rw other tt
+            ])
           ]))
       | inr later ↦ rw later tt
     ]
 
 -- the delay that an entry adds
-delay-within : (shape : LinkShape) (n most t : ℕ) (scan : Scan) (ask : Ask) (reply : Reply) → reply ≡ reply_at shape t scan ask
+delay-within : (shape : LinkShape) (n most t : ℕ) (scan : Scan) (ask : Ask) (reply : Reply) → reply ≡ reply_at (whole shape) t scan ask
     → Each (ArrivesWithin shape n most (clock_with ask t)) (starts_below shape.rate (after shape t scan ask reply).packets (clock_with ask t)) → Each (λ d. d ≤ most) (delay_of n (sent_by reply))
 unfolding reply_at reserve_reply after
 delay-within shape n most t scan (Reserve chan contract kind delay up_reach first next) reply same each =
-    none-within n most _ (ap sent_by same ∙ reserve-quiet shape (map row_terms scan.rows) chan contract delay up_reach (best_level (server_of shape) (map admitted (map row_terms scan.rows)) contract))
+    none-within n most _ (ap sent_by same ∙ reserve-quiet shape (map row_terms scan.rows) chan contract delay up_reach (room_of (whole shape) (map row_terms scan.rows) chan contract))
 delay-within shape n most t scan (Relax chan level up_bound) reply same each = none-within n most _ (ap sent_by same ∙ relax-quiet t level up_bound _)
 delay-within shape n most t scan (Deny chan) reply same each = none-within n most _ (ap sent_by same ∙ deny-quiet _)
 delay-within shape n most t scan (Submit chan count gap size) reply same each = none-within n most _ (ap sent_by same ∙ submit-quiet t size _)
@@ -121,6 +121,7 @@ delay-within shape n most t scan (Release chan upstream) reply same each = none-
 delay-within shape n most t scan (Arrive packet) reply same each = none-within n most _ (ap sent_by same ∙ arrive-quiet shape t scan.packets packet _)
 delay-within shape n most t scan Tick reply same each =
     subst (λ sent. Each (λ d. d ≤ most) (delay_of n sent)) (sym (ap sent_by same)) (sent-within shape n most t _ each)
+delay-within shape n most t scan (Pour count gap size) reply same each = none-within n most _ (ap sent_by same ∙ pour-quiet t shape.cap size (length (left_at t scan.best_plan)))
 
 -- ---- earlier starts
 
@@ -139,35 +140,24 @@ within-earlier : (shape : LinkShape) (n most t u : ℕ) (starts : List Start) �
 within-earlier shape n most t u starts earlier =
     Each-if (ArrivesWithin shape n most u) (ArrivesWithin shape n most t) starts (λ start by. record { within = λ own left. by.within own (omega (arith, left, earlier)) })
 
-arrival-earlier : (P : Start → Type 0) (rate t : ℕ) (packet : Packet) (scan : Scan) (found : Option Row) → Each P (starts_below rate (with_arrival t packet scan found).packets t) → Each P (starts_below rate scan.packets t)
-unfolding with_arrival
-arrival-earlier P rate t packet scan None each = each
-arrival-earlier P rate t packet scan (Some row) each =
-    subst (Each P) (starts_below-append rate scan.packets (arrived_packet t (suc (length scan.packets)) packet row ∷ []) t (eligible-from row.terms row.ticks t packet.due, tt)) each
+-- those of a tick, and of any other ask
+clock-earlier : (shape : LinkShape) (n most t : ℕ) (ask : Ask) (packets : List Arrival) → Each (ArrivesWithin shape n most (clock_with ask t)) (starts_below shape.rate packets (clock_with ask t)) → Each (ArrivesWithin shape n most t) (starts_below shape.rate packets t)
+unfolding starts_below
+clock-earlier shape n most t Tick packets each =
+    within-earlier shape n most t (suc t) (starts_below shape.rate packets t) (omega arith) (fewer-starts (ArrivesWithin shape n most (suc t)) shape.rate t packets (starts_below shape.rate packets t) each)
+clock-earlier shape n most t _ packets each = each
 
-tick-earlier : (P : Start → Type 0) (shape : LinkShape) (t : ℕ) (scan : Scan) → Each P (starts_below shape.rate (after_tick shape t scan).packets (suc t)) → Each P (starts_below shape.rate scan.packets t)
-unfolding after_tick with_sources without_expired starts_below
-tick-earlier P shape t scan each =
-    let new = source_packets-from shape.bounds (here_at shape.rate scan.packets t) t (length scan.packets) (without_expired shape.bounds t scan).rows in
-    let more = scan.packets ++ source_packets shape.bounds (here_at shape.rate scan.packets t) t (length scan.packets) (without_expired shape.bounds t scan).rows in
-    subst (Each P) (starts_below-append shape.rate scan.packets _ t new) (fewer-starts P shape.rate t more (starts_below shape.rate more t) each)
-
+-- what an entry adds has no start yet
 starts-earlier : (shape : LinkShape) (n most t : ℕ) (scan : Scan) (ask : Ask) (reply : Reply) → Each (ArrivesWithin shape n most (clock_with ask t)) (starts_below shape.rate (after shape t scan ask reply).packets (clock_with ask t)) → Each (ArrivesWithin shape n most t) (starts_below shape.rate scan.packets t)
-unfolding after
-starts-earlier shape n most t scan (Reserve chan contract kind delay up_reach first next) (Is.Offer level reach) each = each
-starts-earlier shape n most t scan (Relax chan level up_bound) (Is.Relaxed clock) each = each
-starts-earlier shape n most t scan (Deny chan) Is.Denied each = each
-starts-earlier shape n most t scan (Submit chan count gap size) (Is.Planned clock) each = each
-starts-earlier shape n most t scan (Release chan upstream) (Is.Closing count cancelled) each = each
-starts-earlier shape n most t scan (Arrive packet) (Is.Taken clock eligible) each =
-    arrival-earlier (ArrivesWithin shape n most t) shape.rate t packet scan (find (is_row_of packet.chan) scan.rows) each
-starts-earlier shape n most t scan Tick reply each =
-    within-earlier shape n most t (suc t) (starts_below shape.rate scan.packets t) (omega arith) (tick-earlier (ArrivesWithin shape n most (suc t)) shape t scan each)
-starts-earlier shape n most t scan _ _ each = each
+starts-earlier shape n most t scan ask reply each =
+    let adds = packets-after shape t scan ask reply in
+    let all = clock-earlier shape n most t ask (after shape t scan ask reply).packets each in
+    subst (Each (ArrivesWithin shape n most t)) (starts_below-append shape.rate scan.packets adds.new t adds.from)
+    (subst (λ packets. Each (ArrivesWithin shape n most t) (starts_below shape.rate packets t)) adds.are all)
 
 -- ---- the delays of a legal history
 
-pub delays-within : (shape : LinkShape) (n most : ℕ) (h : List Entry) → IsLegal shape h → Each (ArrivesWithin shape n most (clock_of h)) (starts_of shape h) → Each (λ d. d ≤ most) (delays_in n h)
+pub delays-within : (shape : LinkShape) (n most : ℕ) (h : List Entry) → IsLegal (whole shape) h → Each (ArrivesWithin shape n most (clock_of h)) (starts_of shape h) → Each (λ d. d ≤ most) (delays_in n h)
 unfolding IsLegal scan_of clock_of reply_to delays_in
 delays-within shape n most [] legal each = tt
 delays-within shape n most (e ∷ past) legal each =

@@ -9,6 +9,7 @@ use Rattle.link_steps.specs.Levels.{level_of}
 use Rattle.link_steps.specs.Replies.{reply_at, reply_to}
 use Rattle.link_steps.specs.Rows.{row_terms}
 use Rattle.link_steps.specs.Scan.{scan_of}
+use Rattle.link_steps.specs.Split.{whole}
 use Rattle.link_steps.specs.declared.asks.Ask.{Ask}
 use Rattle.link_steps.specs.declared.asks.Ask.TheVariants.{Relax, Deny}
 use Rattle.link_steps.specs.declared.replies.Entry.{Entry}
@@ -33,7 +34,7 @@ replied-last : (shape : LinkShape) (h : List Entry) (chan : ChanNo) (request : R
 replied-last shape h chan request (Is.Offer level reach) last = absurd last
 replied-last shape h chan request _ last = refl
 
-module _ (shape : LinkShape) (h : List Entry) (chan : ChanNo) (request : Request) (reply : Reply) (is : reply ≡ reply_to shape h (reserve_for chan request)) where
+module _ (shape : LinkShape) (h : List Entry) (chan : ChanNo) (request : Request) (reply : Reply) (is : reply ≡ reply_to (whole shape) h (reserve_for chan request)) where
   -- a reserve that is refused is the whole setup
   pub open-ends : IsLast reply → after_open shape h chan request ≡ asked shape h (reserve_for chan request)
   unfolding after_open
@@ -45,7 +46,7 @@ module _ (shape : LinkShape) (h : List Entry) (chan : ChanNo) (request : Request
   unfolding after_open
   open-goes_on level reach offer = ap (replied shape (asked shape h (reserve_for chan request)) chan request) (sym is ∙ offer)
 
-  pub settled-is : settled shape request (reply_to shape h (reserve_for chan request)) ≡ settled shape request reply
+  pub settled-is : settled shape request (reply_to (whole shape) h (reserve_for chan request)) ≡ settled shape request reply
   settled-is = ap (settled shape request) (sym is)
 
   -- the level of an offer is one of the link's
@@ -105,14 +106,14 @@ on_ok-more (Err e) more p = tt
 -- the setup of a reserve with an offer
 pub at-settled : (old between new : Player) (chan : ChanNo) (request : Request) (ask : Ask) (reply : Reply) (level reach : Level) → ask ≡ reserve_for chan request
     → SameLink old between
-    → ((h : List Entry) → IsAt h old → reply ≡ reply_to old.link.shape h ask)
+    → ((h : List Entry) → IsAt h old → reply ≡ reply_to (whole old.link.shape) h ask)
     → ((h : List Entry) → IsAt h old → IsAt (asked old.link.shape h ask) between)
     → reply ≡ Is.Offer level reach
     → ((h : List Entry) → IsAt h between → IsAt (asked between.link.shape h (way_back between.link.shape chan request level)) new)
     → (h : List Entry) → IsAt h old → IsAt (after_open old.link.shape h chan request) new
 at-settled old between new chan request ask reply level reach is same legal asks offer settles h at =
     let shape = old.link.shape in
-    let replies = legal h at ∙ ap (reply_to shape h) is in
+    let replies = legal h at ∙ ap (reply_to (whole shape) h) is in
     let P : List Entry → Type 0 = λ all. IsAt all new in
     let Q : LinkShape → Type 0 = λ s. IsAt (asked s (asked shape h ask) (way_back s chan request level)) new in
     let behind : IsAt (asked shape (asked shape h ask) (way_back shape chan request level)) new = subst Q same.shape (settles (asked shape h ask) (asks h at)) in
@@ -120,19 +121,19 @@ at-settled old between new chan request ask reply level reach is same legal asks
 
 -- the setup of a reserve with none
 pub at-ended : (old new : Player) (chan : ChanNo) (request : Request) (ask : Ask) (reply : Reply) → ask ≡ reserve_for chan request → IsLast reply
-    → ((h : List Entry) → IsAt h old → reply ≡ reply_to old.link.shape h ask)
+    → ((h : List Entry) → IsAt h old → reply ≡ reply_to (whole old.link.shape) h ask)
     → ((h : List Entry) → IsAt h old → IsAt (asked old.link.shape h ask) new)
     → (h : List Entry) → IsAt h old → IsAt (after_open old.link.shape h chan request) new
 at-ended old new chan request ask reply is last legal asks h at =
     let shape = old.link.shape in
-    let replies = legal h at ∙ ap (reply_to shape h) is in
+    let replies = legal h at ∙ ap (reply_to (whole shape) h) is in
     let P : List Entry → Type 0 = λ all. IsAt all new in
     subst P (ap (asked shape h) is ∙ sym (open-ends shape h chan request reply replies last)) (asks h at)
 
 -- its verdict
 pub verdict-ended : (old : Player) (chan : ChanNo) (request : Request) (ask : Ask) (reply : Reply) (verdict : Settled) → ask ≡ reserve_for chan request
-    → ((h : List Entry) → IsAt h old → reply ≡ reply_to old.link.shape h ask)
+    → ((h : List Entry) → IsAt h old → reply ≡ reply_to (whole old.link.shape) h ask)
     → verdict ≡ settled old.link.shape request reply
-    → (h : List Entry) → IsAt h old → verdict ≡ settled old.link.shape request (reply_to old.link.shape h (reserve_for chan request))
+    → (h : List Entry) → IsAt h old → verdict ≡ settled old.link.shape request (reply_to (whole old.link.shape) h (reserve_for chan request))
 verdict-ended old chan request ask reply verdict is legal told h at =
-    told ∙ ap (settled old.link.shape request) (legal h at ∙ ap (reply_to old.link.shape h) is)
+    told ∙ ap (settled old.link.shape request) (legal h at ∙ ap (reply_to (whole old.link.shape) h) is)

@@ -1,6 +1,6 @@
 -- The level that is allotted to a request lies from the offered level to the reach, so the relax behind an offer is granted.
-use Rattle.std.proofs.Common.{◌≡◌, inl, inr, ℕ, ◌+◌, ◌-◌, ◌≤◌, true, false, Some, None, List, length, map, refl, sym, ap, ◌∙◌, arith}
-use Rattle.std.specs.Prelude.{find, max, unwrap_or}
+use Rattle.std.proofs.Common.{◌≡◌, inl, inr, ℕ, ◌+◌, ◌-◌, ◌≤◌, true, false, Some, None, List, length, refl, ap, ◌∙◌, arith}
+use Rattle.std.specs.Prelude.{max}
 use Rattle.std.proofs.lemmas.Bool.{cases_lt, le-leb, ltb-false}
 use Rattle.net_units.specs.Numbers.{level_number}
 use Rattle.net_units.specs.LevelBounds.{bound_at, levels_within}
@@ -8,20 +8,16 @@ use Rattle.net_units.specs.declared.Kind.TheVariants.{Rate}
 use Rattle.net_units.specs.declared.numbers.ChanNo.{ChanNo}
 use Rattle.net_units.specs.declared.numbers.Level.{Level}
 use Rattle.net_units.proofs.BoundFacts.{bounds_parts, within_count, within_most, level_fits, level_largest}
-use Rattle.traffic_contract.specs.Admission.{best_level}
 use Rattle.traffic_contract.specs.Contract.{Terms}
-use Rattle.traffic_contract.proofs.AdmissionFacts.{best_level-is}
-use Rattle.link_steps.specs.Buffer.{need_of, free_units}
-use Rattle.link_steps.specs.Refusals.{too_wide, twice, no_level, no_buffer}
 use Rattle.link_steps.specs.Levels.{level_of}
 use Rattle.link_steps.specs.Replies.{reach_of, reserve_reply, relax_reply}
-use Rattle.link_steps.specs.Reservation.{Reservation, tentative, admitted, is_of}
-use Rattle.link_steps.specs.Shape.{server_of}
+use Rattle.link_steps.specs.Reservation.{Reservation, tentative}
+use Rattle.link_steps.specs.Room.{room_of}
+use Rattle.link_steps.specs.Split.{whole}
 use Rattle.link_steps.specs.declared.replies.Reply.TheVariants as Is
 use Rattle.link_steps.specs.declared.shape.LinkShape.{LinkShape}
-use Rattle.link_steps.proofs.ReplyFacts.{offer-best}
+use Rattle.link_steps.proofs.ReplyFacts.{whole-offer-may}
 use Rattle.link_steps.proofs.LevelFacts.{level_of-number}
-use Rattle.link_steps.proofs.RefusalFacts.{kept-rule}
 use Rattle.tenet_app.specs.Establishment.{delay_at, relaxed_to, is_late}
 use Rattle.tenet_app.specs.declared.scenario.plan.Request.{Request}
 
@@ -49,26 +45,11 @@ pub record OfferIs (shape : LinkShape) (delay : ℕ) (level reach : Level) : Typ
   pub most : level_number level ≤ length shape.bounds
   pub reach_is : reach ≡ level_of (reach_of shape.bounds delay (level_number level))
 
-pub offer-is : (shape : LinkShape) (held : List Reservation) (chan : ChanNo) (contract : Terms) (delay up_reach : ℕ) (level reach : Level) → Is.Offer level reach ≡ reserve_reply shape held chan contract delay up_reach → OfferIs shape delay level reach
-unfolding reserve_reply
+pub offer-is : (shape : LinkShape) (held : List Reservation) (chan : ChanNo) (contract : Terms) (delay up_reach : ℕ) (level reach : Level) → Is.Offer level reach ≡ reserve_reply (whole shape) held chan contract delay up_reach → OfferIs shape delay level reach
+unfolding reserve_reply room_of
 offer-is shape held chan contract delay up_reach level reach same =
-    let found = offer-best shape held chan contract delay up_reach (best_level (server_of shape) (map admitted held) contract) level reach same in
-    let tells = best_level-is (server_of shape) (map admitted held) contract found.0 found.1 in
-    let most = (bounds_parts shape.bounds shape.bounds_rise).most in
-    let n : level_number level ≡ found.0 = ap level_number found.2 ∙ level_of-number found.0 tells.from (omega (arith, tells.upto, most)) in
-    let wide = kept-rule (too_wide contract shape.cap) _ (Is.Offer level reach) tt same in
-    let new = kept-rule (twice (find (is_of chan) held)) _ (Is.Offer level reach) tt wide.1 in
-    let admits = kept-rule (no_level (server_of shape) (map admitted held) contract (best_level (server_of shape) (map admitted held) contract)) _ (Is.Offer level reach) tt new.1 in
-    let room = kept-rule (no_buffer (need_of shape.bounds contract up_reach (reach_of shape.bounds delay (unwrap_or (best_level (server_of shape) (map admitted held) contract) 0))) (free_units shape held))
-    (Is.Offer (level_of (unwrap_or (best_level (server_of shape) (map admitted held) contract) 0)) (level_of (reach_of shape.bounds delay (unwrap_or (best_level (server_of shape) (map admitted held) contract) 0)))) (Is.Offer level reach) tt admits.1 in
-    let reached : reach ≡ level_of (reach_of shape.bounds delay (unwrap_or (best_level (server_of shape) (map admitted held) contract) 0)) = (offers level reach (level_of (unwrap_or (best_level (server_of shape) (map admitted held) contract) 0)) (level_of (reach_of shape.bounds delay (unwrap_or (best_level (server_of shape) (map admitted held) contract) 0))) room.1).1 in
-    let least : unwrap_or (best_level (server_of shape) (map admitted held) contract) 0 ≡ found.0 = ap (λ b. unwrap_or b 0) found.1 in
-    record {
-      most = omega (arith, n, tells.upto);
-      reach_is = reached ∙ ap (λ m. level_of (reach_of shape.bounds delay m)) (least ∙ sym n);
-    } where
-      offers : (a b c d : Level) → Is.Offer a b ≡ Is.Offer c d → (a ≡ c) × (b ≡ d)
-      offers a b c d same = (cc, cc)
+    let may = whole-offer-may (whole shape) held chan contract delay up_reach level reach same in
+    record { most = may.level_most; reach_is = may.reach_is }
 
 -- the level that is allotted lies from the offer to the reach
 pub record IsFit (shape : LinkShape) (request : Request) (level reach : Level) : Type 0 where

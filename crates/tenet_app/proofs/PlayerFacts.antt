@@ -8,6 +8,7 @@ use Rattle.link_steps.specs.declared.asks.Ask.{Ask}
 use Rattle.link_steps.specs.declared.asks.Ask.TheVariants.{Tick}
 use Rattle.link_steps.specs.declared.replies.Reply.{Reply}
 use Rattle.link_steps.specs.Replies.{reply_to}
+use Rattle.link_steps.specs.Split.{whole}
 use Rattle.link_server.specs.State.{Stands}
 use Rattle.link_steps.specs.declared.replies.Entry.{Entry}
 use Rattle.link_steps.specs.declared.shape.LinkShape.{LinkShape}
@@ -25,7 +26,7 @@ at-clock h player at = ap (λ kept. kept.clock) at.stands
 
 -- a step that it has made
 pub at-asked : (h : List Entry) (old new : Player) (clock : ℕ) (ask : Ask) (reply : Reply) → IsAt h old → clock ≡ old.link.clock
-    → reply ≡ reply_to old.link.shape h ask
+    → reply ≡ reply_to (whole old.link.shape) h ask
     → Stands new.link (record { ask = ask; reply = reply } ∷ h)
     → (clock ≡ clock_of h → Tells (record { ask = ask; reply = reply } ∷ h) new.tallies)
     → IsAt (asked old.link.shape h ask) new

@@ -3,6 +3,7 @@ use Rattle.std.proofs.Common.{◌≡◌, ℕ, zero, suc, ◌+◌, ◌<◌, ◌�
 use Rattle.std.proofs.lemmas.List.{take_more, length-map, map-append, take-append-drop}
 use Rattle.net_units.specs.declared.numbers.ChanNo.{ChanNo}
 use Rattle.link_steps.specs.Replies.{reply_to}
+use Rattle.link_steps.specs.Split.{whole}
 use Rattle.link_steps.specs.declared.shape.LinkShape.{LinkShape}
 use Rattle.tenet_app.specs.Establishment.{is_accepted, verdict_of, channel_at, reserve_for, settled}
 use Rattle.tenet_app.specs.Plans.{Said, callers_in, requests_in, load_in, closed_in, rounds_of, tail_of, MayFollow, GoOn, IsScript}
@@ -22,7 +23,7 @@ use Rattle.tenet_app.proofs.ScriptFacts.{requests_in-append, script_requests, sc
 pub after-opened : (run : Run) (old new : Player) (chan : ChanNo) (request : Request) (verdicts : List Verdict) (verdict : Verdict) → chan ≡ channel_at (length verdicts)
     → IsAfter run old verdicts
     → IsAt (after_open old.link.shape run.history chan request) new
-    → verdict_of verdict ≡ settled old.link.shape request (reply_to old.link.shape run.history (reserve_for chan request))
+    → verdict_of verdict ≡ settled old.link.shape request (reply_to (whole old.link.shape) run.history (reserve_for chan request))
     → IsAfter (opened old.link.shape run request) new (verdicts ++ verdict ∷ [])
 unfolding opened
 after-opened run old new chan request verdicts verdict is after at told =
@@ -32,8 +33,8 @@ after-opened run old new chan request verdicts verdict is after at told =
     record {
       at = subst P same at;
       said = map-append verdict_of verdicts (verdict ∷ [])
-          ∙ ap (λ v. map verdict_of verdicts ++ v ∷ []) (told ∙ ap (λ c. settled shape request (reply_to shape run.history (reserve_for c request))) same)
-          ∙ ap (λ vs. vs ++ settled shape request (reply_to shape run.history (reserve_for (channel_at (length run.verdicts)) request)) ∷ []) after.said;
+          ∙ ap (λ v. map verdict_of verdicts ++ v ∷ []) (told ∙ ap (λ c. settled shape request (reply_to (whole shape) run.history (reserve_for c request))) same)
+          ∙ ap (λ vs. vs ++ settled shape request (reply_to (whole shape) run.history (reserve_for (channel_at (length run.verdicts)) request)) ∷ []) after.said;
     }
 
 -- a send that it has made, and one that it makes no step for

@@ -5,6 +5,7 @@ use Rattle.std.specs.Prelude.{filter}
 use Rattle.net_units.specs.LevelBounds.{bound_at}
 use Rattle.traffic_contract.specs.Keeping.{Keeps}
 use Rattle.link_steps.specs.Legal.{IsLegal}
+use Rattle.link_steps.specs.Split.{whole}
 use Rattle.link_steps.specs.Lists.{Each}
 use Rattle.link_steps.specs.Rows.{Row, made_by, offered_by, tick_of}
 use Rattle.link_steps.specs.Scan.{clock_of, scan_of, starts_of}
@@ -13,7 +14,7 @@ use Rattle.link_steps.specs.Service.{Arrival}
 use Rattle.link_steps.specs.declared.asks.Ask.TheVariants.{Tick}
 use Rattle.link_steps.specs.declared.replies.Entry.{Entry}
 use Rattle.link_steps.specs.declared.shape.LinkShape.{LinkShape}
-use Rattle.link_steps.proofs.FreeSlots.{eligible_of}
+use Rattle.link_steps.specs.Belonging.{eligible_of}
 use Rattle.link_steps.proofs.ChangeFacts.{Each-if_passes}
 use Rattle.link_steps.proofs.ListFacts.{Each-both, Each-filter, Each-if, map-same}
 use Rattle.link_steps.proofs.ServiceFacts.{starts-fact}
@@ -26,7 +27,7 @@ use Rattle.tenet_app.specs.Run.{no_steps, after_script, after_ticks, run_of}
 use Rattle.tenet_app.specs.declared.scenario.plan.Request.{Request}
 use Rattle.tenet_app.proofs.ChannelRow.{is_row_in, IsOnly, IsHeld, IsGone, IsOf}
 use Rattle.tenet_app.proofs.DelayFacts.{ArrivesWithin, delays-within}
-use Rattle.tenet_app.proofs.RunLegal.{legal-run}
+use Rattle.tenet_app.proofs.RunLegal.{legal-run, whole-admissible}
 use Rattle.tenet_app.proofs.RunRows.{RowIsKept, RowsAreKept, rows-asked, script-stands}
 
 -- the ticks of a run keep the rows
@@ -42,7 +43,7 @@ only-fact P n row rows gone (IsHeld held none) first second = (subst (Each P) he
 only-fact P n row rows gone (IsGone none was) first second = (subst (Each P) was (Each-filter P (is_row_in n) gone second)).0
 
 -- the packets of a channel whose source keeps its contract are taken as they are offered, and arrive within its bound
-row-promise : (shape : LinkShape) (h : List Entry) (n : ℕ) (request : Request) (level bound : ℕ) → IsLegal shape h → RowIsKept shape h n request (IsAccepted level bound) → PromiseIsKept shape n request (IsAccepted level bound) h
+row-promise : (shape : LinkShape) (h : List Entry) (n : ℕ) (request : Request) (level bound : ℕ) → IsLegal (whole shape) h → RowIsKept shape h n request (IsAccepted level bound) → PromiseIsKept shape n request (IsAccepted level bound) h
 row-promise shape h n request level bound legal kept keeps =
     let has = kept.0 in
     let offered : offered_by (clock_of h) has.row ≡ offered_in n h = ap (λ plan. map tick_of (made_by (clock_of h) plan)) has.is.planned in
@@ -50,7 +51,7 @@ row-promise shape h n request level bound legal kept keeps =
       first = has.is.first;
       keeps = subst (λ c. Keeps c (offered_by (clock_of h) has.row)) (sym has.is.agreed) (subst (Keeps request.contract) (sym offered) keeps);
     } in
-    let guarantee = source-guarantee shape h legal in
+    let guarantee = source-guarantee shape h (whole-admissible shape h legal) in
     let served = only-fact (KeepingIsServed shape h) n has.row (scan_of shape h).rows (scan_of shape h).gone has.only guarantee.held guarantee.gone source in
     let own = starts-fact (λ p. is_packet_in n p ≡ true → IsOf has.row p) shape.rate (scan_of shape h).packets (clock_of h) (Each-if_passes (IsOf has.row) (is_packet_in n) (scan_of shape h).packets has.is.packets) in
     let at_once = Each-if (λ p. IsEligibleAtOnce has.row p × IsOf has.row p) (λ p. p.eligible ≡ p.at) (filter (is_packet_in n) (scan_of shape h).packets) (λ p both. both.0.at_once both.1.led)
@@ -69,11 +70,11 @@ row-promise shape h n request level bound legal kept keeps =
     (Each-both _ _ (starts_of shape h) own served.departed)) in
     record { taken = taken; in_time = in_time }
 
-promise-kept : (shape : LinkShape) (h : List Entry) (n : ℕ) (request : Request) (verdict : Settled) → IsLegal shape h → RowIsKept shape h n request verdict → PromiseIsKept shape n request verdict h
+promise-kept : (shape : LinkShape) (h : List Entry) (n : ℕ) (request : Request) (verdict : Settled) → IsLegal (whole shape) h → RowIsKept shape h n request verdict → PromiseIsKept shape n request verdict h
 promise-kept shape h n request (IsAccepted level bound) legal kept = row-promise shape h n request level bound legal kept
 promise-kept shape h n request _ legal kept = tt
 
-promises-kept : (shape : LinkShape) (h : List Entry) (n : ℕ) (requests : List Request) (verdicts : List Settled) → IsLegal shape h → RowsAreKept shape h n requests verdicts → PromisesAreKept shape n requests verdicts h
+promises-kept : (shape : LinkShape) (h : List Entry) (n : ℕ) (requests : List Request) (verdicts : List Settled) → IsLegal (whole shape) h → RowsAreKept shape h n requests verdicts → PromisesAreKept shape n requests verdicts h
 promises-kept shape h n [] [] legal kept = tt
 promises-kept shape h n (request ∷ requests) (verdict ∷ verdicts) legal kept = (promise-kept shape h n request verdict legal kept.0, promises-kept shape h (suc n) requests verdicts legal kept.1)
 promises-kept shape h n [] (verdict ∷ verdicts) legal kept = absurd kept
@@ -83,6 +84,6 @@ promises-kept shape h n (request ∷ requests) [] legal kept = absurd kept
 pub run-keeps : (shape : LinkShape) (said : Said) → IsScript said.script → KeepsPromises shape said
 unfolding run_of scan_of planned_in
 run-keeps shape said script =
-    let stands = script-stands shape no_steps [] said.script script refl (record { below = tt; no_gone = refl; no_packets = refl; unplanned = λ m above. refl; rows = tt }) in
+    let stands = script-stands shape no_steps [] said.script script refl (record { below = tt; no_gone = refl; no_packets = refl; unpoured = refl; unplanned = λ m above. refl; rows = tt }) in
     promises-kept shape (run_of shape said).history 0 (requests_of said) (run_of shape said).verdicts (legal-run shape said script)
     (rows-ticked shape (after_script shape no_steps said.script).history (requests_of said) (after_script shape no_steps said.script).verdicts (rounds_of said + tail_of said) stands.rows)

@@ -15,15 +15,16 @@ use Rattle.link_steps.specs.Replies.{relax_reply, reply_at, reply_to}
 use Rattle.link_steps.specs.Reservation.{tentative, is_of}
 use Rattle.link_steps.specs.Rows.{Row, SourcePacket, new_row, row_terms}
 use Rattle.link_steps.specs.Scan.{Scan, clock_of, is_row_of, relax_row, after, scan_of}
+use Rattle.link_steps.specs.Split.{whole}
 use Rattle.link_steps.specs.declared.asks.Ask.{Ask}
-use Rattle.link_steps.specs.declared.asks.Ask.TheVariants.{Reserve, Relax, Deny, Submit, Release, Arrive, Tick}
+use Rattle.link_steps.specs.declared.asks.Ask.TheVariants.{Reserve, Relax, Deny, Submit, Release, Arrive, Tick, Pour}
 use Rattle.link_steps.specs.declared.replies.Entry.{Entry}
 use Rattle.link_steps.specs.declared.replies.Refusal.{Refusal}
 use Rattle.link_steps.specs.declared.replies.Refusal.TheVariants.{NoLevel, NoBuffer, TooWide}
 use Rattle.link_steps.specs.declared.replies.Reply.{Reply}
 use Rattle.link_steps.specs.declared.replies.Reply.TheVariants as Is
 use Rattle.link_steps.specs.declared.shape.LinkShape.{LinkShape}
-use Rattle.link_steps.proofs.FreeSlots.{eligible_of}
+use Rattle.link_steps.specs.Belonging.{eligible_of}
 use Rattle.tenet_app.specs.Channels.{is_number, planned_after, planned_in}
 use Rattle.tenet_app.specs.Establishment.{Settled, IsAccepted, is_accepted, channel_at, reserve_for, delay_at, relaxed_to, is_late, way_back, at_destination, refused_as, settled}
 use Rattle.tenet_app.specs.Plans.{requests_in, MayFollow, GoOn}
@@ -61,10 +62,10 @@ abbrev with_row : Scan → Row → Scan
 with_row scan row = record scan { rows = scan.rows ++ row ∷ [] }
 
 -- where its channel is the only one of its number, the relax makes it the row of an accepted request
-relaxed-row : (n : ℕ) (shape : LinkShape) (t : ℕ) (scan : Scan) (chan : ChanNo) (request : Request) (level reach relaxed : Level) (clock : ℕ) → channel_number chan ≡ n → Each (IsBelow n) scan.rows → scan.gone ≡ [] → scan.packets ≡ []
+relaxed-row : (n : ℕ) (shape : LinkShape) (t : ℕ) (scan : Scan) (chan : ChanNo) (request : Request) (level reach relaxed : Level) (clock : ℕ) → channel_number chan ≡ n → Each (IsBelow n) scan.rows → scan.gone ≡ [] → scan.packets ≡ [] → scan.best_plan ≡ []
     → HasRow n request.contract (level_number relaxed) [] (after shape t (with_row scan (row_for chan request level reach)) (Relax chan relaxed 0) (Is.Relaxed clock))
 unfolding after
-relaxed-row n shape t scan chan request level reach relaxed clock same below no_gone no_packets =
+relaxed-row n shape t scan chan request level reach relaxed clock same below no_gone no_packets unpoured =
     let own : is_row_of chan (row_for chan request level reach) ≡ true = eq-eqb (channel_number chan) (channel_number chan) refl in
     let in_own : is_row_in n (row_for chan request level reach) ≡ true = eq-eqb (channel_number chan) n same in
     let rows : filter (is_row_in n) (scan.rows ++ row_for chan request level reach ∷ []) ≡ row_for chan request level reach ∷ [] =
@@ -86,6 +87,7 @@ relaxed-row n shape t scan chan request level reach relaxed clock same below no_
         ticks = sym (ap (map eligible_of) nothing);
         new = λ _. nothing;
       };
+      unpoured = unpoured;
     }
 
 -- ---- the rows of all accepted requests
@@ -104,7 +106,7 @@ RowsAreKept shape h number _ _ = ⊥
 has-asked : (n : ℕ) (contract : Terms) (level : ℕ) (shape : LinkShape) (h : List Entry) (ask : Ask) → Spares n ask → HasRow n contract level (planned_in n h) (scan_of shape h)
     → HasRow n contract level (planned_in n (asked shape h ask)) (scan_of shape (asked shape h ask))
 unfolding planned_in scan_of reply_to
-has-asked n contract level shape h ask spares has = has-after n contract level (planned_in n h) shape (clock_of h) (scan_of shape h) ask (reply_to shape h ask) spares refl has
+has-asked n contract level shape h ask spares has = has-after n contract level (planned_in n h) shape (clock_of h) (scan_of shape h) ask (reply_to (whole shape) h ask) spares refl has
 
 row-asked : (shape : LinkShape) (h : List Entry) (ask : Ask) (n : ℕ) (request : Request) (verdict : Settled) → Spares n ask → RowIsKept shape h n request verdict → RowIsKept shape (asked shape h ask) n request verdict
 row-asked shape h ask n request (IsAccepted level bound) spares kept = (has-asked n request.contract level shape h ask spares kept.0, kept.1)
@@ -129,37 +131,40 @@ rows-push shape h n (r ∷ requests) [] request verdict kept last = absurd kept
 
 -- ---- a script, in which no tick is made
 
--- the channels below n have been reserved, and none has a packet; no other is planned for
+-- the channels below n have been reserved, and none has a packet; no other is planned for, nor a best-effort packet
 pub record Stands (shape : LinkShape) (n : ℕ) (requests : List Request) (verdicts : List Settled) (h : List Entry) : Type 0 where
   pub below : AreBelow n shape h
   pub no_gone : (scan_of shape h).gone ≡ []
   pub no_packets : (scan_of shape h).packets ≡ []
+  pub unpoured : (scan_of shape h).best_plan ≡ []
   pub unplanned : (m : ℕ) → n ≤ m → planned_in m h ≡ []
   pub rows : RowsAreKept shape h 0 requests verdicts
 
--- an ask of a script takes no packet, and no row expires
-after-still : (n : ℕ) (shape : LinkShape) (t : ℕ) (scan : Scan) (ask : Ask) (reply : Reply) → AsksBelow n ask → ((after shape t scan ask reply).gone ≡ scan.gone) × ((after shape t scan ask reply).packets ≡ scan.packets)
+-- an ask of a script takes no packet and plans no best-effort one, and no row expires
+after-still : (n : ℕ) (shape : LinkShape) (t : ℕ) (scan : Scan) (ask : Ask) (reply : Reply) → AsksBelow n ask → ((after shape t scan ask reply).gone ≡ scan.gone) × ((after shape t scan ask reply).packets ≡ scan.packets) × ((after shape t scan ask reply).best_plan ≡ scan.best_plan)
 unfolding after
-after-still n shape t scan (Reserve chan contract kind delay up_reach first next) (Is.Offer level reach) setup = (refl, refl)
-after-still n shape t scan (Relax chan level up_bound) (Is.Relaxed clock) setup = (refl, refl)
-after-still n shape t scan (Deny chan) Is.Denied setup = (refl, refl)
-after-still n shape t scan (Submit chan count gap size) (Is.Planned clock) setup = (refl, refl)
-after-still n shape t scan (Release chan upstream) (Is.Closing count cancelled) setup = (refl, refl)
+after-still n shape t scan (Reserve chan contract kind delay up_reach first next) (Is.Offer level reach) setup = (refl, refl, refl)
+after-still n shape t scan (Relax chan level up_bound) (Is.Relaxed clock) setup = (refl, refl, refl)
+after-still n shape t scan (Deny chan) Is.Denied setup = (refl, refl, refl)
+after-still n shape t scan (Submit chan count gap size) (Is.Planned clock) setup = (refl, refl, refl)
+after-still n shape t scan (Release chan upstream) (Is.Closing count cancelled) setup = (refl, refl, refl)
 after-still n shape t scan (Arrive packet) reply setup = absurd setup
 after-still n shape t scan Tick reply setup = absurd setup
-after-still n shape t scan _ _ setup = (refl, refl)
+after-still n shape t scan (Pour count gap size) reply setup = absurd setup
+after-still n shape t scan _ _ setup = (refl, refl, refl)
 
 -- one more ask
 stands-asked : (shape : LinkShape) (n : ℕ) (requests : List Request) (verdicts : List Settled) (h : List Entry) (ask : Ask) → AsksBelow n ask → ((i : ℕ) → i < length verdicts → Spares i ask)
     → ((m : ℕ) (reply : Reply) → n ≤ m → planned_after m (clock_of h) (planned_in m h) ask reply ≡ planned_in m h) → Stands shape n requests verdicts h → Stands shape n requests verdicts (asked shape h ask)
 unfolding scan_of planned_in reply_to
 stands-asked shape n requests verdicts h ask setup spares plans stands =
-    let still = after-still n shape (clock_of h) (scan_of shape h) ask (reply_to shape h ask) setup in
+    let still = after-still n shape (clock_of h) (scan_of shape h) ask (reply_to (whole shape) h ask) setup in
     record {
       below = asked-below n shape h ask setup stands.below;
       no_gone = still.0 ∙ stands.no_gone;
       no_packets = still.1 ∙ stands.no_packets;
-      unplanned = λ m above. plans m (reply_to shape h ask) above ∙ stands.unplanned m above;
+      unpoured = still.2 ∙ stands.unpoured;
+      unplanned = λ m above. plans m (reply_to (whole shape) h ask) above ∙ stands.unplanned m above;
       rows = rows-asked shape h ask 0 requests verdicts (λ i less. spares i (omega (arith, less))) stands.rows;
     }
 
@@ -168,6 +173,7 @@ stands-more shape n requests verdicts h stands = record {
   below = below-more n shape h stands.below;
   no_gone = stands.no_gone;
   no_packets = stands.no_packets;
+  unpoured = stands.unpoured;
   unplanned = λ m above. stands.unplanned m (omega (arith, above));
   rows = stands.rows;
 }
@@ -212,14 +218,14 @@ module _ (shape : LinkShape) (n : ℕ) (requests : List Request) (verdicts : Lis
       (stands-reserved stands)
 
   -- the scan behind the reserve of an offer
-  scan-reserved : (level reach : Level) → Is.Offer level reach ≡ reply_to shape h (reserve_for (channel_at n) request)
+  scan-reserved : (level reach : Level) → Is.Offer level reach ≡ reply_to (whole shape) h (reserve_for (channel_at n) request)
       → scan_of shape (reserved shape h n request) ≡ with_row (scan_of shape h) (row_for (channel_at n) request level reach)
   unfolding scan_of after
   scan-reserved level reach offered = ap (after shape (clock_of h) (scan_of shape h) (reserve_for (channel_at n) request)) (sym offered)
 
   -- the relax is granted
-  reply-relaxed : (level reach relaxed : Level) → Is.Offer level reach ≡ reply_to shape h (reserve_for (channel_at n) request) → level_number level ≤ level_number relaxed → level_number relaxed ≤ level_number reach → Stands shape n requests verdicts h
-      → reply_to shape (reserved shape h n request) (Relax (channel_at n) relaxed 0) ≡ Is.Relaxed (clock_of (reserved shape h n request))
+  reply-relaxed : (level reach relaxed : Level) → Is.Offer level reach ≡ reply_to (whole shape) h (reserve_for (channel_at n) request) → level_number level ≤ level_number relaxed → level_number relaxed ≤ level_number reach → Stands shape n requests verdicts h
+      → reply_to (whole shape) (reserved shape h n request) (Relax (channel_at n) relaxed 0) ≡ Is.Relaxed (clock_of (reserved shape h n request))
   unfolding reply_to reply_at
   reply-relaxed level reach relaxed offered from upto stands =
       ap (λ scan. relax_reply (clock_of (reserved shape h n request)) relaxed 0 (find (is_of (channel_at n)) (map row_terms (scan.rows)))) (scan-reserved level reach offered)
@@ -227,26 +233,26 @@ module _ (shape : LinkShape) (n : ℕ) (requests : List Request) (verdicts : Lis
       ∙ relax-granted (clock_of (reserved shape h n request)) (channel_at n) request.contract level reach relaxed from upto
 
   -- the scan behind it
-  scan-relaxed : (level reach relaxed : Level) → Is.Offer level reach ≡ reply_to shape h (reserve_for (channel_at n) request) → level_number level ≤ level_number relaxed → level_number relaxed ≤ level_number reach → Stands shape n requests verdicts h
+  scan-relaxed : (level reach relaxed : Level) → Is.Offer level reach ≡ reply_to (whole shape) h (reserve_for (channel_at n) request) → level_number level ≤ level_number relaxed → level_number relaxed ≤ level_number reach → Stands shape n requests verdicts h
       → scan_of shape (asked shape (reserved shape h n request) (Relax (channel_at n) relaxed 0))
       ≡ after shape (clock_of (reserved shape h n request)) (with_row (scan_of shape h) (row_for (channel_at n) request level reach)) (Relax (channel_at n) relaxed 0) (Is.Relaxed (clock_of (reserved shape h n request)))
   unfolding scan_of
   scan-relaxed level reach relaxed offered from upto stands =
-      ap (λ scan. after shape (clock_of (reserved shape h n request)) scan (Relax (channel_at n) relaxed 0) (reply_to shape (reserved shape h n request) (Relax (channel_at n) relaxed 0))) (scan-reserved level reach offered)
+      ap (λ scan. after shape (clock_of (reserved shape h n request)) scan (Relax (channel_at n) relaxed 0) (reply_to (whole shape) (reserved shape h n request) (Relax (channel_at n) relaxed 0))) (scan-reserved level reach offered)
       ∙ ap (after shape (clock_of (reserved shape h n request)) (with_row (scan_of shape h) (row_for (channel_at n) request level reach)) (Relax (channel_at n) relaxed 0)) (reply-relaxed level reach relaxed offered from upto stands)
 
   -- so the channel has its row
-  relaxed-has : (level reach relaxed : Level) → Is.Offer level reach ≡ reply_to shape h (reserve_for (channel_at n) request) → level_number level ≤ level_number relaxed → level_number relaxed ≤ level_number reach → Stands shape n requests verdicts h
+  relaxed-has : (level reach relaxed : Level) → Is.Offer level reach ≡ reply_to (whole shape) h (reserve_for (channel_at n) request) → level_number level ≤ level_number relaxed → level_number relaxed ≤ level_number reach → Stands shape n requests verdicts h
       → HasRow n request.contract (level_number relaxed) (planned_in n (asked shape (reserved shape h n request) (Relax (channel_at n) relaxed 0))) (scan_of shape (asked shape (reserved shape h n request) (Relax (channel_at n) relaxed 0)))
   unfolding planned_in
   relaxed-has level reach relaxed offered from upto stands =
       let none : planned_in n h ≡ [] = stands.unplanned n (omega arith) in
-      let row = relaxed-row n shape (clock_of (reserved shape h n request)) (scan_of shape h) (channel_at n) request level reach relaxed (clock_of (reserved shape h n request)) (channel-number n few) stands.below stands.no_gone stands.no_packets in
+      let row = relaxed-row n shape (clock_of (reserved shape h n request)) (scan_of shape h) (channel_at n) request level reach relaxed (clock_of (reserved shape h n request)) (channel-number n few) stands.below stands.no_gone stands.no_packets stands.unpoured in
       subst (λ plan. HasRow n request.contract (level_number relaxed) plan (scan_of shape (asked shape (reserved shape h n request) (Relax (channel_at n) relaxed 0)))) (sym none)
       (subst (HasRow n request.contract (level_number relaxed) []) (sym (scan-relaxed level reach relaxed offered from upto stands)) row)
 
   -- what an offer comes to
-  offer-kept : (level reach : Level) → Is.Offer level reach ≡ reply_to shape h (reserve_for (channel_at n) request) → Stands shape n requests verdicts h
+  offer-kept : (level reach : Level) → Is.Offer level reach ≡ reply_to (whole shape) h (reserve_for (channel_at n) request) → Stands shape n requests verdicts h
       → RowIsKept shape (asked shape (reserved shape h n request) (way_back shape (channel_at n) request level)) n request (at_destination shape request level)
   unfolding at_destination way_back reply_to reply_at
   offer-kept level reach offered stands =
@@ -267,12 +273,13 @@ module _ (shape : LinkShape) (n : ℕ) (requests : List Request) (verdicts : Lis
         below = stands.below;
         no_gone = stands.no_gone;
         no_packets = stands.no_packets;
+        unpoured = stands.unpoured;
         unplanned = stands.unplanned;
         rows = rows-push shape after_h 0 requests verdicts request verdict stands.rows (subst (λ m. RowIsKept shape after_h m request verdict) place last);
       })
 
   -- behind the whole setup
-  stands-replied : (reply : Reply) → reply ≡ reply_to shape h (reserve_for (channel_at n) request) → Stands shape n requests verdicts h
+  stands-replied : (reply : Reply) → reply ≡ reply_to (whole shape) h (reserve_for (channel_at n) request) → Stands shape n requests verdicts h
       → Stands shape (length (verdicts ++ settled shape request reply ∷ [])) (requests ++ request ∷ []) (verdicts ++ settled shape request reply ∷ []) (replied shape (reserved shape h n request) (channel_at n) request reply)
   stands-replied (Is.Offer level reach) offered stands = stands-push (at_destination shape request level) _ (stands-back level stands) (offer-kept level reach offered stands)
   stands-replied (Is.Refused refusal) answered stands = stands-push (refused_as refusal) _ (stands-reserved stands) (none-kept refusal) where
@@ -284,9 +291,9 @@ module _ (shape : LinkShape) (n : ℕ) (requests : List Request) (verdicts : Lis
   stands-replied _ answered stands = stands-push _ _ (stands-reserved stands) tt
 
   stands-opened : Stands shape n requests verdicts h
-      → Stands shape (length (verdicts ++ settled shape request (reply_to shape h (reserve_for (channel_at n) request)) ∷ [])) (requests ++ request ∷ []) (verdicts ++ settled shape request (reply_to shape h (reserve_for (channel_at n) request)) ∷ []) (after_open shape h (channel_at n) request)
+      → Stands shape (length (verdicts ++ settled shape request (reply_to (whole shape) h (reserve_for (channel_at n) request)) ∷ [])) (requests ++ request ∷ []) (verdicts ++ settled shape request (reply_to (whole shape) h (reserve_for (channel_at n) request)) ∷ []) (after_open shape h (channel_at n) request)
   unfolding after_open
-  stands-opened stands = stands-replied (reply_to shape h (reserve_for (channel_at n) request)) refl stands
+  stands-opened stands = stands-replied (reply_to (whole shape) h (reserve_for (channel_at n) request)) refl stands
 
 -- ---- a send and a close
 

@@ -7,19 +7,19 @@ use Rattle.std.proofs.lemmas.Bool.{ne_eqb}
 use Rattle.net_units.specs.Numbers.{channel_number, level_number}
 use Rattle.net_units.specs.declared.numbers.ChanNo.{ChanNo}
 use Rattle.net_units.specs.declared.numbers.Level.{Level}
-use Rattle.traffic_contract.specs.Admission.{Row as Admitted}
 use Rattle.traffic_contract.specs.Contract.{Terms}
-use Rattle.link_steps.specs.Buffer.{need_of, free_units}
+use Rattle.link_steps.specs.Buffer.{need_of}
 use Rattle.link_steps.specs.Levels.{level_of}
 use Rattle.link_steps.specs.Lists.{Each}
 use Rattle.link_steps.specs.Refusals.{refused_or, first_refusal, unless, no_level, no_buffer}
-use Rattle.link_steps.specs.Replies.{reach_of, reserve_reply_at, reserve_reply, reply_at, reply_to}
-use Rattle.link_steps.specs.Reservation.{Reservation, tentative, admitted, is_of}
+use Rattle.link_steps.specs.Replies.{reach_of, best_offer, reserve_reply_in, reserve_reply, reply_at, reply_to}
+use Rattle.link_steps.specs.Reservation.{Reservation, tentative, is_of}
 use Rattle.link_steps.specs.Rows.{Row, new_row, row_terms}
 use Rattle.link_steps.specs.Scan.{Scan, clock_of, is_row_of, is_row_at_hop, names_first_hop, relax_row, plan_row, close_row, after, scan_of}
-use Rattle.link_steps.specs.Shape.{server_of}
+use Rattle.link_steps.specs.Room.{Room}
+use Rattle.link_steps.specs.Split.{whole}
 use Rattle.link_steps.specs.declared.asks.Ask.{Ask}
-use Rattle.link_steps.specs.declared.asks.Ask.TheVariants.{Reserve, Relax, Deny, Submit, Release, Arrive, Tick}
+use Rattle.link_steps.specs.declared.asks.Ask.TheVariants.{Reserve, Relax, Deny, Submit, Release, Arrive, Tick, Pour}
 use Rattle.link_steps.specs.declared.replies.Entry.{Entry}
 use Rattle.link_steps.specs.declared.replies.Refusal.TheVariants.{NoBuffer, TooWide}
 use Rattle.link_steps.specs.declared.replies.Reply.{Reply}
@@ -50,20 +50,20 @@ room-settled shape request need free level reach = go (nat_le need free) where
   go true = offer-settled shape request level
   go false = tt
 
-level-settled : (shape : LinkShape) (request : Request) (rows : List Admitted) (contract : Terms) (best : Option ℕ) (need free : ℕ) (level reach : Level)
-    → IsSettled (settled shape request (first_refusal (no_level (server_of shape) rows contract best ∷ no_buffer need free ∷ []) (Is.Offer level reach)))
-level-settled shape request rows contract None need free level reach = tt
-level-settled shape request rows contract (Some found) need free level reach = room-settled shape request need free level reach
+level-settled : (shape : LinkShape) (request : Request) (best : Option ℕ) (sum bound need free : ℕ) (level reach : Level)
+    → IsSettled (settled shape request (first_refusal (no_level best sum bound ∷ no_buffer need free ∷ []) (Is.Offer level reach)))
+level-settled shape request None sum bound need free level reach = tt
+level-settled shape request (Some found) sum bound need free level reach = room-settled shape request need free level reach
 
-reserve-settled : (shape : LinkShape) (request : Request) (held : List Reservation) (chan : ChanNo) (contract : Terms) (delay up_reach : ℕ) (best : Option ℕ) → find (is_of chan) held ≡ None
-    → IsSettled (settled shape request (reserve_reply_at shape held chan contract delay up_reach best))
-reserve-settled shape request held chan contract delay up_reach best new = rw new (go (nat_le contract.smax shape.cap)) where
+reserve-settled : (shape : LinkShape) (request : Request) (held : List Reservation) (chan : ChanNo) (contract : Terms) (delay up_reach : ℕ) (room : Room) → find (is_of chan) held ≡ None
+    → IsSettled (settled shape request (reserve_reply_in shape held chan contract delay up_reach room))
+reserve-settled shape request held chan contract delay up_reach room new = rw new (go (nat_le contract.smax shape.cap)) where
   go : (b : Bool) → IsSettled (settled shape request (refused_or (unless b (TooWide contract.smax shape.cap)) (first_refusal
-      (no_level (server_of shape) (map admitted held) contract best
-      ∷ no_buffer (need_of shape.bounds contract up_reach (reach_of shape.bounds delay (unwrap_or best 0))) (free_units shape held)
+      (no_level room.best room.sum room.bound
+      ∷ no_buffer (need_of shape.bounds contract up_reach (reach_of shape.bounds delay (unwrap_or room.best 0))) room.free
       ∷ [])
-      (Is.Offer (level_of (unwrap_or best 0)) (level_of (reach_of shape.bounds delay (unwrap_or best 0)))))))
-  go true = level-settled shape request (map admitted held) contract best _ _ _ _
+      (best_offer shape delay room))))
+  go true = level-settled shape request room.best room.sum room.bound _ _ _ _
   go false = tt
 
 -- ---- the channels that have rows
@@ -105,10 +105,11 @@ after-below n shape t scan (Release chan upstream) (Is.Closing count cancelled) 
 after-below n shape t scan (Release chan upstream) _ setup below = below
 after-below n shape t scan (Arrive packet) reply setup below = absurd setup
 after-below n shape t scan Tick reply setup below = absurd setup
+after-below n shape t scan (Pour count gap size) reply setup below = absurd setup
 
 pub asked-below : (n : ℕ) (shape : LinkShape) (h : List Entry) (ask : Ask) → AsksBelow n ask → AreBelow n shape h → AreBelow n shape (asked shape h ask)
 unfolding scan_of
-asked-below n shape h ask setup below = after-below n shape (clock_of h) (scan_of shape h) ask (reply_to shape h ask) setup below
+asked-below n shape h ask setup below = after-below n shape (clock_of h) (scan_of shape h) ask (reply_to (whole shape) h ask) setup below
 
 -- the way back reserves nothing
 pub back-below : (n : ℕ) (shape : LinkShape) (chan : ChanNo) (request : Request) (level : Level) → AsksBelow n (way_back shape chan request level)
@@ -137,7 +138,7 @@ open-below n shape h request few below =
 
 -- so a request is settled
 open-settled : (n : ℕ) (shape : LinkShape) (h : List Entry) (request : Request) → n < 1024 → AreBelow n shape h
-    → IsSettled (settled shape request (reply_to shape h (reserve_for (channel_at n) request)))
+    → IsSettled (settled shape request (reply_to (whole shape) h (reserve_for (channel_at n) request)))
 unfolding reply_to reply_at reserve_reply
 open-settled n shape h request few below =
     reserve-settled shape request (map row_terms (scan_of shape h).rows) (channel_at n) request.contract request.delay 0 _
@@ -161,7 +162,7 @@ operation-settled shape run (operation.Open request) (inr none) so_far = cc
 operation-settled shape run (operation.Open request) (inl few) so_far = record {
   settled = all-push run.verdicts _ so_far.settled (open-settled (length run.verdicts) shape run.history request few so_far.below);
   below = (
-      let count = length-append run.verdicts (settled shape request (reply_to shape run.history (reserve_for (channel_at (length run.verdicts)) request)) ∷ []) in
+      let count = length-append run.verdicts (settled shape request (reply_to (whole shape) run.history (reserve_for (channel_at (length run.verdicts)) request)) ∷ []) in
       let P : ℕ → Type 0 = λ n. AreBelow n shape (after_open shape run.history (channel_at (length run.verdicts)) request) in
       subst P (sym count) (open-below (length run.verdicts) shape run.history request few so_far.below));
 }

@@ -9,6 +9,7 @@ use Rattle.net_units.specs.Numbers.{link_number}
 use Rattle.net_units.specs.Quotient.{ceil_quotient}
 use Rattle.net_units.specs.LevelBounds.{are_bounds, bound_at}
 use Rattle.net_units.specs.declared.numbers.LinkNo.{LinkNo}
+use Rattle.traffic_contract.specs.declared.admission.Test.TheVariants.{Whole}
 use Rattle.link_steps.specs.Shape.{is_within, first_bad_field, IsShapeOf}
 use Rattle.link_steps.specs.declared.shape.LinkShape.{LinkShape}
 use Rattle.tenet_app.specs.Plans.{IsLink}
@@ -20,32 +21,35 @@ pub same_link : (a b : LinkNo) → link_number a ≡ link_number b → a ≡ b
 same_link a b same = λ i. record { number = same i; small = is_prop→PathP (λ j. same j < 32) (λ j. le_prop) a.small b.small i }
 
 -- shapes of the same numbers are the same
-same_shape : (a b : LinkShape) → a.link ≡ b.link → a.rate ≡ b.rate → a.cap ≡ b.cap → a.prop ≡ b.prop → a.buffer ≡ b.buffer → a.bounds ≡ b.bounds → a ≡ b
-same_shape a b link rate cap prop buffer bounds = λ i. record {
+same_shape : (a b : LinkShape) → a.link ≡ b.link → a.rate ≡ b.rate → a.cap ≡ b.cap → a.prop ≡ b.prop → a.buffer ≡ b.buffer → a.bounds ≡ b.bounds → a.test ≡ b.test → a.best ≡ b.best → a ≡ b
+same_shape a b link rate cap prop buffer bounds test best = λ i. record {
   link = link i;
   rate = rate i;
   cap = cap i;
   prop = prop i;
   buffer = buffer i;
   bounds = bounds i;
+  test = test i;
+  best = best i;
   rate_least = is_prop→PathP (λ j. 1 ≤ rate j) (λ j. le_prop) a.rate_least b.rate_least i;
   rate_most = is_prop→PathP (λ j. rate j ≤ 65536) (λ j. le_prop) a.rate_most b.rate_most i;
   cap_least = is_prop→PathP (λ j. 1 ≤ cap j) (λ j. le_prop) a.cap_least b.cap_least i;
   cap_most = is_prop→PathP (λ j. cap j ≤ 65536) (λ j. le_prop) a.cap_most b.cap_most i;
   prop_most = is_prop→PathP (λ j. prop j ≤ 1048576) (λ j. le_prop) a.prop_most b.prop_most i;
   buffer_most = is_prop→PathP (λ j. buffer j ≤ 262144) (λ j. le_prop) a.buffer_most b.buffer_most i;
+  best_most = is_prop→PathP (λ j. best j ≤ 1024) (λ j. le_prop) a.best_most b.best_most i;
   bounds_rise = is_prop→PathP (λ j. are_bounds (bounds j) ≡ true) (λ j. Bool-set (are_bounds (bounds j)) true) a.bounds_rise b.bounds_rise i;
   blocking_fits = is_prop→PathP (λ j. ceil_quotient (cap j) (rate j) ≤ bound_at (bounds j) 1) (λ j. le_prop) a.blocking_fits b.blocking_fits i;
 }
 
 -- the shape with a link's numbers
 abbrev pub IsShape : Link → LinkShape → Type 0
-IsShape link shape = IsShapeOf first_link link.rate link.cap link.prop link.buffer link.bounds shape
+IsShape link shape = IsShapeOf first_link link.rate link.cap link.prop link.buffer link.bounds Whole 0 shape
 
 where-some : (link : Link) (rates rooms bounds : Bool) (a : has_rate link ≡ rates) (b : has_room link ≡ rooms) (c : has_bounds link ≡ bounds)
     → rates ≡ true → rooms ≡ true → bounds ≡ true → (shape : LinkShape) × (shape_where link rates rooms bounds a b c ≡ Some shape) × IsShape link shape
 where-some link true true true a b c x y z =
-    (shape_with link a b c, refl, record { link_is = refl; rate_is = refl; cap_is = refl; prop_is = refl; buffer_is = refl; bounds_are = refl })
+    (shape_with link a b c, refl, record { link_is = refl; rate_is = refl; cap_is = refl; prop_is = refl; buffer_is = refl; bounds_are = refl; test_is = refl; best_is = refl })
 where-some link false rooms bounds a b c x y z = cc
 where-some link true false bounds a b c x y z = cc
 where-some link true true false a b c x y z = cc
@@ -82,8 +86,8 @@ module _ (link : Link) (sound : IsLink link) where
       let found = shape-some in
       let its = found.2 in
       found.1 ∙ ap Some (same_shape found.0 shape (its.link_is ∙ sym is.link_is) (its.rate_is ∙ sym is.rate_is) (its.cap_is ∙ sym is.cap_is)
-      (its.prop_is ∙ sym is.prop_is) (its.buffer_is ∙ sym is.buffer_is) (its.bounds_are ∙ sym is.bounds_are))
+      (its.prop_is ∙ sym is.prop_is) (its.buffer_is ∙ sym is.buffer_is) (its.bounds_are ∙ sym is.bounds_are) (its.test_is ∙ sym is.test_is) (its.best_is ∙ sym is.best_is))
 
   -- and no number of it is refused
-  pub no-bad-field : first_bad_field link.rate link.cap link.prop link.buffer link.bounds ≡ None
+  pub no-bad-field : first_bad_field link.rate link.cap link.prop link.buffer 0 link.bounds ≡ None
   no-bad-field = rw (rate-within, cap-within, prop-within, buffer-within, prompt) refl

@@ -4,7 +4,7 @@ use Rattle.std.proofs.lemmas.Bool.{ne_eqb, eq-eqb}
 use Rattle.net_units.specs.Numbers.{channel_number}
 use Rattle.net_units.specs.declared.numbers.ChanNo.{ChanNo}
 use Rattle.link_steps.specs.declared.asks.Ask.{Ask}
-use Rattle.link_steps.specs.declared.asks.Ask.TheVariants.{Reserve, Relax, Deny, Submit, Release, Arrive, Tick}
+use Rattle.link_steps.specs.declared.asks.Ask.TheVariants.{Reserve, Relax, Deny, Submit, Release, Arrive, Tick, Pour}
 use Rattle.link_steps.specs.declared.replies.Entry.{Entry}
 use Rattle.link_steps.specs.declared.replies.Refusal.{Refusal}
 use Rattle.link_steps.specs.declared.replies.Reply.{Reply}
@@ -70,12 +70,13 @@ no-refusal i (Deny chan) reply never = refl
 no-refusal i (Release chan upstream) reply never = refl
 no-refusal i (Arrive packet) reply never = refl
 no-refusal i Tick reply never = refl
+no-refusal i (Pour count gap size) reply never = refl
 
-tally-delivered : (i clock full : ℕ) (packet : Sent) (ask : Ask) (h : List Entry) → is_number i packet.packet.chan ≡ true
-    → tally_of i (record { ask = ask; reply = Is.Ticked clock full (Some packet) } ∷ h) ≡ with_delay (packet.arrives - packet.at) (tally_of i h)
+tally-delivered : (i clock full : ℕ) (packet : Sent) (best_sent best_lost : Bool) (ask : Ask) (h : List Entry) → is_number i packet.packet.chan ≡ true
+    → tally_of i (record { ask = ask; reply = Is.Ticked clock full (Some packet) best_sent best_lost } ∷ h) ≡ with_delay (packet.arrives - packet.at) (tally_of i h)
 unfolding refused_in delays_in
-tally-delivered i clock full packet ask h own =
-    rw (no-refusal i ask (Is.Ticked clock full (Some packet)) tt, own, zero-add) (let more : suc (length (delays_in i h)) ≡ length (delays_in i h) + 1 = omega arith in rw more refl)
+tally-delivered i clock full packet best_sent best_lost ask h own =
+    rw (no-refusal i ask (Is.Ticked clock full (Some packet) best_sent best_lost) tt, own, zero-add) (let more : suc (length (delays_in i h)) ≡ length (delays_in i h) + 1 = omega arith in rw more refl)
 
 tally-refused : (i count gap size : ℕ) (chan : ChanNo) (refusal : Refusal) (h : List Entry) → is_number i chan ≡ true
     → tally_of i (record { ask = Submit chan count gap size; reply = Is.Refused refusal } ∷ h) ≡ with_refusal (tally_of i h)
@@ -103,15 +104,15 @@ module _ (n : ℕ) (h : List Entry) where
       each-same (λ i. tally_of i h) (λ i. tally_of i (record { ask = ask; reply = reply } ∷ h)) 0 n
       (λ i above. tally-kept i ask reply h (refusals i) (delays i))
 
-  counted-ticked : (ask : Ask) (clock full : ℕ) (packet : Option Sent)
-      → with_packet packet (tallies_of n h) ≡ tallies_of n (record { ask = ask; reply = Is.Ticked clock full packet } ∷ h)
-  counted-ticked ask clock full None =
-      all-kept ask (Is.Ticked clock full None) (λ i. no-refusal i ask (Is.Ticked clock full None) tt) (λ i. refl)
-  counted-ticked ask clock full (Some packet) =
-      each-changed (λ i. tally_of i h) (λ i. tally_of i (record { ask = ask; reply = Is.Ticked clock full (Some packet) } ∷ h))
+  counted-ticked : (ask : Ask) (clock full : ℕ) (packet : Option Sent) (best_sent best_lost : Bool)
+      → with_packet packet (tallies_of n h) ≡ tallies_of n (record { ask = ask; reply = Is.Ticked clock full packet best_sent best_lost } ∷ h)
+  counted-ticked ask clock full None best_sent best_lost =
+      all-kept ask (Is.Ticked clock full None best_sent best_lost) (λ i. no-refusal i ask (Is.Ticked clock full None best_sent best_lost) tt) (λ i. refl)
+  counted-ticked ask clock full (Some packet) best_sent best_lost =
+      each-changed (λ i. tally_of i h) (λ i. tally_of i (record { ask = ask; reply = Is.Ticked clock full (Some packet) best_sent best_lost } ∷ h))
       (with_delay (packet.arrives - packet.at)) 0 n (channel_number packet.packet.chan)
-      (λ i e. tally-delivered i clock full packet ask h (own_number packet.packet.chan i e))
-      (λ i never. tally-kept i ask (Is.Ticked clock full (Some packet)) h (no-refusal i ask (Is.Ticked clock full (Some packet)) tt)
+      (λ i e. tally-delivered i clock full packet best_sent best_lost ask h (own_number packet.packet.chan i e))
+      (λ i never. tally-kept i ask (Is.Ticked clock full (Some packet) best_sent best_lost) h (no-refusal i ask (Is.Ticked clock full (Some packet) best_sent best_lost) tt)
       (other-delay i packet (other_number packet.packet.chan i never)))
 
   counted-refused : (ask : Ask) (refusal : Refusal) → counted ask (Is.Refused refusal) (tallies_of n h) ≡ tallies_of n (record { ask = ask; reply = Is.Refused refusal } ∷ h)
@@ -126,10 +127,11 @@ module _ (n : ℕ) (h : List Entry) where
   counted-refused (Release chan upstream) refusal = all-kept _ _ (λ i. refl) (λ i. refl)
   counted-refused (Arrive packet) refusal = all-kept _ _ (λ i. refl) (λ i. refl)
   counted-refused Tick refusal = all-kept _ _ (λ i. refl) (λ i. refl)
+  counted-refused (Pour count gap size) refusal = all-kept _ _ (λ i. refl) (λ i. refl)
 
   -- the tallies of the history with one more step are those before, with the step counted
   pub counted-tallies : (ask : Ask) (reply : Reply) → counted ask reply (tallies_of n h) ≡ tallies_of n (record { ask = ask; reply = reply } ∷ h)
-  counted-tallies ask (Is.Ticked clock full packet) = counted-ticked ask clock full packet
+  counted-tallies ask (Is.Ticked clock full packet best_sent best_lost) = counted-ticked ask clock full packet best_sent best_lost
   counted-tallies ask (Is.Refused refusal) = counted-refused ask refusal
   counted-tallies ask (Is.Offer level reach) = all-kept ask (Is.Offer level reach) (λ i. no-refusal i ask (Is.Offer level reach) tt) (λ i. refl)
   counted-tallies ask (Is.Relaxed clock) = all-kept ask (Is.Relaxed clock) (λ i. no-refusal i ask (Is.Relaxed clock) tt) (λ i. refl)
@@ -152,6 +154,7 @@ refusal-few i (Deny chan) reply = omega arith
 refusal-few i (Release chan upstream) reply = omega arith
 refusal-few i (Arrive packet) reply = omega arith
 refusal-few i Tick reply = omega arith
+refusal-few i (Pour count gap size) reply = omega arith
 
 refused-few : (i : ℕ) (h : List Entry) → refused_in i h ≤ length h
 unfolding refused_in

@@ -1,6 +1,6 @@
 -- What sources have offered, worked by computing: three packets are planned for the ticks 0, 10 and 20, and a release
 -- cancels those whose tick isn't made.
-use Rattle.std.proofs.Common.{◌≡◌, ℕ, zero, suc, ◌-◌, List, [], ◌∷◌, None, refl, lit<}
+use Rattle.std.proofs.Common.{◌≡◌, ℕ, zero, suc, ◌-◌, false, List, [], ◌∷◌, None, refl, lit<}
 use Rattle.net_units.specs.declared.numbers.ChanNo.{ChanNo}
 use Rattle.link_steps.specs.Rows.{planned_from}
 use Rattle.link_steps.specs.Scan.{clock_of}
@@ -19,7 +19,7 @@ chan2 = record { number = 2; small = lit< tt }
 -- so many ticks more
 unfoldable ticked : ℕ → List Entry → List Entry
 ticked zero h = h
-ticked (suc n) h = record { ask = Tick; reply = Ticked (clock_of h) 0 None } ∷ ticked n h
+ticked (suc n) h = record { ask = Tick; reply = Ticked (clock_of h) 0 None false false } ∷ ticked n h
 
 -- the submit, and a second one that is refused while packets are planned
 abbrev submitted : List Entry

@@ -5,13 +5,16 @@ use Rattle.traffic_contract.specs.Admission.{work_in, work_up_to, load, passes_u
 use Rattle.traffic_contract.specs.Contract.{Terms, most_in}
 use Rattle.traffic_contract.specs.Eligible.{first_from, eligible}
 use Rattle.traffic_contract.specs.Keeping.{are_spaced, keeps, may_follow}
+use Rattle.traffic_contract.specs.declared.admission.Test.TheVariants.{Whole}
+use Rattle.link_steps.specs.BestEffort.{best_step, waiting_best}
 use Rattle.link_steps.specs.Buffer.{slots_of, need_of, kept_units, free_units, held_packets}
 use Rattle.link_steps.specs.Hold.{hold_ended}
 use Rattle.link_steps.specs.Lists.{change_first, without_first}
 use Rattle.link_steps.specs.Regulator.{eligible_next}
-use Rattle.link_steps.specs.Replies.{reserve_reply, relax_reply, deny_reply, submit_reply, release_reply, sent_at, reply_at, reply_to}
+use Rattle.link_steps.specs.Replies.{reserve_reply, relax_reply, deny_reply, submit_reply, release_reply, sent_at, best_sent_at, reply_at, reply_to}
+use Rattle.link_steps.specs.Room.{whole_room, room_of}
 use Rattle.link_steps.specs.Rows.{planned_from}
-use Rattle.link_steps.specs.Scan.{clock_of, without_expired, with_sources, after_tick, after, scan_of}
+use Rattle.link_steps.specs.Scan.{clock_of, without_expired, with_sources, with_best, best_step_at, after_tick, after, scan_of}
 use Rattle.link_steps.specs.Service.{goes_before, first_in_line, is_waiting, serve_tick, starts_below, here_at}
 use Rattle.link_steps.specs.Sources.{step_of, source_packets, rows_after, lost_in}
 use Rattle.link_steps.specs.declared.shape.LinkShape.{LinkShape}
@@ -32,12 +35,15 @@ shape_a = record {
   prop = 2;
   buffer = 100;
   bounds = 10 ∷ 20 ∷ 40 ∷ [];
+  test = Whole;
+  best = 0;
   rate_least = lit≤ tt;
   rate_most = lit≤ tt;
   cap_least = lit≤ tt;
   cap_most = lit≤ tt;
   prop_most = lit≤ tt;
   buffer_most = lit≤ tt;
+  best_most = lit≤ tt;
   bounds_rise = refl;
   blocking_fits = lit≤ tt;
 }
@@ -94,7 +100,7 @@ told_by run = record {
 
 -- the run, computed with all the rules
 run_by : LinkShape → Said → Run
-unfolding run_of after_script after_ticks opened sent closed after_open way_back at_destination reply_to reply_at reserve_reply relax_reply deny_reply submit_reply release_reply sent_at clock_of scan_of after after_tick change_first without_first without_expired with_sources hold_ended here_at starts_below serve_tick is_waiting first_in_line goes_before held_packets slots_of need_of kept_units free_units planned_from eligible_next step_of source_packets rows_after lost_in work_in work_up_to load passes_up_to passes admits first_level best_level most_in first_from eligible may_follow
+unfolding run_of after_script after_ticks opened sent closed after_open way_back at_destination reply_to reply_at reserve_reply room_of whole_room relax_reply deny_reply submit_reply release_reply sent_at best_sent_at clock_of scan_of after with_best best_step_at best_step waiting_best after_tick change_first without_first without_expired with_sources hold_ended here_at starts_below serve_tick is_waiting first_in_line goes_before held_packets slots_of need_of kept_units free_units planned_from eligible_next step_of source_packets rows_after lost_in work_in work_up_to load passes_up_to passes admits first_level best_level most_in first_from eligible may_follow
 run_by shape said = run_of shape said
 
 -- which is the run of the plan

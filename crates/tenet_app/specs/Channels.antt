@@ -46,7 +46,7 @@ refused_in number (e ∷ past) = refused_by number e.ask e.reply + refused_in nu
 
 -- the packet that leaves the link at the end of a tick
 abbrev pub sent_by : Reply → Option Sent
-sent_by (Ticked clock full packet) = packet
+sent_by (Ticked clock full packet best_sent best_lost) = packet
 sent_by _ = None
 
 -- its delay, if it is of the channel
@@ -89,7 +89,7 @@ departures_in (e ∷ past) = departures_by (sent_by e.reply) + departures_in pas
 
 -- how many source packets are dropped in an entry, since they find no slot, and how many in all
 abbrev pub dropped_by : Reply → ℕ
-dropped_by (Ticked clock full packet) = full
+dropped_by (Ticked clock full packet best_sent best_lost) = full
 dropped_by _ = 0
 
 unfoldable pub dropped_in : List Entry → ℕ

@@ -1,12 +1,13 @@
--- A run of a script over one link. The callers make their operations in the order of their lines, and then the link
--- makes its ticks. A run is one history of the link, newest first: each step is an ask with the reply that the link's
--- rules give at that point. An open asks a reserve, and behind an offer a relax, or a deny where the destination
--- refuses. A send asks one submit where its request was accepted, and a close one release; where it was denied they
--- make no step. The line of a caller makes none.
+-- A run of a script over one link, which isn't split. The callers make their operations in the order of their lines, and
+-- then the link makes its ticks. A run is one history of the link, newest first: each step is an ask with the reply that
+-- the link's rules give at that point. An open asks a reserve, and behind an offer a relax, or a deny where the
+-- destination refuses. A send asks one submit where its request was accepted, and a close one release; where it was
+-- denied they make no step. The line of a caller makes none.
 use Rattle.std.specs.Prelude.{ℕ, zero, suc, ◌+◌, if◌then◌else◌, None, List, [], ◌∷◌, ◌++◌, length}
 use Rattle.std.specs.List.{slice_index_or}
 use Rattle.net_units.specs.declared.numbers.ChanNo.{ChanNo}
 use Rattle.link_steps.specs.Replies.{reply_to}
+use Rattle.link_steps.specs.Split.{whole}
 use Rattle.link_steps.specs.declared.asks.Ask.{Ask}
 use Rattle.link_steps.specs.declared.asks.Ask.TheVariants.{Submit, Release, Tick}
 use Rattle.link_steps.specs.declared.replies.Entry.{Entry}
@@ -22,7 +23,7 @@ use Rattle.tenet_app.specs.declared.scenario.plan.Send.{Send}
 
 -- the history with one more ask and its legal reply
 abbrev pub asked : LinkShape → List Entry → Ask → List Entry
-asked shape h ask = record { ask = ask; reply = reply_to shape h ask } ∷ h
+asked shape h ask = record { ask = ask; reply = reply_to (whole shape) h ask } ∷ h
 
 -- where a run of a script stands: its history, and what the requests opened so far came to, in the order of their
 -- opens. A request's place among them, from 0, is the number of its channel
@@ -41,13 +42,13 @@ replied shape h chan request _ = h
 
 -- the history behind an open of this channel
 unfoldable pub after_open : LinkShape → List Entry → ChanNo → Request → List Entry
-after_open shape h chan request = replied shape (asked shape h (reserve_for chan request)) chan request (reply_to shape h (reserve_for chan request))
+after_open shape h chan request = replied shape (asked shape h (reserve_for chan request)) chan request (reply_to (whole shape) h (reserve_for chan request))
 
 -- the run behind an open: one verdict more, and the setup of the next channel
 unfoldable pub opened : LinkShape → Run → Request → Run
 opened shape run request = record {
   history = after_open shape run.history (channel_at (length run.verdicts)) request;
-  verdicts = run.verdicts ++ settled shape request (reply_to shape run.history (reserve_for (channel_at (length run.verdicts)) request)) ∷ [];
+  verdicts = run.verdicts ++ settled shape request (reply_to (whole shape) run.history (reserve_for (channel_at (length run.verdicts)) request)) ∷ [];
 }
 
 -- what the request at this place came to

@@ -1,12 +1,13 @@
 -- A link of a plan as the rules of a link see it: its shape, which has its numbers and its own number among the links.
--- A plan has one link so far, and its number is 0. Only numbers within the limits of a link have a shape, as those of
--- each link that was read are.
+-- A plan has one link so far, and its number is 0. Its admission test is the whole one, and no best-effort packet may
+-- wait. Only numbers within the limits of a link have a shape, as those of each link that was read are.
 use Rattle.std.specs.Prelude.{◌≡◌, refl, Bool, true, nat_le, ◌&&◌, Option, Some, None}
 use Rattle.std.proofs.Common.{lit<}
 use Rattle.std.proofs.lemmas.Bool.{and_parts, leb-true}
 use Rattle.net_units.specs.Quotient.{ceil_quotient}
 use Rattle.net_units.specs.LevelBounds.{are_bounds, bound_at}
 use Rattle.net_units.specs.declared.numbers.LinkNo.{LinkNo}
+use Rattle.traffic_contract.specs.declared.admission.Test.TheVariants.{Whole}
 use Rattle.link_steps.specs.Shape.{is_within}
 use Rattle.link_steps.specs.declared.shape.LinkShape.{LinkShape}
 use Rattle.tenet_app.specs.declared.scenario.plan.Link.{Link}
@@ -41,12 +42,15 @@ shape_with link rates rooms bounds =
       prop = link.prop;
       buffer = link.buffer;
       bounds = link.bounds;
+      test = Whole;
+      best = 0;
       rate_least = leb-true 1 link.rate rate.0;
       rate_most = leb-true link.rate 65536 rate.1;
       cap_least = leb-true 1 link.cap cap.0;
       cap_most = leb-true link.cap 65536 cap.1;
       prop_most = leb-true link.prop 1048576 room.0;
       buffer_most = leb-true link.buffer 262144 room.1;
+      best_most = leb-true 0 1024 refl;
       bounds_rise = rising.0;
       blocking_fits = leb-true (ceil_quotient link.cap link.rate) (bound_at link.bounds 1) rising.1;
     }

@@ -69,7 +69,7 @@ with_packet (Some packet) tallies = change_at (channel_number packet.packet.chan
 
 -- the tallies behind one more step
 abbrev pub counted : Ask → Reply → List Tally → List Tally
-counted ask (Ticked clock full packet) tallies = with_packet packet tallies
+counted ask (Ticked clock full packet best_sent best_lost) tallies = with_packet packet tallies
 counted (Submit chan count gap size) (Refused refusal) tallies = change_at (channel_number chan) with_refusal tallies
 counted ask _ tallies = tallies
 

@@ -2,6 +2,7 @@
 ghost use Rattle.std.specs.Prelude.{◌≡◌, ◌+◌, ◌-◌, ◌<◌, ◌≤◌, ◌^◌, List, IfOk, OnOk, length};
 ghost use Rattle.net_units.specs.Numbers.{level_number};
 ghost use Rattle.link_steps.specs.Replies.{reply_to};
+ghost use Rattle.link_steps.specs.Split.{whole};
 ghost use Rattle.link_steps.specs.declared.replies.Entry.{Entry};
 ghost use Rattle.tenet_app.specs.Establishment.{reserve_for, way_back, delay_at, allotted, at_destination, refused_as, settled, verdict_of};
 ghost use Rattle.tenet_app.specs.Run.{asked, after_open};
@@ -76,7 +77,7 @@ pub fn establish(
     ensures same { OnOk result (SameLink player.old player.new) }
     ensures steps { OnOk result (player.new.tallies.steps ≤ player.old.tallies.steps + 2) }
     ensures verdict { IfOk result (λ verdict. (h : List Entry) → IsAt h player.old
-        → verdict_of verdict ≡ settled player.old.link.shape request.now (reply_to player.old.link.shape h (reserve_for chan request.now))) }
+        → verdict_of verdict ≡ settled player.old.link.shape request.now (reply_to (whole player.old.link.shape) h (reserve_for chan request.now))) }
     ensures at { OnOk result ((h : List Entry) → IsAt h player.old → IsAt (after_open player.old.link.shape h chan request.now) player.new) }
 {
     // `smax` tells that the numbers are a contract, as a reserve wants them to be.

@@ -1,6 +1,7 @@
 //! Laws of every run, each as the contract of a function that does nothing.
 ghost use Rattle.std.specs.Prelude.{◌≡◌, Some};
 ghost use Rattle.std.specs.List.{AllByRecursion};
+ghost use Rattle.traffic_contract.specs.declared.admission.Test.TheVariants.{Whole};
 ghost use Rattle.link_steps.specs.HopGuarantee.{AfterEach, HeldRowsPass, HopGuarantee};
 ghost use Rattle.link_steps.specs.Shape.{IsShapeOf};
 ghost use Rattle.link_steps.specs.SourceGuarantee.{SourceGuarantee};
@@ -12,10 +13,10 @@ ghost use Rattle.tenet_app.specs.Run.{run_of};
 ghost use Rattle.tenet_app.specs.Shapes.{first_link, shape_of};
 ghost use Rattle.tenet_app.specs.declared.scenario.plan.Link.{Link};
 
-/// Every link that can be read has a shape, with its numbers.
+/// Every link that can be read has a shape, with its numbers, the whole test and no best-effort packets.
 pub fn every_link_has_a_shape()
     ensures { (link : Link) → IsLink link
-        → (shape : LinkShape) × (shape_of link ≡ Some shape) × IsShapeOf first_link link.rate link.cap link.prop link.buffer link.bounds shape }
+        → (shape : LinkShape) × (shape_of link ≡ Some shape) × IsShapeOf first_link link.rate link.cap link.prop link.buffer link.bounds Whole 0 shape }
 {}
 
 /// In the run of every plan, over a link of any shape, each request is settled: its reserve is offered a level, or is

@@ -2,6 +2,7 @@
 ghost use Rattle.std.specs.Prelude.{◌≡◌, ◌+◌, ◌^◌, ◌<◌, [], List, length, IfOk, OnOk};
 ghost use Rattle.link_steps.specs.Legal.{AskFits};
 ghost use Rattle.link_steps.specs.Replies.{reply_to};
+ghost use Rattle.link_steps.specs.Split.{whole};
 ghost use Rattle.link_steps.specs.declared.replies.Entry.{Entry};
 ghost use Rattle.tenet_app.specs.Channels.{offered_in};
 ghost use Rattle.tenet_app.specs.Run.{asked, after_ticks};
@@ -42,7 +43,7 @@ impl Player {
         requires fits { AskFits self.old.link.shape ask.now }
         ensures same { OnOk result (SameLink self.old self.new) }
         ensures steps { OnOk result (self.new.tallies.steps ≡ self.old.tallies.steps + 1) }
-        ensures reply { IfOk result (λ reply. (h : List Entry) → IsAt h self.old → reply ≡ reply_to self.old.link.shape h ask.now) }
+        ensures reply { IfOk result (λ reply. (h : List Entry) → IsAt h self.old → reply ≡ reply_to (whole self.old.link.shape) h ask.now) }
         ensures at { OnOk result ((h : List Entry) → IsAt h self.old → IsAt (asked self.old.link.shape h ask.now) self.new) }
     {
         let clock = self.link.clock();

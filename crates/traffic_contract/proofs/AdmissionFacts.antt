@@ -1,13 +1,15 @@
 -- The admission test under changes of the rows: a sum row by row, what taking a row out, moving it and adding
 -- one do to it, and where the best level of a new contract lies.
-use Rattle.std.proofs.Common.{◌≡◌, ℕ, zero, suc, ◌+◌, ◌<◌, ◌≤◌, ⊎_elim, Bool, true, false, cond, List, [], ◌∷◌, ◌++◌, length, map, Decides, Some, None, refl, sym, ap, ◌∙◌, arith}
-use Rattle.std.proofs.lemmas.Bool.{leb-true, le-leb, lt-leb, cases_lt, cases_eq, cases_Bool, true≢false, and_parts, and_from, false_from_ne_true}
+use Rattle.std.proofs.Common.{◌≡◌, ℕ, zero, suc, ◌+◌, ◌<◌, ◌≤◌, ⊎_elim, Bool, true, false, cond, List, [], ◌∷◌, ◌++◌, length, map, Decides, Some, None, refl, sym, ap, ◌∙◌, subst, arith}
+use Rattle.std.proofs.lemmas.Bool.{leb-true, le-leb, lt-leb, cases_lt, cases_eq, cases_Bool, true≢false, and_parts, and_from, or_cases, or_left, or_right, false_from_ne_true}
 use Rattle.std.proofs.lemmas.Bool.Decides.{Decides-like}
 use Rattle.std.proofs.lemmas.List.Elements.{All-head, All-tail}
 use Rattle.std.specs.List.{All, filter}
 use Rattle.net_units.specs.LevelBounds.{bound_at}
 use Rattle.traffic_contract.specs.Contract.{Terms}
-use Rattle.traffic_contract.specs.Admission.{Server, Row, total, work_in, work_up_to, load, level_sum, Passes, passes_at, passes_up_to, passes, with_row, admits, first_level, best_level, IsBest, IsRefused}
+use Rattle.traffic_contract.specs.declared.admission.Test.{Test}
+use Rattle.traffic_contract.specs.declared.admission.Test.TheVariants.{Whole, Least}
+use Rattle.traffic_contract.specs.Admission.{Server, Row, total, work_in, work_up_to, load, level_sum, Counts, PassesAt, HasWindow, Passes, fits_in, some_upto, some_counts, passes_at, passes_up_to, passes, with_row, HasRoom, admits, first_level, best_level, IsBest, IsRefused}
 
 -- ---- sums over lists
 
@@ -67,40 +69,89 @@ load-with_row server rows terms level m w =
 
 -- ---- the test
 
--- rows pass whose levels' sums are no larger than those of rows that pass
-pub Passes-le : (server : Server) (rows others : List Row) → ((m : ℕ) → level_sum server others m ≤ level_sum server rows m) → Passes server rows → Passes server others
-Passes-le server rows others less passed = record { each = λ m from upto. omega (arith, less m, passed.each m from upto) }
+-- whether some number up to n passes a test
+Decides-some_upto : (test : ℕ → Bool) (n : ℕ) → Decides (some_upto test n) ((w : ℕ) × (1 ≤ w) × (w ≤ n) × (test w ≡ true))
+unfolding some_upto
+Decides-some_upto test zero = (λ e. cc, λ found. absurd (omega (arith, found.1, found.2)))
+Decides-some_upto test (suc n) =
+    let below = Decides-some_upto test n in (
+      λ e. ⊎_elim (λ (last : test (suc n) ≡ true). (suc n, omega arith, omega arith, last)) (λ (earlier : some_upto test n ≡ true). let found = below.0 earlier in (found.0, found.1, omega (arith, found.2), found.3)) (or_cases (test (suc n)) (some_upto test n) e),
+      λ found. ⊎_elim (λ (last : found.0 ≡ suc n). or_left (test (suc n)) (some_upto test n) (subst (λ w. test w ≡ true) last found.3)) (λ (other : found.0 ≡ suc n → ⊥). or_right (test (suc n)) (some_upto test n) (below.1 (found.0, found.1, omega (arith, other, found.2), found.3))) (cases_eq found.0 (suc n)),
+    )
+
+Decides-some_counts : (kind : Test) (test : ℕ → Bool) (d : ℕ) → Decides (some_counts kind test d) ((w : ℕ) × Counts kind d w × (test w ≡ true))
+Decides-some_counts Whole test d = (λ e. (d, refl, e), λ found. subst (λ w. test w ≡ true) found.1 found.2)
+Decides-some_counts Least test d =
+    Decides-like _ (λ found. (found.0, (found.1, found.2), found.3)) (λ found. (found.0, found.1.0, found.1.1, found.2)) (Decides-some_upto test d)
+
+-- whether a level passes
+pub Decides-passes_at : (server : Server) (rows : List Row) (m : ℕ) → Decides (passes_at server rows m) (HasWindow server rows m)
+Decides-passes_at server rows m =
+    Decides-like _ (λ found. record { window = found.0; counts = found.1; fits = leb-true (load server rows m found.0) found.0 found.2 }) (λ passed. (passed.window, passed.counts, le-leb (load server rows m passed.window) passed.window passed.fits))
+    (Decides-some_counts server.test (fits_in server rows m) (bound_at server.bounds m))
+
+-- a window of a level that passes
+pub window-of : (server : Server) (rows : List Row) (m : ℕ) → PassesAt server rows m → HasWindow server rows m
+window-of server rows m = (Decides-passes_at server rows m).0
+
+-- a level passes whose load is no larger than one that passes
+pub PassesAt-le : (server : Server) (rows others : List Row) (m : ℕ) → ((w : ℕ) → load server others m w ≤ load server rows m w) → PassesAt server rows m → PassesAt server others m
+PassesAt-le server rows others m less passed =
+    let found = window-of server rows m passed in
+    (Decides-passes_at server others m).1 (record {
+      window = found.window;
+      counts = found.counts;
+      fits = (let fits = found.fits in omega (arith, less found.window, fits));
+    })
+
+-- a window that counts is at most the bound, and at least a tick where the bound is
+pub counts-within : (test : Test) (d w : ℕ) → 1 ≤ d → Counts test d w → (1 ≤ w) × (w ≤ d)
+counts-within Whole d w some counts = (omega (arith, counts), omega (arith, counts))
+counts-within Least d w some counts = counts
+
+-- the whole bound counts under every test
+pub counts-whole : (test : Test) (d : ℕ) → 1 ≤ d → Counts test d d
+counts-whole Whole d some = refl
+counts-whole Least d some = (some, omega arith)
+
+-- so a level passes whose load in its whole bound fits
+pub PassesAt-whole : (server : Server) (rows : List Row) (m : ℕ) → 1 ≤ bound_at server.bounds m → level_sum server rows m ≤ bound_at server.bounds m → PassesAt server rows m
+PassesAt-whole server rows m some fits =
+    (Decides-passes_at server rows m).1 (record { window = bound_at server.bounds m; counts = counts-whole server.test (bound_at server.bounds m) some; fits = fits })
+
+-- rows pass whose loads are no larger than those of rows that pass
+pub Passes-le : (server : Server) (rows others : List Row) → ((m w : ℕ) → load server others m w ≤ load server rows m w) → Passes server rows → Passes server others
+Passes-le server rows others less passed = record { each = λ m from upto. PassesAt-le server rows others m (less m) (passed.each m from upto) }
 
 -- rows that pass still pass when one moves to a larger level
 pub Passes-raised : (server : Server) (rows : List Row) (row raised : Row) (later : List Row) → raised.terms ≡ row.terms → row.level ≤ raised.level → Passes server (rows ++ row ∷ later) → Passes server (rows ++ raised ∷ later)
 unfolding load
 Passes-raised server rows row raised later same larger =
-    Passes-le server (rows ++ row ∷ later) (rows ++ raised ∷ later) (λ m.
-    let w = bound_at server.bounds m in
-    let e = total-middle (work_up_to server.rate m (bound_at server.bounds m)) rows row later in
-    let f = total-middle (work_up_to server.rate m (bound_at server.bounds m)) rows raised later in
-    let g = work_up_to-le server.rate m (bound_at server.bounds m) row raised same larger in
+    Passes-le server (rows ++ row ∷ later) (rows ++ raised ∷ later) (λ m w.
+    let e = total-middle (work_up_to server.rate m w) rows row later in
+    let f = total-middle (work_up_to server.rate m w) rows raised later in
+    let g = work_up_to-le server.rate m w row raised same larger in
     omega (arith, e, f, g))
 
 -- f gives the row of an item: the rows that pass still do when items are taken out
 pub Passes-kept : {X : Type 0} (server : Server) (f : X → Row) (test : X → Bool) (xs : List X) → Passes server (map f xs) → Passes server (map f (filter test xs))
 unfolding load
 Passes-kept server f test xs =
-    Passes-le server (map f xs) (map f (filter test xs)) (λ m.
-    let e = total-map (work_up_to server.rate m (bound_at server.bounds m)) f xs in
-    let h = total-map (work_up_to server.rate m (bound_at server.bounds m)) f (filter test xs) in
-    let less = total-filter-le (λ x. work_up_to server.rate m (bound_at server.bounds m) (f x)) test xs in
+    Passes-le server (map f xs) (map f (filter test xs)) (λ m w.
+    let e = total-map (work_up_to server.rate m w) f xs in
+    let h = total-map (work_up_to server.rate m w) f (filter test xs) in
+    let less = total-filter-le (λ x. work_up_to server.rate m w (f x)) test xs in
     omega (arith, e, h, less))
 
 -- and so do those of items that changed to no smaller levels
 pub Passes-changed : {X : Type 0} (server : Server) (f : X → Row) (change : X → X) (xs : List X) → All (λ x. ((f (change x)).terms ≡ (f x).terms) × ((f x).level ≤ (f (change x)).level)) xs → Passes server (map f xs) → Passes server (map f (map change xs))
 unfolding load
 Passes-changed server f change xs raised =
-    Passes-le server (map f xs) (map f (map change xs)) (λ m.
-    let e = total-map (work_up_to server.rate m (bound_at server.bounds m)) f xs in
-    let h = total-map (work_up_to server.rate m (bound_at server.bounds m)) f (map change xs) in
-    let i = total-map (λ x. work_up_to server.rate m (bound_at server.bounds m) (f x)) change xs in
-    let less = total-le (λ x. work_up_to server.rate m (bound_at server.bounds m) (f (change x))) (λ x. work_up_to server.rate m (bound_at server.bounds m) (f x)) xs (λ k d inside. work_up_to-le server.rate m (bound_at server.bounds m) _ _ (raised k d inside).0 (raised k d inside).1) in
+    Passes-le server (map f xs) (map f (map change xs)) (λ m w.
+    let e = total-map (work_up_to server.rate m w) f xs in
+    let h = total-map (work_up_to server.rate m w) f (map change xs) in
+    let i = total-map (λ x. work_up_to server.rate m w (f x)) change xs in
+    let less = total-le (λ x. work_up_to server.rate m w (f (change x))) (λ x. work_up_to server.rate m w (f x)) xs (λ k d inside. work_up_to-le server.rate m w _ _ (raised k d inside).0 (raised k d inside).1) in
     omega (arith, e, h, i, less))
 
 -- a row that passes at a level passes at every larger level
@@ -108,21 +159,21 @@ pub Passes-larger : (server : Server) (rows : List Row) (terms : Terms) (m large
 Passes-larger server rows terms m larger h =
     Passes-raised server rows (record { terms = terms; level = m }) (record { terms = terms; level = larger }) [] refl h
 
--- the empty list of rows passes where the blocking fits every bound
-pub Passes-nil : (server : Server) → ((m : ℕ) → 1 ≤ m → m ≤ length server.bounds → server.blocking ≤ bound_at server.bounds m) → Passes server []
+-- the empty list of rows passes where the blocking, of a tick or more, fits every bound
+pub Passes-nil : (server : Server) → 1 ≤ server.blocking → ((m : ℕ) → 1 ≤ m → m ≤ length server.bounds → server.blocking ≤ bound_at server.bounds m) → Passes server []
 unfolding load
-Passes-nil server fits = record { each = λ m from upto. omega (arith, fits m from upto) }
+Passes-nil server some fits = record { each = λ m from upto. PassesAt-whole server [] m (omega (arith, some, fits m from upto)) (omega (arith, fits m from upto)) }
 
 -- whether rows pass up to a level
-Decides-passes_up_to : (server : Server) (rows : List Row) (n : ℕ) → Decides (passes_up_to server rows n) ((m : ℕ) → 1 ≤ m → m ≤ n → level_sum server rows m ≤ bound_at server.bounds m)
+Decides-passes_up_to : (server : Server) (rows : List Row) (n : ℕ) → Decides (passes_up_to server rows n) ((m : ℕ) → 1 ≤ m → m ≤ n → PassesAt server rows m)
 unfolding passes_up_to
 Decides-passes_up_to server rows zero = (λ _ m from upto. absurd (omega arith), λ _. refl)
 Decides-passes_up_to server rows (suc n) =
     let below = Decides-passes_up_to server rows n in (
       λ e m from upto.
           let both = and_parts (passes_at server rows (suc n)) (passes_up_to server rows n) e in
-          ⊎_elim (λ (last : m ≡ suc n). (rw last (leb-true _ _ both.0))) (λ (other : m ≡ suc n → ⊥). below.0 both.1 m from (omega arith)) (cases_eq m (suc n)),
-      λ all. and_from (passes_at server rows (suc n)) (passes_up_to server rows n) (le-leb _ _ (all (suc n) (omega arith) (omega arith))) (below.1 (λ m from upto. all m from (omega arith))),
+          ⊎_elim (λ (last : m ≡ suc n). (rw last both.0)) (λ (other : m ≡ suc n → ⊥). below.0 both.1 m from (omega arith)) (cases_eq m (suc n)),
+      λ all. and_from (passes_at server rows (suc n)) (passes_up_to server rows n) (all (suc n) (omega arith) (omega arith)) (below.1 (λ m from upto. all m from (omega arith))),
     )
 
 -- the test says whether the rows pass
@@ -198,29 +249,30 @@ best_level-none server rows terms refused =
 
 -- ---- room for a new row at each level
 
--- rows that pass still pass with a new one at m where every level from m on has room for its work
-pub Passes-with_row : (server : Server) (rows : List Row) (terms : Terms) (m : ℕ) → Passes server rows → ((k : ℕ) → m ≤ k → k ≤ length server.bounds → level_sum server rows k + work_in server.rate terms (bound_at server.bounds k) ≤ bound_at server.bounds k) → Passes server (with_row rows terms m)
+-- a new row adds nothing below its level
+pub load-below : (server : Server) (rows : List Row) (terms : Terms) (m k w : ℕ) → k < m → load server (with_row rows terms m) k w ≡ load server rows k w
+load-below server rows terms m k w below =
+    let e = load-with_row server rows terms m k w in
+    let f = work_up_to-above server.rate k w (record { terms = terms; level = m }) below in
+    omega (arith, e, f)
+
+-- and its work at each level from its own on
+pub load-from : (server : Server) (rows : List Row) (terms : Terms) (m k w : ℕ) → m ≤ k → load server (with_row rows terms m) k w ≡ load server rows k w + work_in server.rate terms w
+load-from server rows terms m k w within =
+    let e = load-with_row server rows terms m k w in
+    let f = work_up_to-within server.rate k w (record { terms = terms; level = m }) within in
+    omega (arith, e, f)
+
+-- rows that pass still pass with a new one at m where every level from m on has room for it
+pub Passes-with_row : (server : Server) (rows : List Row) (terms : Terms) (m : ℕ) → Passes server rows → ((k : ℕ) → m ≤ k → k ≤ length server.bounds → HasRoom server rows terms k) → Passes server (with_row rows terms m)
 Passes-with_row server rows terms m passed room = record {
   each = λ k from upto.
-      let w : ℕ = bound_at server.bounds k in
-      let e = load-with_row server rows terms m k (bound_at server.bounds k) in
-      ⊎_elim (λ (below : k < m).
-      let f = work_up_to-above server.rate k (bound_at server.bounds k) (record { terms = terms; level = m }) below in
-      omega (arith, e, f, passed.each k from upto))
-      (λ (above : m ≤ k).
-      let f = work_up_to-within server.rate k (bound_at server.bounds k) (record { terms = terms; level = m }) above in
-      omega (arith, e, f, room k above upto))
+      ⊎_elim (λ (below : k < m). PassesAt-le server rows (with_row rows terms m) k (λ w. (let e = load-below server rows terms m k w below in omega (arith, e))) (passed.each k from upto))
+      (λ (above : m ≤ k). PassesAt-le server (with_row rows terms k) (with_row rows terms m) k (λ w. (let e = load-from server rows terms m k w above in let f = load-from server rows terms k k w (omega arith) in omega (arith, e, f))) (room k above upto))
       (cases_lt k m);
 }
 
--- what a level comes to with a new row at it or below
-pub level_sum-with_row : (server : Server) (rows : List Row) (terms : Terms) (m k : ℕ) → m ≤ k → level_sum server (with_row rows terms m) k ≡ level_sum server rows k + work_in server.rate terms (bound_at server.bounds k)
-level_sum-with_row server rows terms m k within =
-    let e = load-with_row server rows terms m k (bound_at server.bounds k) in
-    let f = work_up_to-within server.rate k (bound_at server.bounds k) (record { terms = terms; level = m }) within in
-    omega (arith, e, f)
-
 -- where a level has no room, the new row passes at none of the levels up to it
-pub room-from-Passes : (server : Server) (rows : List Row) (terms : Terms) (m k : ℕ) → 1 ≤ k → m ≤ k → k ≤ length server.bounds → Passes server (with_row rows terms m) → level_sum server rows k + work_in server.rate terms (bound_at server.bounds k) ≤ bound_at server.bounds k
+pub room-from-Passes : (server : Server) (rows : List Row) (terms : Terms) (m k : ℕ) → 1 ≤ k → m ≤ k → k ≤ length server.bounds → Passes server (with_row rows terms m) → HasRoom server rows terms k
 room-from-Passes server rows terms m k from within upto passed =
-    omega (arith, level_sum-with_row server rows terms m k within, passed.each k from upto)
+    PassesAt-le server (with_row rows terms m) (with_row rows terms k) k (λ w. (let e = load-from server rows terms m k w within in let f = load-from server rows terms k k w (omega arith) in omega (arith, e, f))) (passed.each k from upto)

@@ -5,4 +5,5 @@ pub mod EligibleFacts
 pub mod WindowFacts
 pub mod LongerWindows
 pub mod AdmissionFacts
+pub mod LoadFacts
 mod Worked

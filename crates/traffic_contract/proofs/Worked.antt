@@ -6,7 +6,8 @@ use Rattle.traffic_contract.specs.Contract.{Terms, terms_of, burst_of, most_in}
 use Rattle.traffic_contract.specs.Refusal.{first_bad}
 use Rattle.traffic_contract.specs.Keeping.{are_spaced, keeps, may_follow, keeps_newest_first}
 use Rattle.traffic_contract.specs.Eligible.{first_from, eligible}
-use Rattle.traffic_contract.specs.Admission.{Server, Row, work_in, work_up_to, load, level_sum, passes_up_to, passes, admits, first_level, best_level, refused_sum}
+use Rattle.traffic_contract.specs.Admission.{Server, Row, work_in, work_up_to, load, level_sum, some_upto, passes_up_to, passes, admits, first_level, best_level, refused_sum}
+use Rattle.traffic_contract.specs.declared.admission.Test.TheVariants.{Whole, Least}
 use Rattle.traffic_contract.specs.declared.contract.ContractField.TheVariants.{Xave, Interval}
 
 abbrev paced : Terms
@@ -116,7 +117,7 @@ fourth-needs-no-wait = refl
 -- ---- the sums of a link's levels
 
 abbrev link : Server
-link = record { bounds = 10 ∷ 20 ∷ 40 ∷ []; rate = 1; blocking = 4 }
+link = record { bounds = 10 ∷ 20 ∷ 40 ∷ []; rate = 1; blocking = 4; test = Whole }
 
 abbrev at_level_1 : Row
 at_level_1 = record { terms = paced; level = 1 }
@@ -158,3 +159,27 @@ no-level-for-a-fifth = refl
 fifth-comes-to-44-over-40 : refused_sum link one_and_three paced ≡ 44
 unfolding load work_up_to work_in most_in
 fifth-comes-to-44-over-40 = refl
+
+-- ---- a link of one level of 23 ticks, under both tests
+
+abbrev whole_link : Server
+whole_link = record { bounds = 23 ∷ []; rate = 1; blocking = 4; test = Whole }
+
+abbrev least_link : Server
+least_link = record { bounds = 23 ∷ []; rate = 1; blocking = 4; test = Least }
+
+abbrev three_rows : List Row
+three_rows = at_level_1 ∷ at_level_1 ∷ at_level_1 ∷ []
+
+-- in 23 ticks four rows come to 28, and in 20 ticks to 20
+no-fourth-in-the-whole-bound : best_level whole_link three_rows paced ≡ None
+unfolding best_level first_level admits passes passes_up_to load work_up_to work_in most_in
+no-fourth-in-the-whole-bound = refl
+
+fourth-in-a-window-of-20 : best_level least_link three_rows paced ≡ Some 1
+unfolding best_level first_level admits passes passes_up_to some_upto load work_up_to work_in most_in
+fourth-in-a-window-of-20 = refl
+
+no-fifth-in-any-window : best_level least_link (at_level_1 ∷ three_rows) paced ≡ None
+unfolding best_level first_level admits passes passes_up_to some_upto load work_up_to work_in most_in
+no-fifth-in-any-window = refl

@@ -1,21 +1,25 @@
 -- A link admits channels as rows, each with its contract and its level. In a window of w ticks a row brings at
 -- most as many packets as its contract lets into w ticks, and each occupies the link for the ticks that its
 -- size takes, rounded up. The load of the levels up to m in the window is that work of all rows at levels 1 to
--- m, and the blocking: the ticks for which a packet of a lower level that has just started holds the link. The
--- rows pass when for every level m the load of the levels up to m, in a window as long as the bound of m, is at
--- most that bound. The best level of a new contract is the least at which it passes with the rows. (A link is a
--- rate-controlled static-priority server, Zhang & Ferrari 1993; the exact sum is this project's.)
-use Rattle.std.specs.Prelude.{ℕ, zero, suc, ◌+◌, ◌*◌, ◌≤◌, Bool, true, nat_le, ◌&&◌, if◌then◌else◌, Option, Some, None, List, [], ◌∷◌, ◌++◌, length}
+-- m, and the blocking: the ticks for which a packet of a lower level that has just started holds the link. A
+-- level passes when its load in some window is at most that window. The link's test says which windows count: the
+-- one as long as the level's bound, or each of a tick or more up to it. The rows pass when every level does. The
+-- best level of a new contract is the least at which it passes with the rows. (A link is a rate-controlled
+-- static-priority server, Zhang & Ferrari 1993; the exact sum is this project's.)
+use Rattle.std.specs.Prelude.{ℕ, zero, suc, ◌+◌, ◌*◌, ◌≤◌, ◌≡◌, Bool, IsTrue, true, false, nat_le, ◌&&◌, ◌||◌, if◌then◌else◌, Option, Some, None, List, [], ◌∷◌, ◌++◌, length}
 use Rattle.net_units.specs.Quotient.{ceil_quotient}
 use Rattle.net_units.specs.LevelBounds.{bound_at}
 use Rattle.traffic_contract.specs.Contract.{Terms, most_in}
+use Rattle.traffic_contract.specs.declared.admission.Test.{Test}
+use Rattle.traffic_contract.specs.declared.admission.Test.TheVariants.{Whole, Least}
 
--- a link, as far as admission goes: the bounds of its levels in ticks, its rate in units a tick, and the ticks
--- that its largest packet takes
+-- a link, as far as admission goes: the bounds of its levels in ticks, its rate in units a tick, the ticks that
+-- its largest packet takes, and its test
 pub record Server : Type 0 where
   pub bounds : List ℕ
   pub rate : ℕ
   pub blocking : ℕ
+  pub test : Test
 
 -- an admitted channel: its contract and its level, from 1
 pub record Row : Type 0 where
@@ -39,17 +43,46 @@ work_up_to rate m w row = if nat_le row.level m then work_in rate row.terms w el
 unfoldable pub load : Server → List Row → ℕ → ℕ → ℕ
 load server rows m w = server.blocking + total (work_up_to server.rate m w) rows
 
--- the load of the levels up to m in a window as long as the bound of m, which the test compares with that bound
+-- the load of the levels up to m in a window as long as the bound of m
 abbrev pub level_sum : Server → List Row → ℕ → ℕ
 level_sum server rows m = load server rows m (bound_at server.bounds m)
 
+-- a window of w ticks counts for a level of bound d
+abbrev pub Counts : Test → ℕ → ℕ → Type 0
+Counts Whole d w = w ≡ d
+Counts Least d w = (1 ≤ w) × (w ≤ d)
+
+-- whether the load of the levels up to m fits a window of w ticks
+abbrev pub fits_in : Server → List Row → ℕ → ℕ → Bool
+fits_in server rows m w = nat_le (load server rows m w) w
+
+-- whether a number from 1 to n passes a test
+unfoldable pub some_upto : (ℕ → Bool) → ℕ → Bool
+some_upto test zero = false
+some_upto test (suc n) = test (suc n) || some_upto test n
+
+-- whether a window that counts for a level of bound d passes a test
+abbrev pub some_counts : Test → (ℕ → Bool) → ℕ → Bool
+some_counts Whole test d = test d
+some_counts Least test d = some_upto test d
+
+-- whether level m passes with the rows
+abbrev pub passes_at : Server → List Row → ℕ → Bool
+passes_at server rows m = some_counts server.test (fits_in server rows m) (bound_at server.bounds m)
+
+-- level m passes with the rows: some window that counts fits its load
+abbrev pub PassesAt : Server → List Row → ℕ → Type 0
+PassesAt server rows m = IsTrue (passes_at server rows m)
+
+-- such a window
+pub record HasWindow (server : Server) (rows : List Row) (m : ℕ) : Type 0 where
+  pub window : ℕ
+  pub counts : Counts server.test (bound_at server.bounds m) window
+  pub fits : load server rows m window ≤ window
+
 -- the rows pass at every level
 pub record Passes (server : Server) (rows : List Row) : Type 0 where
-  pub each : (m : ℕ) → 1 ≤ m → m ≤ length server.bounds → level_sum server rows m ≤ bound_at server.bounds m
-
--- whether they pass at level m
-abbrev pub passes_at : Server → List Row → ℕ → Bool
-passes_at server rows m = nat_le (level_sum server rows m) (bound_at server.bounds m)
+  pub each : (m : ℕ) → 1 ≤ m → m ≤ length server.bounds → PassesAt server rows m
 
 -- whether they pass at the levels 1 to m
 unfoldable pub passes_up_to : Server → List Row → ℕ → Bool
@@ -63,6 +96,10 @@ passes server rows = passes_up_to server rows (length server.bounds)
 -- the rows with a new one of this contract at level m, which comes last
 abbrev pub with_row : List Row → Terms → ℕ → List Row
 with_row rows terms m = rows ++ record { terms = terms; level = m } ∷ []
+
+-- level m has room for a row of this contract: it passes with one at it
+abbrev pub HasRoom : Server → List Row → Terms → ℕ → Type 0
+HasRoom server rows terms m = PassesAt server (with_row rows terms m) m
 
 -- whether the rows with the new one at level m pass
 unfoldable pub admits : Server → List Row → Terms → ℕ → Bool

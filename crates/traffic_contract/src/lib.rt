@@ -5,7 +5,9 @@
 //! admits. Nothing here takes memory.
 #![tactic(auto)]
 
+pub mod admission;
 pub mod contract;
 pub mod laws;
 
+pub use admission::Test;
 pub use contract::{BadContract, Contract, ContractField};

@@ -1,25 +1,25 @@
 //! Worked services of packets at one link.
-ghost use Rattle.std.specs.Prelude.{◌↔◌, IsTrue, All};
 ghost use Rattle.std.specs.Bool.{OnTrue};
-ghost use Rattle.link_server.specs.Packets.{arrival_in, here_in, on_in, start_in};
-ghost use Rattle.link_server.specs.Serving.{CanServe, GoesOn, IsAtLevel};
+ghost use Rattle.link_server.specs.Packets.{on_in, start_in};
+ghost use Rattle.link_server.specs.Serving.{CanServe, GoesOn};
 
 use super::{HeldPacket, Packets, Running};
 use crate::in_line::held;
 use link_steps::{LinkShape, Sent};
-use net_units::{Bounds, ChanNo, Level, LinkNo};
+use net_units::{Bounds, ChanNo, LinkNo};
 use std::test::Fail;
+use traffic_contract::Test;
 
 // A link of a unit a tick, with levels with bounds of 10, 20 and 40 ticks, and 2 ticks of propagation.
 fn shape() -> Result<LinkShape, Fail> {
     let number = LinkNo::new(0).ok_or("link")?;
     let bounds = Bounds::new(&[10, 20, 40]).ok_or("bounds")?;
-    Ok(LinkShape::new(number, 1, 4, 2, 100, bounds)?)
+    Ok(LinkShape::new(number, 1, 4, 2, 100, bounds, Test::Whole, 0)?)
 }
 
 // A packet that arrived in tick 0, alone of its reservation.
 fn packet(place: u64, level: u8, size: u32, eligible: u64) -> Result<HeldPacket, Fail> {
-    if size == 0 {
+    if size == 0 || level == 0 {
         return Err("size")?;
     }
     Ok(HeldPacket {
@@ -30,24 +30,16 @@ fn packet(place: u64, level: u8, size: u32, eligible: u64) -> Result<HeldPacket,
         size,
         at: 0,
         eligible,
-        level: Level::new(level).ok_or("level")?,
+        level,
         next: None,
     })
-}
-
-// Whether each is at a level of the link.
-fn are_at_levels(packets: &[HeldPacket], shape: &LinkShape) -> bool
-    ensures { IsTrue result ↔ All (λ packet. IsAtLevel shape.now (arrival_in packet)) packets.now }
-{
-    let levels = shape.bounds.len();
-    packets.iter().all(|packet| packet.level.get() <= levels)
 }
 
 // Whether one that has started can go on in this tick.
 fn goes_on(running: &Running, shape: &LinkShape, tick: u64) -> bool
     ensures { OnTrue result (GoesOn shape.now tick (start_in running.now)) }
 {
-    if running.packet.level.get() > shape.bounds.len() || running.packet.eligible > tick {
+    if running.packet.eligible > tick {
         return false;
     }
     tick < running.leaves_at(shape.rate)
@@ -55,11 +47,8 @@ fn goes_on(running: &Running, shape: &LinkShape, tick: u64) -> bool
 
 // Whether the packets can be served in this tick.
 fn can_serve(packets: &Packets, shape: &LinkShape, tick: u64) -> bool
-    ensures { OnTrue result (CanServe shape.now tick (here_in packets.now.here.items) (on_in packets.now.on)) }
+    ensures { OnTrue result (CanServe shape.now tick (on_in packets.now.on)) }
 {
-    if !are_at_levels(&packets.here, shape) {
-        return false;
-    }
     match packets.on {
         None => true,
         Some(running) => goes_on(&running, shape, tick),
@@ -70,7 +59,7 @@ fn serve(packets: &mut Packets, shape: &LinkShape, tick: u64) -> Result<Option<S
     if tick >= 1 << 61 || !can_serve(packets, shape, tick) {
         return Err("tick")?;
     }
-    Ok(packets.serve(shape, tick))
+    Ok(packets.serve(shape, tick).sent)
 }
 
 #[test]

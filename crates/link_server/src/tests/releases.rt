@@ -53,7 +53,9 @@ fn each_ask_in_the_life_of_a_reservation_is_answered(rt: HostRuntime) -> Result<
         Reply::Ticked {
             clock: 0,
             full: 0,
-            sent: None
+            sent: None,
+            best_sent: false,
+            best_lost: false,
         }
     );
     assert_eq!(rt; release(&mut link, 1)?, Reply::Refused(Refusal::NoSuch));

@@ -42,6 +42,8 @@ fn packets_at_the_contracts_pace_are_served_at_once(rt: HostRuntime) -> Result<(
             clock,
             full: 0,
             sent,
+            best_sent: false,
+            best_lost: false,
         };
         assert_eq!(rt; tick(&mut link)?, ticked, "tick {clock}");
     }
@@ -69,6 +71,8 @@ fn packets_that_come_too_fast_are_held_and_one_finds_no_slot(rt: HostRuntime) ->
             clock,
             full: u32::from(clock == 6),
             sent,
+            best_sent: false,
+            best_lost: false,
         };
         assert_eq!(rt; tick(&mut link)?, ticked, "tick {clock}");
     }
@@ -101,7 +105,9 @@ fn a_packet_of_the_last_level_isnt_interrupted(rt: HostRuntime) -> Result<(), Fa
         Reply::Ticked {
             clock: 0,
             full: 0,
-            sent: None
+            sent: None,
+            best_sent: false,
+            best_lost: false,
         }
     );
     assert_eq!(rt; submit(&mut link, 1, 1, 1, 2)?, Reply::Planned { clock: 1 });
@@ -115,6 +121,8 @@ fn a_packet_of_the_last_level_isnt_interrupted(rt: HostRuntime) -> Result<(), Fa
             clock,
             full: 0,
             sent,
+            best_sent: false,
+            best_lost: false,
         };
         assert_eq!(rt; tick(&mut link)?, ticked, "tick {clock}");
     }

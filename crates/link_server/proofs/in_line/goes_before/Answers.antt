@@ -25,5 +25,4 @@ unfolding goes_before
 returns c =
     let p = c.args.packet.now in
     let q = c.args.other.now in
-    rw (c.get.ensures.value, c.get-2.ensures.value) at
-    (c.lt.ensures ∙ by-three (nat_lt c.get.result c.get-2.result) (nat_eq c.get.result c.get-2.result) (nat_lt p.eligible q.eligible) (nat_eq p.eligible q.eligible) (nat_lt p.place q.place) (nat_eq p.place q.place))
+    (c.lt.ensures ∙ by-three (nat_lt p.level q.level) (nat_eq p.level q.level) (nat_lt p.eligible q.eligible) (nat_eq p.eligible q.eligible) (nat_lt p.place q.place) (nat_eq p.place q.place))

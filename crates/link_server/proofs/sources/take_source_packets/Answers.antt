@@ -22,6 +22,7 @@ loop-row-init c =
       before = omega (arith, c.len-before.ensures);
       front = take_all c.len-before.result (here_in c.args.packets.now.here.items) (omega (arith, c.len-before.ensures, long));
       on = refl;
+      best = refl;
       capacity = refl;
       summed = refl;
       levels = c.requires.within;
@@ -90,6 +91,7 @@ loop-row-preserved c =
       before = front-within c.len-before.result c.loop-row.packets.here.items c.take_source_packet.new.packets.here.items _ c.loop-row.invariant.before brought;
       front = front-same c.len-before.result c.loop-row.packets.here.items c.take_source_packet.new.packets.here.items _ c.loop-row.invariant.before brought ∙ front;
       on = c.take_source_packet.ensures.on ∙ c.loop-row.invariant.on;
+      best = c.take_source_packet.ensures.best ∙ c.loop-row.invariant.best;
       capacity = c.take_source_packet.ensures.capacity ∙ c.loop-row.invariant.capacity;
       summed =
           map-set_same summed c.loop-row.rows c.loop-row.row-index c.take_source_packet.new.row c.row-item.result
@@ -121,6 +123,9 @@ returns-clause-taken c = (stepped c).taken
 
 pub returns-clause-on : goal.returns-clause-on
 returns-clause-on c = c.loop-row.invariant.on
+
+pub returns-clause-best : goal.returns-clause-best
+returns-clause-best c = c.loop-row.invariant.best
 
 pub returns-clause-summed : goal.returns-clause-summed
 returns-clause-summed c = c.loop-row.invariant.summed

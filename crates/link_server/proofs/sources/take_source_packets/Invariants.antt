@@ -12,6 +12,7 @@ invariant-loop-row l = record {
   before : l.before ≤ length l.packets.here.items;
   front : take l.before (here_in l.packets.here.items) ≡ here_in l.fn.packets.here.items;
   on : l.packets.on ≡ l.fn.packets.on;
+  best : l.packets.best ≡ l.fn.packets.best;
   capacity : vec_capacity l.packets.here ≡ vec_capacity l.fn.packets.here;
   summed : map summed l.rows ≡ map summed l.fn.rows;
   levels : AreWithin (length l.bounds) l.rows;

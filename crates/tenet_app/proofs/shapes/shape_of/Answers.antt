@@ -13,4 +13,6 @@ returns c =
       prop_is = is.prop_is;
       buffer_is = is.buffer_is;
       bounds_are = is.bounds_are;
+      test_is = is.test_is;
+      best_is = is.best_is;
     })

@@ -6,8 +6,8 @@ use Rattle.link_server.proofs.held_row.HeldRow.take.Goals as goal
 
 pub returns-clause-packet : goal.returns-clause-packet
 returns-clause-packet c =
-    packet-taken (terms_in c.args.self.now) c.args.self.now.lead c.lead_with-self.result c.args.place c.args.self.now.taken c.args.size c.args.clock _ c.admit-eligible.result
-    c.lead_with-self.ensures
+    packet-taken (terms_in c.args.self.now) c.get.result c.args.self.now.lead c.lead_with-self.result c.args.place c.args.self.now.taken c.args.size c.args.clock _ c.admit-eligible.result
+    c.get.ensures.value c.lead_with-self.ensures
     (tick-answered c.args.self.now.regulator (terms_in c.args.self.now) c.args.clock c.args.due c.admit-eligible.result c.requires.hop c.args.self.now.regulates c.args.self.now.controls c.admit-eligible.ensures.value)
 
 pub returns-clause-row : goal.returns-clause-row

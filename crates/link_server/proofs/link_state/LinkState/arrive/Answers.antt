@@ -5,6 +5,7 @@ use Rattle.std.proofs.lemmas.List.Elements.{All-set}
 use Rattle.link_steps.specs.declared.asks.Ask.TheVariants.{Arrive}
 use Rattle.link_steps.specs.declared.replies.Reply.TheVariants.{Taken}
 use Rattle.link_steps.specs.Buffer.{held_packets, slots_of}
+use Rattle.link_steps.specs.Split.{whole}
 use Rattle.link_steps.specs.Kept.{kept_reply, kept_after, kept_with}
 use Rattle.link_steps.specs.Refusals.{full}
 use Rattle.link_steps.specs.Regulator.{eligible_next}
@@ -77,7 +78,7 @@ take-taken-requires-clause-few c =
     subst (λ n. n < 2 ^ 63) (sym (ap (λ row. row.taken) c.index_mut.ensures.value)) ready.few
 
 -- the reply is the account's
-replied : (c : After-take-taken) → IsPlaceOf c.args.packet.now.chan c.args.self.now.rows.items c.in-Some.place → Taken c.args.self.now.clock c.take-taken.result.eligible ≡ kept_reply c.args.self.now.shape (kept_in c.args.self.now) (Arrive c.args.packet.now)
+replied : (c : After-take-taken) → IsPlaceOf c.args.packet.now.chan c.args.self.now.rows.items c.in-Some.place → Taken c.args.self.now.clock c.take-taken.result.eligible ≡ kept_reply (whole c.args.self.now.shape) (kept_in c.args.self.now) (Arrive c.args.packet.now)
 replied c place =
     arrive-taken c.args.self.now.shape c.args.self.now.clock c.args.self.now.packets c.args.packet.now c.args.self.now.rows.items c.in-Some.place c.index.result.now c.take-taken.result.eligible place
     (c.in_default-stray.ensures ∙ ap (λ row. stray c.args.packet.now (terms_in row) row.taken) c.index.ensures)
@@ -109,7 +110,7 @@ kept c place =
     (next-number c.args.packet.now (terms_in was) was.taken none)
     (c.take-taken.ensures.row ∙ ap (λ row. kept_with (c.args.self.now.packets.taken + 1) (eligible_next (terms_in row) (row_in row).recent c.args.self.now.clock c.args.packet.now.due) (row_in row)) c.index_mut.ensures.value)
     (c.take-taken.ensures.packet ∙ ap (λ row. arrival_at (terms_in row) row.lead (c.args.self.now.packets.taken + 1) (suc row.taken) c.args.packet.now.size c.args.self.now.clock (eligible_next (terms_in row) (row_in row).recent c.args.self.now.clock c.args.packet.now.due)) c.index_mut.ensures.value)
-    c.push.ensures.taken c.push.ensures.here c.push.ensures.on
+    c.push.ensures.taken c.push.ensures.here c.push.ensures.on c.push.ensures.best
 
 pub invariant_of-self-2 : goal.invariant_of-self-2
 invariant_of-self-2 c =

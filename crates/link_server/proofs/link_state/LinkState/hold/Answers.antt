@@ -5,6 +5,7 @@ use Rattle.net_units.specs.Numbers.{channel_number, level_number}
 use Rattle.rcsp_admission.specs.Sums.{Holds}
 use Rattle.link_steps.specs.declared.replies.Reply.TheVariants.{Offer}
 use Rattle.link_steps.specs.Buffer.{slots_of}
+use Rattle.link_steps.specs.Split.{whole}
 use Rattle.link_steps.specs.Kept.{kept_reply, kept_after}
 use Rattle.link_server.specs.Account.{account}
 use Rattle.link_server.specs.Rows.{terms_in, summed, AreWithin}
@@ -29,7 +30,7 @@ kept : (c : After-add) → account c.make_room.new.self.clock c.make_room.new.se
 kept c =
     ap (λ t. account t c.make_room.new.self.packets c.push_reserved.new.self.items) c.make_room.ensures.clock
     ∙ account-same c.args.self.now.clock c.args.self.now.packets c.make_room.new.self.packets (c.args.self.now.rows.items ++ c.in_ok-row.row ∷ []) c.push_reserved.new.self.items
-    c.make_room.ensures.taken c.make_room.ensures.here c.make_room.ensures.on
+    c.make_room.ensures.taken c.make_room.ensures.here c.make_room.ensures.on c.make_room.ensures.best
     (c.push_reserved.ensures.items ∙ ap (λ rows. rows ++ c.in_ok-row.row ∷ []) c.make_room.ensures.rows)
     ∙ reserve-kept c.args.self.now.shape c.args.self.now.clock c.args.self.now.packets c.args.wanted.now c.args.offer.now.level c.args.offer.now.reach c.args.self.now.rows.items c.in_ok-row.row c.in_ok-row.ensures
 
@@ -37,11 +38,11 @@ pub invariant_of-self : goal.invariant_of-self
 invariant_of-self c =
     let before : kept_in c.make_room.new.self ≡ kept_in c.args.self.now =
     ap (λ t. account t c.make_room.new.self.packets c.make_room.new.self.rows.items) c.make_room.ensures.clock
-    ∙ account-same c.args.self.now.clock c.args.self.now.packets c.make_room.new.self.packets c.args.self.now.rows.items c.make_room.new.self.rows.items c.make_room.ensures.taken c.make_room.ensures.here c.make_room.ensures.on c.make_room.ensures.rows in
+    ∙ account-same c.args.self.now.clock c.args.self.now.packets c.make_room.new.self.packets c.args.self.now.rows.items c.make_room.new.self.rows.items c.make_room.ensures.taken c.make_room.ensures.here c.make_room.ensures.on c.make_room.ensures.best c.make_room.ensures.rows in
     let sound = subst (IsSound c.make_room.new.self.shape c.make_room.new.self.room) before c.make_room.new.self.sound in
     let shape = c.make_room.ensures.shape in
-    let offered = subst (λ s. Offer c.args.offer.now.level c.args.offer.now.reach ≡ kept_reply s (kept_in c.args.self.now) (ask_for c.args.wanted.now)) (sym shape) c.requires.offered in
-    let enough = subst (λ k. most_places c.make_room.new.self.shape.bounds k.here k.rows + suc (slots_of c.make_room.new.self.shape.bounds (terms_in c.in_ok-row.row)) ≤ c.make_room.new.self.room) before c.in_ok-make_room.ensures.packets_fit in
+    let offered = subst (λ s. Offer c.args.offer.now.level c.args.offer.now.reach ≡ kept_reply (whole s) (kept_in c.args.self.now) (ask_for c.args.wanted.now)) (sym shape) c.requires.offered in
+    let enough = subst (λ k. most_places c.make_room.new.self.shape.bounds k.here k.rows + suc (slots_of c.make_room.new.self.shape.bounds (terms_in c.in_ok-row.row)) + suc c.make_room.new.self.shape.best ≤ c.make_room.new.self.room) before c.in_ok-make_room.ensures.packets_fit in
     let held = sound-held c.make_room.new.self.shape c.make_room.new.self.room (kept_in c.args.self.now) c.args.wanted.now c.args.offer.now.level c.args.offer.now.reach c.in_ok-row.row c.requires.fits sound offered c.in_ok-row.ensures enough in
     let after = subst (λ s. kept_after s (kept_in c.args.self.now) (ask_for c.args.wanted.now) (Offer c.args.offer.now.level c.args.offer.now.reach) ≡ account c.make_room.new.self.clock c.make_room.new.self.packets c.push_reserved.new.self.items) (sym shape) (sym (kept (goal.at.invariant_of-self c).After-add)) in
     let levels = subst (λ s. level_number c.args.offer.now.level ≤ length s.bounds) (sym shape) c.requires.level in

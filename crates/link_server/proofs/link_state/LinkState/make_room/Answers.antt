@@ -21,7 +21,7 @@ places_of-requires-clause-few c =
 
 pub invariant_of-self-2 : goal.invariant_of-self-2
 invariant_of-self-2 c =
-    let same = account-same c.args.self.now.clock c.args.self.now.packets c.reserve-3.new.self c.args.self.now.rows.items c.reserve.new.self.items c.reserve-3.ensures.taken c.reserve-3.ensures.here c.reserve-3.ensures.on c.reserve.ensures.items in
+    let same = account-same c.args.self.now.clock c.args.self.now.packets c.reserve-3.new.self c.args.self.now.rows.items c.reserve.new.self.items c.reserve-3.ensures.taken c.reserve-3.ensures.here c.reserve-3.ensures.on c.reserve-3.ensures.best c.reserve.ensures.items in
     let larger = sound-larger c.args.self.now.shape c.args.self.now.room c.max-self.result (kept_in c.args.self.now) (omega (arith, c.max-self.ensures)) c.args.self.now.sound in
     let grows = c.reserve-3.ensures.grows in
     let roomy = c.args.self.now.roomy in

@@ -1,6 +1,9 @@
 -- Nothing is kept of no history.
-use Rattle.std.proofs.Common.{◌∙◌, sym, subst}
+use Rattle.std.proofs.Common.{◌≡◌, ◌∙◌, sym, ap, subst, arith}
+use Rattle.link_steps.specs.Kept.{nothing_kept}
 use Rattle.link_steps.proofs.Account.{nothing-stands}
+use Rattle.link_server.specs.Account.{account}
+use Rattle.link_server.specs.Planned.{left_in}
 use Rattle.link_server.specs.Sound.{IsSound}
 use Rattle.link_server.proofs.AccountFacts.{account-nothing}
 use Rattle.link_server.proofs.SoundSetup.{nothing-sound}
@@ -8,8 +11,10 @@ use Rattle.link_server.proofs.link_state.LinkState.new.Goals as goal
 
 pub invariant_of-result-clause-sound : goal.invariant_of-result-clause-sound
 invariant_of-result-clause-sound c =
-    subst (IsSound c.args.shape 0) (sym (account-nothing c.new-3.result c.new-2.result.items c.new-3.ensures.taken c.new-3.ensures.here c.new-3.ensures.on c.new-2.ensures.items)) (nothing-sound c.args.shape 0)
+    subst (IsSound c.args.shape c.from.result)
+    (sym (account-nothing c.reserve.new.self c.new-2.result.items (c.reserve.ensures.taken ∙ c.new-packets.ensures.taken) (c.reserve.ensures.here ∙ c.new-packets.ensures.here) (c.reserve.ensures.on ∙ c.new-packets.ensures.on) (ap left_in c.reserve.ensures.best ∙ c.new-packets.ensures.best) c.new-2.ensures.items))
+    (nothing-sound c.args.shape c.from.result (omega (arith, c.from.ensures)))
 
 pub returns-clause-stands : goal.returns-clause-stands
 returns-clause-stands c =
-    account-nothing c.new-3.result c.new-2.result.items c.new-3.ensures.taken c.new-3.ensures.here c.new-3.ensures.on c.new-2.ensures.items ∙ nothing-stands c.args.shape
+    account-nothing c.reserve.new.self c.new-2.result.items (c.reserve.ensures.taken ∙ c.new-packets.ensures.taken) (c.reserve.ensures.here ∙ c.new-packets.ensures.here) (c.reserve.ensures.on ∙ c.new-packets.ensures.on) (ap left_in c.reserve.ensures.best ∙ c.new-packets.ensures.best) c.new-2.ensures.items ∙ nothing-stands c.args.shape

@@ -5,6 +5,7 @@ use Rattle.std.proofs.lemmas.List.Elements.{All-set}
 use Rattle.link_steps.specs.declared.asks.Ask.TheVariants.{Release}
 use Rattle.link_steps.specs.declared.replies.Phase.TheVariants.{Committed}
 use Rattle.link_steps.specs.declared.replies.Reply.TheVariants.{Closing}
+use Rattle.link_steps.specs.Split.{whole}
 use Rattle.link_steps.specs.Kept.{kept_reply, kept_after, kept_closed}
 use Rattle.link_steps.specs.Refusals.{not_in_phase}
 use Rattle.link_steps.specs.Replies.{count_at_release, cancelled_at_release}
@@ -48,7 +49,7 @@ returns-in-Some-not_committed-clause-kept c = release-same c.args.self.now.shape
 abbrev IsPlaced : After-close → Type 0
 IsPlaced c = IsPlace (is_row_at_hop c.args.chan (names_first_hop c.args.upstream)) c.args.self.now.rows.items c.in-Some.place
 
-replied : (c : After-close) → IsPlaced c → Closing c.count_at_release-count.result c.cancelled_at_release-cancelled.result ≡ kept_reply c.args.self.now.shape (kept_in c.args.self.now) (Release c.args.chan c.args.upstream)
+replied : (c : After-close) → IsPlaced c → Closing c.count_at_release-count.result c.cancelled_at_release-cancelled.result ≡ kept_reply (whole c.args.self.now.shape) (kept_in c.args.self.now) (Release c.args.chan c.args.upstream)
 replied c place =
     release-closes c.args.self.now.shape c.args.self.now.clock c.args.self.now.packets c.args.chan c.args.upstream c.args.self.now.rows.items c.in-Some.place c.index.result.now c.count_at_release-count.result c.cancelled_at_release-cancelled.result place
     (c.in_default-not_committed.ensures ∙ ap (λ row. not_in_phase Committed (terms_in row)) c.index.ensures)

@@ -1,21 +1,27 @@
 -- The parts of the tick find what a sound account leaves to count on, and together make what the account says.
 use Rattle.std.proofs.Common.{◌≡◌, ◌+◌, ◌++◌, length, map, take, drop, sym, ap, ◌∙◌, subst, refl, arith}
-use Rattle.std.proofs.lemmas.List.{length-map}
+use Rattle.std.proofs.lemmas.List.{length-map, length-append}
+use Rattle.link_steps.specs.BestEffort.{best_step}
+use Rattle.link_steps.specs.Rows.{left_at}
+use Rattle.link_server.specs.Planned.{left_in, IsAhead}
+use Rattle.link_server.specs.Sources.{brought_by}
+use Rattle.link_server.proofs.PourFacts.{best-step-is, waiting-is}
+use Rattle.link_server.proofs.SoundSources.{from_best}
 use Rattle.link_steps.specs.declared.replies.Reply.TheVariants.{Ticked}
 use Rattle.link_steps.specs.declared.asks.Ask.TheVariants.{Tick}
-use Rattle.link_steps.specs.Kept.{held_rows, present, occupies, served, kept_after}
+use Rattle.link_steps.specs.Kept.{held_rows, from_sources, present, occupies, served, kept_after}
 use Rattle.link_server.specs.Account.{account}
 use Rattle.link_server.specs.Packets.{arrival_in, here_in, on_in}
 use Rattle.link_server.specs.Rows.{row_in, summed, AreWithin}
 use Rattle.link_server.specs.Serving.{CanServe}
 use Rattle.link_server.specs.Sound.{IsSound}
 use Rattle.link_server.specs.State.{kept_in}
-use Rattle.link_server.proofs.SoundNumbers.{rows-ready, rows-upto, brought-room, brought-small}
-use Rattle.link_server.proofs.SoundServes.{brought-serves}
+use Rattle.link_server.proofs.SoundNumbers.{rows-ready, rows-upto, sources-room, best-room, ahead-from, brought-small}
+use Rattle.link_server.proofs.SoundServes.{sound-serves}
 use Rattle.link_server.proofs.SoundTick.{sound-tick}
-use Rattle.link_server.proofs.TickFacts.{all-written, brought-is, present-is, occupies-is, tick-replied, tick-kept}
+use Rattle.link_server.proofs.TickFacts.{all-written, brought-is, present-is, taken-is, occupies-is, tick-replied, tick-kept}
 use Rattle.link_server.proofs.link_state.LinkState.tick.Goals as goal
-use Rattle.link_server.proofs.link_state.LinkState.tick.Goals.{After-deref_mut, After-take_source_packets-full, After-serve-sent}
+use Rattle.link_server.proofs.link_state.LinkState.tick.Goals.{After-deref_mut, After-take_source_packets-full, After-serve-left}
 
 pub expire-requires-clause-ready : goal.expire-requires-clause-ready
 expire-requires-clause-ready c = rows-ready c.args.self.now.shape c.args.self.now.room (kept_in c.args.self.now) c.requires.early c.args.self.now.room_most c.args.self.now.sound
@@ -34,7 +40,7 @@ take_source_packets-full-requires-clause-few c =
 
 pub take_source_packets-full-requires-clause-room : goal.take_source_packets-full-requires-clause-room
 take_source_packets-full-requires-clause-room c =
-    let room = brought-room c.args.self.now.shape c.args.self.now.room (kept_in c.args.self.now) c.args.self.now.sound in
+    let room = sources-room c.args.self.now.shape c.args.self.now.room (kept_in c.args.self.now) c.args.self.now.sound in
     let long = length-map c.args.self.now.packets.here.items arrival_in in
     let same = ap length (brought-is c.args.self.now.shape (kept_in c.args.self.now) c.deref_mut.result.now (stay (goal.at.take_source_packets-full-requires-clause-room c).After-deref_mut)) in
     let roomy = c.args.self.now.roomy in
@@ -44,64 +50,73 @@ pub take_source_packets-full-requires-clause-numbers : goal.take_source_packets-
 take_source_packets-full-requires-clause-numbers c =
     let small = brought-small c.args.self.now.shape c.args.self.now.room (kept_in c.args.self.now) c.requires.early c.args.self.now.room_most c.args.self.now.sound in
     let same = ap length (brought-is c.args.self.now.shape (kept_in c.args.self.now) c.deref_mut.result.now (stay (goal.at.take_source_packets-full-requires-clause-numbers c).After-deref_mut)) in
-    omega (arith, small, same)
+    let parts = length-append (from_sources c.args.self.now.shape (kept_in c.args.self.now)) (from_best c.args.self.now.shape (kept_in c.args.self.now)) in
+    omega (arith, small, same, parts)
 
--- the packets here once the sources have brought theirs are those of the account
-here : (c : After-take_source_packets-full) → here_in c.take_source_packets-full.new.packets.here.items ≡ present c.args.self.now.shape (kept_in c.args.self.now)
-here c =
-    present-is c.args.self.now.shape (kept_in c.args.self.now) c.deref_mut.result.now c.take_source_packets-full.new.packets
-    (ap (map row_in) c.deref_mut.ensures.value ∙ c.expire.ensures.rows) c.take_source_packets-full.ensures.here
+pub take_best-best_lost-requires-clause-ahead : goal.take_best-best_lost-requires-clause-ahead
+take_best-best_lost-requires-clause-ahead c =
+    subst (λ p. IsAhead c.args.self.now.clock p) (sym c.take_source_packets-full.ensures.best) (ahead-from c.args.self.now.clock c.args.self.now.clock (left_in c.args.self.now.packets.best) (omega arith) c.args.self.now.sound.best_ahead)
 
-occupant : (c : After-take_source_packets-full) → served c.args.self.now.clock (here_in c.take_source_packets-full.new.packets.here.items) (on_in c.take_source_packets-full.new.packets.on) ≡ occupies c.args.self.now.shape (kept_in c.args.self.now)
-occupant c = occupies-is c.args.self.now.shape (kept_in c.args.self.now) c.take_source_packets-full.new.packets (here c) (ap on_in c.take_source_packets-full.ensures.on)
+pub take_best-best_lost-requires-clause-room : goal.take_best-best_lost-requires-clause-room
+take_best-best_lost-requires-clause-room c = λ free.
+    let counted = waiting-is c.args.self.now.shape (kept_in c.args.self.now) c.waiting-waiting.result c.waiting-waiting.ensures in
+    let room = best-room c.args.self.now.shape c.args.self.now.room (kept_in c.args.self.now) c.args.self.now.sound (omega (arith, free, counted)) in
+    let stays = ap (map row_in) c.deref_mut.ensures.value ∙ c.expire.ensures.rows in
+    let same = ap length (brought-is c.args.self.now.shape (kept_in c.args.self.now) c.deref_mut.result.now stays) in
+    let all = ap length c.take_source_packets-full.ensures.here in
+    let parts = length-append (here_in c.args.self.now.packets.here.items) (brought_by c.args.self.now.shape.bounds (here_in c.args.self.now.packets.here.items) c.args.self.now.clock c.args.self.now.packets.taken c.deref_mut.result.now) in
+    let long = length-map c.take_source_packets-full.new.packets.here.items arrival_in in
+    let roomy = c.args.self.now.roomy in
+    omega (arith, room, same, all, parts, long, roomy, c.take_source_packets-full.ensures.capacity)
 
-pub serve-sent-requires-clause-serves : goal.serve-sent-requires-clause-serves
-serve-sent-requires-clause-serves c =
-    let serves = brought-serves c.args.self.now.shape c.args.self.now.room (kept_in c.args.self.now) c.requires.early c.args.self.now.sound in
-    subst (λ on. CanServe c.args.self.now.shape c.args.self.now.clock (here_in c.take_source_packets-full.new.packets.here.items) on) (sym (ap on_in c.take_source_packets-full.ensures.on))
-    (subst (λ all. CanServe c.args.self.now.shape c.args.self.now.clock all (on_in c.args.self.now.packets.on)) (sym (here (goal.at.serve-sent-requires-clause-serves c).After-take_source_packets-full)) serves)
+pub serve-left-requires-clause-serves : goal.serve-left-requires-clause-serves
+serve-left-requires-clause-serves c =
+    subst (λ on. CanServe c.args.self.now.shape c.args.self.now.clock on) (sym (ap on_in (c.take_best-best_lost.ensures.on ∙ c.take_source_packets-full.ensures.on)))
+    (sound-serves c.args.self.now.shape c.args.self.now.room (kept_in c.args.self.now) c.args.self.now.sound)
 
 -- the rows written back are those that the sources left
-written : (c : After-serve-sent) → take c.expire.new.rows.len (c.take_source_packets-full.new.rows ++ drop (length c.take_source_packets-full.new.rows) c.expire.new.rows.items) ≡ c.take_source_packets-full.new.rows
+written : (c : After-serve-left) → take c.expire.new.rows.len (c.take_source_packets-full.new.rows ++ drop (length c.take_source_packets-full.new.rows) c.expire.new.rows.items) ≡ c.take_source_packets-full.new.rows
 written c =
     let shown = ap length c.deref_mut.ensures.value in
     let len = c.deref_mut.ensures.len in
     let kept = c.take_source_packets-full.auto.rows in
     all-written c.expire.new.rows.len c.take_source_packets-full.new.rows c.expire.new.rows.items (omega (arith, shown, len)) (omega (arith, shown, kept))
 
-kept : (c : After-serve-sent) → account (c.args.self.now.clock + 1) c.serve-sent.new.self c.take_source_packets-full.new.rows ≡ kept_after c.args.self.now.shape (kept_in c.args.self.now) Tick (Ticked c.args.self.now.clock c.take_source_packets-full.result c.serve-sent.result)
+kept : (c : After-serve-left) → account (c.args.self.now.clock + 1) c.serve-left.new.self c.take_source_packets-full.new.rows ≡ kept_after c.args.self.now.shape (kept_in c.args.self.now) Tick (Ticked c.args.self.now.clock c.take_source_packets-full.result c.serve-left.result.sent c.serve-left.result.best_sent c.take_best-best_lost.result)
 kept c =
     let stay = ap (map row_in) c.deref_mut.ensures.value ∙ c.expire.ensures.rows in
-    let here = present-is c.args.self.now.shape (kept_in c.args.self.now) c.deref_mut.result.now c.take_source_packets-full.new.packets stay c.take_source_packets-full.ensures.here in
-    let occupant = occupies-is c.args.self.now.shape (kept_in c.args.self.now) c.take_source_packets-full.new.packets here (ap on_in c.take_source_packets-full.ensures.on) in
-    tick-kept c.args.self.now.shape (kept_in c.args.self.now) c.deref_mut.result.now c.take_source_packets-full.new.rows c.take_source_packets-full.new.packets c.serve-sent.new.self (c.args.self.now.clock + 1)
-    (Ticked c.args.self.now.clock c.take_source_packets-full.result c.serve-sent.result) refl stay c.take_source_packets-full.ensures.rows here c.take_source_packets-full.ensures.taken occupant
-    c.serve-sent.ensures.taken c.serve-sent.ensures.here c.serve-sent.ensures.on
+    let here = present-is c.args.self.now.shape (kept_in c.args.self.now) c.deref_mut.result.now c.take_source_packets-full.new.packets c.take_best-best_lost.new.self (best_step c.waiting-waiting.result c.args.self.now.shape.best c.args.self.now.clock (left_in c.take_source_packets-full.new.packets.best)) stay c.take_source_packets-full.ensures.here c.take_source_packets-full.ensures.taken (best-step-is c.args.self.now.shape (kept_in c.args.self.now) c.waiting-waiting.result (left_in c.take_source_packets-full.new.packets.best) c.waiting-waiting.ensures (ap left_in c.take_source_packets-full.ensures.best)) c.take_best-best_lost.ensures.here in
+    let occupant = occupies-is c.args.self.now.shape (kept_in c.args.self.now) c.take_best-best_lost.new.self here (ap on_in (c.take_best-best_lost.ensures.on ∙ c.take_source_packets-full.ensures.on)) in
+    tick-kept c.args.self.now.shape (kept_in c.args.self.now) c.deref_mut.result.now c.take_source_packets-full.new.rows c.take_best-best_lost.new.self c.serve-left.new.self (c.args.self.now.clock + 1)
+    (Ticked c.args.self.now.clock c.take_source_packets-full.result c.serve-left.result.sent c.serve-left.result.best_sent c.take_best-best_lost.result) refl stay c.take_source_packets-full.ensures.rows here (taken-is c.args.self.now.shape (kept_in c.args.self.now) c.deref_mut.result.now c.take_source_packets-full.new.packets c.take_best-best_lost.new.self (best_step c.waiting-waiting.result c.args.self.now.shape.best c.args.self.now.clock (left_in c.take_source_packets-full.new.packets.best)) stay c.take_source_packets-full.ensures.taken (best-step-is c.args.self.now.shape (kept_in c.args.self.now) c.waiting-waiting.result (left_in c.take_source_packets-full.new.packets.best) c.waiting-waiting.ensures (ap left_in c.take_source_packets-full.ensures.best)) c.take_best-best_lost.ensures.taken) occupant
+    c.serve-left.ensures.taken c.serve-left.ensures.here c.serve-left.ensures.on
+    (ap left_in c.serve-left.ensures.best ∙ c.take_best-best_lost.ensures.best ∙ ap (λ p. left_at (c.args.self.now.clock + 1) (left_in p)) c.take_source_packets-full.ensures.best)
 
 pub invariant_of-self : goal.invariant_of-self
 invariant_of-self c =
-    let rows = written (goal.at.invariant_of-self c).After-serve-sent in
-    let after = ap (account (c.args.self.now.clock + 1) c.serve-sent.new.self) rows ∙ kept (goal.at.invariant_of-self c).After-serve-sent in
+    let rows = written (goal.at.invariant_of-self c).After-serve-left in
+    let after = ap (account (c.args.self.now.clock + 1) c.serve-left.new.self) rows ∙ kept (goal.at.invariant_of-self c).After-serve-left in
     let roomy = c.args.self.now.roomy in
     let first = c.take_source_packets-full.ensures.capacity in
-    let second = c.serve-sent.ensures.capacity in
+    let second = c.serve-left.ensures.capacity in
+    let third = c.take_best-best_lost.ensures.capacity in
     record {
       admitted = c.expire.ensures.admitted;
       same_server = c.expire.ensures.server ∙ c.args.self.now.same_server;
       same_rows = c.expire.ensures.same ∙ ap (map summed) (sym c.deref_mut.ensures.value) ∙ sym c.take_source_packets-full.ensures.summed ∙ ap (map summed) (sym rows);
       within = subst (AreWithin (length c.args.self.now.shape.bounds)) (sym rows) c.take_source_packets-full.ensures.levels;
-      sound = subst (IsSound c.args.self.now.shape c.args.self.now.room) (sym after) (sound-tick c.args.self.now.shape c.args.self.now.room (kept_in c.args.self.now) (Ticked c.args.self.now.clock c.take_source_packets-full.result c.serve-sent.result) c.requires.early c.args.self.now.sound);
-      roomy = omega (arith, roomy, first, second);
+      sound = subst (IsSound c.args.self.now.shape c.args.self.now.room) (sym after) (sound-tick c.args.self.now.shape c.args.self.now.room (kept_in c.args.self.now) (Ticked c.args.self.now.clock c.take_source_packets-full.result c.serve-left.result.sent c.serve-left.result.best_sent c.take_best-best_lost.result) c.requires.early c.args.self.now.sound);
+      roomy = omega (arith, roomy, first, second, third);
       room_most = c.args.self.now.room_most;
     }
 
 pub returns-clause-reply : goal.returns-clause-reply
 returns-clause-reply c =
     let stay = ap (map row_in) c.deref_mut.ensures.value ∙ c.expire.ensures.rows in
-    let here = present-is c.args.self.now.shape (kept_in c.args.self.now) c.deref_mut.result.now c.take_source_packets-full.new.packets stay c.take_source_packets-full.ensures.here in
-    let occupant = occupies-is c.args.self.now.shape (kept_in c.args.self.now) c.take_source_packets-full.new.packets here (ap on_in c.take_source_packets-full.ensures.on) in
-    tick-replied c.args.self.now.shape (kept_in c.args.self.now) c.deref_mut.result.now c.take_source_packets-full.new.packets c.take_source_packets-full.result c.serve-sent.result stay c.take_source_packets-full.ensures.lost occupant c.serve-sent.ensures.sent
+    let here = present-is c.args.self.now.shape (kept_in c.args.self.now) c.deref_mut.result.now c.take_source_packets-full.new.packets c.take_best-best_lost.new.self (best_step c.waiting-waiting.result c.args.self.now.shape.best c.args.self.now.clock (left_in c.take_source_packets-full.new.packets.best)) stay c.take_source_packets-full.ensures.here c.take_source_packets-full.ensures.taken (best-step-is c.args.self.now.shape (kept_in c.args.self.now) c.waiting-waiting.result (left_in c.take_source_packets-full.new.packets.best) c.waiting-waiting.ensures (ap left_in c.take_source_packets-full.ensures.best)) c.take_best-best_lost.ensures.here in
+    let occupant = occupies-is c.args.self.now.shape (kept_in c.args.self.now) c.take_best-best_lost.new.self here (ap on_in (c.take_best-best_lost.ensures.on ∙ c.take_source_packets-full.ensures.on)) in
+    tick-replied c.args.self.now.shape (kept_in c.args.self.now) c.deref_mut.result.now c.take_best-best_lost.new.self c.take_source_packets-full.result c.serve-left.result.sent c.serve-left.result.best_sent c.take_best-best_lost.result (best_step c.waiting-waiting.result c.args.self.now.shape.best c.args.self.now.clock (left_in c.take_source_packets-full.new.packets.best)) stay c.take_source_packets-full.ensures.lost occupant c.serve-left.ensures.sent c.serve-left.ensures.best_sent (best-step-is c.args.self.now.shape (kept_in c.args.self.now) c.waiting-waiting.result (left_in c.take_source_packets-full.new.packets.best) c.waiting-waiting.ensures (ap left_in c.take_source_packets-full.ensures.best)) c.take_best-best_lost.ensures.lost
 
 pub returns-clause-kept : goal.returns-clause-kept
 returns-clause-kept c =
-    ap (account (c.args.self.now.clock + 1) c.serve-sent.new.self) (written (goal.at.returns-clause-kept c).After-serve-sent) ∙ kept (goal.at.returns-clause-kept c).After-serve-sent
+    ap (account (c.args.self.now.clock + 1) c.serve-left.new.self) (written (goal.at.returns-clause-kept c).After-serve-left) ∙ kept (goal.at.returns-clause-kept c).After-serve-left

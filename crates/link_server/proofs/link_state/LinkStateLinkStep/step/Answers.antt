@@ -104,3 +104,17 @@ pub returns-in-Reserve-clause-guaranteed : goal.returns-in-Reserve-clause-guaran
 returns-in-Reserve-clause-guaranteed c =
     reserve-guaranteed c.args.self.now.shape c.args.ask.now (kept_in c.args.self.now) c.reserve.result c.requires.fits
     (reserve-legal c.args.self.now.shape (kept_in c.args.self.now) c.args.ask.now _ c.reserve.result (rows-have c.args.self.now.rows.items) c.in-Reserve.is c.reserve.ensures.reply)
+
+pub returns-in-Pour-clause-legal : goal.returns-in-Pour-clause-legal
+returns-in-Pour-clause-legal c =
+    step-legal c.args.self.now.shape (kept_in c.args.self.now) c.args.ask.now _ c.pour.result (rows-have c.args.self.now.rows.items) c.in-Pour.is c.pour.ensures.reply
+
+pub returns-in-Pour-clause-entered : goal.returns-in-Pour-clause-entered
+returns-in-Pour-clause-entered c =
+    step-entered c.args.self.now.shape c.pour.new.self.shape (kept_in c.args.self.now) (kept_in c.pour.new.self) c.args.ask.now _ c.pour.result
+    (rows-have c.args.self.now.rows.items) c.in-Pour.is c.pour.ensures.shape c.pour.ensures.kept
+
+pub returns-in-Pour-clause-guaranteed : goal.returns-in-Pour-clause-guaranteed
+returns-in-Pour-clause-guaranteed c =
+    step-guaranteed c.args.self.now.shape c.args.ask.now c.pour.result (kept_in c.args.self.now) c.requires.fits
+    (step-legal c.args.self.now.shape (kept_in c.args.self.now) c.args.ask.now _ c.pour.result (rows-have c.args.self.now.rows.items) c.in-Pour.is c.pour.ensures.reply)

@@ -2,16 +2,17 @@
 use Rattle.std.proofs.Common.{◌≡◌, ◌<◌, ◌≤◌, ⊎_elim, Some, length, ap, sym, ◌∙◌, subst, arith}
 use Rattle.std.proofs.lemmas.Bool.{cases_lt}
 use Rattle.net_units.specs.Numbers.{level_number}
-use Rattle.net_units.proofs.BoundFacts.{bounds_parts}
-use Rattle.traffic_contract.specs.Admission.{IsRefused}
+use Rattle.net_units.proofs.BoundFacts.{bounds_parts, bound_least}
+use Rattle.net_units.specs.LevelBounds.{bound_at}
+use Rattle.traffic_contract.specs.Admission.{refused_sum, IsRefused}
 use Rattle.traffic_contract.proofs.AdmissionFacts.{Passes-larger, best_level-none}
+use Rattle.rcsp_admission.specs.Room.{load_with}
 use Rattle.rcsp_admission.specs.Sums.{AreAdmitted, rows_of}
-use Rattle.rcsp_admission.specs.Room.{sum_with}
-use Rattle.rcsp_admission.proofs.RoomFacts.{IsBest-above_full, best_level-above_full, IsRefused-last_full, refused_sum-is}
+use Rattle.rcsp_admission.proofs.RoomFacts.{IsBest-above_full, best_level-above_full, IsRefused-last_full, refused_sum-over}
 use Rattle.rcsp_admission.proofs.level_sums.LevelSums.best.Goals as goal
 
 -- the last level has no room
-refused : (c : goal.After-from) → IsRefused c.args.self.now.server (rows_of c.args.self.now.rows) c.args.contract.now
+refused : (c : goal.After-load_with) → IsRefused c.args.self.now.server (rows_of c.args.self.now.rows) c.args.contract.now
 refused c =
     let admitted = subst AreAdmitted c.self.view_is c.self.invariant in
     let all : c.last_full-full.result ≡ length c.args.self.now.server.bounds = c.if-full-levels.true ∙ c.len-levels.ensures.value ∙ ap (λ s. length s.server.bounds) c.self.view_is in
@@ -23,10 +24,26 @@ returns-then-full-levels-clause-level c = best_level-none _ _ _ (refused c)
 pub returns-then-full-levels-clause-none : goal.returns-then-full-levels-clause-none
 returns-then-full-levels-clause-none c = refused c
 
-pub returns-then-full-levels-clause-sum : goal.returns-then-full-levels-clause-sum
-returns-then-full-levels-clause-sum c =
+-- what the last level comes to with the row
+summed : (c : goal.After-load_with) → c.load_with.result ≡ refused_sum c.args.self.now.server (rows_of c.args.self.now.rows) c.args.contract.now
+summed c =
     let last : level_number c.level_at-last.result ≡ length c.args.self.now.server.bounds = c.level_at-last.ensures ∙ c.len-levels.ensures.value ∙ ap (λ s. length s.server.bounds) c.self.view_is in
-    c.sum_with.ensures ∙ ap (λ m. sum_with c.args.self.now.server (rows_of c.args.self.now.rows) c.args.contract.now m) last ∙ sym (refused_sum-is c.args.self.now.server (rows_of c.args.self.now.rows) c.args.contract.now)
+    let whole : c.from-bound.result ≡ bound_at c.args.self.now.server.bounds (level_number c.level_at-last.result) = c.from-bound.ensures ∙ c.at.ensures.value ∙ ap (λ s. bound_at s.server.bounds (level_number c.level_at-last.result)) c.self.view_is in
+    c.load_with.ensures ∙ ap (λ w. load_with c.args.self.now.server (rows_of c.args.self.now.rows) c.args.contract.now (level_number c.level_at-last.result) w) whole
+    ∙ ap (λ m. load_with c.args.self.now.server (rows_of c.args.self.now.rows) c.args.contract.now m (bound_at c.args.self.now.server.bounds m)) last
+
+pub returns-then-full-levels-clause-sum : goal.returns-then-full-levels-clause-sum
+returns-then-full-levels-clause-sum c = summed c
+
+pub returns-then-full-levels-clause-over : goal.returns-then-full-levels-clause-over
+returns-then-full-levels-clause-over c =
+    let admitted = subst AreAdmitted c.self.view_is c.self.invariant in
+    let all : c.last_full-full.result ≡ length c.args.self.now.server.bounds = c.if-full-levels.true ∙ c.len-levels.ensures.value ∙ ap (λ s. length s.server.bounds) c.self.view_is in
+    let some = (bounds_parts _ admitted.server.bounds).least in
+    let over = refused_sum-over c.args.self.now.server (rows_of c.args.self.now.rows) c.args.contract.now some (bound_least c.args.self.now.server.bounds (length c.args.self.now.server.bounds) admitted.server.bounds some (omega arith)) (rw all at c.last_full-full.ensures) in
+    let last : level_number c.level_at-last.result ≡ length c.args.self.now.server.bounds = c.level_at-last.ensures ∙ c.len-levels.ensures.value ∙ ap (λ s. length s.server.bounds) c.self.view_is in
+    let whole : c.from-bound.result ≡ bound_at c.args.self.now.server.bounds (length c.args.self.now.server.bounds) = c.from-bound.ensures ∙ c.at.ensures.value ∙ ap (λ s. bound_at s.server.bounds (level_number c.level_at-last.result)) c.self.view_is ∙ ap (bound_at c.args.self.now.server.bounds) last in
+    omega (arith, over, whole, summed c)
 
 -- the last level without room isn't the last of all
 below_last : (c : goal.After-level_at) → c.last_full-full.result < length c.args.self.now.server.bounds

@@ -1,0 +1,103 @@
+-- The answers to a pour, case by case, and the best-effort packet of a tick.
+use Rattle.std.proofs.Common.{◌≡◌, ℕ, suc, ◌+◌, ◌<◌, ◌≤◌, true, false, List, [], ◌∷◌, ◌++◌, length, Option, Some, None, refl, sym, ap, ◌∙◌, subst, arith}
+use Rattle.std.proofs.lemmas.Bool.{lt-leb, le-leb}
+use Rattle.std.specs.Prelude.{find, filter, nat_le, nat_lt}
+use Rattle.std.specs.Coded.{le_prop}
+use Rattle.net_units.specs.Numbers.{channel_number}
+use Rattle.net_units.specs.declared.numbers.ChanNo.{ChanNo}
+use Rattle.link_steps.specs.Service.{Arrival}
+use Rattle.link_steps.specs.declared.asks.Ask.TheVariants.{Pour}
+use Rattle.link_steps.specs.declared.replies.Refusal.{Refusal}
+use Rattle.link_steps.specs.declared.replies.Refusal.TheVariants.{TooBig}
+use Rattle.link_steps.specs.declared.replies.Reply.TheVariants.{Planned, Refused}
+use Rattle.link_steps.specs.declared.shape.LinkShape.{LinkShape}
+use Rattle.link_steps.specs.Kept.{Kept, waits_here, kept_waiting, kept_best, kept_reply, kept_after}
+use Rattle.link_steps.specs.Refusals.{busy}
+use Rattle.link_steps.specs.Replies.{pour_reply}
+use Rattle.link_steps.specs.Rows.{SourcePacket, planned_from, is_for}
+use Rattle.link_steps.specs.BestEffort.{best_step, best_arrival}
+use Rattle.link_steps.specs.Sources.{SourceStep, Rests, Brings, Loses, source_step}
+use Rattle.link_steps.specs.Split.{whole}
+use Rattle.link_server.specs.Account.{account}
+use Rattle.link_server.specs.Planned.{left_in, size_of}
+use Rattle.link_server.specs.declared.held_row.HeldRow.{HeldRow}
+use Rattle.link_server.specs.declared.packets.Packets.{Packets}
+use Rattle.link_server.proofs.PlanFacts.{planned-length, behind-none, none-left}
+
+pub left-counted : (packets : Packets) → length (left_in packets.best) ≡ packets.best.count
+left-counted packets = planned-length packets.best.tick packets.best.gap packets.best.size packets.best.count
+
+-- the account with another best-effort plan
+abbrev pub with_plan : Kept → List SourcePacket → Kept
+with_plan k plan = record k { best_left = plan }
+
+pub pour-busy : (shape : LinkShape) (t : ℕ) (packets : Packets) (rows : List HeldRow) (count gap size : ℕ) (refusal : Refusal) → Some refusal ≡ busy packets.best.count → Refused refusal ≡ kept_reply (whole shape) (account t packets rows) (Pour count gap size)
+unfolding kept_reply pour_reply
+pour-busy shape t packets rows count gap size refusal left = rw (left-counted packets, sym left) refl
+
+pub pour-big : (shape : LinkShape) (t : ℕ) (packets : Packets) (rows : List HeldRow) (count gap size : ℕ) → None ≡ busy packets.best.count → shape.cap < size → Refused (TooBig size shape.cap) ≡ kept_reply (whole shape) (account t packets rows) (Pour count gap size)
+unfolding kept_reply pour_reply
+pour-big shape t packets rows count gap size left big = rw (left-counted packets, sym left, lt-leb size shape.cap big) refl
+
+pub pour-planned : (shape : LinkShape) (t : ℕ) (packets : Packets) (rows : List HeldRow) (count gap size : ℕ) → None ≡ busy packets.best.count → size ≤ shape.cap → Planned t ≡ kept_reply (whole shape) (account t packets rows) (Pour count gap size)
+unfolding kept_reply pour_reply
+pour-planned shape t packets rows count gap size left small = rw (left-counted packets, sym left, le-leb size shape.cap small) refl
+
+pub pour-same : (shape : LinkShape) (k : Kept) (count gap size : ℕ) (refusal : Refusal) → k ≡ kept_after shape k (Pour count gap size) (Refused refusal)
+unfolding kept_after
+pour-same shape k count gap size refusal = refl
+
+pub pour-kept : (shape : LinkShape) (t : ℕ) (packets : Packets) (rows : List HeldRow) (count gap size clock : ℕ) → None ≡ busy packets.best.count → with_plan (account t packets rows) (planned_from t gap size count) ≡ kept_after shape (account t packets rows) (Pour count gap size) (Planned clock)
+unfolding kept_after
+pour-kept shape t packets rows count gap size clock left =
+    ap (with_plan (account t packets rows)) (behind-none (left_in packets.best) (planned_from t gap size count) (left-counted packets ∙ none-left packets.best.count left))
+
+-- ---- the step of the best-effort plan
+
+pub best-rests : (waiting most t : ℕ) (plan : List SourcePacket) → None ≡ size_of (find (is_for t) plan) → best_step waiting most t plan ≡ Rests
+unfolding best_step
+best-rests waiting most t plan none = by-found (find (is_for t) plan) none where
+  by-found : (found : Option SourcePacket) → None ≡ size_of found → source_step (nat_lt waiting most) found ≡ Rests
+  by-found None same = refl
+  by-found (Some p) same = cc
+
+pub best-loses : (waiting most t size : ℕ) (plan : List SourcePacket) → Some size ≡ size_of (find (is_for t) plan) → nat_lt waiting most ≡ false → best_step waiting most t plan ≡ Loses
+unfolding best_step
+best-loses waiting most t size plan some full = rw full (by-found (find (is_for t) plan) some) where
+  by-found : (found : Option SourcePacket) → Some size ≡ size_of found → source_step false found ≡ Loses
+  by-found None same = cc
+  by-found (Some p) same = refl
+
+pub best-brings : (waiting most t size : ℕ) (plan : List SourcePacket) → Some size ≡ size_of (find (is_for t) plan) → nat_lt waiting most ≡ true → best_step waiting most t plan ≡ Brings size
+unfolding best_step
+best-brings waiting most t size plan some free = rw free (by-found (find (is_for t) plan) some) where
+  by-found : (found : Option SourcePacket) → Some size ≡ size_of found → source_step true found ≡ Brings size
+  by-found None same = cc
+  by-found (Some p) same = (let e : size ≡ p.size = cc in ap Brings (sym e))
+
+-- the step that the code finds is that of the account
+pub best-step-is : (shape : LinkShape) (k : Kept) (waiting : ℕ) (plan : List SourcePacket) → waiting ≡ length (filter (waits_here shape.bounds k.on) k.here) → plan ≡ k.best_left → best_step waiting shape.best k.clock plan ≡ kept_best shape k
+unfolding kept_best kept_waiting
+best-step-is shape k waiting plan counted left = ap (λ n. best_step n shape.best k.clock plan) counted ∙ ap (best_step (length (filter (waits_here shape.bounds k.on) k.here)) shape.best k.clock) left
+
+pub waiting-is : (shape : LinkShape) (k : Kept) (waiting : ℕ) → waiting ≡ length (filter (waits_here shape.bounds k.on) k.here) → waiting ≡ kept_waiting shape k
+unfolding kept_waiting
+waiting-is shape k waiting counted = counted
+
+-- ---- the channel that a best-effort packet names
+
+abbrev chan-of : (n : ℕ) → n < 1048576 → ChanNo
+chan-of n small = record { number = n; small = small }
+
+same-number : (n m most : ℕ) → n ≡ m → (p : n < 1048576) (q : m < 1048576) → chan-of n p ≡ chan-of m q
+same-number n m most e p = subst (λ k. (q : k < 1048576) → chan-of n p ≡ chan-of k q) e (λ q. ap (chan-of n) (le_prop p q))
+
+pub same-chan : (a b : ChanNo) → channel_number a ≡ channel_number b → a ≡ b
+same-chan a b e = same-number a.number b.number 0 e a.small b.small
+
+pub best-made : (bounds : List ℕ) (place size t level : ℕ) (chan : ChanNo) → channel_number chan ≡ 0 → level ≡ suc (length bounds)
+    → record { place = place; lead = place; chan = chan; number = 0; size = size; at = t; eligible = t; level = level; next = None } ≡ best_arrival bounds place size t
+best-made bounds place size t level chan none below =
+    ap (λ n. made n chan) below ∙ ap (made (suc (length bounds))) (same-chan chan (best_arrival bounds place size t).chan none) where
+  made : ℕ → ChanNo → Arrival
+  made n c = record { place = place; lead = place; chan = c; number = 0; size = size; at = t; eligible = t; level = n; next = None }

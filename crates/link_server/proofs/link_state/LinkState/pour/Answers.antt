@@ -1,0 +1,36 @@
+-- The plan and the size are judged, and then the packets are planned.
+use Rattle.std.proofs.Common.{refl, sym, ap, ◌∙◌, subst}
+use Rattle.link_server.specs.Planned.{left_in}
+use Rattle.link_server.specs.Sound.{IsSound}
+use Rattle.link_server.specs.State.{kept_in}
+use Rattle.link_steps.specs.declared.replies.Reply.TheVariants.{Planned, Refused}
+use Rattle.link_steps.specs.declared.replies.Refusal.TheVariants.{TooBig}
+use Rattle.link_server.proofs.SoundSetup.{sound-pour}
+use Rattle.link_server.proofs.PourFacts.{pour-busy, pour-big, pour-planned, pour-same, pour-kept}
+use Rattle.link_server.proofs.link_state.LinkState.pour.Goals as goal
+
+pub returns-in-Some-clause-reply : goal.returns-in-Some-clause-reply
+returns-in-Some-clause-reply c = pour-busy c.args.self.now.shape c.args.self.now.clock c.args.self.now.packets c.args.self.now.rows.items c.args.count c.args.gap c.args.size _ c.in-Some.ensures
+
+pub returns-in-Some-clause-kept : goal.returns-in-Some-clause-kept
+returns-in-Some-clause-kept c = pour-same c.args.self.now.shape _ c.args.count c.args.gap c.args.size _
+
+pub returns-then-size-self-clause-reply : goal.returns-then-size-self-clause-reply
+returns-then-size-self-clause-reply c =
+    ap (λ n. Refused (TooBig n c.from-then-size-self.result)) c.from.ensures ∙ ap (λ n. Refused (TooBig c.args.size n)) c.from-then-size-self.ensures
+    ∙ pour-big c.args.self.now.shape c.args.self.now.clock c.args.self.now.packets c.args.self.now.rows.items c.args.count c.args.gap c.args.size c.in_default.ensures c.if-size-self.true
+
+pub returns-then-size-self-clause-kept : goal.returns-then-size-self-clause-kept
+returns-then-size-self-clause-kept c = pour-same c.args.self.now.shape _ c.args.count c.args.gap c.args.size _
+
+pub returns-clause-reply : goal.returns-clause-reply
+returns-clause-reply c = pour-planned c.args.self.now.shape c.args.self.now.clock c.args.self.now.packets c.args.self.now.rows.items c.args.count c.args.gap c.args.size c.in_default.ensures c.if-size-self.false
+
+pub returns-clause-kept : goal.returns-clause-kept
+returns-clause-kept c = pour-kept c.args.self.now.shape c.args.self.now.clock c.args.self.now.packets c.args.self.now.rows.items c.args.count c.args.gap c.args.size c.args.self.now.clock c.in_default.ensures
+
+pub invariant_of-self-2-clause-sound : goal.invariant_of-self-2-clause-sound
+invariant_of-self-2-clause-sound c =
+    subst (IsSound c.args.self.now.shape c.args.self.now.room) (sym (pour-kept c.args.self.now.shape c.args.self.now.clock c.args.self.now.packets c.args.self.now.rows.items c.args.count c.args.gap c.args.size c.args.self.now.clock c.in_default.ensures))
+    (sound-pour c.args.self.now.shape c.args.self.now.room (kept_in c.args.self.now) c.args.count c.args.gap c.args.size (Planned c.args.self.now.clock) c.requires.fits c.args.self.now.sound
+    (pour-planned c.args.self.now.shape c.args.self.now.clock c.args.self.now.packets c.args.self.now.rows.items c.args.count c.args.gap c.args.size c.in_default.ensures c.if-size-self.false))

@@ -1,0 +1,67 @@
+-- That a history is legal or admissible has at most one proof, and so has that what is kept stands for it.
+use Rattle.std.specs.Prelude.{ℕ, List, [], ◌∷◌}
+use Rattle.std.specs.Coded.{×_prop, Unit-prop, le_prop}
+use mathlib.Core.Sum.{⊎_set}
+use mathlib.Core.List.{is_set as list_set}
+use native.Mathlib.Nat.{ℕ_set}
+use Rattle.link_steps.specs.declared.asks.Ask.{Ask}
+use Rattle.link_steps.specs.declared.asks.Ask.TheVariants.{Reserve, Relax, Deny, Submit, Release, Arrive, Tick, Pour}
+use Rattle.link_steps.specs.declared.replies.Entry.{Entry}
+use Rattle.link_steps.specs.declared.replies.Reply.{Reply}
+use Rattle.link_steps.specs.declared.replies.Reply.TheVariants as Is
+use Rattle.link_steps.specs.declared.shape.LinkShape.{LinkShape}
+use Rattle.link_steps.specs.Admissible.{MayReply, MayAnswer, IsAdmissible}
+use Rattle.link_steps.specs.Kept.{Kept, StandsFor}
+use Rattle.link_steps.specs.Legal.{AskFits, IsLegal}
+use Rattle.link_steps.specs.Reservation.{Reservation}
+use Rattle.net_units.specs.declared.numbers.ChanNo.{ChanNo}
+use Rattle.traffic_contract.specs.Contract.{Terms}
+use Rattle.link_steps.specs.Scan.{Scan}
+use Rattle.link_steps.specs.Split.{Link}
+
+-- replies are equal in at most one way
+pub Reply-set : IsSet Reply
+Reply-set = Prim.hlevel (ℕ_set, le_prop, ⊎_set)
+
+AskFits-prop : (shape : LinkShape) (ask : Ask) → IsProp (AskFits shape ask)
+AskFits-prop shape (Reserve chan contract kind delay up_reach first next) = Prim.hlevel (ℕ_set, le_prop)
+AskFits-prop shape (Relax chan level up_bound) = Prim.hlevel le_prop
+AskFits-prop shape (Deny chan) = Unit-prop
+AskFits-prop shape (Submit chan count gap size) = Prim.hlevel le_prop
+AskFits-prop shape (Release chan upstream) = Unit-prop
+AskFits-prop shape (Arrive packet) = Prim.hlevel le_prop
+AskFits-prop shape Tick = Unit-prop
+AskFits-prop shape (Pour count gap size) = Prim.hlevel le_prop
+
+pub IsLegal-prop : (link : Link) (h : List Entry) → IsProp (IsLegal link h)
+unfolding IsLegal
+IsLegal-prop link [] = Unit-prop
+IsLegal-prop link (e ∷ past) = ×_prop (IsLegal-prop link past) (Prim.hlevel (AskFits-prop, Reply-set))
+
+MayReply-prop : (shape : LinkShape) (held : List Reservation) (chan : ChanNo) (contract : Terms) (delay up_reach : ℕ) (reply : Reply) → IsProp (MayReply shape held chan contract delay up_reach reply)
+MayReply-prop shape held chan contract delay up_reach (Is.Offer level reach) = Prim.hlevel (ℕ_set, le_prop, ⊎_set)
+MayReply-prop shape held chan contract delay up_reach (Is.Refused refusal) = Unit-prop
+MayReply-prop shape held chan contract delay up_reach _ = λ a b. absurd a
+
+MayAnswer-prop : (shape : LinkShape) (t : ℕ) (scan : Scan) (ask : Ask) (reply : Reply) → IsProp (MayAnswer shape t scan ask reply)
+unfolding MayAnswer
+MayAnswer-prop shape t scan (Reserve chan contract kind delay up_reach first next) reply = MayReply-prop shape _ chan contract delay up_reach reply
+MayAnswer-prop shape t scan (Relax chan level up_bound) reply = Reply-set _ _
+MayAnswer-prop shape t scan (Deny chan) reply = Reply-set _ _
+MayAnswer-prop shape t scan (Submit chan count gap size) reply = Reply-set _ _
+MayAnswer-prop shape t scan (Release chan upstream) reply = Reply-set _ _
+MayAnswer-prop shape t scan (Arrive packet) reply = Reply-set _ _
+MayAnswer-prop shape t scan Tick reply = Reply-set _ _
+MayAnswer-prop shape t scan (Pour count gap size) reply = Reply-set _ _
+
+pub IsAdmissible-prop : (shape : LinkShape) (h : List Entry) → IsProp (IsAdmissible shape h)
+unfolding IsAdmissible
+IsAdmissible-prop shape [] = Unit-prop
+IsAdmissible-prop shape (e ∷ past) = ×_prop (IsAdmissible-prop shape past) (Prim.hlevel (AskFits-prop, MayAnswer-prop))
+
+-- so are accounts
+Kept-set : IsSet Kept
+Kept-set = Prim.hlevel (ℕ_set, le_prop, ⊎_set, list_set)
+
+pub StandsFor-prop : (shape : LinkShape) (k : Kept) (h : List Entry) → IsProp (StandsFor shape k h)
+StandsFor-prop shape k h = Kept-set _ _

@@ -1,0 +1,60 @@
+-- The held rows of an admissible history never keep more than the link's buffer.
+use Rattle.std.proofs.Common.{◌≡◌, ℕ, ◌+◌, ◌*◌, ◌≤◌, List, [], ◌∷◌, map, refl, ap, arith}
+use Rattle.std.proofs.Math.Nat.{mul-le-mul_right}
+use Rattle.net_units.proofs.BoundFacts.{bound_at-rising}
+use Rattle.net_units.specs.Numbers.{level_number}
+use Rattle.traffic_contract.specs.Admission.{total}
+use Rattle.traffic_contract.specs.Contract.{IsContract, most_in}
+use Rattle.traffic_contract.proofs.LongerWindows.{most_in-mono}
+use Rattle.link_steps.specs.declared.asks.Ask.{Ask}
+use Rattle.link_steps.specs.declared.asks.Ask.TheVariants.{Reserve}
+use Rattle.link_steps.specs.declared.replies.Entry.{Entry}
+use Rattle.link_steps.specs.declared.replies.Phase.TheVariants.{Committed}
+use Rattle.link_steps.specs.declared.replies.Reply.{Reply}
+use Rattle.link_steps.specs.declared.replies.Reply.TheVariants as Is
+use Rattle.link_steps.specs.declared.shape.LinkShape.{LinkShape}
+use Rattle.link_steps.specs.Admissible.{MayAnswer, IsAdmissible}
+use Rattle.link_steps.specs.Buffer.{stay_in, kept_units, need_of, free_units}
+use Rattle.link_steps.specs.Reservation.{Reservation, committed, closing}
+use Rattle.link_steps.specs.Rows.{row_terms}
+use Rattle.link_steps.specs.Scan.{Scan, clock_of, scan_of}
+use Rattle.link_steps.proofs.LegalOrder.{legal-order}
+use Rattle.link_steps.proofs.SumAfter.{OnlyNewRaise, added_by, sum-after}
+
+-- a reservation keeps no more where it stays no longer
+units-shorter : (shape : LinkShape) (one other : Reservation) → IsContract one.contract → other.contract ≡ one.contract → stay_in other.phase shape.bounds other ≤ stay_in one.phase shape.bounds one → kept_units shape.bounds other ≤ kept_units shape.bounds one
+unfolding kept_units
+units-shorter shape one other valid same shorter =
+    let fewer = mul-le-mul_right one.contract.smax (most_in-mono one.contract (stay_in other.phase shape.bounds other) (stay_in one.phase shape.bounds one) valid shorter) in
+    let e : most_in other.contract (stay_in other.phase shape.bounds other) * other.contract.smax ≡ most_in one.contract (stay_in other.phase shape.bounds other) * one.contract.smax = ap (λ c. most_in c (stay_in other.phase shape.bounds other) * c.smax) same in
+    omega (arith, e, fewer)
+
+units-closed : (shape : LinkShape) (count : ℕ) (terms : Reservation) → terms.phase ≡ Committed → kept_units shape.bounds (closing count terms) ≤ kept_units shape.bounds terms
+unfolding kept_units
+units-closed shape count terms is = rw is (omega arith)
+
+-- neither a relax nor a release raises what a reservation keeps
+pub units-raise : (shape : LinkShape) → OnlyNewRaise shape (kept_units shape.bounds)
+units-raise shape = record {
+  relaxed = λ level up_bound terms fits valid most.
+      units-shorter shape terms (committed level up_bound terms) valid refl
+      (let rising = bound_at-rising shape.bounds (level_number level) (level_number terms.reach) shape.bounds_rise level.least fits.level_most most in
+      let bound = fits.bound_most in
+      rw fits.phase (omega (arith, rising, bound)));
+  closed = units-closed shape;
+}
+
+units-after : (shape : LinkShape) (t : ℕ) (scan : Scan) (ask : Ask) (reply : Reply) → MayAnswer shape t scan ask reply → total (kept_units shape.bounds) (map row_terms scan.rows) ≤ shape.buffer → total (kept_units shape.bounds) (map row_terms scan.rows) + added_by (kept_units shape.bounds) ask reply ≤ shape.buffer
+unfolding MayAnswer need_of kept_units free_units
+units-after shape t scan (Reserve chan contract kind delay up_reach first next) (Is.Offer level reach) may held = (let free = may.free in omega (arith, free, held))
+units-after shape t scan _ _ may held = omega (arith, held)
+
+pub units-held : (shape : LinkShape) (h : List Entry) → IsAdmissible shape h → total (kept_units shape.bounds) (map row_terms (scan_of shape h).rows) ≤ shape.buffer
+unfolding IsAdmissible scan_of
+units-held shape [] legal = omega arith
+units-held shape (e ∷ past) legal =
+    let before = units-held shape past legal.0 in
+    let order = legal-order shape past legal.0 in
+    let more = sum-after (kept_units shape.bounds) shape (clock_of past) (scan_of shape past) e.ask e.reply (units-raise shape) legal.1.answered order.held in
+    let room = units-after shape (clock_of past) (scan_of shape past) e.ask e.reply legal.1.answered before in
+    omega (arith, more, room)
