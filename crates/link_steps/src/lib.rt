@@ -20,6 +20,6 @@ pub mod split;
 pub use asks::{Ask, Packet};
 pub use link_step::LinkStep;
 pub use quota::Quota;
-pub use replies::{Entry, Phase, Refusal, Reply, Sent, Why};
+pub use replies::{Entry, Phase, Refusal, Reply, Sent, Unexpected, Why};
 pub use shape::{BadShape, LinkShape, ShapeField};
 pub use split::Split;

@@ -148,3 +148,12 @@ pub struct Entry {
     pub ask: Ask,
     pub reply: Reply,
 }
+
+/// A reply that isn't one of its ask's.
+#[derive(Clone, Copy, Debug, PartialEq, Eq)]
+pub struct Unexpected {
+    /// What was asked.
+    pub ask: Ask,
+    /// What was replied.
+    pub reply: Reply,
+}

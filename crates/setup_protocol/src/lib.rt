@@ -14,7 +14,7 @@ pub mod verdict;
 pub use request::{Control, Request};
 pub use setup::Setup;
 pub use teardown::Teardown;
-pub use verdict::{Deny, Unexpected, Verdict};
+pub use verdict::{Deny, Verdict};
 
 #[cfg(test)]
 mod tests;

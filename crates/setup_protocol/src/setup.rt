@@ -12,9 +12,9 @@ ghost use Rattle.setup_protocol.specs.State.{advance, after_reserve, outcome_of,
 ghost use Rattle.setup_protocol.specs.StateProp.{IsStateOf-prop};
 
 use crate::request::Request;
-use crate::verdict::{Deny, Unexpected, Verdict};
+use crate::verdict::{Deny, Verdict};
 use hop_reservation::{Itinerary, Route};
-use link_steps::{Ask, Refusal, Reply};
+use link_steps::{Ask, Refusal, Reply, Unexpected};
 use net_units::{Level, Levels, LinkNo};
 use relaxation::allot;
 

@@ -4,9 +4,8 @@ ghost use Rattle.link_steps.specs.declared.replies.Reply.{Reply as Replied};
 ghost use Rattle.hop_reservation.specs.Routes.{IsRoute};
 ghost use Rattle.setup_protocol.specs.Teardown.{is_closing, next_release};
 
-use crate::verdict::Unexpected;
 use hop_reservation::Route;
-use link_steps::{Ask, Reply};
+use link_steps::{Ask, Reply, Unexpected};
 use net_units::{ChanNo, LinkNo};
 
 /// The releases of a channel, hop by hop.

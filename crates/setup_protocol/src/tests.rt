@@ -2,7 +2,7 @@
 //! 2, and offers level 1, so the delay offered is 24.
 use super::*;
 use hop_reservation::{Hop, Route};
-use link_steps::{Ask, Refusal, Reply};
+use link_steps::{Ask, Refusal, Reply, Unexpected};
 use net_units::{Bounds, ChanNo, Kind, Level, LinkNo};
 use relaxation::EndDenial;
 use std::process::Abort;

@@ -1,5 +1,5 @@
 //! What a request comes to.
-use link_steps::{Ask, Refusal, Reply};
+use link_steps::Refusal;
 use net_units::Levels;
 use relaxation::EndDenial;
 
@@ -29,13 +29,4 @@ pub enum Verdict {
     },
     /// The request is denied, and each hop that had offered was asked to give its row back.
     Denied(Deny),
-}
-
-/// A reply that isn't one of its ask's.
-#[derive(Clone, Copy, Debug, PartialEq, Eq)]
-pub struct Unexpected {
-    /// What was asked.
-    pub ask: Ask,
-    /// What was replied.
-    pub reply: Reply,
 }
