@@ -28,7 +28,7 @@ use Rattle.link_server.specs.Planned.{left_in}
 use Rattle.link_server.specs.Rows.{terms_in, row_in, is_row_of, IsAbsent, IsPlaceOf}
 use Rattle.link_server.specs.Sound.{IsSound}
 use Rattle.link_server.specs.Strays.{first_rule, stray_rules, stray}
-use Rattle.link_server.specs.declared.held_row.HeldRow.{HeldRow}
+use Rattle.link_server.specs.declared.served_row.ServedRow.{ServedRow}
 use Rattle.link_server.specs.declared.packets.HeldPacket.{HeldPacket}
 use Rattle.link_server.specs.declared.packets.Packets.{Packets}
 use Rattle.link_server.proofs.PlaceFacts.{kept-found, kept-absent, kept-changed}
@@ -49,27 +49,27 @@ rules-kept (None ∷ rules) more reply none = rules-kept rules more reply none
 rules-kept (Some other ∷ rules) more reply none = cc
 
 -- the reply to a packet of a channel without a row
-pub arrive-absent : (shape : LinkShape) (t : ℕ) (packets : Packets) (packet : Packet) (rows : List HeldRow) → IsAbsent packet.chan rows → Refused (Stray NoRow) ≡ kept_reply (whole shape) (account t packets rows) (Arrive packet)
+pub arrive-absent : (shape : LinkShape) (t : ℕ) (packets : Packets) (packet : Packet) (rows : List ServedRow) → IsAbsent packet.chan rows → Refused (Stray NoRow) ≡ kept_reply (whole shape) (account t packets rows) (Arrive packet)
 unfolding kept_reply
 arrive-absent shape t packets packet rows absent = rw (kept-absent (is_row_of packet.chan) (is_kept_of packet.chan) (λ row. refl) rows absent) refl
 
 -- or else it is that of the row at the place: its rules on strays come first, and then its slots
-abbrev pub slots-rule : LinkShape → List HeldPacket → HeldRow → Rule
+abbrev pub slots-rule : LinkShape → List HeldPacket → ServedRow → Rule
 slots-rule shape here row = full (held_packets row.lead (here_in here)) (slots_of shape.bounds (terms_in row))
 
-abbrev taken-reply : ℕ → Packet → HeldRow → Reply
+abbrev taken-reply : ℕ → Packet → ServedRow → Reply
 taken-reply t packet row = Taken t (eligible_next (terms_in row) (row_in row).recent t packet.due)
 
-arrive-found : (shape : LinkShape) (t : ℕ) (packets : Packets) (packet : Packet) (rows : List HeldRow) (i : ℕ) (d : HeldRow) → IsPlaceOf packet.chan rows i
+arrive-found : (shape : LinkShape) (t : ℕ) (packets : Packets) (packet : Packet) (rows : List ServedRow) (i : ℕ) (d : ServedRow) → IsPlaceOf packet.chan rows i
     → kept_reply (whole shape) (account t packets rows) (Arrive packet) ≡ first_refusal (stray_rules packet (terms_in (get_or rows i d)) (get_or rows i d).taken ++ slots-rule shape packets.here.items (get_or rows i d) ∷ []) (taken-reply t packet (get_or rows i d))
 unfolding kept_reply arrive_reply
 arrive-found shape t packets packet rows i d place = ap (kept_arrive shape t (here_in packets.here.items) packet) (kept-found (is_row_of packet.chan) (is_kept_of packet.chan) (λ row. refl) rows i d place)
 
 -- a packet without a place, one that finds each slot taken, and one that is taken
-pub arrive-stray : (shape : LinkShape) (t : ℕ) (packets : Packets) (packet : Packet) (rows : List HeldRow) (i : ℕ) (d : HeldRow) (refusal : Refusal) → IsPlaceOf packet.chan rows i → Some refusal ≡ stray packet (terms_in (get_or rows i d)) (get_or rows i d).taken → Refused refusal ≡ kept_reply (whole shape) (account t packets rows) (Arrive packet)
+pub arrive-stray : (shape : LinkShape) (t : ℕ) (packets : Packets) (packet : Packet) (rows : List ServedRow) (i : ℕ) (d : ServedRow) (refusal : Refusal) → IsPlaceOf packet.chan rows i → Some refusal ≡ stray packet (terms_in (get_or rows i d)) (get_or rows i d).taken → Refused refusal ≡ kept_reply (whole shape) (account t packets rows) (Arrive packet)
 arrive-stray shape t packets packet rows i d refusal place first = rule-applies (stray_rules packet (terms_in (get_or rows i d)) (get_or rows i d).taken) (slots-rule shape packets.here.items (get_or rows i d) ∷ []) (taken-reply t packet (get_or rows i d)) refusal first ∙ sym (arrive-found shape t packets packet rows i d place)
 
-pub arrive-full : (shape : LinkShape) (t : ℕ) (packets : Packets) (packet : Packet) (rows : List HeldRow) (i : ℕ) (d : HeldRow) (refusal : Refusal) → IsPlaceOf packet.chan rows i → None ≡ stray packet (terms_in (get_or rows i d)) (get_or rows i d).taken
+pub arrive-full : (shape : LinkShape) (t : ℕ) (packets : Packets) (packet : Packet) (rows : List ServedRow) (i : ℕ) (d : ServedRow) (refusal : Refusal) → IsPlaceOf packet.chan rows i → None ≡ stray packet (terms_in (get_or rows i d)) (get_or rows i d).taken
     → Some refusal ≡ slots-rule shape packets.here.items (get_or rows i d) → Refused refusal ≡ kept_reply (whole shape) (account t packets rows) (Arrive packet)
 arrive-full shape t packets packet rows i d refusal place none holds =
     rule-applies (slots-rule shape packets.here.items (get_or rows i d) ∷ []) [] (taken-reply t packet (get_or rows i d)) refusal (one-rule (slots-rule shape packets.here.items (get_or rows i d)) refusal holds)
@@ -78,7 +78,7 @@ arrive-full shape t packets packet rows i d refusal place none holds =
       one-rule None refusal same = same
       one-rule (Some other) refusal same = same
 
-pub arrive-taken : (shape : LinkShape) (t : ℕ) (packets : Packets) (packet : Packet) (rows : List HeldRow) (i : ℕ) (d : HeldRow) (e : ℕ) → IsPlaceOf packet.chan rows i → None ≡ stray packet (terms_in (get_or rows i d)) (get_or rows i d).taken
+pub arrive-taken : (shape : LinkShape) (t : ℕ) (packets : Packets) (packet : Packet) (rows : List ServedRow) (i : ℕ) (d : ServedRow) (e : ℕ) → IsPlaceOf packet.chan rows i → None ≡ stray packet (terms_in (get_or rows i d)) (get_or rows i d).taken
     → None ≡ slots-rule shape packets.here.items (get_or rows i d) → e ≡ eligible_next (terms_in (get_or rows i d)) (row_in (get_or rows i d)).recent t packet.due → Taken t e ≡ kept_reply (whole shape) (account t packets rows) (Arrive packet)
 arrive-taken shape t packets packet rows i d e place none free tick =
     ap (Taken t) tick
@@ -106,7 +106,7 @@ next-number packet terms taken none =
     eqb-true packet.number (suc taken) (unless-none (nat_eq packet.number (suc taken)) (Stray (WrongNumber (suc taken))) kept)
 
 -- what is kept with the packet
-pub arrive-kept : (shape : LinkShape) (t e : ℕ) (old new : Packets) (packet : Packet) (rows : List HeldRow) (i : ℕ) (d row : HeldRow) (taken : HeldPacket) → IsPlaceOf packet.chan rows i
+pub arrive-kept : (shape : LinkShape) (t e : ℕ) (old new : Packets) (packet : Packet) (rows : List ServedRow) (i : ℕ) (d row : ServedRow) (taken : HeldPacket) → IsPlaceOf packet.chan rows i
     → packet.number ≡ suc (get_or rows i d).taken
     → row_in row ≡ kept_with (old.taken + 1) (eligible_next (terms_in (get_or rows i d)) (row_in (get_or rows i d)).recent t packet.due) (row_in (get_or rows i d))
     → arrival_in taken ≡ arrival_at (terms_in (get_or rows i d)) (get_or rows i d).lead (old.taken + 1) (suc (get_or rows i d).taken) packet.size t (eligible_next (terms_in (get_or rows i d)) (row_in (get_or rows i d)).recent t packet.due)
@@ -128,7 +128,7 @@ arrive-kept shape t e old new packet rows i d row taken place number same arrive
     ∙ ap (kept_with_arrival packet (account t old rows)) (sym found)
 
 -- so where the account with the packet is sound, there was a place for it
-pub arrive-room : (shape : LinkShape) (room t e : ℕ) (packets : Packets) (packet : Packet) (rows : List HeldRow) (i : ℕ) (d : HeldRow) → IsPlaceOf packet.chan rows i → IsSound shape room (kept_after shape (account t packets rows) (Arrive packet) (Taken t e)) → length packets.here.items < room
+pub arrive-room : (shape : LinkShape) (room t e : ℕ) (packets : Packets) (packet : Packet) (rows : List ServedRow) (i : ℕ) (d : ServedRow) → IsPlaceOf packet.chan rows i → IsSound shape room (kept_after shape (account t packets rows) (Arrive packet) (Taken t e)) → length packets.here.items < room
 unfolding kept_after kept_with_arrival
 arrive-room shape room t e packets packet rows i d place sound =
     let found = kept-found (is_row_of packet.chan) (is_kept_of packet.chan) (λ r. refl) rows i d place in

@@ -15,8 +15,8 @@ use Rattle.link_steps.specs.Reservation.{Reservation, tentative}
 use Rattle.link_server.specs.Rows.{terms_in, row_in, summed, IsWithin, AreWithin}
 use Rattle.link_server.specs.Sound.{IsSound, most_places}
 use Rattle.link_server.specs.Wants.{ask_for}
-use Rattle.link_server.specs.declared.held_row.HeldRow.{HeldRow}
-use Rattle.link_server.specs.declared.held_row.Wanted.{Wanted}
+use Rattle.link_server.specs.declared.served_row.ServedRow.{ServedRow}
+use Rattle.link_server.specs.declared.served_row.Wanted.{Wanted}
 use Rattle.link_server.proofs.SoundNumbers.{most_places-push}
 use Rattle.link_server.proofs.SoundSetup.{sound-reserve}
 use Rattle.link_server.proofs.SumsFacts.{summed-reserved}
@@ -25,7 +25,7 @@ use Rattle.link_server.proofs.SumsFacts.{summed-reserved}
 abbrev pub held_terms : Wanted → Level → Level → Reservation
 held_terms wanted level reach = tentative wanted.chan wanted.contract wanted.kind wanted.first wanted.next wanted.up_reach level reach
 
-most-held : (shape : LinkShape) (room : ℕ) (k : Kept) (wanted : Wanted) (level reach : Level) (row : HeldRow) → row_in row ≡ new_kept (held_terms wanted level reach)
+most-held : (shape : LinkShape) (room : ℕ) (k : Kept) (wanted : Wanted) (level reach : Level) (row : ServedRow) → row_in row ≡ new_kept (held_terms wanted level reach)
     → most_places shape.bounds k.here k.rows + suc (slots_of shape.bounds (terms_in row)) + suc shape.best ≤ room
     → most_places shape.bounds (kept_after shape k (ask_for wanted) (Offer level reach)).here (kept_after shape k (ask_for wanted) (Offer level reach)).rows + suc shape.best ≤ room
 unfolding kept_after
@@ -34,7 +34,7 @@ most-held shape room k wanted level reach row same enough =
     let slots : slots_of shape.bounds (terms_in row) ≡ slots_of shape.bounds (held_terms wanted level reach) = ap (λ kept. slots_of shape.bounds kept.terms) same in
     omega (arith, push, slots, enough)
 
-pub sound-held : (shape : LinkShape) (room : ℕ) (k : Kept) (wanted : Wanted) (level reach : Level) (row : HeldRow) → ReserveFits wanted.contract wanted.up_reach wanted.first → IsSound shape room k
+pub sound-held : (shape : LinkShape) (room : ℕ) (k : Kept) (wanted : Wanted) (level reach : Level) (row : ServedRow) → ReserveFits wanted.contract wanted.up_reach wanted.first → IsSound shape room k
     → Offer level reach ≡ kept_reply (whole shape) k (ask_for wanted) → row_in row ≡ new_kept (held_terms wanted level reach)
     → most_places shape.bounds k.here k.rows + suc (slots_of shape.bounds (terms_in row)) + suc shape.best ≤ room
     → IsSound shape room (kept_after shape k (ask_for wanted) (Offer level reach))
@@ -43,7 +43,7 @@ sound-held shape room k wanted level reach row fits sound offered same enough =
     (λ _. most-held shape room k wanted level reach row same enough)
 
 -- the sums hold it at its level
-pub summed-pushed : (rows : List HeldRow) (row : HeldRow) (wanted : Wanted) (level reach : Level) (key : ℕ) (sums : List Held) → row_in row ≡ new_kept (held_terms wanted level reach) → key ≡ channel_number wanted.chan → sums ≡ map summed rows
+pub summed-pushed : (rows : List ServedRow) (row : ServedRow) (wanted : Wanted) (level reach : Level) (key : ℕ) (sums : List Held) → row_in row ≡ new_kept (held_terms wanted level reach) → key ≡ channel_number wanted.chan → sums ≡ map summed rows
     → sums ++ held_at key wanted.contract (level_number level) ∷ [] ≡ map summed (rows ++ row ∷ [])
 summed-pushed rows row wanted level reach key sums same number held =
     ap (λ all. all ++ held_at key wanted.contract (level_number level) ∷ []) held
@@ -52,5 +52,5 @@ summed-pushed rows row wanted level reach key sums same number held =
     ∙ sym (map_push summed rows row)
 
 -- and at levels of the link
-pub within-pushed : (levels : ℕ) (rows : List HeldRow) (row : HeldRow) → AreWithin levels rows → IsWithin levels row → AreWithin levels (rows ++ row ∷ [])
+pub within-pushed : (levels : ℕ) (rows : List ServedRow) (row : ServedRow) → AreWithin levels rows → IsWithin levels row → AreWithin levels (rows ++ row ∷ [])
 within-pushed levels rows row within last = All-push (IsWithin levels) rows row within last

@@ -9,11 +9,11 @@ use Rattle.link_steps.specs.Kept.{KeptRow, is_kept_of, kept_terms}
 use Rattle.link_steps.specs.Lists.{change_first, without_first}
 use Rattle.link_steps.specs.Reservation.{is_of}
 use Rattle.link_steps.proofs.ListFacts.{find-map, map-without_first}
-use Rattle.link_server.specs.declared.held_row.HeldRow.{HeldRow}
+use Rattle.link_server.specs.declared.served_row.ServedRow.{ServedRow}
 use Rattle.link_server.specs.Rows.{terms_in, row_in, is_row_of, HasNone, IsPlace, IsAbsent, IsPlaceOf}
 
 -- a place past the first row is one of the others
-pub place-later : (test : HeldRow → Bool) (row : HeldRow) (rows : List HeldRow) (i : ℕ) → IsPlace test (row ∷ rows) (suc i) → IsPlace test rows i
+pub place-later : (test : ServedRow → Bool) (row : ServedRow) (rows : List ServedRow) (i : ℕ) → IsPlace test (row ∷ rows) (suc i) → IsPlace test rows i
 place-later test row rows i place = record {
   inside = let h = place.inside in omega arith;
   here = λ d. place.here d;
@@ -21,50 +21,50 @@ place-later test row rows i place = record {
 }
 
 -- the row at the place is the one that is found
-pub place-found : (test : HeldRow → Bool) (rows : List HeldRow) (i : ℕ) (d : HeldRow) → IsPlace test rows i → find test rows ≡ Some (get_or rows i d)
+pub place-found : (test : ServedRow → Bool) (rows : List ServedRow) (i : ℕ) (d : ServedRow) → IsPlace test rows i → find test rows ≡ Some (get_or rows i d)
 place-found test [] i d place = let h = place.inside in absurd (omega arith)
 place-found test (row ∷ rows) zero d place = rw (place.here d) refl
 place-found test (row ∷ rows) (suc i) d place = rw (place.before 0 d (omega arith)) (place-found test rows i d (place-later test row rows i place))
 
 -- where there is no row none is found
-pub absent-found : (test : HeldRow → Bool) (rows : List HeldRow) → HasNone test rows → find test rows ≡ None
+pub absent-found : (test : ServedRow → Bool) (rows : List ServedRow) → HasNone test rows → find test rows ≡ None
 absent-found test [] absent = refl
 absent-found test (row ∷ rows) absent = rw (absent 0 row (omega arith)) (absent-found test rows (λ k d inside. absent (suc k) d (omega arith)))
 
 -- what is found in the account is what is kept of that row
-pub kept-found : (test : HeldRow → Bool) (seen : KeptRow → Bool) → ((row : HeldRow) → seen (row_in row) ≡ test row) → (rows : List HeldRow) (i : ℕ) (d : HeldRow) → IsPlace test rows i → find seen (map row_in rows) ≡ Some (row_in (get_or rows i d))
+pub kept-found : (test : ServedRow → Bool) (seen : KeptRow → Bool) → ((row : ServedRow) → seen (row_in row) ≡ test row) → (rows : List ServedRow) (i : ℕ) (d : ServedRow) → IsPlace test rows i → find seen (map row_in rows) ≡ Some (row_in (get_or rows i d))
 kept-found test seen same rows i d place = find-map row_in test seen same rows ∙ ap (option_map row_in) (place-found test rows i d place)
 
-pub kept-absent : (test : HeldRow → Bool) (seen : KeptRow → Bool) → ((row : HeldRow) → seen (row_in row) ≡ test row) → (rows : List HeldRow) → HasNone test rows → find seen (map row_in rows) ≡ None
+pub kept-absent : (test : ServedRow → Bool) (seen : KeptRow → Bool) → ((row : ServedRow) → seen (row_in row) ≡ test row) → (rows : List ServedRow) → HasNone test rows → find seen (map row_in rows) ≡ None
 kept-absent test seen same rows absent = find-map row_in test seen same rows ∙ ap (option_map row_in) (absent-found test rows absent)
 
 -- the reservations of the account are those of the rows
-pub terms-kept : (rows : List HeldRow) → map kept_terms (map row_in rows) ≡ map terms_in rows
+pub terms-kept : (rows : List ServedRow) → map kept_terms (map row_in rows) ≡ map terms_in rows
 terms-kept [] = refl
 terms-kept (row ∷ rows) = ap (λ all. terms_in row ∷ all) (terms-kept rows)
 
-find-terms : (chan : ChanNo) (rows : List HeldRow) → find (is_of chan) (map kept_terms (map row_in rows)) ≡ option_map terms_in (find (is_row_of chan) rows)
+find-terms : (chan : ChanNo) (rows : List ServedRow) → find (is_of chan) (map kept_terms (map row_in rows)) ≡ option_map terms_in (find (is_row_of chan) rows)
 find-terms chan rows = rw (terms-kept rows) (find-map terms_in (is_row_of chan) (is_of chan) (λ row. refl) rows)
 
 -- the reservation of the channel, where it stands at a place, and where there is none
-pub terms-found : (chan : ChanNo) (rows : List HeldRow) (i : ℕ) (d : HeldRow) → IsPlaceOf chan rows i → find (is_of chan) (map kept_terms (map row_in rows)) ≡ Some (terms_in (get_or rows i d))
+pub terms-found : (chan : ChanNo) (rows : List ServedRow) (i : ℕ) (d : ServedRow) → IsPlaceOf chan rows i → find (is_of chan) (map kept_terms (map row_in rows)) ≡ Some (terms_in (get_or rows i d))
 terms-found chan rows i d place = find-terms chan rows ∙ ap (option_map terms_in) (place-found (is_row_of chan) rows i d place)
 
-pub terms-absent : (chan : ChanNo) (rows : List HeldRow) → IsAbsent chan rows → find (is_of chan) (map kept_terms (map row_in rows)) ≡ None
+pub terms-absent : (chan : ChanNo) (rows : List ServedRow) → IsAbsent chan rows → find (is_of chan) (map kept_terms (map row_in rows)) ≡ None
 terms-absent chan rows absent = find-terms chan rows ∙ ap (option_map terms_in) (absent-found (is_row_of chan) rows absent)
 
 -- the row at the place taken out
-place-without : (chan : ChanNo) (rows : List HeldRow) (i : ℕ) → IsPlaceOf chan rows i → without_first (is_row_of chan) rows ≡ remove rows i
+place-without : (chan : ChanNo) (rows : List ServedRow) (i : ℕ) → IsPlaceOf chan rows i → without_first (is_row_of chan) rows ≡ remove rows i
 unfolding without_first
 place-without chan [] i place = let h = place.inside in absurd (omega arith)
 place-without chan (row ∷ rows) zero place = rw (place.here row) refl
 place-without chan (row ∷ rows) (suc i) place = rw (place.before 0 row (omega arith)) (ap (λ all. row ∷ all) (place-without chan rows i (place-later (is_row_of chan) row rows i place)))
 
-pub kept-without : (chan : ChanNo) (rows : List HeldRow) (i : ℕ) → IsPlaceOf chan rows i → map row_in (remove rows i) ≡ without_first (is_kept_of chan) (map row_in rows)
+pub kept-without : (chan : ChanNo) (rows : List ServedRow) (i : ℕ) → IsPlaceOf chan rows i → map row_in (remove rows i) ≡ without_first (is_kept_of chan) (map row_in rows)
 kept-without chan rows i place = ap (map row_in) (sym (place-without chan rows i place)) ∙ map-without_first row_in (is_row_of chan) (is_kept_of chan) (λ row. refl) rows
 
 -- the row at the place changed
-pub kept-changed : (test : HeldRow → Bool) (seen : KeptRow → Bool) (change : KeptRow → KeptRow) → ((row : HeldRow) → seen (row_in row) ≡ test row) → (rows : List HeldRow) (i : ℕ) (new d : HeldRow) → IsPlace test rows i → row_in new ≡ change (row_in (get_or rows i d)) → map row_in (set rows i new) ≡ change_first seen change (map row_in rows)
+pub kept-changed : (test : ServedRow → Bool) (seen : KeptRow → Bool) (change : KeptRow → KeptRow) → ((row : ServedRow) → seen (row_in row) ≡ test row) → (rows : List ServedRow) (i : ℕ) (new d : ServedRow) → IsPlace test rows i → row_in new ≡ change (row_in (get_or rows i d)) → map row_in (set rows i new) ≡ change_first seen change (map row_in rows)
 unfolding change_first
 kept-changed test seen change alike [] i new d place same = let h = place.inside in absurd (omega arith)
 kept-changed test seen change alike (row ∷ rows) zero new d place same = rw (alike row, place.here d) (ap (λ k. k ∷ map row_in rows) same)
@@ -82,5 +82,5 @@ all-without P (x ∷ xs) (suc i) all = all-put P x (remove xs i) (all 0 x (omega
   all-put P x xs first rest (suc k) d inside = rest k d (omega arith)
 
 -- what was read at the place is the row there, whatever stands for a row past the end
-pub at-place : (rows : List HeldRow) (i : ℕ) (row d : HeldRow) → row ≡ get_or rows i row → i < length rows → row ≡ get_or rows i d
+pub at-place : (rows : List ServedRow) (i : ℕ) (row d : ServedRow) → row ≡ get_or rows i row → i < length rows → row ≡ get_or rows i d
 at-place rows i row d same inside = same ∙ get_or_default rows i row d inside

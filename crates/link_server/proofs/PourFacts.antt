@@ -20,7 +20,7 @@ use Rattle.link_steps.specs.Sources.{SourceStep, Rests, Brings, Loses, source_st
 use Rattle.link_steps.specs.Split.{whole}
 use Rattle.link_server.specs.Account.{account}
 use Rattle.link_server.specs.Planned.{left_in, size_of}
-use Rattle.link_server.specs.declared.held_row.HeldRow.{HeldRow}
+use Rattle.link_server.specs.declared.served_row.ServedRow.{ServedRow}
 use Rattle.link_server.specs.declared.packets.Packets.{Packets}
 use Rattle.link_server.proofs.PlanFacts.{planned-length, behind-none, none-left}
 
@@ -31,15 +31,15 @@ left-counted packets = planned-length packets.best.tick packets.best.gap packets
 abbrev pub with_plan : Kept → List SourcePacket → Kept
 with_plan k plan = record k { best_left = plan }
 
-pub pour-busy : (shape : LinkShape) (t : ℕ) (packets : Packets) (rows : List HeldRow) (count gap size : ℕ) (refusal : Refusal) → Some refusal ≡ busy packets.best.count → Refused refusal ≡ kept_reply (whole shape) (account t packets rows) (Pour count gap size)
+pub pour-busy : (shape : LinkShape) (t : ℕ) (packets : Packets) (rows : List ServedRow) (count gap size : ℕ) (refusal : Refusal) → Some refusal ≡ busy packets.best.count → Refused refusal ≡ kept_reply (whole shape) (account t packets rows) (Pour count gap size)
 unfolding kept_reply pour_reply
 pour-busy shape t packets rows count gap size refusal left = rw (left-counted packets, sym left) refl
 
-pub pour-big : (shape : LinkShape) (t : ℕ) (packets : Packets) (rows : List HeldRow) (count gap size : ℕ) → None ≡ busy packets.best.count → shape.cap < size → Refused (TooBig size shape.cap) ≡ kept_reply (whole shape) (account t packets rows) (Pour count gap size)
+pub pour-big : (shape : LinkShape) (t : ℕ) (packets : Packets) (rows : List ServedRow) (count gap size : ℕ) → None ≡ busy packets.best.count → shape.cap < size → Refused (TooBig size shape.cap) ≡ kept_reply (whole shape) (account t packets rows) (Pour count gap size)
 unfolding kept_reply pour_reply
 pour-big shape t packets rows count gap size left big = rw (left-counted packets, sym left, lt-leb size shape.cap big) refl
 
-pub pour-planned : (shape : LinkShape) (t : ℕ) (packets : Packets) (rows : List HeldRow) (count gap size : ℕ) → None ≡ busy packets.best.count → size ≤ shape.cap → Planned t ≡ kept_reply (whole shape) (account t packets rows) (Pour count gap size)
+pub pour-planned : (shape : LinkShape) (t : ℕ) (packets : Packets) (rows : List ServedRow) (count gap size : ℕ) → None ≡ busy packets.best.count → size ≤ shape.cap → Planned t ≡ kept_reply (whole shape) (account t packets rows) (Pour count gap size)
 unfolding kept_reply pour_reply
 pour-planned shape t packets rows count gap size left small = rw (left-counted packets, sym left, le-leb size shape.cap small) refl
 
@@ -47,7 +47,7 @@ pub pour-same : (shape : LinkShape) (k : Kept) (count gap size : ℕ) (refusal :
 unfolding kept_after
 pour-same shape k count gap size refusal = refl
 
-pub pour-kept : (shape : LinkShape) (t : ℕ) (packets : Packets) (rows : List HeldRow) (count gap size clock : ℕ) → None ≡ busy packets.best.count → with_plan (account t packets rows) (planned_from t gap size count) ≡ kept_after shape (account t packets rows) (Pour count gap size) (Planned clock)
+pub pour-kept : (shape : LinkShape) (t : ℕ) (packets : Packets) (rows : List ServedRow) (count gap size clock : ℕ) → None ≡ busy packets.best.count → with_plan (account t packets rows) (planned_from t gap size count) ≡ kept_after shape (account t packets rows) (Pour count gap size) (Planned clock)
 unfolding kept_after
 pour-kept shape t packets rows count gap size clock left =
     ap (with_plan (account t packets rows)) (behind-none (left_in packets.best) (planned_from t gap size count) (left-counted packets ∙ none-left packets.best.count left))
@@ -99,5 +99,5 @@ pub best-made : (bounds : List ℕ) (place size t level : ℕ) (chan : ChanNo) �
     → record { place = place; lead = place; chan = chan; number = 0; size = size; at = t; eligible = t; level = level; next = None } ≡ best_arrival bounds place size t
 best-made bounds place size t level chan none below =
     ap (λ n. made n chan) below ∙ ap (made (suc (length bounds))) (same-chan chan (best_arrival bounds place size t).chan none) where
-  made : ℕ → ChanNo → Arrival
-  made n c = record { place = place; lead = place; chan = c; number = 0; size = size; at = t; eligible = t; level = n; next = None }
+      made : ℕ → ChanNo → Arrival
+      made n c = record { place = place; lead = place; chan = c; number = 0; size = size; at = t; eligible = t; level = n; next = None }

@@ -7,11 +7,11 @@ use Rattle.link_steps.specs.Buffer.{slots_of}
 use Rattle.link_server.specs.Packets.{arrival_in, here_in}
 use Rattle.link_server.specs.Rows.{terms_in, row_in}
 use Rattle.link_server.specs.Sound.{all_places_of, most_places}
-use Rattle.link_server.specs.declared.held_row.HeldRow.{HeldRow}
+use Rattle.link_server.specs.declared.served_row.ServedRow.{ServedRow}
 use Rattle.link_server.specs.declared.packets.HeldPacket.{HeldPacket}
 
 -- one row more has its places
-pub places-more : (bounds : List ℕ) (rows : List HeldRow) (i : ℕ) (d : HeldRow) → i < length rows
+pub places-more : (bounds : List ℕ) (rows : List ServedRow) (i : ℕ) (d : ServedRow) → i < length rows
     → total (all_places_of bounds) (map row_in (take (i + 1) rows)) ≡ total (all_places_of bounds) (map row_in (take i rows)) + suc (slots_of bounds (terms_in (get_or rows i d)))
 places-more bounds rows i d inside =
     ap (λ all. total (all_places_of bounds) (map row_in all)) (take_more rows i d inside)
@@ -19,7 +19,7 @@ places-more bounds rows i d inside =
     ∙ total-push (all_places_of bounds) (map row_in (take i rows)) (row_in (get_or rows i d))
 
 -- the places of what a link holds, from the rows' and the packets' numbers
-pub most_places-are : (bounds : List ℕ) (items : List HeldPacket) (rows : List HeldRow) (places : ℕ) → places ≡ total (all_places_of bounds) (map row_in rows) → most_places bounds (here_in items) (map row_in rows) ≡ length items + places
+pub most_places-are : (bounds : List ℕ) (items : List HeldPacket) (rows : List ServedRow) (places : ℕ) → places ≡ total (all_places_of bounds) (map row_in rows) → most_places bounds (here_in items) (map row_in rows) ≡ length items + places
 unfolding most_places
 most_places-are bounds items rows places same =
     ap (λ n. n + total (all_places_of bounds) (map row_in rows)) (length-map items arrival_in) ∙ ap (λ n. length items + n) (sym same)

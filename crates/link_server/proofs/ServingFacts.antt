@@ -56,9 +56,9 @@ pub departs-now : (shape : LinkShape) (clock : ℕ) (occupies : Option Start) (o
 departs-now shape clock occupies occupant running sent goes same is last made =
     let later = goes.leaves_later in
     made ∙ rw (sym same ∙ ap on_in is, eq-eqb (leaves_at shape.rate (start_in running)) (suc clock) (omega (arith, later, last))) (by-best (is_best shape.bounds (start_in running).packet)) where
-  by-best : (b : Bool) → cond b None (Some (sent_of shape (start_in running))) ≡ cond (not b) (Some (sent_of shape (start_in running))) None
-  by-best true = refl
-  by-best false = refl
+      by-best : (b : Bool) → cond b None (Some (sent_of shape (start_in running))) ≡ cond (not b) (Some (sent_of shape (start_in running))) None
+      by-best true = refl
+      by-best false = refl
 
 pub best-departs-now : (shape : LinkShape) (clock : ℕ) (occupies : Option Start) (occupant : Option Running) (running : Running) (best : Bool) → GoesOn shape clock (start_in running) → on_in occupant ≡ occupies → occupant ≡ Some running → leaves_at shape.rate (start_in running) ≤ clock + 1
     → best ≡ is_best shape.bounds (start_in running).packet → best ≡ best_departs shape clock occupies

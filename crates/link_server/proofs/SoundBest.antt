@@ -133,14 +133,17 @@ best-numbered Rests bounds n t = omega arith
 best-numbered Loses bounds n t = omega arith
 
 pub best-sound : (step : SourceStep) (bounds : List ℕ) (waiting most n more t : ℕ) → IsBestStep waiting most step → n + length (best_packet step bounds (suc n) t) ≤ more → Each (IsSoundPacket (length bounds) more) (best_packet step bounds (suc n) t)
-best-sound (Brings size) bounds waiting most n more t is upto = (record {
-  lead_least = omega arith;
-  lead_most = omega (arith, upto);
-  size_least = is.1;
-  size_most = is.2;
-  level_least = omega arith;
-  level_most = omega arith;
-}, tt)
+best-sound (Brings size) bounds waiting most n more t is upto = (
+  record {
+    lead_least = omega arith;
+    lead_most = omega (arith, upto);
+    size_least = is.1;
+    size_most = is.2;
+    level_least = omega arith;
+    level_most = omega arith;
+  },
+  tt,
+)
 best-sound Rests bounds waiting most n more t is upto = tt
 best-sound Loses bounds waiting most n more t is upto = tt
 

@@ -199,10 +199,10 @@ sources-channels bounds here levels t before_all taken (row ∷ rows) less each 
     Each-append (IsChannels bounds) (kept_packet (kept_step bounds here t row) t (suc taken) row) (kept_packets bounds here t (taken + taken_by (kept_step bounds here t row)) rows)
     (one (kept_step bounds here t row))
     (sources-channels bounds here levels t before_all (taken + taken_by (kept_step bounds here t row)) rows less each.1) where
-  one : (step : SourceStep) → Each (IsChannels bounds) (kept_packet step t (suc taken) row)
-  one (Brings size) = (omega (arith, less, each.0.level_most), tt)
-  one Rests = tt
-  one Loses = tt
+      one : (step : SourceStep) → Each (IsChannels bounds) (kept_packet step t (suc taken) row)
+      one (Brings size) = (omega (arith, less, each.0.level_most), tt)
+      one Rests = tt
+      one Loses = tt
 
 pub brought-channels : (shape : LinkShape) (room : ℕ) (k : Kept) → IsSound shape room k → Each (IsChannels shape.bounds) (from_sources shape k)
 brought-channels shape room k sound = sources-channels shape.bounds k.here (length shape.bounds) k.clock k.taken k.taken (held_rows shape k) (omega arith) (held-sound shape room k sound)

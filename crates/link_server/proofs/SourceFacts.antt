@@ -11,7 +11,7 @@ use Rattle.link_steps.specs.Sources.{SourceStep, Rests, Brings, Loses, source_st
 use Rattle.link_server.specs.Planned.{size_of}
 use Rattle.link_server.specs.Packets.{arrival_in, here_in}
 use Rattle.link_server.specs.Rows.{terms_in, row_in}
-use Rattle.link_server.specs.declared.held_row.HeldRow.{HeldRow}
+use Rattle.link_server.specs.declared.served_row.ServedRow.{ServedRow}
 use Rattle.link_server.specs.declared.packets.HeldPacket.{HeldPacket}
 
 rests-where-none : (slot : Bool) (planned : Option SourcePacket) → None ≡ size_of planned → source_step slot planned ≡ Rests
@@ -54,7 +54,7 @@ lost_by-most Rests = omega arith
 lost_by-most Loses = omega arith
 
 -- the slots of a row whose packet for the tick is no longer left are those that it had
-pub slot-same : (bounds : List ℕ) (t before : ℕ) (shown items : List HeldPacket) (new old : HeldRow) → shown ≡ items → row_in new ≡ past_tick t (row_in old)
+pub slot-same : (bounds : List ℕ) (t before : ℕ) (shown items : List HeldPacket) (new old : ServedRow) → shown ≡ items → row_in new ≡ past_tick t (row_in old)
     → has_slot bounds (terms_in new) new.lead (here_in (take before shown)) ≡ has_slot bounds (terms_in old) old.lead (take before (here_in items))
 slot-same bounds t before shown items new old all same =
     ap (λ row. has_slot bounds row.terms row.lead (here_in (take before shown))) same
@@ -62,7 +62,7 @@ slot-same bounds t before shown items new old all same =
     ∙ ap (has_slot bounds (terms_in old) old.lead) (sym (take-map arrival_in before items))
 
 -- the packet that such a row takes, behind those here
-pub brought-here : (t size taken place : ℕ) (items new_items : List HeldPacket) (packet : HeldPacket) (new old : HeldRow) → place ≡ taken + 1 → new_items ≡ items ++ packet ∷ [] → row_in new ≡ past_tick t (row_in old)
+pub brought-here : (t size taken place : ℕ) (items new_items : List HeldPacket) (packet : HeldPacket) (new old : ServedRow) → place ≡ taken + 1 → new_items ≡ items ++ packet ∷ [] → row_in new ≡ past_tick t (row_in old)
     → arrival_in packet ≡ arrival_at (terms_in new) new.lead place (suc new.taken) size t (kept_tick (row_in new) t)
     → here_in new_items ≡ here_in items ++ kept_packet (Brings size) t (suc taken) (row_in old)
 brought-here t size taken place items new_items packet new old number pushed same taking =
@@ -74,7 +74,7 @@ brought-here t size taken place items new_items packet new old number pushed sam
     ∙ ap (λ n. arrival_at (terms_in old) old.lead n (suc old.taken) size t (kept_tick (row_in old) t)) next)
 
 -- and the row afterwards
-pub brought-row : (t size taken place : ℕ) (last new old : HeldRow) → place ≡ taken + 1 → row_in new ≡ past_tick t (row_in old)
+pub brought-row : (t size taken place : ℕ) (last new old : ServedRow) → place ≡ taken + 1 → row_in new ≡ past_tick t (row_in old)
     → row_in last ≡ kept_with place (kept_tick (row_in new) t) (row_in new)
     → row_in last ≡ kept_after_step (Brings size) t (suc taken) (row_in old)
 brought-row t size taken place last new old number same taking =

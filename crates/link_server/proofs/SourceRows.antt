@@ -10,12 +10,12 @@ use Rattle.link_steps.specs.Sources.{SourceStep, Rests, Brings, Loses, taken_by,
 use Rattle.link_server.specs.Rows.{terms_in, row_in}
 use Rattle.link_server.specs.Sources.{step_in, brought_by, rows_by, lost_by_rows, IsReady, AreReady}
 use Rattle.link_server.specs.Packets.{arrival_in, here_in}
-use Rattle.link_server.specs.declared.held_row.HeldRow.{HeldRow}
+use Rattle.link_server.specs.declared.served_row.ServedRow.{ServedRow}
 use Rattle.link_server.specs.declared.packets.HeldPacket.{HeldPacket}
 use Rattle.link_server.proofs.SourceFacts.{packet-length, lost_by-most}
 
 -- the first i of the rows have made their step
-pub record HaveStepped (bounds : List ℕ) (was : List Arrival) (t before : ℕ) (old : List HeldRow) (i : ℕ) (rows : List HeldRow) (now : List Arrival) (count dropped : ℕ) : Type 0 where
+pub record HaveStepped (bounds : List ℕ) (was : List Arrival) (t before : ℕ) (old : List ServedRow) (i : ℕ) (rows : List ServedRow) (now : List Arrival) (count dropped : ℕ) : Type 0 where
   pub behind : drop i rows ≡ drop i old
   pub front : map row_in (take i rows) ++ rows_by bounds was t count (drop i old) ≡ rows_by bounds was t before old
   pub here : now ++ brought_by bounds was t count (drop i old) ≡ was ++ brought_by bounds was t before old
@@ -24,15 +24,15 @@ pub record HaveStepped (bounds : List ℕ) (was : List Arrival) (t before : ℕ)
   pub few : dropped ≤ i
 
 -- at the beginning none has
-pub none-stepped : (bounds : List ℕ) (was : List Arrival) (t before : ℕ) (old : List HeldRow) → HaveStepped bounds was t before old 0 old was before 0
+pub none-stepped : (bounds : List ℕ) (was : List Arrival) (t before : ℕ) (old : List ServedRow) → HaveStepped bounds was t before old 0 old was before 0
 none-stepped bounds was t before old = record { behind = refl; front = refl; here = refl; taken = refl; lost = omega arith; few = omega arith }
 
 -- rows that are the same from one on are the same behind it
-behind-next : (old rows : List HeldRow) (i : ℕ) → drop i rows ≡ drop i old → drop (i + 1) old ≡ drop (i + 1) rows
+behind-next : (old rows : List ServedRow) (i : ℕ) → drop i rows ≡ drop i old → drop (i + 1) old ≡ drop (i + 1) rows
 behind-next old rows i behind = sym (drop-drop 1 i old) ∙ ap (drop 1) (sym behind) ∙ drop-drop 1 i rows
 
 -- the packets that they take are those of that one, and then those of the rows behind it
-brought-from : (bounds : List ℕ) (was : List Arrival) (t taken : ℕ) (old : List HeldRow) (i : ℕ) (rows : List HeldRow) (d : HeldRow) → drop i rows ≡ drop i old → i < length rows
+brought-from : (bounds : List ℕ) (was : List Arrival) (t taken : ℕ) (old : List ServedRow) (i : ℕ) (rows : List ServedRow) (d : ServedRow) → drop i rows ≡ drop i old → i < length rows
     → length (brought_by bounds was t taken (drop i old)) ≡ taken_by (step_in bounds was t (get_or rows i d)) + length (brought_by bounds was t (taken + taken_by (step_in bounds was t (get_or rows i d))) (drop (i + 1) old))
 unfolding kept_packets
 brought-from bounds was t taken old i rows d behind inside =
@@ -43,24 +43,24 @@ brought-from bounds was t taken old i rows d behind inside =
     ∙ ap (λ all. taken_by step + length (brought_by bounds was t (taken + taken_by step) all)) (sym (behind-next old rows i behind))
 
 -- so before its step there is room for its packet, where there is room for all
-pub packets-now : (bounds : List ℕ) (was : List Arrival) (t taken : ℕ) (old : List HeldRow) (i : ℕ) (rows : List HeldRow) (d : HeldRow) → drop i rows ≡ drop i old → i < length rows
+pub packets-now : (bounds : List ℕ) (was : List Arrival) (t taken : ℕ) (old : List ServedRow) (i : ℕ) (rows : List ServedRow) (d : ServedRow) → drop i rows ≡ drop i old → i < length rows
     → taken_by (step_in bounds was t (get_or rows i d)) ≤ length (brought_by bounds was t taken (drop i old))
 packets-now bounds was t taken old i rows d behind inside = let split = brought-from bounds was t taken old i rows d behind inside in omega (arith, split)
 
 -- what is so of each row is so of those from one on
-each-behind : (P : KeptRow → Type 0) (rows : List HeldRow) (i : ℕ) → Each P (map row_in rows) → Each P (map row_in (drop i rows))
+each-behind : (P : KeptRow → Type 0) (rows : List ServedRow) (i : ℕ) → Each P (map row_in rows) → Each P (map row_in (drop i rows))
 each-behind P [] zero each = each
 each-behind P [] (suc i) each = each
 each-behind P (row ∷ rows) zero each = each
 each-behind P (row ∷ rows) (suc i) each = each-behind P rows i each.1
 
 -- so it is ready for its step
-pub ready-now : (t : ℕ) (old : List HeldRow) (i : ℕ) (rows : List HeldRow) (d : HeldRow) → drop i rows ≡ drop i old → AreReady t old → i < length rows → IsReady t (row_in (get_or rows i d))
+pub ready-now : (t : ℕ) (old : List ServedRow) (i : ℕ) (rows : List ServedRow) (d : ServedRow) → drop i rows ≡ drop i old → AreReady t old → i < length rows → IsReady t (row_in (get_or rows i d))
 ready-now t old i rows d behind ready inside =
     (subst (λ all. Each (IsReady t) (map row_in all)) (sym behind ∙ drop_more rows i d inside) (each-behind (IsReady t) old i ready)).0
 
 -- one row more has made its step
-pub one-stepped : (bounds : List ℕ) (was : List Arrival) (t before : ℕ) (old : List HeldRow) (i : ℕ) (rows : List HeldRow) (here : List Arrival) (taken lost : ℕ) (d new : HeldRow) (now : List Arrival) (taken' lost' : ℕ)
+pub one-stepped : (bounds : List ℕ) (was : List Arrival) (t before : ℕ) (old : List ServedRow) (i : ℕ) (rows : List ServedRow) (here : List Arrival) (taken lost : ℕ) (d new : ServedRow) (now : List Arrival) (taken' lost' : ℕ)
     → HaveStepped bounds was t before old i rows here taken lost
     → i < length rows
     → row_in new ≡ kept_after_step (step_in bounds was t (get_or rows i d)) t (suc taken) (row_in (get_or rows i d))
@@ -102,13 +102,13 @@ one-stepped bounds was t before old i rows here taken lost d new now taken' lost
     }
 
 -- at the end all have
-pub record StandsStepped (bounds : List ℕ) (was : List Arrival) (t before : ℕ) (old rows : List HeldRow) (now : List Arrival) (count dropped : ℕ) : Type 0 where
+pub record StandsStepped (bounds : List ℕ) (was : List Arrival) (t before : ℕ) (old rows : List ServedRow) (now : List Arrival) (count dropped : ℕ) : Type 0 where
   pub all : map row_in rows ≡ rows_by bounds was t before old
   pub here : now ≡ was ++ brought_by bounds was t before old
   pub taken : count ≡ before + length (brought_by bounds was t before old)
   pub lost : dropped ≡ lost_by_rows bounds was t old
 
-pub all-stepped : (bounds : List ℕ) (was : List Arrival) (t before : ℕ) (old : List HeldRow) (i : ℕ) (rows : List HeldRow) (here : List Arrival) (taken lost : ℕ)
+pub all-stepped : (bounds : List ℕ) (was : List Arrival) (t before : ℕ) (old : List ServedRow) (i : ℕ) (rows : List ServedRow) (here : List Arrival) (taken lost : ℕ)
     → HaveStepped bounds was t before old i rows here taken lost → length old ≤ i → length rows ≤ i → StandsStepped bounds was t before old rows here taken lost
 unfolding kept_packets kept_rows_after kept_lost
 all-stepped bounds was t before old i rows here taken lost so past end =
@@ -152,7 +152,7 @@ front-within before items new more within brought =
     omega (arith, long, longer, both, within)
 
 -- a step changes no reservation
-pub terms-stepped : (step : SourceStep) (t place : ℕ) (new old : HeldRow) → row_in new ≡ kept_after_step step t place (row_in old) → terms_in new ≡ terms_in old
+pub terms-stepped : (step : SourceStep) (t place : ℕ) (new old : ServedRow) → row_in new ≡ kept_after_step step t place (row_in old) → terms_in new ≡ terms_in old
 terms-stepped step t place new old same = ap (λ row. row.terms) same ∙ same-terms step where
   same-terms : (step : SourceStep) → (kept_after_step step t place (row_in old)).terms ≡ terms_in old
   same-terms Rests = refl

@@ -16,12 +16,12 @@ use Rattle.link_steps.proofs.LegalAdmissible.{may-answer, whole-fits}
 use Rattle.link_steps.specs.Legal.{AskFits}
 use Rattle.link_steps.proofs.HopHolds.{hop-guarantee}
 use Rattle.link_steps.proofs.Account.{stands-reply, stands-entry}
-use Rattle.link_server.specs.declared.held_row.HeldRow.{HeldRow}
+use Rattle.link_server.specs.declared.served_row.ServedRow.{ServedRow}
 use Rattle.link_server.specs.Asks.{IsOffer}
 use Rattle.link_server.specs.Rows.{row_in}
 
 -- the rows have contracts
-pub rows-have : (rows : List HeldRow) → Each HasContract (map row_in rows)
+pub rows-have : (rows : List ServedRow) → Each HasContract (map row_in rows)
 rows-have [] = tt
 rows-have (row ∷ rows) = (row.is_contract, rows-have rows)
 

@@ -18,7 +18,7 @@ use Rattle.link_server.specs.Account.{account}
 use Rattle.link_server.specs.Packets.{here_in, on_in}
 use Rattle.link_server.specs.Rows.{row_in}
 use Rattle.link_server.specs.Sources.{brought_by, rows_by, lost_by_rows}
-use Rattle.link_server.specs.declared.held_row.HeldRow.{HeldRow}
+use Rattle.link_server.specs.declared.served_row.ServedRow.{ServedRow}
 use Rattle.link_server.specs.declared.packets.Packets.{Packets}
 
 -- rows written over as many are those written
@@ -29,11 +29,11 @@ all-written n new old count same =
     ∙ take_all n new (omega (arith, count, same))
 
 -- the rows that stay bring the packets that the account says
-pub brought-is : (shape : LinkShape) (k : Kept) (rows : List HeldRow) → map row_in rows ≡ held_rows shape k → brought_by shape.bounds k.here k.clock k.taken rows ≡ from_sources shape k
+pub brought-is : (shape : LinkShape) (k : Kept) (rows : List ServedRow) → map row_in rows ≡ held_rows shape k → brought_by shape.bounds k.here k.clock k.taken rows ≡ from_sources shape k
 brought-is shape k rows stay = ap (kept_packets shape.bounds k.here k.clock k.taken) stay
 
 -- so after the best-effort packet has come those are here that the account says
-pub present-is : (shape : LinkShape) (k : Kept) (rows : List HeldRow) (src mid : Packets) (step : SourceStep) → map row_in rows ≡ held_rows shape k → here_in src.here.items ≡ k.here ++ brought_by shape.bounds k.here k.clock k.taken rows → src.taken ≡ k.taken + length (brought_by shape.bounds k.here k.clock k.taken rows)
+pub present-is : (shape : LinkShape) (k : Kept) (rows : List ServedRow) (src mid : Packets) (step : SourceStep) → map row_in rows ≡ held_rows shape k → here_in src.here.items ≡ k.here ++ brought_by shape.bounds k.here k.clock k.taken rows → src.taken ≡ k.taken + length (brought_by shape.bounds k.here k.clock k.taken rows)
     → step ≡ kept_best shape k → here_in mid.here.items ≡ here_in src.here.items ++ best_packet step shape.bounds (suc src.taken) k.clock → here_in mid.here.items ≡ present shape k
 present-is shape k rows src mid step stay here taken is came =
     let count : src.taken ≡ k.taken + length (from_sources shape k) = taken ∙ ap (λ more. k.taken + length more) (brought-is shape k rows stay) in
@@ -44,24 +44,24 @@ present-is shape k rows src mid step stay here taken is came =
     ∙ append_assoc k.here (from_sources shape k) (best_packet (kept_best shape k) shape.bounds (suc (k.taken + length (from_sources shape k))) k.clock)
 
 -- as many have been taken
-pub taken-is : (shape : LinkShape) (k : Kept) (rows : List HeldRow) (src mid : Packets) (step : SourceStep) → map row_in rows ≡ held_rows shape k → src.taken ≡ k.taken + length (brought_by shape.bounds k.here k.clock k.taken rows)
+pub taken-is : (shape : LinkShape) (k : Kept) (rows : List ServedRow) (src mid : Packets) (step : SourceStep) → map row_in rows ≡ held_rows shape k → src.taken ≡ k.taken + length (brought_by shape.bounds k.here k.clock k.taken rows)
     → step ≡ kept_best shape k → mid.taken ≡ src.taken + taken_by step → mid.taken ≡ k.taken + length (brought shape k)
 taken-is shape k rows src mid step stay taken is came =
     let count : src.taken ≡ k.taken + length (from_sources shape k) = taken ∙ ap (λ more. k.taken + length more) (brought-is shape k rows stay) in
     let one : taken_by step ≡ length (best_packet (kept_best shape k) shape.bounds (suc (k.taken + length (from_sources shape k))) k.clock) = ap taken_by is ∙ by-step (kept_best shape k) in
     let parts = length-append (from_sources shape k) (best_packet (kept_best shape k) shape.bounds (suc (k.taken + length (from_sources shape k))) k.clock) in
     omega (arith, came, count, one, parts) where
-  by-step : (s : SourceStep) → taken_by s ≡ length (best_packet s shape.bounds (suc (k.taken + length (from_sources shape k))) k.clock)
-  by-step (Brings size) = refl
-  by-step Rests = refl
-  by-step Loses = refl
+      by-step : (s : SourceStep) → taken_by s ≡ length (best_packet s shape.bounds (suc (k.taken + length (from_sources shape k))) k.clock)
+      by-step (Brings size) = refl
+      by-step Rests = refl
+      by-step Loses = refl
 
 -- and the link serves the one that the account says
 pub occupies-is : (shape : LinkShape) (k : Kept) (mid : Packets) → here_in mid.here.items ≡ present shape k → on_in mid.on ≡ k.on → served k.clock (here_in mid.here.items) (on_in mid.on) ≡ occupies shape k
 occupies-is shape k mid here on = ap (λ all. served k.clock all (on_in mid.on)) here ∙ ap (served k.clock (present shape k)) on
 
 -- the reply
-pub tick-replied : (shape : LinkShape) (k : Kept) (rows : List HeldRow) (mid : Packets) (full : ℕ) (sent : Option Sent) (best lost_best : Bool) (step : SourceStep) → map row_in rows ≡ held_rows shape k → full ≡ lost_by_rows shape.bounds k.here k.clock rows
+pub tick-replied : (shape : LinkShape) (k : Kept) (rows : List ServedRow) (mid : Packets) (full : ℕ) (sent : Option Sent) (best lost_best : Bool) (step : SourceStep) → map row_in rows ≡ held_rows shape k → full ≡ lost_by_rows shape.bounds k.here k.clock rows
     → served k.clock (here_in mid.here.items) (on_in mid.on) ≡ occupies shape k → sent ≡ departs shape k.clock (served k.clock (here_in mid.here.items) (on_in mid.on)) → best ≡ best_departs shape k.clock (served k.clock (here_in mid.here.items) (on_in mid.on))
     → step ≡ kept_best shape k → lost_best ≡ nat_eq (lost_by step) 1
     → Ticked k.clock full sent best lost_best ≡ kept_reply (whole shape) k Tick
@@ -73,7 +73,7 @@ tick-replied shape k rows mid full sent best lost_best step stay lost occupant l
     ∙ ap (Ticked k.clock (kept_lost shape.bounds k.here k.clock (held_rows shape k)) (departs shape k.clock (occupies shape k)) (best_departs shape k.clock (occupies shape k))) (loses ∙ ap (λ s. nat_eq (lost_by s) 1) is)
 
 -- the account after it
-pub tick-kept : (shape : LinkShape) (k : Kept) (rows last : List HeldRow) (mid new : Packets) (clock : ℕ) (reply : Reply)
+pub tick-kept : (shape : LinkShape) (k : Kept) (rows last : List ServedRow) (mid new : Packets) (clock : ℕ) (reply : Reply)
     → clock ≡ k.clock + 1
     → map row_in rows ≡ held_rows shape k → map row_in last ≡ rows_by shape.bounds k.here k.clock k.taken rows
     → here_in mid.here.items ≡ present shape k → mid.taken ≡ k.taken + length (brought shape k)

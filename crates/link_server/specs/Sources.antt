@@ -9,22 +9,22 @@ use Rattle.link_steps.specs.Service.{Arrival}
 use Rattle.link_steps.specs.Sources.{SourceStep}
 use Rattle.link_server.specs.Planned.{IsFrom}
 use Rattle.link_server.specs.Rows.{row_in}
-use Rattle.link_server.specs.declared.held_row.HeldRow.{HeldRow}
+use Rattle.link_server.specs.declared.served_row.ServedRow.{ServedRow}
 
 -- what the row's source does in tick t, with these packets here
-abbrev pub step_in : List ℕ → List Arrival → ℕ → HeldRow → SourceStep
+abbrev pub step_in : List ℕ → List Arrival → ℕ → ServedRow → SourceStep
 step_in bounds here t row = kept_step bounds here t (row_in row)
 
 -- the packets that the rows take in tick t, after `taken` packets in all
-abbrev pub brought_by : List ℕ → List Arrival → ℕ → ℕ → List HeldRow → List Arrival
+abbrev pub brought_by : List ℕ → List Arrival → ℕ → ℕ → List ServedRow → List Arrival
 brought_by bounds here t taken rows = kept_packets bounds here t taken (map row_in rows)
 
 -- the rows afterwards
-abbrev pub rows_by : List ℕ → List Arrival → ℕ → ℕ → List HeldRow → List KeptRow
+abbrev pub rows_by : List ℕ → List Arrival → ℕ → ℕ → List ServedRow → List KeptRow
 rows_by bounds here t taken rows = kept_rows_after bounds here t taken (map row_in rows)
 
 -- how many packets they drop
-abbrev pub lost_by_rows : List ℕ → List Arrival → ℕ → List HeldRow → ℕ
+abbrev pub lost_by_rows : List ℕ → List Arrival → ℕ → List ServedRow → ℕ
 lost_by_rows bounds here t rows = kept_lost bounds here t (map row_in rows)
 
 -- a row that can make the step of the tick of the clock: nothing is planned for an earlier tick, and its numbers have
@@ -35,5 +35,5 @@ pub record IsReady (clock : ℕ) (row : KeptRow) : Type 0 where
   pub few : row.taken < 2 ^ 63
 
 -- and so for each row
-abbrev pub AreReady : ℕ → List HeldRow → Type 0
+abbrev pub AreReady : ℕ → List ServedRow → Type 0
 AreReady clock rows = Each (IsReady clock) (map row_in rows)

@@ -5,8 +5,8 @@ use Rattle.link_steps.specs.declared.asks.Ask.TheVariants.{Reserve}
 use Rattle.link_steps.specs.declared.replies.Refusal.{Refusal}
 use Rattle.link_steps.specs.declared.replies.Reply.{Reply}
 use Rattle.link_steps.specs.declared.replies.Reply.TheVariants as Is
-use Rattle.link_server.specs.declared.held_row.Wanted.{Wanted}
-use Rattle.link_server.specs.declared.held_row.Offered.{Offered}
+use Rattle.link_server.specs.declared.served_row.Wanted.{Wanted}
+use Rattle.link_server.specs.declared.served_row.Offered.{Offered}
 
 -- the ask for what is wanted
 abbrev pub ask_for : Wanted → Ask

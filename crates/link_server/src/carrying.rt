@@ -7,10 +7,10 @@ ghost use Rattle.link_steps.specs.Legal.{SubmitFits, PacketFits};
 ghost use Rattle.link_server.specs.State.{kept_in};
 
 use crate::expiry::expire;
-use crate::held_row::busy_with;
 use crate::link_state::LinkState;
 use crate::planned::Planned;
 use crate::rows::{place_at_hop, place_of};
+use crate::served_row::busy_with;
 use crate::sources::take_source_packets;
 use link_steps::{Packet, Refusal, Reply, Why};
 use net_units::ChanNo;

@@ -5,12 +5,12 @@ ghost use Rattle.link_steps.specs.Kept.{kept_stays};
 ghost use Rattle.link_server.specs.Rows.{row_in, summed, AreWithin};
 ghost use Rattle.link_server.specs.Sources.{AreReady};
 
-use crate::held_row::HeldRow;
+use crate::served_row::ServedRow;
 use net_units::Bounds;
 use rcsp_admission::LevelSums;
 
 // Takes the rows whose hold has ended by this tick out of the rows and out of the admission sums.
-pub(crate) fn expire(rows: &mut Vec<HeldRow>, sums: &mut LevelSums, bounds: &Bounds, clock: u64)
+pub(crate) fn expire(rows: &mut Vec<ServedRow>, sums: &mut LevelSums, bounds: &Bounds, clock: u64)
     requires ready { AreReady clock rows.old.items }
     requires within { AreWithin (length bounds.now) rows.old.items }
     requires admitted { AreAdmitted sums.old }

@@ -23,7 +23,10 @@ pub(crate) fn best_here(packets: &[HeldPacket], bounds: &Bounds) -> usize
     ensures { result ≡ length (filter (is_best bounds.now) (here_in packets.now)) }
 {
     let levels = bounds.len();
-    packets.iter().filter(|packet| packet.level > levels).count()
+    packets
+        .iter()
+        .filter(|packet| packet.level > levels)
+        .count()
 }
 
 // How many are, but for the one that occupies the link.

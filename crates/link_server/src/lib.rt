@@ -8,12 +8,12 @@
 mod best_effort;
 mod carrying;
 mod expiry;
-mod held_row;
 mod in_line;
 mod link_state;
 mod packets;
 mod planned;
 mod rows;
+mod served_row;
 mod setup;
 mod sources;
 

@@ -9,8 +9,8 @@ ghost use Rattle.link_server.specs.Rows.{summed, AreWithin};
 ghost use Rattle.link_server.specs.Sound.{IsSound};
 ghost use Rattle.link_server.specs.SoundProp.{IsSound-prop};
 
-use crate::held_row::{HeldRow, Wanted};
 use crate::packets::Packets;
+use crate::served_row::{ServedRow, Wanted};
 use link_steps::{Ask, LinkShape, LinkStep, Reply};
 use net_units::OutOfMemory;
 use rcsp_admission::LevelSums;
@@ -23,7 +23,7 @@ pub struct LinkState {
     pub(crate) shape: LinkShape,
     pub(crate) clock: u64,
     // In the order of their reserves.
-    pub(crate) rows: Vec<HeldRow>,
+    pub(crate) rows: Vec<ServedRow>,
     pub(crate) packets: Packets,
     pub(crate) sums: LevelSums,
     // How many packets there is room for at least: those of channels that are here, one in each free slot, one more a

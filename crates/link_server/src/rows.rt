@@ -8,13 +8,13 @@ ghost use Rattle.traffic_contract.specs.Admission.{total};
 ghost use Rattle.link_server.specs.Sound.{all_places_of};
 ghost use Rattle.link_server.specs.Rows.{terms_in, row_in, is_row_at_hop, HasNone, IsPlace, IsAbsent, IsPlaceOf, AreWithin};
 
-use crate::held_row::{HeldRow, units_for};
+use crate::served_row::{ServedRow, units_for};
 use link_steps::LinkShape;
 use net_units::{Bounds, ChanNo, Level};
 use traffic_contract::Contract;
 
 // The place of the channel's row.
-pub(crate) fn place_of(rows: &[HeldRow], chan: ChanNo) -> Option<usize>
+pub(crate) fn place_of(rows: &[ServedRow], chan: ChanNo) -> Option<usize>
     ensures none { IfNone result (IsAbsent chan rows.now) }
     ensures some { IfSome result (IsPlaceOf chan rows.now) }
 {
@@ -27,7 +27,7 @@ pub(crate) fn place_of(rows: &[HeldRow], chan: ChanNo) -> Option<usize>
 }
 
 // The place of the channel's row at its first hop, or at a later one.
-pub(crate) fn place_at_hop(rows: &[HeldRow], chan: ChanNo, first: bool) -> Option<usize>
+pub(crate) fn place_at_hop(rows: &[ServedRow], chan: ChanNo, first: bool) -> Option<usize>
     ensures none { IfNone result (HasNone (is_row_at_hop chan first) rows.now) }
     ensures some { IfSome result (IsPlace (is_row_at_hop chan first) rows.now) }
 {
@@ -40,7 +40,7 @@ pub(crate) fn place_at_hop(rows: &[HeldRow], chan: ChanNo, first: bool) -> Optio
 }
 
 // The units that the rows don't keep.
-pub(crate) fn free_units(shape: &LinkShape, rows: &[HeldRow]) -> u64
+pub(crate) fn free_units(shape: &LinkShape, rows: &[ServedRow]) -> u64
     requires { AreWithin (length shape.now.bounds) rows.now }
     ensures { result ≡ free_units shape.now (map terms_in rows.now) }
 {
@@ -52,7 +52,7 @@ pub(crate) fn free_units(shape: &LinkShape, rows: &[HeldRow]) -> u64
 }
 
 // The places that packets of the rows may want: one for each slot, and one more a row.
-pub(crate) fn places_of(bounds: &Bounds, rows: &[HeldRow]) -> u64
+pub(crate) fn places_of(bounds: &Bounds, rows: &[ServedRow]) -> u64
     requires within { AreWithin (length bounds.now) rows.now }
     requires few { length rows.now < 2 ^ 32 }
     ensures value { result ≡ total (all_places_of bounds.now) (map row_in rows.now) }

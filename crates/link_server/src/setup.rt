@@ -17,9 +17,9 @@ ghost use Rattle.link_server.specs.Sound.{most_places};
 ghost use Rattle.link_server.specs.State.{kept_in};
 ghost use Rattle.link_server.specs.Wants.{ask_for, reply_of};
 
-use crate::held_row::{HeldRow, Offered, Wanted};
 use crate::link_state::LinkState;
 use crate::rows::{free_units, need_of, place_of, places_of, reach_of};
+use crate::served_row::{Offered, ServedRow, Wanted};
 use link_steps::{Refusal, Reply};
 use net_units::{ChanNo, Level, OutOfMemory};
 
@@ -97,7 +97,7 @@ impl LinkState {
         ensures kept { OnOk result (kept_in self.new ≡ kept_after self.old.shape (kept_in self.old) (ask_for wanted.now) (Offer offer.now.level offer.now.reach)) }
         ensures memory { OnErr result (kept_in self.new ≡ kept_in self.old) }
     {
-        let row = HeldRow::new(self.alloc, wanted, offer)?;
+        let row = ServedRow::new(self.alloc, wanted, offer)?;
         self.make_room(&row)?;
         self.rows.push_reserved(row);
         self.sums
@@ -106,7 +106,7 @@ impl LinkState {
     }
 
     // Takes all memory that one row more can ever need. An `Err` leaves what is held.
-    fn make_room(&mut self, row: &HeldRow) -> Result<(), OutOfMemory>
+    fn make_room(&mut self, row: &ServedRow) -> Result<(), OutOfMemory>
         requires within { IsWithin (length self.old.shape.bounds) row.now }
         ensures shape { self.new.shape ≡ self.old.shape }
         ensures clock { self.new.clock ≡ self.old.clock }
@@ -121,7 +121,11 @@ impl LinkState {
         ensures packets_fit { OnOk result (most_places self.new.shape.bounds (here_in self.new.packets.here.items) (map row_in self.new.rows.items) + suc (slots_of self.new.shape.bounds (terms_in row.now)) + suc self.new.shape.best ≤ self.new.room) }
     {
         let bounds = self.shape.bounds;
-        let places = places_of(&bounds, &self.rows) + 1 + row.slots(&bounds) + u64::from(self.shape.best) + 1;
+        let places = places_of(&bounds, &self.rows)
+            + 1
+            + row.slots(&bounds)
+            + u64::from(self.shape.best)
+            + 1;
         let room = self.packets.here.len() as u64 + places;
         if room > u64::from(u32::MAX) {
             return Err(OutOfMemory);

@@ -7,14 +7,14 @@ ghost use Rattle.link_server.specs.Packets.{here_in};
 ghost use Rattle.link_server.specs.Rows.{row_in, summed, IsWithin, AreWithin};
 ghost use Rattle.link_server.specs.Sources.{step_in, brought_by, rows_by, lost_by_rows, IsReady, AreReady};
 
-use crate::held_row::HeldRow;
 use crate::packets::Packets;
+use crate::served_row::ServedRow;
 use net_units::Bounds;
 
 // The rows, in their order, take the packets that are planned for this tick. It answers how many packets found no slot
 // free, and so were dropped.
 pub(crate) fn take_source_packets(
-    rows: &mut [HeldRow],
+    rows: &mut [ServedRow],
     packets: &mut Packets,
     bounds: &Bounds,
     clock: u64,
@@ -48,7 +48,7 @@ pub(crate) fn take_source_packets(
 // The row takes the packet that is planned for this tick, if there is one. It answers whether that found no slot free,
 // and so was dropped. Only the first `before` packets, those that were here as the tick began, hold slots.
 fn take_source_packet(
-    row: &mut HeldRow,
+    row: &mut ServedRow,
     packets: &mut Packets,
     before: usize,
     bounds: &Bounds,

@@ -2,7 +2,7 @@
 use Rattle.link_server.specs.Planned.{left_in}
 use Rattle.link_server.specs.Rows.{terms_in}
 use Rattle.link_server.proofs.TakeFacts.{tick-answered, packet-taken, row-taken}
-use Rattle.link_server.proofs.held_row.HeldRow.take.Goals as goal
+use Rattle.link_server.proofs.served_row.ServedRow.take.Goals as goal
 
 pub returns-clause-packet : goal.returns-clause-packet
 returns-clause-packet c =

@@ -2,7 +2,7 @@
 use Rattle.std.proofs.Common.{◌∙◌}
 use Rattle.link_server.specs.Rows.{terms_in}
 use Rattle.link_server.proofs.HoldFacts.{hold-open, hold-closing}
-use Rattle.link_server.proofs.held_row.HeldRow.has_ended.Goals as goal
+use Rattle.link_server.proofs.served_row.ServedRow.has_ended.Goals as goal
 
 pub returns-in-Tentative : goal.returns-in-Tentative
 returns-in-Tentative c = hold-open c.args.bounds.now (terms_in c.args.self.now) c.args.self.now.taken c.args.self.now.last c.args.clock c.in-Tentative.is

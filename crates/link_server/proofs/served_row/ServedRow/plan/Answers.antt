@@ -2,14 +2,14 @@
 use Rattle.std.proofs.Common.{List, ap}
 use Rattle.link_steps.specs.Kept.{KeptRow}
 use Rattle.link_steps.specs.Rows.{SourcePacket, planned_from}
-use Rattle.link_server.specs.declared.held_row.HeldRow.{HeldRow}
+use Rattle.link_server.specs.declared.served_row.ServedRow.{ServedRow}
 use Rattle.link_server.specs.Planned.{left_in}
 use Rattle.link_server.specs.Rows.{row_in}
 use Rattle.link_server.proofs.PlanFacts.{behind-none}
-use Rattle.link_server.proofs.held_row.HeldRow.plan.Goals as goal
+use Rattle.link_server.proofs.served_row.ServedRow.plan.Goals as goal
 
 -- the row with other packets planned
-abbrev with_left : HeldRow → List SourcePacket → KeptRow
+abbrev with_left : ServedRow → List SourcePacket → KeptRow
 with_left row left = record (row_in row) { left = left }
 
 pub returns : goal.returns

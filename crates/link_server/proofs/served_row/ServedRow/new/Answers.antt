@@ -3,7 +3,7 @@ use Rattle.std.proofs.Common.{ℕ, List, [], ap}
 use Rattle.link_steps.specs.Kept.{KeptRow}
 use Rattle.link_steps.specs.Reservation.{Reservation, tentative}
 use Rattle.link_steps.specs.Rows.{planned_from}
-use Rattle.link_server.proofs.held_row.HeldRow.new.Goals as goal
+use Rattle.link_server.proofs.served_row.ServedRow.new.Goals as goal
 
 -- a row without packets, whose newest ticks are these
 abbrev with_recent : Reservation → List ℕ → KeptRow

@@ -1,6 +1,6 @@
 -- The packets of the row that are here are counted.
 use Rattle.std.proofs.Common.{refl}
-use Rattle.link_server.proofs.held_row.HeldRow.has_slot.Goals as goal
+use Rattle.link_server.proofs.served_row.ServedRow.has_slot.Goals as goal
 
 pub returns : goal.returns
 returns c = rw (c.held.ensures, c.slots.ensures.value) refl

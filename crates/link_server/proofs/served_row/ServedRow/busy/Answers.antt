@@ -2,7 +2,7 @@
 use Rattle.std.proofs.Common.{sym, ap, ◌∙◌}
 use Rattle.link_steps.specs.Refusals.{busy}
 use Rattle.link_server.proofs.PlanFacts.{planned-length}
-use Rattle.link_server.proofs.held_row.HeldRow.busy.Goals as goal
+use Rattle.link_server.proofs.served_row.ServedRow.busy.Goals as goal
 
 pub returns : goal.returns
 returns c =

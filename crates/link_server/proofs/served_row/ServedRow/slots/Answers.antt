@@ -2,7 +2,7 @@
 use Rattle.std.proofs.Common.{ap, ◌∙◌}
 use Rattle.traffic_contract.specs.Contract.{most_in}
 use Rattle.link_steps.specs.Buffer.{slots_of}
-use Rattle.link_server.proofs.held_row.HeldRow.slots.Goals as goal
+use Rattle.link_server.proofs.served_row.ServedRow.slots.Goals as goal
 
 pub returns-clause-value : goal.returns-clause-value
 unfolding slots_of

@@ -37,7 +37,7 @@ pub(crate) struct Offered {
 
 // A reservation that is held.
 #[derive(Drop)]
-pub(crate) struct HeldRow {
+pub(crate) struct ServedRow {
     pub(crate) chan: ChanNo,
     pub(crate) contract: Contract,
     pub(crate) kind: Kind,
@@ -64,7 +64,7 @@ pub(crate) struct HeldRow {
     ghost newest: { last ≡ newest regulator.recent },
 }
 
-impl HeldRow {
+impl ServedRow {
     ghost use Rattle.link_steps.specs.Buffer.{stay_of, slots_of, kept_units, has_slot, held_packets};
     ghost use Rattle.link_steps.specs.declared.replies.Phase.TheVariants.{Tentative, Committed};
     ghost use Rattle.link_steps.specs.Refusals.{not_in_phase, unfit, too_big, full};
@@ -85,13 +85,13 @@ impl HeldRow {
         alloc: Global,
         wanted: &Wanted,
         offer: &Offered,
-    ) -> Result<HeldRow, OutOfMemory>
+    ) -> Result<ServedRow, OutOfMemory>
         requires contract { IsContract wanted.now.contract }
         requires reach { wanted.now.up_reach ≤ 1048576 }
         ensures { IfOk result (λ row. row_in row ≡ new_kept (tentative wanted.now.chan wanted.now.contract wanted.now.kind wanted.now.first wanted.now.next wanted.now.up_reach offer.now.level offer.now.reach)) }
     {
         let regulator = Regulator::new(alloc, wanted.contract, wanted.kind)?;
-        Ok(HeldRow {
+        Ok(ServedRow {
             chan: wanted.chan,
             contract: wanted.contract,
             kind: wanted.kind,

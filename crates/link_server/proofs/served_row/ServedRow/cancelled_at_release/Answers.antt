@@ -1,7 +1,7 @@
 -- As many packets are left as are counted.
 use Rattle.std.proofs.Common.{sym}
 use Rattle.link_server.proofs.PlanFacts.{planned-length}
-use Rattle.link_server.proofs.held_row.HeldRow.cancelled_at_release.Goals as goal
+use Rattle.link_server.proofs.served_row.ServedRow.cancelled_at_release.Goals as goal
 
 pub returns-in-None : goal.returns-in-None
 returns-in-None c =
