@@ -10,7 +10,8 @@ use Rattle.link_server.specs.declared.served_row.ServedRow.{ServedRow}
 use Rattle.link_server.specs.Planned.{left_in}
 use Rattle.link_server.specs.Rows.{terms_in, row_in, is_row_of, is_row_at_hop, HasNone, IsPlace, IsAbsent, IsPlaceOf}
 use Rattle.link_server.specs.Account.{account}
-use Rattle.link_server.specs.Wants.{ask_for}
+use Rattle.link_server.specs.Wants.{ask_for, MayHold}
+use Rattle.link_server.specs.declared.served_row.Offered.{Offered}
 use Rattle.link_server.specs.declared.served_row.Wanted.{Wanted}
 use Rattle.link_server.specs.declared.packets.Packets.{Packets}
 use Rattle.link_server.proofs.PlaceFacts.{terms-found, terms-absent, kept-found, kept-absent, kept-without, kept-changed}
@@ -27,7 +28,7 @@ use Rattle.link_steps.specs.declared.replies.Refusal.TheVariants.{NoSuch, TooWid
 use Rattle.link_steps.specs.declared.replies.Reply.TheVariants.{Offer, Relaxed, Denied, Planned, Refused}
 use Rattle.link_steps.specs.declared.shape.LinkShape.{LinkShape}
 use Rattle.link_steps.specs.Buffer.{need_of, free_units}
-use Rattle.link_steps.specs.Kept.{Kept, kept_reply, kept_after, with_kept_rows, new_kept, kept_relaxed, kept_planned, kept_submit, is_kept_of, is_kept_at_hop}
+use Rattle.link_steps.specs.Kept.{Kept, kept_terms, kept_reply, kept_after, with_kept_rows, new_kept, kept_relaxed, kept_planned, kept_submit, is_kept_of, is_kept_at_hop}
 use Rattle.link_steps.specs.Levels.{level_of}
 use Rattle.link_steps.specs.Refusals.{not_in_phase, unfit, busy, too_big}
 use Rattle.link_steps.specs.Split.{whole}
@@ -35,6 +36,7 @@ use Rattle.link_steps.specs.Room.{room_of, whole_room}
 use Rattle.link_steps.specs.Replies.{reserve_reply, relax_reply, deny_reply, submit_reply, reach_of}
 use Rattle.link_steps.specs.Reservation.{tentative, admitted, is_of}
 use Rattle.link_steps.specs.Shape.{server_of}
+use Rattle.link_steps.proofs.ReplyFacts.{whole-offer-may}
 
 -- one row more keeps its units
 pub units-more : (bounds : List ℕ) (rows : List ServedRow) (i : ℕ) (row : ServedRow) → i < length rows → row ≡ get_or rows i row → total (kept_units bounds) (map terms_in (take (i + 1) rows)) ≡ total (kept_units bounds) (map terms_in (take i rows)) + kept_units bounds (terms_in row)
@@ -116,6 +118,11 @@ reserve-no_buffer shape held chan contract delay up_reach m wide found best room
 pub reserve-offer : (shape : LinkShape) (held : List Reservation) (chan : ChanNo) (contract : Terms) (delay up_reach m : ℕ) → nat_le contract.smax shape.cap ≡ true → find (is_of chan) held ≡ None → best_level (server_of shape) (map admitted held) contract ≡ Some m → nat_le (need_of shape.bounds contract up_reach (reach_of shape.bounds delay m)) (free_units shape held) ≡ true → Offer (level_of m) (level_of (reach_of shape.bounds delay m)) ≡ reserve_reply (whole shape) held chan contract delay up_reach
 unfolding reserve_reply room_of whole_room
 reserve-offer shape held chan contract delay up_reach m wide found best room = rw (wide, found, best, room) refl
+
+-- what the reply offers the link may offer
+pub reply-may : (shape : LinkShape) (k : Kept) (wanted : Wanted) (offer : Offered) → Offer offer.level offer.reach ≡ kept_reply (whole shape) k (ask_for wanted) → MayHold shape (map kept_terms k.rows) wanted offer
+unfolding kept_reply reserve_reply room_of
+reply-may shape k wanted offer same = whole-offer-may (whole shape) (map kept_terms k.rows) wanted.chan wanted.contract wanted.delay wanted.up_reach offer.level offer.reach same
 
 -- a refusal changes nothing
 pub reserve-same : (shape : LinkShape) (k : Kept) (wanted : Wanted) (refusal : Refusal) → k ≡ kept_after shape k (ask_for wanted) (Refused refusal)

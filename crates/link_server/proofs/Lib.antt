@@ -11,6 +11,7 @@ pub mod AccountFacts
 pub mod RoomFacts
 pub mod TickFacts
 pub mod HoldingFacts
+pub mod ChosenFacts
 pub mod ExpiryFacts
 pub mod SourceFacts
 pub mod SourceRows

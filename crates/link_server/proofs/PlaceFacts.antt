@@ -1,5 +1,7 @@
 -- Where the channel's row stands: what is found, changed and taken out is there.
-use Rattle.std.proofs.Common.{◌≡◌, ◌<◌, length, Bool, ℕ, zero, suc, List, [], ◌∷◌, map, get_or, set, Some, None, refl, sym, ap, ◌∙◌, arith}
+use Rattle.std.proofs.Common.{◌≡◌, ◌<◌, length, Bool, true, false, ℕ, zero, suc, List, [], ◌∷◌, map, get_or, set, Option, Some, None, refl, sym, ap, ◌∙◌, arith}
+use Rattle.std.proofs.Common.{⊎_elim}
+use Rattle.std.proofs.lemmas.Bool.{cases_Bool}
 use Rattle.std.proofs.lemmas.List.{get_or_default}
 use Rattle.std.specs.Prelude.{find}
 use Rattle.std.specs.List.{All, remove}
@@ -31,6 +33,18 @@ pub absent-found : (test : ServedRow → Bool) (rows : List ServedRow) → HasNo
 absent-found test [] absent = refl
 absent-found test (row ∷ rows) absent = rw (absent 0 row (omega arith)) (absent-found test rows (λ k d inside. absent (suc k) d (omega arith)))
 
+-- and the other way round
+absent-behind : (test : ServedRow → Bool) (row : ServedRow) (rows : List ServedRow) → test row ≡ false → HasNone test rows → HasNone test (row ∷ rows)
+absent-behind test row rows fails others zero d inside = fails
+absent-behind test row rows fails others (suc k) d inside = others k d (omega arith)
+
+found-absent : (test : ServedRow → Bool) (rows : List ServedRow) → find test rows ≡ None → HasNone test rows
+found-absent test [] none = λ k d inside. absurd (omega arith)
+found-absent test (row ∷ rows) none =
+    ⊎_elim (λ (passes : test row ≡ true). absurd (let some : Some row ≡ None = rw passes at none in cc))
+    (λ (fails : test row ≡ false). absent-behind test row rows fails (found-absent test rows (rw fails at none)))
+    (cases_Bool (test row))
+
 -- what is found in the account is what is kept of that row
 pub kept-found : (test : ServedRow → Bool) (seen : KeptRow → Bool) → ((row : ServedRow) → seen (row_in row) ≡ test row) → (rows : List ServedRow) (i : ℕ) (d : ServedRow) → IsPlace test rows i → find seen (map row_in rows) ≡ Some (row_in (get_or rows i d))
 kept-found test seen same rows i d place = find-map row_in test seen same rows ∙ ap (option_map row_in) (place-found test rows i d place)
@@ -52,6 +66,12 @@ terms-found chan rows i d place = find-terms chan rows ∙ ap (option_map terms_
 
 pub terms-absent : (chan : ChanNo) (rows : List ServedRow) → IsAbsent chan rows → find (is_of chan) (map kept_terms (map row_in rows)) ≡ None
 terms-absent chan rows absent = find-terms chan rows ∙ ap (option_map terms_in) (absent-found (is_row_of chan) rows absent)
+
+pub terms-none : (chan : ChanNo) (rows : List ServedRow) → find (is_of chan) (map kept_terms (map row_in rows)) ≡ None → IsAbsent chan rows
+terms-none chan rows none = found-absent (is_row_of chan) rows (mapped-none (find (is_row_of chan) rows) (sym (find-terms chan rows) ∙ none)) where
+  mapped-none : (found : Option ServedRow) → option_map terms_in found ≡ None → found ≡ None
+  mapped-none None none = refl
+  mapped-none (Some row) none = cc
 
 -- the row at the place taken out
 place-without : (chan : ChanNo) (rows : List ServedRow) (i : ℕ) → IsPlaceOf chan rows i → without_first (is_row_of chan) rows ≡ remove rows i

@@ -12,15 +12,14 @@ use Rattle.net_units.specs.declared.numbers.LinkNo.{LinkNo}
 use Rattle.traffic_contract.proofs.AdmissionFacts.{total-le}
 use Rattle.traffic_contract.proofs.LongerWindows.{most_in-mono}
 use Rattle.traffic_contract.specs.Contract.{Terms, IsContract, most_in}
-use Rattle.link_steps.specs.declared.asks.Ask.TheVariants.{Reserve, Relax, Deny, Submit, Release, Pour}
+use Rattle.link_steps.specs.declared.asks.Ask.TheVariants.{Relax, Deny, Submit, Release, Pour}
 use Rattle.link_steps.specs.declared.replies.Phase.TheVariants.{Committed}
 use Rattle.link_steps.specs.declared.replies.Reply.{Reply}
 use Rattle.link_steps.specs.declared.replies.Reply.TheVariants as Is
 use Rattle.link_steps.specs.declared.shape.LinkShape.{LinkShape}
 use Rattle.link_steps.specs.Buffer.{slots_of, stay_in, held_packets}
 use Rattle.link_steps.specs.Split.{whole}
-use Rattle.link_steps.specs.Room.{room_of}
-use Rattle.link_steps.specs.Replies.{reserve_reply}
+use Rattle.link_steps.specs.Admissible.{MayOffer}
 use Rattle.link_steps.specs.Kept.{Kept, KeptRow, nothing_kept, with_kept_rows, kept_terms, is_kept_of, is_kept_at_hop, kept_relaxed, kept_planned, kept_closed, new_kept, kept_submit, kept_release, kept_reply, kept_after}
 use Rattle.link_steps.specs.Legal.{ReserveFits, RelaxFits, SubmitFits}
 use Rattle.link_steps.specs.Lists.{change_first, without_first, Each}
@@ -31,8 +30,7 @@ use Rattle.link_steps.specs.Scan.{names_first_hop}
 use Rattle.link_steps.specs.Service.{Arrival}
 use Rattle.link_steps.proofs.ChangeFacts.{Each-change_found}
 use Rattle.link_steps.proofs.ListFacts.{Each-append, Each-find, Each-without_first, find-map, total-change_first-le, total-without_first-le}
-use Rattle.link_steps.proofs.ReplyFacts.{whole-offer-may, may-reach, FitsOffer, relax-tells, submit-tells, release-tells, pour-tells}
-use Rattle.link_server.specs.Asks.{IsOffer}
+use Rattle.link_steps.proofs.ReplyFacts.{may-reach, FitsOffer, relax-tells, submit-tells, release-tells, pour-tells}
 use Rattle.link_server.specs.Sound.{of_channels, best_count, places_of, all_places_of, places, most_places, AreAhead, AreApart, IsSoundRow, IsSound}
 use Rattle.link_server.proofs.SoundBest.{both-count}
 use Rattle.link_server.proofs.SoundRows.{AreApart-without_first, AreApart-push, AreApart-changed, planned-ahead}
@@ -243,13 +241,11 @@ new-sound levels clock taken here chan contract kind first next up_reach level r
   ahead = tt;
 }
 
-pub sound-reserve : (shape : LinkShape) (room larger : ℕ) (k : Kept) (chan : ChanNo) (contract : Terms) (kind : Kind) (delay up_reach : ℕ) (first : Bool) (next : Option LinkNo) (reply : Reply) → ReserveFits contract up_reach first → IsSound shape room k → reply ≡ kept_reply (whole shape) k (Reserve chan contract kind delay up_reach first next) → room ≤ larger → (IsOffer reply → most_places shape.bounds (kept_after shape k (Reserve chan contract kind delay up_reach first next) reply).here (kept_after shape k (Reserve chan contract kind delay up_reach first next) reply).rows + suc shape.best ≤ larger) → IsSound shape larger (kept_after shape k (Reserve chan contract kind delay up_reach first next) reply)
-unfolding kept_after kept_reply reserve_reply room_of
-sound-reserve shape room larger k chan contract kind delay up_reach first next (Is.Offer level reach) fits sound same more enough =
-    let may = whole-offer-may (whole shape) (map kept_terms k.rows) chan contract delay up_reach level reach same in
+-- the account with a row more, at an offer that the link may make, where its places are made room for
+pub sound-reserve : (shape : LinkShape) (room : ℕ) (k : Kept) (chan : ChanNo) (contract : Terms) (kind : Kind) (delay up_reach : ℕ) (first : Bool) (next : Option LinkNo) (level reach : Level) → ReserveFits contract up_reach first → IsSound shape room k → MayOffer shape (map kept_terms k.rows) chan contract delay up_reach level reach → most_places shape.bounds k.here (k.rows ++ new_kept (tentative chan contract kind first next up_reach level reach) ∷ []) + suc shape.best ≤ room → IsSound shape room (with_kept_rows k (k.rows ++ new_kept (tentative chan contract kind first next up_reach level reach) ∷ []))
+sound-reserve shape room k chan contract kind delay up_reach first next level reach fits sound may enough =
     let row : KeptRow = new_kept (tentative chan contract kind first next up_reach level reach) in
-    sound-rows shape room larger k (k.rows ++ row ∷ []) sound
+    sound-rows shape room room k (k.rows ++ row ∷ []) sound
     (AreApart-push k.rows row refl sound.apart)
     (Each-append (IsSoundRow (length shape.bounds) k.clock k.taken k.here) k.rows (row ∷ []) sound.rows (new-sound (length shape.bounds) k.clock k.taken k.here chan contract kind first next up_reach level reach fits may.level_most (may-reach shape (map kept_terms k.rows) chan contract delay up_reach level reach may), tt))
-    (omega (arith, places-most shape.bounds k.here (k.rows ++ row ∷ []), enough tt))
-sound-reserve shape room larger k chan contract kind delay up_reach first next _ fits sound same more enough = sound-larger shape room larger k more sound
+    (omega (arith, places-most shape.bounds k.here (k.rows ++ row ∷ []), enough))

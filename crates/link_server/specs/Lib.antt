@@ -8,5 +8,6 @@ pub mod Serving
 pub mod Asks
 pub mod Account
 pub mod State
+pub mod Held
 pub mod Sound
 pub mod SoundProp

@@ -1,10 +1,13 @@
 -- A reserve as the link reads it: what is wanted, and the offer or the refusal that it gets.
-use Rattle.std.specs.Prelude.{Result, Ok, Err}
+use Rattle.std.specs.Prelude.{Result, Ok, Err, List}
 use Rattle.link_steps.specs.declared.asks.Ask.{Ask}
 use Rattle.link_steps.specs.declared.asks.Ask.TheVariants.{Reserve}
 use Rattle.link_steps.specs.declared.replies.Refusal.{Refusal}
 use Rattle.link_steps.specs.declared.replies.Reply.{Reply}
 use Rattle.link_steps.specs.declared.replies.Reply.TheVariants as Is
+use Rattle.link_steps.specs.declared.shape.LinkShape.{LinkShape}
+use Rattle.link_steps.specs.Admissible.{MayOffer}
+use Rattle.link_steps.specs.Reservation.{Reservation}
 use Rattle.link_server.specs.declared.served_row.Wanted.{Wanted}
 use Rattle.link_server.specs.declared.served_row.Offered.{Offered}
 
@@ -16,3 +19,7 @@ ask_for wanted = Reserve wanted.chan wanted.contract wanted.kind wanted.delay wa
 abbrev pub reply_of : Result Offered Refusal → Reply
 reply_of (Ok offer) = Is.Offer offer.level offer.reach
 reply_of (Err refusal) = Is.Refused refusal
+
+-- what is wanted may be offered so, at a link that holds these reservations
+abbrev pub MayHold : LinkShape → List Reservation → Wanted → Offered → Type 0
+MayHold shape held wanted offer = MayOffer shape held wanted.chan wanted.contract wanted.delay wanted.up_reach offer.level offer.reach

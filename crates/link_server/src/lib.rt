@@ -8,6 +8,7 @@
 mod best_effort;
 mod carrying;
 mod expiry;
+mod held_row;
 mod in_line;
 mod link_state;
 mod packets;
@@ -17,6 +18,7 @@ mod served_row;
 mod setup;
 mod sources;
 
+pub use held_row::HeldRow;
 pub use link_state::LinkState;
 
 #[cfg(test)]

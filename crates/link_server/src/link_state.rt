@@ -9,6 +9,7 @@ ghost use Rattle.link_server.specs.Rows.{summed, AreWithin};
 ghost use Rattle.link_server.specs.Sound.{IsSound};
 ghost use Rattle.link_server.specs.SoundProp.{IsSound-prop};
 
+use crate::held_row::HeldRow;
 use crate::packets::Packets;
 use crate::served_row::{ServedRow, Wanted};
 use link_steps::{Ask, LinkShape, LinkStep, Reply};
@@ -39,6 +40,10 @@ pub struct LinkState {
 }
 
 impl LinkState {
+    ghost use Rattle.link_steps.specs.declared.replies.Entry.{Entry};
+    ghost use Rattle.link_steps.specs.Rows.{row_terms};
+    ghost use Rattle.link_steps.specs.Scan.{scan_of};
+    ghost use Rattle.link_server.specs.Held.{held_by, seen_at};
     ghost use Rattle.link_server.specs.State.{Stands};
 
     /// A link of this shape that has made no step. It takes the memory of the best-effort packets that may be here.
@@ -59,6 +64,22 @@ impl LinkState {
             rows: Vec::new(alloc),
             packets,
             room: u64::from(places),
+        })
+    }
+
+    /// The row at this place, from 0, among those that are held, in the order of their reserves, with the units that it
+    /// keeps; None exactly where no more are held.
+    pub fn held(&self, place: u32) -> Option<HeldRow>
+        ensures row { result ≡ seen_at self.now.shape.bounds (held_by self.now) place }
+        ensures stands { (h : List Entry) → Stands self.now h → result ≡ seen_at self.now.shape.bounds (map row_terms (scan_of self.now.shape h).rows) place }
+    {
+        let row = self.rows.get(place as usize)?;
+        Some(HeldRow {
+            chan: row.chan,
+            contract: row.contract,
+            level: row.level,
+            phase: row.phase,
+            kept: row.units(&self.shape.bounds),
         })
     }
 }

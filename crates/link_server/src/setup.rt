@@ -1,26 +1,29 @@
 //! The asks of a setup at a link: reserve, relax and deny.
-ghost use Rattle.std.specs.Prelude.{◌≡◌, ◌+◌, ◌<◌, ◌≤◌, suc, map, length, IfOk, OnOk, OnErr};
+ghost use Rattle.std.specs.Prelude.{◌≡◌, ◌+◌, ◌<◌, ◌≤◌, ◌↔◌, ◌∷◌, List, suc, map, length, IfOk, OnOk, OnErr};
 ghost use Rattle.std.specs.Vec.{vec_capacity};
 ghost use Rattle.net_units.specs.Numbers.{level_number};
-ghost use Rattle.traffic_contract.specs.Admission.{Passes, with_row};
-ghost use Rattle.rcsp_admission.specs.Sums.{rows_of};
 ghost use Rattle.link_steps.specs.declared.asks.Ask.TheVariants.{Relax as AskRelax, Deny as AskDeny};
+ghost use Rattle.link_steps.specs.declared.replies.Entry.{Entry};
 ghost use Rattle.link_steps.specs.declared.replies.Reply.TheVariants.{Offer};
+ghost use Rattle.link_steps.specs.Admissible.{IsAdmissible};
 ghost use Rattle.link_steps.specs.Buffer.{slots_of};
+ghost use Rattle.link_steps.specs.HopGuarantee.{HopGuarantee};
+ghost use Rattle.link_steps.specs.Replies.{reply_to};
 ghost use Rattle.link_steps.specs.Split.{whole};
 ghost use Rattle.link_steps.specs.Kept.{kept_reply, kept_after};
-ghost use Rattle.link_steps.specs.Legal.{ReserveFits, RelaxFits};
+ghost use Rattle.link_steps.specs.Legal.{AskFits, ReserveFits, RelaxFits};
 ghost use Rattle.link_server.specs.Asks.{IsOffer};
+ghost use Rattle.link_server.specs.Held.{held_by, reach_at, MayReserve, IsBestFor};
 ghost use Rattle.link_server.specs.Packets.{here_in};
-ghost use Rattle.link_server.specs.Rows.{terms_in, row_in, IsAbsent, IsWithin};
+ghost use Rattle.link_server.specs.Rows.{terms_in, row_in, IsWithin};
 ghost use Rattle.link_server.specs.Sound.{most_places};
-ghost use Rattle.link_server.specs.State.{kept_in};
-ghost use Rattle.link_server.specs.Wants.{ask_for, reply_of};
+ghost use Rattle.link_server.specs.State.{kept_in, Stands};
+ghost use Rattle.link_server.specs.Wants.{ask_for, reply_of, MayHold};
 
 use crate::link_state::LinkState;
 use crate::rows::{free_units, need_of, place_of, places_of, reach_of};
 use crate::served_row::{Offered, ServedRow, Wanted};
-use link_steps::{Refusal, Reply};
+use link_steps::{Ask, Refusal, Reply};
 use net_units::{ChanNo, Level, OutOfMemory};
 
 impl LinkState {
@@ -46,14 +49,55 @@ impl LinkState {
         }
     }
 
+    /// Answers a reserve with an offer of this level and its reach: the largest level whose bound is within the ask's
+    /// end-to-end bound or that of this level. The caller chooses the level: the rows with the new one at it pass, its
+    /// need is free, its channel holds no row here, and its packets are no wider than the link (`may`).
+    ///
+    /// Where the history is admissible so is the next one, with all that is promised of these (`admissible`, `guaranteed`).
+    /// The reply is the legal one exactly where this is the best level (`legal`). Want of memory leaves the link as it was.
+    pub fn reserve_at(&mut self, ask: &Ask, level: Level) -> Result<Reply, OutOfMemory>
+        requires fits { AskFits self.old.shape ask.now }
+        requires may { MayReserve self.old.shape (held_by self.old) ask.now level }
+        ensures shape { self.new.shape ≡ self.old.shape }
+        ensures clock { self.new.clock ≡ self.old.clock }
+        ensures offered { IfOk result (λ reply. reply ≡ Offer level (reach_at self.old.shape ask.now level)) }
+        ensures entered { IfOk result (λ reply. (h : List Entry) → Stands self.old h → Stands self.new (record { ask = ask.now; reply = reply } ∷ h)) }
+        ensures memory { OnErr result ((h : List Entry) → Stands self.old h → Stands self.new h) }
+        ensures admissible { IfOk result (λ reply. (h : List Entry) → Stands self.old h → IsAdmissible self.old.shape h → IsAdmissible self.old.shape (record { ask = ask.now; reply = reply } ∷ h)) }
+        ensures guaranteed { IfOk result (λ reply. (h : List Entry) → Stands self.old h → IsAdmissible self.old.shape h → HopGuarantee self.old.shape (record { ask = ask.now; reply = reply } ∷ h)) }
+        ensures legal { IfOk result (λ reply. (h : List Entry) → Stands self.old h → (reply ≡ reply_to (whole self.old.shape) h ask.now) ↔ IsBestFor self.old.shape (held_by self.old) ask.now level) }
+    {
+        let Ask::Reserve {
+            chan,
+            contract,
+            kind,
+            delay,
+            up_reach,
+            first,
+            next,
+        } = ask
+        else {
+            unreachable!()
+        };
+        let wanted = Wanted {
+            chan: *chan,
+            contract: *contract,
+            kind: *kind,
+            delay: *delay,
+            up_reach: *up_reach,
+            first: *first,
+            next: *next,
+        };
+        let reach = reach_of(&self.shape.bounds, *delay, level);
+        self.hold(&wanted, &Offered { level, reach })?;
+        Ok(Reply::Offer { level, reach })
+    }
+
     // The offer that a reserve gets, or its refusal.
     fn offer(&self, wanted: &Wanted) -> Result<Offered, Refusal>
         requires fits { ReserveFits wanted.now.contract wanted.now.up_reach wanted.now.first }
         ensures reply { reply_of result ≡ kept_reply (whole self.now.shape) (kept_in self.now) (ask_for wanted.now) }
-        ensures new { OnOk result (IsAbsent wanted.now.chan self.now.rows.items) }
-        ensures level { IfOk result (λ offer. level_number offer.level ≤ length self.now.shape.bounds) }
-        ensures reach { IfOk result (λ offer. level_number offer.reach ≤ length self.now.shape.bounds) }
-        ensures passes { IfOk result (λ offer. Passes self.now.sums.server (with_row (rows_of self.now.sums.rows) wanted.now.contract (level_number offer.level))) }
+        ensures may { IfOk result (MayHold self.now.shape (held_by self.now) wanted.now) }
     {
         let smax = wanted.contract.smax();
         if smax > self.shape.cap {
@@ -87,11 +131,7 @@ impl LinkState {
     // Holds what is wanted at what is offered. An `Err` leaves what is held.
     fn hold(&mut self, wanted: &Wanted, offer: &Offered) -> Result<(), OutOfMemory>
         requires fits { ReserveFits wanted.now.contract wanted.now.up_reach wanted.now.first }
-        requires new { IsAbsent wanted.now.chan self.old.rows.items }
-        requires level { level_number offer.now.level ≤ length self.old.shape.bounds }
-        requires reach { level_number offer.now.reach ≤ length self.old.shape.bounds }
-        requires passes { Passes self.old.sums.server (with_row (rows_of self.old.sums.rows) wanted.now.contract (level_number offer.now.level)) }
-        requires offered { Offer offer.now.level offer.now.reach ≡ kept_reply (whole self.old.shape) (kept_in self.old) (ask_for wanted.now) }
+        requires may { MayHold self.old.shape (held_by self.old) wanted.now offer.now }
         ensures shape { self.new.shape ≡ self.old.shape }
         ensures clock { self.new.clock ≡ self.old.clock }
         ensures kept { OnOk result (kept_in self.new ≡ kept_after self.old.shape (kept_in self.old) (ask_for wanted.now) (Offer offer.now.level offer.now.reach)) }
@@ -110,12 +150,7 @@ impl LinkState {
         requires within { IsWithin (length self.old.shape.bounds) row.now }
         ensures shape { self.new.shape ≡ self.old.shape }
         ensures clock { self.new.clock ≡ self.old.clock }
-        ensures rows { self.new.rows.items ≡ self.old.rows.items }
-        ensures sums { self.new.sums.rows ≡ self.old.sums.rows }
-        ensures taken { self.new.packets.taken ≡ self.old.packets.taken }
-        ensures here { self.new.packets.here.items ≡ self.old.packets.here.items }
-        ensures on { self.new.packets.on ≡ self.old.packets.on }
-        ensures best { self.new.packets.best ≡ self.old.packets.best }
+        ensures kept { kept_in self.new ≡ kept_in self.old }
         ensures row_fits { OnOk result (length self.new.rows.items < vec_capacity self.new.rows) }
         ensures sum_fits { OnOk result (1 ≤ self.new.sums.spare) }
         ensures packets_fit { OnOk result (most_places self.new.shape.bounds (here_in self.new.packets.here.items) (map row_in self.new.rows.items) + suc (slots_of self.new.shape.bounds (terms_in row.now)) + suc self.new.shape.best ≤ self.new.room) }

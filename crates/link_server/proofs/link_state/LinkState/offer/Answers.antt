@@ -12,9 +12,10 @@ use Rattle.link_steps.specs.Levels.{level_of}
 use Rattle.link_steps.specs.Replies.{reach_of}
 use Rattle.link_steps.proofs.LevelFacts.{level_of-level}
 use Rattle.link_server.specs.Rows.{terms_in, row_in, IsAbsent, IsPlaceOf}
+use Rattle.link_server.specs.State.{kept_in}
 use Rattle.link_server.proofs.PlaceFacts.{terms-kept, terms-found, terms-absent}
 use Rattle.link_server.proofs.SumsFacts.{same-admission}
-use Rattle.link_server.proofs.AnswerFacts.{reserve-wide, reserve-twice, reserve-no_level, reserve-no_buffer, reserve-offer}
+use Rattle.link_server.proofs.AnswerFacts.{reserve-wide, reserve-twice, reserve-no_level, reserve-no_buffer, reserve-offer, reply-may}
 use Rattle.link_server.proofs.link_state.LinkState.offer.Goals as goal
 
 pub returns-then-smax-self-clause-reply : goal.returns-then-smax-self-clause-reply
@@ -69,3 +70,6 @@ returns-else-need-free-clause-reply c =
     ap (λ level. Offer level c.reach_of-reach.result) (sym (level_of-level c.in-Ok.level))
     ∙ ap (Offer (level_of (level_number c.in-Ok.level))) (sym (level_of-level c.reach_of-reach.result) ∙ ap level_of c.reach_of-reach.ensures.value)
     ∙ reserve-offer c.args.self.now.shape (map kept_terms (map row_in c.args.self.now.rows.items)) c.args.wanted.now.chan c.args.wanted.now.contract c.args.wanted.now.delay c.args.wanted.now.up_reach (level_number c.in-Ok.level) wide absent best (le-leb _ _ (omega (arith, need, free, c.if-need-free.false)))
+
+pub returns-else-need-free-clause-may : goal.returns-else-need-free-clause-may
+returns-else-need-free-clause-may c = reply-may c.args.self.now.shape (kept_in c.args.self.now) c.args.wanted.now _ (returns-else-need-free-clause-reply c)

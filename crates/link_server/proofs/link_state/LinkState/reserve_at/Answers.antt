@@ -1,0 +1,39 @@
+-- The offer goes on with what is kept, and so with every history that the link stands for.
+use Rattle.std.proofs.Common.{◌≡◌, sym, ap, ◌∙◌}
+use Rattle.link_steps.specs.Levels.{level_of}
+use Rattle.link_steps.specs.declared.replies.Reply.TheVariants.{Offer}
+use Rattle.link_steps.proofs.HopHolds.{hop-guarantee}
+use Rattle.link_steps.proofs.LevelFacts.{level_of-level}
+use Rattle.link_server.specs.Held.{reach_at}
+use Rattle.link_server.specs.State.{kept_in}
+use Rattle.link_server.proofs.ChosenFacts.{offer-admissible, offer-legal}
+use Rattle.link_server.proofs.StepFacts.{rows-have, step-entered}
+use Rattle.link_server.proofs.link_state.LinkState.reserve_at.Goals as goal
+use Rattle.link_server.proofs.link_state.LinkState.reserve_at.Goals.{After-hold}
+
+-- the reach is that of the ask at the level
+reach : (c : After-hold) → c.reach_of-reach.result ≡ reach_at c.args.self.now.shape c.args.ask.now c.args.level
+reach c =
+    sym (level_of-level c.reach_of-reach.result) ∙ ap level_of c.reach_of-reach.ensures.value
+    ∙ sym (ap (λ ask. reach_at c.args.self.now.shape ask c.args.level) c.in-Reserve.is)
+
+pub returns-clause-offered : goal.returns-clause-offered
+returns-clause-offered c = ap (Offer c.args.level) (reach (goal.at.returns-clause-offered c).After-hold)
+
+pub returns-clause-entered : goal.returns-clause-entered
+returns-clause-entered c =
+    step-entered c.args.self.now.shape c.hold.new.self.shape (kept_in c.args.self.now) (kept_in c.hold.new.self) c.args.ask.now _ (Offer c.args.level c.reach_of-reach.result)
+    (rows-have c.args.self.now.rows.items) c.in-Reserve.is c.hold.ensures.shape c.in_ok-hold.ensures.kept
+
+pub returns-clause-admissible : goal.returns-clause-admissible
+returns-clause-admissible c =
+    offer-admissible c.args.self.now.shape (kept_in c.args.self.now) c.args.ask.now c.args.level c.reach_of-reach.result c.requires.fits c.requires.may (reach (goal.at.returns-clause-admissible c).After-hold)
+
+pub returns-clause-guaranteed : goal.returns-clause-guaranteed
+returns-clause-guaranteed c = λ h stands before.
+    hop-guarantee c.args.self.now.shape _
+    (offer-admissible c.args.self.now.shape (kept_in c.args.self.now) c.args.ask.now c.args.level c.reach_of-reach.result c.requires.fits c.requires.may (reach (goal.at.returns-clause-guaranteed c).After-hold) h stands before)
+
+pub returns-clause-legal : goal.returns-clause-legal
+returns-clause-legal c =
+    offer-legal c.args.self.now.shape (kept_in c.args.self.now) c.args.ask.now c.args.level c.reach_of-reach.result (rows-have c.args.self.now.rows.items) c.requires.may (reach (goal.at.returns-clause-legal c).After-hold)

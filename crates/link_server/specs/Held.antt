@@ -1,0 +1,50 @@
+-- A link tells the rows that it holds, in the order of their reserves: of each the channel, the contract, the level, the
+-- phase, and the units that it keeps. They are the rows held after every history that the link stands for. A caller who
+-- goes by rules of its own, as a link that is split between groups does, may so reserve at a level that it chooses: the
+-- offer has to be one that a link may make that holds these rows.
+use Rattle.std.specs.Prelude.{◌≡◌, Some, List, map, slice_get, Option}
+use Rattle.std.proofs.Common.{ℕ, [], ◌∷◌, refl, ap, ◌∙◌, sym}
+use Rattle.net_units.specs.Numbers.{level_number}
+use Rattle.net_units.specs.declared.numbers.Level.{Level}
+use Rattle.traffic_contract.specs.Admission.{best_level}
+use Rattle.link_steps.specs.declared.asks.Ask.{Ask}
+use Rattle.link_steps.specs.declared.asks.Ask.TheVariants.{Reserve}
+use Rattle.link_steps.specs.declared.shape.LinkShape.{LinkShape}
+use Rattle.link_steps.specs.Admissible.{MayOffer}
+use Rattle.link_steps.specs.Buffer.{kept_units}
+use Rattle.link_steps.specs.Kept.{kept_terms}
+use Rattle.link_steps.specs.Levels.{level_of}
+use Rattle.link_steps.specs.Replies.{reach_of}
+use Rattle.link_steps.specs.Reservation.{Reservation, admitted}
+use Rattle.link_steps.specs.Shape.{server_of}
+use Rattle.link_server.specs.State.{kept_in}
+use Rattle.link_server.specs.declared.held_row.HeldRow.{HeldRow}
+use Rattle.link_server.specs.declared.link_state.LinkState.{LinkState}
+
+-- the reservations that a link holds
+abbrev pub held_by : LinkState → List Reservation
+held_by link = map kept_terms (kept_in link).rows
+
+-- a reservation as a caller sees it, at a link with these bounds
+abbrev pub seen : List ℕ → Reservation → HeldRow
+seen bounds terms = record { chan = terms.chan; contract = terms.contract; level = terms.level; phase = terms.phase; kept = kept_units bounds terms }
+
+-- the one at a place, from 0, if there is one
+abbrev pub seen_at : List ℕ → List Reservation → ℕ → Option HeldRow
+seen_at bounds held place = slice_get (map (seen bounds) held) place
+
+-- the reach that a reserve gets at a level; to another ask it is the level
+abbrev pub reach_at : LinkShape → Ask → Level → Level
+reach_at shape (Reserve chan contract kind delay up_reach first next) level = level_of (reach_of shape.bounds delay (level_number level))
+reach_at shape ask level = level
+
+-- the ask is a reserve, and a link that holds these reservations may offer it the level, with its reach
+abbrev pub MayReserve : LinkShape → List Reservation → Ask → Level → Type 0
+MayReserve shape held (Reserve chan contract kind delay up_reach first next) level =
+    MayOffer shape held chan contract delay up_reach level (level_of (reach_of shape.bounds delay (level_number level)))
+MayReserve shape held ask level = ⊥
+
+-- the level is the best for it, by the test of the whole link
+abbrev pub IsBestFor : LinkShape → List Reservation → Ask → Level → Type 0
+IsBestFor shape held (Reserve chan contract kind delay up_reach first next) level = best_level (server_of shape) (map admitted held) contract ≡ Some (level_number level)
+IsBestFor shape held ask level = ⊥
