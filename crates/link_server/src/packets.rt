@@ -242,6 +242,3 @@ impl Packets {
         }
     }
 }
-
-#[cfg(test)]
-mod tests;

@@ -1,5 +1,7 @@
 //! Worked releases and arrivals at one link.
-use super::{arrive, deny, offer, open, relax, release, reserve, step, submit, tick, voice};
+use super::{
+    arrive, deny, offer, open, relax, release, reserve, step, submit, tick, ticked, voice,
+};
 use link_steps::{Ask, Phase, Refusal, Reply, Why};
 use net_units::{ChanNo, Kind, Level, LinkNo};
 use std::test::Fail;
@@ -48,16 +50,7 @@ fn each_ask_in_the_life_of_a_reservation_is_answered(rt: HostRuntime) -> Result<
             cancelled: 3
         }
     );
-    assert_eq!(rt;
-        tick(&mut link)?,
-        Reply::Ticked {
-            clock: 0,
-            full: 0,
-            sent: None,
-            best_sent: false,
-            best_lost: false,
-        }
-    );
+    assert_eq!(rt; tick(&mut link)?, ticked(0, 0, None));
     assert_eq!(rt; release(&mut link, 1)?, Reply::Refused(Refusal::NoSuch));
     Ok(())
 }

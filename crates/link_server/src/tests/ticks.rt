@@ -1,26 +1,9 @@
 //! Worked ticks at one link.
-use super::{offer, open, relax, reserve, submit, tick, voice};
+use super::{offer, open, relax, reserve, submit, tick, ticked, voice, voice_packet};
 use link_steps::{Packet, Reply, Sent};
 use net_units::ChanNo;
 use std::test::Fail;
 use traffic_contract::Contract;
-
-// A packet of two units of channel 1, as it leaves the link at the end of its route.
-fn voice_packet(number: u64, at: u64, eligible: u64, due: u64, arrives: u64) -> Result<Sent, Fail> {
-    let packet = Packet {
-        chan: ChanNo::new(1).ok_or("channel")?,
-        number,
-        size: 2,
-        due,
-    };
-    Ok(Sent {
-        packet,
-        at,
-        eligible,
-        arrives,
-        next: None,
-    })
-}
 
 #[test]
 fn packets_at_the_contracts_pace_are_served_at_once(rt: HostRuntime) -> Result<(), Fail> {
@@ -38,14 +21,7 @@ fn packets_at_the_contracts_pace_are_served_at_once(rt: HostRuntime) -> Result<(
             21 => Some(voice_packet(3, 20, 20, 32, 24)?),
             _ => None,
         };
-        let ticked = Reply::Ticked {
-            clock,
-            full: 0,
-            sent,
-            best_sent: false,
-            best_lost: false,
-        };
-        assert_eq!(rt; tick(&mut link)?, ticked, "tick {clock}");
+        assert_eq!(rt; tick(&mut link)?, ticked(clock, 0, sent), "tick {clock}");
     }
     assert_eq!(rt;
         submit(&mut link, 1, 3, 10, 2)?,
@@ -67,14 +43,8 @@ fn packets_that_come_too_fast_are_held_and_one_finds_no_slot(rt: HostRuntime) ->
             21 => Some(voice_packet(3, 4, 20, 32, 24)?),
             _ => None,
         };
-        let ticked = Reply::Ticked {
-            clock,
-            full: u32::from(clock == 6),
-            sent,
-            best_sent: false,
-            best_lost: false,
-        };
-        assert_eq!(rt; tick(&mut link)?, ticked, "tick {clock}");
+        let full = u32::from(clock == 6);
+        assert_eq!(rt; tick(&mut link)?, ticked(clock, full, sent), "tick {clock}");
     }
     Ok(())
 }
@@ -100,16 +70,7 @@ fn a_packet_of_the_last_level_isnt_interrupted(rt: HostRuntime) -> Result<(), Fa
         arrives: 6,
         next: None,
     };
-    assert_eq!(rt;
-        tick(&mut link)?,
-        Reply::Ticked {
-            clock: 0,
-            full: 0,
-            sent: None,
-            best_sent: false,
-            best_lost: false,
-        }
-    );
+    assert_eq!(rt; tick(&mut link)?, ticked(0, 0, None));
     assert_eq!(rt; submit(&mut link, 1, 1, 1, 2)?, Reply::Planned { clock: 1 });
     for clock in 1..8 {
         let sent = match clock {
@@ -117,14 +78,7 @@ fn a_packet_of_the_last_level_isnt_interrupted(rt: HostRuntime) -> Result<(), Fa
             5 => Some(voice_packet(1, 1, 1, 13, 8)?),
             _ => None,
         };
-        let ticked = Reply::Ticked {
-            clock,
-            full: 0,
-            sent,
-            best_sent: false,
-            best_lost: false,
-        };
-        assert_eq!(rt; tick(&mut link)?, ticked, "tick {clock}");
+        assert_eq!(rt; tick(&mut link)?, ticked(clock, 0, sent), "tick {clock}");
     }
     Ok(())
 }
