@@ -20,7 +20,7 @@ use Rattle.link_steps.specs.declared.shape.LinkShape.{LinkShape}
 use Rattle.link_steps.specs.Admissible.{MayOffer, MayAnswer, IsAdmissible}
 use Rattle.link_steps.specs.Buffer.{need_of, free_units}
 use Rattle.link_steps.specs.Kept.{HasContract, StandsFor, Kept, kept_at, kept_row, kept_terms, kept_reply}
-use Rattle.link_steps.specs.Legal.{AskFits}
+use Rattle.link_steps.specs.Legal.{AskFits, ReserveFits}
 use Rattle.link_steps.specs.Levels.{level_of}
 use Rattle.link_steps.specs.Lists.{Each}
 use Rattle.link_steps.specs.Replies.{reach_of, reserve_reply, reply_to}
@@ -37,6 +37,9 @@ use Rattle.link_server.specs.Held.{seen, seen_at, reach_at, MayReserve, IsBestFo
 use Rattle.link_server.specs.Rows.{terms_in, row_in}
 use Rattle.link_server.specs.declared.held_row.HeldRow.{HeldRow}
 use Rattle.link_server.specs.declared.served_row.ServedRow.{ServedRow}
+use Rattle.link_server.specs.declared.served_row.Offered.{Offered}
+use Rattle.link_server.specs.declared.served_row.Wanted.{Wanted}
+use Rattle.link_server.specs.Wants.{ask_for, MayHold}
 use Rattle.link_server.proofs.AnswerFacts.{reserve-offer}
 use Rattle.link_server.proofs.PlaceFacts.{terms-kept}
 
@@ -68,6 +71,12 @@ pub seen-none : (bounds : List ℕ) (rows : List ServedRow) (place : ℕ) → le
 seen-none bounds rows place past = seen-kept bounds rows place None (slice_get_past rows place past)
 
 -- ---- admissible
+
+-- an admissible history goes on with an offer that the link may make
+pub wanted-admissible : (shape : LinkShape) (k : Kept) (wanted : Wanted) (offer : Offered) → ReserveFits wanted.contract wanted.up_reach wanted.first → MayHold shape (map kept_terms k.rows) wanted offer → (h : List Entry) → StandsFor shape k h → IsAdmissible shape h → IsAdmissible shape (record { ask = ask_for wanted; reply = Offer offer.level offer.reach } ∷ h)
+unfolding IsAdmissible MayAnswer
+wanted-admissible shape k wanted offer fits may h stands before =
+    (before, record { fits = fits; answered = subst (λ held. MayHold shape held wanted offer) (terms-stand shape k h stands) may })
 
 -- the history with the offer
 abbrev pub offered : Ask → Level → Level → List Entry → List Entry

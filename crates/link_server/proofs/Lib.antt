@@ -12,6 +12,7 @@ pub mod RoomFacts
 pub mod TickFacts
 pub mod HoldingFacts
 pub mod ChosenFacts
+pub mod StoodFacts
 pub mod ExpiryFacts
 pub mod SourceFacts
 pub mod SourceRows

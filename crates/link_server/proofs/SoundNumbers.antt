@@ -1,7 +1,6 @@
 -- What the numbers of a sound account leave to count on while a tick is made: there is a place for each packet that the
--- sources bring, and no count and no eligible tick passes 2^63.
+-- sources bring, and each count can go on.
 use Rattle.std.proofs.Common.{◌≡◌, ℕ, suc, ◌+◌, ◌^◌, ◌<◌, ◌≤◌, List, [], ◌∷◌, ◌++◌, length, sym, ap, ◌∙◌, subst, arith, append-nil, length-append}
-use Rattle.std.proofs.lemmas.Nat.{mul-le}
 use Rattle.traffic_contract.proofs.AdmissionFacts.{total-append, total-filter-le}
 use Rattle.traffic_contract.specs.Admission.{total}
 use Rattle.traffic_contract.specs.Eligible.{newest}
@@ -11,11 +10,10 @@ use Rattle.link_steps.specs.Kept.{Kept, KeptRow, kept_stays, kept_waiting, kept_
 use Rattle.link_steps.specs.Lists.{Each}
 use Rattle.link_steps.specs.Rows.{SourcePacket}
 use Rattle.link_steps.specs.Service.{Arrival}
-use Rattle.link_steps.proofs.ListFacts.{Each-if}
+use Rattle.link_steps.proofs.ListFacts.{Each-both, Each-if}
 use Rattle.link_server.specs.Planned.{IsFrom}
 use Rattle.link_server.specs.Sources.{IsReady}
-use Rattle.link_server.specs.Sound.{of_channels, places_of, all_places_of, places, most_places, AreAhead, late_packets, IsSoundRow, IsSound}
-use Rattle.link_server.proofs.SoundPackets.{late-upto}
+use Rattle.link_server.specs.Sound.{of_channels, places_of, all_places_of, places, most_places, AreAhead, IsSoundRow, IsSound}
 use Rattle.link_server.proofs.SoundBest.{both-count, waits-count, kept_best-is, best-fits}
 use Rattle.link_server.proofs.SoundSources.{brought-places, from_best}
 
@@ -51,12 +49,12 @@ best-room shape room k sound free =
 
 -- ---- counts
 
--- the packets taken are fewer than 2^62
-taken-small : (shape : LinkShape) (room : ℕ) (k : Kept) → k.clock < 2 ^ 61 → room < 2 ^ 32 → IsSound shape room k → k.taken < 2 ^ 62
+-- one packet more than those taken can be counted
+taken-small : (shape : LinkShape) (room : ℕ) (k : Kept) → k.clock < 2 ^ 61 → room < 2 ^ 63 → IsSound shape room k → k.taken + 1 < 2 ^ 64
 taken-small shape room k early few sound = omega (arith, sound.taken_most, rows-upto shape room k sound)
 
--- and still so with those that the sources bring
-pub brought-small : (shape : LinkShape) (room : ℕ) (k : Kept) → k.clock < 2 ^ 61 → room < 2 ^ 32 → IsSound shape room k → k.taken + length (brought shape k) < 2 ^ 62
+-- and so can all that a tick brings
+pub brought-small : (shape : LinkShape) (room : ℕ) (k : Kept) → k.clock < 2 ^ 61 → room < 2 ^ 63 → IsSound shape room k → k.taken + length (brought shape k) < 2 ^ 64
 brought-small shape room k early few sound = omega (arith, sound.taken_most, brought-room shape room k sound)
 
 -- ---- a row in a tick
@@ -66,24 +64,17 @@ pub ahead-from : (t u : ℕ) (plan : List SourcePacket) → t ≤ u → AreAhead
 ahead-from t u [] from ahead = tt
 ahead-from t u (p ∷ plan) from ahead = (omega (arith, ahead.0), ahead-from t (suc p.tick) plan (omega (arith, ahead.0)) ahead.2)
 
--- its newest eligible tick is below 2^63
-newest-small : (levels clock taken : ℕ) (here : List Arrival) (row : KeptRow) → length here < 2 ^ 32 → IsSoundRow levels clock taken here row → newest row.recent < 2 ^ 63
-newest-small levels clock taken here row few sound =
-    let times = mul-le row.terms.contract.interval (late_packets row.lead (2 ^ 62) here) 16777216 (2 ^ 32) sound.contract.interval_most (omega (arith, late-upto row.lead (2 ^ 62) here)) in
-    omega (arith, times, sound.paced (2 ^ 62) (omega arith))
-
--- so each row of a sound account can make its step in the tick
-pub rows-ready : (shape : LinkShape) (room : ℕ) (k : Kept) → k.clock < 2 ^ 61 → room < 2 ^ 32 → IsSound shape room k → Each (IsReady k.clock) k.rows
-rows-ready shape room k early few sound =
-    let here = rows-upto shape room k sound in
+-- so each row of a sound account, where its newest eligible tick is soon, can make its step in the tick
+pub rows-ready : (shape : LinkShape) (room : ℕ) (k : Kept) → k.clock < 2 ^ 61 → room < 2 ^ 63 → IsSound shape room k → Each (λ row. newest row.recent < 2 ^ 63) k.rows → Each (IsReady k.clock) k.rows
+rows-ready shape room k early few sound soon =
     let taken = taken-small shape room k early few sound in
-    Each-if (IsSoundRow (length shape.bounds) k.clock k.taken k.here) (IsReady k.clock) k.rows
-    (λ row each. record {
-      ahead = ahead-from k.clock k.clock row.left (omega arith) each.ahead;
-      last = newest-small (length shape.bounds) k.clock k.taken k.here row (omega (arith, here)) each;
-      few = omega (arith, each.taken_most, taken);
+    Each-if (λ row. IsSoundRow (length shape.bounds) k.clock k.taken k.here row × (newest row.recent < 2 ^ 63)) (IsReady k.clock) k.rows
+    (λ row both. record {
+      ahead = ahead-from k.clock k.clock row.left (omega arith) both.0.ahead;
+      last = both.1;
+      few = (let most = both.0.taken_most in omega (arith, most, taken));
     })
-    sound.rows
+    (Each-both (IsSoundRow (length shape.bounds) k.clock k.taken k.here) (λ row. newest row.recent < 2 ^ 63) k.rows sound.rows soon)
 
 -- ---- a reserve
 

@@ -1,5 +1,5 @@
 -- What the account says of a step, every history that the link stands for says.
-use Rattle.std.proofs.Common.{◌≡◌, true, false, List, [], ◌∷◌, map, ◌∙◌, sym, ap, subst}
+use Rattle.std.proofs.Common.{◌≡◌, true, false, List, [], ◌∷◌, map, refl, ◌∙◌, sym, ap, subst}
 use Rattle.std.specs.Prelude.{Result, Ok, Err, IfOk, OnErr}
 use Rattle.link_steps.specs.declared.asks.Ask.{Ask}
 use Rattle.link_steps.specs.declared.replies.Entry.{Entry}
@@ -49,10 +49,21 @@ reserve-instead shape k ask asked (Ok reply) each is offer = tt
 reserve-instead shape k ask asked (Err e) each is offer =
     λ h stands. subst IsOffer (ap (kept_reply (whole shape) k) (sym is) ∙ stands-reply (whole shape) k h ask each stands) offer
 
--- where the history is legal, the next one has the hop guarantee
-pub step-guaranteed : (shape : LinkShape) (ask : Ask) (reply : Reply) (k : Kept) → AskFits shape ask → ((h : List Entry) → StandsFor shape k h → reply ≡ reply_to (whole shape) h ask) → (h : List Entry) → StandsFor shape k h → IsAdmissible shape h → HopGuarantee shape (record { ask = ask; reply = reply } ∷ h)
+-- ---- the next history
+
+-- a legal reply goes on with an admissible history
+legal-admissible : (shape : LinkShape) (ask : Ask) (reply : Reply) (h : List Entry) → AskFits shape ask → reply ≡ reply_to (whole shape) h ask → IsAdmissible shape h → IsAdmissible shape (record { ask = ask; reply = reply } ∷ h)
 unfolding IsAdmissible reply_to
-step-guaranteed shape ask reply k fits answered h stands legal = hop-guarantee shape (record { ask = ask; reply = reply } ∷ h) (legal, record { fits = fits; answered = may-answer (whole shape) (clock_of h) (scan_of shape h) ask reply (whole-fits shape) (λ splits. absurd (let none : false ≡ true = splits in cc)) (answered h stands) })
+legal-admissible shape ask reply h fits answered before =
+    (before, record { fits = fits; answered = may-answer (whole shape) (clock_of h) (scan_of shape h) ask reply (whole-fits shape) (λ splits. absurd (let none : false ≡ true = splits in cc)) answered })
+
+-- where the history is admissible so is the next one
+pub step-admissible : (shape : LinkShape) (k : Kept) (ask : Ask) (reply : Reply) → Each HasContract k.rows → AskFits shape ask → reply ≡ kept_reply (whole shape) k ask → (h : List Entry) → StandsFor shape k h → IsAdmissible shape h → IsAdmissible shape (record { ask = ask; reply = reply } ∷ h)
+step-admissible shape k ask reply each fits same h stands before = legal-admissible shape ask reply h fits (step-legal shape k ask ask reply each refl same h stands) before
+
+-- and it has the hop guarantee
+pub step-guaranteed : (shape : LinkShape) (ask : Ask) (reply : Reply) (k : Kept) → AskFits shape ask → ((h : List Entry) → StandsFor shape k h → reply ≡ reply_to (whole shape) h ask) → (h : List Entry) → StandsFor shape k h → IsAdmissible shape h → HopGuarantee shape (record { ask = ask; reply = reply } ∷ h)
+step-guaranteed shape ask reply k fits answered h stands before = hop-guarantee shape (record { ask = ask; reply = reply } ∷ h) (legal-admissible shape ask reply h fits (answered h stands) before)
 
 pub reserve-guaranteed : {E : Type 0} (shape : LinkShape) (ask : Ask) (k : Kept) (r : Result Reply E) → AskFits shape ask → IfOk r (λ reply. (h : List Entry) → StandsFor shape k h → reply ≡ reply_to (whole shape) h ask) → IfOk r (λ reply. (h : List Entry) → StandsFor shape k h → IsAdmissible shape h → HopGuarantee shape (record { ask = ask; reply = reply } ∷ h))
 reserve-guaranteed shape ask k (Ok reply) fits answered = step-guaranteed shape ask reply k fits answered

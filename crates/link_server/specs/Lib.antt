@@ -7,6 +7,7 @@ pub mod Packets
 pub mod Serving
 pub mod Asks
 pub mod Account
+pub mod Stood
 pub mod State
 pub mod Held
 pub mod Sound

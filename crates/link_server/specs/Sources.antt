@@ -1,7 +1,7 @@
 -- In a tick each row with a packet planned for it takes that packet, where one of its slots is free, or else drops it.
 -- The rows do so in the order of their reserves, and a slot is free by the packets that are here as the tick begins. The
 -- account says what each row and the packets become; here it is said of the rows and packets that the link keeps.
-use Rattle.std.specs.Prelude.{ℕ, ◌<◌, ◌^◌, List, map}
+use Rattle.std.specs.Prelude.{ℕ, ◌+◌, ◌<◌, ◌^◌, List, map}
 use Rattle.traffic_contract.specs.Eligible.{newest}
 use Rattle.link_steps.specs.Kept.{KeptRow, kept_step, kept_packets, kept_rows_after, kept_lost}
 use Rattle.link_steps.specs.Lists.{Each}
@@ -32,7 +32,7 @@ lost_by_rows bounds here t rows = kept_lost bounds here t (map row_in rows)
 pub record IsReady (clock : ℕ) (row : KeptRow) : Type 0 where
   pub ahead : Each (IsFrom clock) row.left
   pub last : newest row.recent < 2 ^ 63
-  pub few : row.taken < 2 ^ 63
+  pub few : row.taken + 1 < 2 ^ 64
 
 -- and so for each row
 abbrev pub AreReady : ℕ → List ServedRow → Type 0

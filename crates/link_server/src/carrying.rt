@@ -1,5 +1,5 @@
 //! The asks by which a link carries packets: submit, release, arrive and tick.
-ghost use Rattle.std.specs.Prelude.{◌≡◌, ◌^◌, ◌<◌, suc};
+ghost use Rattle.std.specs.Prelude.{◌≡◌, ◌^◌, ◌<◌, ◌≤◌, suc};
 ghost use Rattle.link_steps.specs.declared.asks.Ask.TheVariants.{Submit as AskSubmit, Release as AskRelease, Arrive as AskArrive, Tick as AskTick, Pour as AskPour};
 ghost use Rattle.link_steps.specs.Split.{whole};
 ghost use Rattle.link_steps.specs.Kept.{kept_reply, kept_after};
@@ -96,6 +96,7 @@ impl LinkState {
 
     // Plans best-effort packets, the first at the clock.
     pub(crate) fn pour(&mut self, count: u64, gap: u64, size: u32) -> Reply
+        requires some { 1 ≤ self.old.shape.best }
         requires fits { SubmitFits count gap size }
         requires early { self.old.clock < 2 ^ 61 }
         ensures shape { self.new.shape ≡ self.old.shape }

@@ -8,6 +8,7 @@ ghost use Rattle.link_server.specs.Account.{account};
 ghost use Rattle.link_server.specs.Rows.{summed, AreWithin};
 ghost use Rattle.link_server.specs.Sound.{IsSound};
 ghost use Rattle.link_server.specs.SoundProp.{IsSound-prop};
+ghost use Rattle.link_server.specs.Stood.{IsStood, IsStood-prop};
 
 use crate::held_row::HeldRow;
 use crate::packets::Packets;
@@ -36,7 +37,7 @@ pub struct LinkState {
     ghost within: { AreWithin (length shape.bounds) rows.items },
     ghost sound: { IsSound shape room (account clock packets rows.items) } by { IsSound-prop shape room (account clock packets rows.items) },
     ghost roomy: { room ≤ vec_capacity packets.here },
-    ghost room_most: { room < 2 ^ 32 },
+    ghost stood: { IsStood shape (account clock packets rows.items) } by { IsStood-prop shape (account clock packets rows.items) },
 }
 
 impl LinkState {

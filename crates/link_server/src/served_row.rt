@@ -1,5 +1,5 @@
 //! A row of a link: a reservation that is held, its regulator, its planned packets, and the units that it keeps.
-ghost use Rattle.std.specs.Prelude.{◌≡◌, ◌^◌, ◌<◌, ◌≤◌, suc, true, find, IfSome, IfOk, length};
+ghost use Rattle.std.specs.Prelude.{◌≡◌, ◌+◌, ◌^◌, ◌<◌, ◌≤◌, suc, true, find, IfSome, IfOk, length};
 ghost use Rattle.traffic_contract.specs.Contract.{IsContract};
 ghost use Rattle.traffic_contract.specs.Eligible.{newest};
 ghost use Rattle.link_steps.specs.Buffer.{units_for};
@@ -225,7 +225,7 @@ impl ServedRow {
 
     // The refusal of a packet from the link before that has no place here.
     pub(crate) fn stray(&self, packet: &Packet) -> Option<Refusal>
-        requires { self.now.taken < 2 ^ 63 }
+        requires { self.now.taken + 1 < 2 ^ 64 }
         ensures { result ≡ stray packet.now (terms_in self.now) self.now.taken }
     {
         let next = self.taken + 1;
@@ -296,7 +296,7 @@ impl ServedRow {
         requires due { due < 2 ^ 62 }
         requires hop { self.old.first ≡ true → due ≡ 0 }
         requires last { newest (row_in self.old).recent < 2 ^ 63 }
-        requires few { self.old.taken < 2 ^ 63 }
+        requires few { self.old.taken + 1 < 2 ^ 64 }
         ensures packet { arrival_in result ≡ arrival_at (terms_in self.old) self.old.lead place (suc self.old.taken) size clock (eligible_next (terms_in self.old) (row_in self.old).recent clock due) }
         ensures row { row_in self.new ≡ kept_with place (eligible_next (terms_in self.old) (row_in self.old).recent clock due) (row_in self.old) }
     {

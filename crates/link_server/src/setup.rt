@@ -162,9 +162,6 @@ impl LinkState {
             + u64::from(self.shape.best)
             + 1;
         let room = self.packets.here.len() as u64 + places;
-        if room > u64::from(u32::MAX) {
-            return Err(OutOfMemory);
-        }
         self.rows.reserve(1)?;
         self.sums.reserve(1)?;
         self.packets.reserve(places as usize)?;

@@ -22,8 +22,8 @@ use Rattle.link_server.proofs.ArriveFacts.{arrive-absent, arrive-stray, arrive-f
 use Rattle.link_server.proofs.ExpiryFacts.{each-at}
 use Rattle.link_server.proofs.PlaceFacts.{at-place}
 use Rattle.link_server.proofs.SumsFacts.{summed-same, within-same}
-use Rattle.link_server.proofs.SoundNumbers.{rows-ready}
 use Rattle.link_server.proofs.SoundTaking.{sound-arrive}
+use Rattle.link_server.proofs.StoodFacts.{all-ready, still-stood}
 use Rattle.link_server.proofs.link_state.LinkState.arrive.Goals as goal
 use Rattle.link_server.proofs.link_state.LinkState.arrive.Goals.{In-Some, After-take-taken, After-push}
 
@@ -40,9 +40,9 @@ placed c = subst (λ rows. IsPlaceOf c.args.packet.now.chan rows c.in-Some.place
 
 pub stray-requires : goal.stray-requires
 stray-requires c =
-    let each = rows-ready c.args.self.now.shape c.args.self.now.room (kept_in c.args.self.now) c.requires.early c.args.self.now.room_most c.args.self.now.sound in
+    let each = all-ready c.args.self.now c.requires.early in
     let ready = each-at (IsReady c.args.self.now.clock) c.args.self.now.rows.items c.in-Some.place c.index.result.now (placed (goal.at.stray-requires c).In-Some).inside each in
-    subst (λ n. n < 2 ^ 63) (sym (ap (λ row. row.taken) c.index.ensures)) ready.few
+    subst (λ n. n + 1 < 2 ^ 64) (sym (ap (λ row. row.taken) c.index.ensures)) ready.few
 
 pub returns-in-Some-stray-clause-reply : goal.returns-in-Some-stray-clause-reply
 returns-in-Some-stray-clause-reply c =
@@ -67,15 +67,15 @@ returns-in-Some-full-clause-kept c = arrive-same c.args.self.now.shape _ c.args.
 
 pub take-taken-requires-clause-last : goal.take-taken-requires-clause-last
 take-taken-requires-clause-last c =
-    let each = rows-ready c.args.self.now.shape c.args.self.now.room (kept_in c.args.self.now) c.requires.early c.args.self.now.room_most c.args.self.now.sound in
+    let each = all-ready c.args.self.now c.requires.early in
     let ready = each-at (IsReady c.args.self.now.clock) c.args.self.now.rows.items c.in-Some.place c.index_mut.result.now (placed (goal.at.take-taken-requires-clause-last c).In-Some).inside each in
     subst (λ n. n < 2 ^ 63) (sym (ap (λ row. newest (row_in row).recent) c.index_mut.ensures.value)) ready.last
 
 pub take-taken-requires-clause-few : goal.take-taken-requires-clause-few
 take-taken-requires-clause-few c =
-    let each = rows-ready c.args.self.now.shape c.args.self.now.room (kept_in c.args.self.now) c.requires.early c.args.self.now.room_most c.args.self.now.sound in
+    let each = all-ready c.args.self.now c.requires.early in
     let ready = each-at (IsReady c.args.self.now.clock) c.args.self.now.rows.items c.in-Some.place c.index_mut.result.now (placed (goal.at.take-taken-requires-clause-few c).In-Some).inside each in
-    subst (λ n. n < 2 ^ 63) (sym (ap (λ row. row.taken) c.index_mut.ensures.value)) ready.few
+    subst (λ n. n + 1 < 2 ^ 64) (sym (ap (λ row. row.taken) c.index_mut.ensures.value)) ready.few
 
 -- the reply is the account's
 replied : (c : After-take-taken) → IsPlaceOf c.args.packet.now.chan c.args.self.now.rows.items c.in-Some.place → Taken c.args.self.now.clock c.take-taken.result.eligible ≡ kept_reply (whole c.args.self.now.shape) (kept_in c.args.self.now) (Arrive c.args.packet.now)
@@ -131,7 +131,7 @@ invariant_of-self-2 c =
           c.args.self.now.within;
       sound = subst (IsSound c.args.self.now.shape c.args.self.now.room) (sym (kept (goal.at.invariant_of-self-2 c).After-push place)) after;
       roomy = omega (arith, roomy, c.push.ensures.capacity);
-      room_most = c.args.self.now.room_most;
+      stood = still-stood c.args.self.now (Arrive c.args.packet.now) (Taken c.args.self.now.clock c.take-taken.result.eligible) _ c.requires.fits (replied (goal.at.invariant_of-self-2 c).After-take-taken place) (kept (goal.at.invariant_of-self-2 c).After-push place);
     }
 
 pub returns-clause-reply : goal.returns-clause-reply

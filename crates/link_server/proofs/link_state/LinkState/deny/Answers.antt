@@ -1,5 +1,5 @@
 -- The row of the channel is found, judged by its phase, and taken out of the rows and of the sums.
-use Rattle.std.proofs.Common.{map, sym, ap, ◌∙◌, subst}
+use Rattle.std.proofs.Common.{◌≡◌, map, sym, ap, ◌∙◌, subst}
 use Rattle.net_units.specs.Numbers.{channel_number}
 use Rattle.rcsp_admission.specs.Sums.{Holds, without, IsDistinct}
 use Rattle.link_steps.specs.declared.replies.Phase.TheVariants.{Tentative}
@@ -13,7 +13,12 @@ use Rattle.link_server.proofs.SoundSetup.{sound-deny}
 use Rattle.link_server.proofs.PlaceFacts.{all-without}
 use Rattle.link_server.proofs.SumsFacts.{place-holds, summed-without}
 use Rattle.link_server.proofs.AnswerFacts.{deny-absent, deny-refused, deny-denied, deny-same, deny-kept}
+use Rattle.link_server.proofs.StoodFacts.{still-stood}
+use Rattle.link_steps.specs.declared.asks.Ask.TheVariants.{Deny}
+use Rattle.link_steps.specs.Kept.{kept_reply}
+use Rattle.link_steps.specs.Split.{whole}
 use Rattle.link_server.proofs.link_state.LinkState.deny.Goals as goal
+use Rattle.link_server.proofs.link_state.LinkState.deny.Goals.{After-remove-2}
 
 pub returns-in_default-clause-reply : goal.returns-in_default-clause-reply
 returns-in_default-clause-reply c =
@@ -37,6 +42,13 @@ remove-requires c =
     let held = subst (λ rows. Holds rows (channel_number c.args.chan)) (sym c.args.self.now.same_rows) (place-holds c.args.chan c.args.self.now.rows.items c.in-Some.place place) in
     record { held = rw c.get.ensures.value held }
 
+-- the reply is the account's
+denied : (c : After-remove-2) → Denied ≡ kept_reply (whole c.args.self.now.shape) (kept_in c.args.self.now) (Deny c.args.chan)
+denied c =
+    deny-denied c.args.self.now.shape c.args.self.now.clock c.args.self.now.packets c.args.chan c.args.self.now.rows.items c.in-Some.place c.index.result.now
+    (subst (λ rows. IsPlaceOf c.args.chan rows c.in-Some.place) c.deref.ensures.value c.in-Some.ensures.some)
+    (c.in_default-not_tentative.ensures ∙ ap (λ row. not_in_phase Tentative (terms_in row)) c.index.ensures)
+
 pub invariant_of-self : goal.invariant_of-self
 invariant_of-self c =
     let place = subst (λ rows. IsPlaceOf c.args.chan rows c.in-Some.place) c.deref.ensures.value c.in-Some.ensures.some in
@@ -56,14 +68,11 @@ invariant_of-self c =
       within = rw c.remove-2.ensures.items (all-without (IsWithin _) c.args.self.now.rows.items c.in-Some.place c.args.self.now.within);
       sound = subst (IsSound c.args.self.now.shape c.args.self.now.room) (sym kept) (sound-deny c.args.self.now.shape c.args.self.now.room (kept_in c.args.self.now) c.args.chan Denied c.args.self.now.sound);
       roomy = c.args.self.now.roomy;
-      room_most = c.args.self.now.room_most;
+      stood = still-stood c.args.self.now (Deny c.args.chan) Denied _ tt (denied (goal.at.invariant_of-self c).After-remove-2) kept;
     }
 
 pub returns-clause-reply : goal.returns-clause-reply
-returns-clause-reply c =
-    deny-denied c.args.self.now.shape c.args.self.now.clock c.args.self.now.packets c.args.chan c.args.self.now.rows.items c.in-Some.place c.index.result.now
-    (subst (λ rows. IsPlaceOf c.args.chan rows c.in-Some.place) c.deref.ensures.value c.in-Some.ensures.some)
-    (c.in_default-not_tentative.ensures ∙ ap (λ row. not_in_phase Tentative (terms_in row)) c.index.ensures)
+returns-clause-reply c = denied (goal.at.returns-clause-reply c).After-remove-2
 
 pub returns-clause-kept : goal.returns-clause-kept
 returns-clause-kept c =

@@ -16,6 +16,9 @@ use Rattle.link_server.specs.declared.served_row.Wanted.{Wanted}
 use Rattle.link_server.proofs.SumsFacts.{within-reserved}
 use Rattle.link_server.proofs.AnswerFacts.{reserve-kept}
 use Rattle.link_server.proofs.HoldingFacts.{held_terms, sound-held, may-new, may-within, may-passes, summed-pushed, within-pushed}
+use Rattle.link_server.specs.Stood.{IsStood}
+use Rattle.link_server.proofs.StepFacts.{rows-have}
+use Rattle.link_server.proofs.StoodFacts.{stood-offered}
 use Rattle.link_server.proofs.link_state.LinkState.hold.Goals as goal
 use Rattle.link_server.proofs.link_state.LinkState.hold.Goals.{After-add}
 
@@ -67,7 +70,7 @@ invariant_of-self c =
       within = subst (AreWithin _) (sym c.push_reserved.ensures.items) (within-pushed _ c.make_room.new.self.rows.items c.in_ok-row.row c.make_room.new.self.within (within-reserved _ c.in_ok-row.row (held_terms c.args.wanted.now c.args.offer.now) c.in_ok-row.ensures may.level_most (may-reach c.make_room.new.self.shape (held_by c.make_room.new.self) c.args.wanted.now.chan c.args.wanted.now.contract c.args.wanted.now.delay c.args.wanted.now.up_reach c.args.offer.now.level c.args.offer.now.reach may)));
       sound = subst (IsSound c.make_room.new.self.shape c.make_room.new.self.room) (sym (kept (goal.at.invariant_of-self c).After-add)) held;
       roomy = c.make_room.new.self.roomy;
-      room_most = c.make_room.new.self.room_most;
+      stood = subst (IsStood c.make_room.new.self.shape) (sym (kept (goal.at.invariant_of-self c).After-add)) (stood-offered c.make_room.new.self.shape (kept_in c.make_room.new.self) c.args.wanted.now c.args.offer.now (rows-have c.make_room.new.self.rows.items) c.requires.fits may c.make_room.new.self.stood);
     }
 
 pub returns-clause-kept : goal.returns-clause-kept

@@ -1,23 +1,18 @@
 -- The memory that is taken changes nothing that the link keeps.
-use Rattle.std.proofs.Common.{◌≡◌, map, length, sym, ap, ◌∙◌, subst, arith}
-use Rattle.std.proofs.lemmas.List.{length-map}
+use Rattle.std.proofs.Common.{◌≡◌, ◌^◌, ◌<◌, map, length, sym, ap, ◌∙◌, subst, arith}
 use Rattle.traffic_contract.specs.Admission.{total}
 use Rattle.link_server.specs.Rows.{row_in, summed, AreWithin}
 use Rattle.link_server.specs.Sound.{all_places_of, IsSound}
 use Rattle.link_server.specs.State.{kept_in}
 use Rattle.link_server.proofs.AccountFacts.{account-same}
 use Rattle.link_server.proofs.RoomFacts.{most_places-are}
-use Rattle.link_server.proofs.SoundNumbers.{rows-upto}
 use Rattle.link_server.proofs.SoundSetup.{sound-larger}
+use Rattle.link_server.specs.Stood.{IsStood}
+use Rattle.link_server.proofs.StoodFacts.{rows-few, room-small}
 use Rattle.link_server.proofs.link_state.LinkState.make_room.Goals as goal
 
 pub places_of-requires-clause-few : goal.places_of-requires-clause-few
-places_of-requires-clause-few c =
-    let upto = rows-upto c.args.self.now.shape c.args.self.now.room (kept_in c.args.self.now) c.args.self.now.sound in
-    let long = length-map c.args.self.now.rows.items row_in in
-    let shown = ap length c.deref.ensures.value in
-    let most = c.args.self.now.room_most in
-    omega (arith, upto, long, shown, most)
+places_of-requires-clause-few c = subst (λ rows. length rows < 2 ^ 32) (sym c.deref.ensures.value) (rows-few c.args.self.now)
 
 pub invariant_of-self-2 : goal.invariant_of-self-2
 invariant_of-self-2 c =
@@ -25,7 +20,6 @@ invariant_of-self-2 c =
     let larger = sound-larger c.args.self.now.shape c.args.self.now.room c.max-self.result (kept_in c.args.self.now) (omega (arith, c.max-self.ensures)) c.args.self.now.sound in
     let grows = c.reserve-3.ensures.grows in
     let roomy = c.args.self.now.roomy in
-    let most = c.args.self.now.room_most in
     let taken = c.in_ok-reserve-3.ensures.room in
     record {
       admitted = c.reserve-2.ensures.admitted;
@@ -34,7 +28,7 @@ invariant_of-self-2 c =
       within = subst (AreWithin (length c.args.self.now.shape.bounds)) (sym c.reserve.ensures.items) c.args.self.now.within;
       sound = subst (IsSound c.args.self.now.shape c.max-self.result) (sym same) larger;
       roomy = omega (arith, c.max-self.ensures, grows, roomy, taken, c.len.ensures, ap length c.reserve-3.ensures.here);
-      room_most = omega (arith, c.max-self.ensures, most, c.if-room-from.false, c.from.ensures);
+      stood = subst (IsStood c.args.self.now.shape) (sym same) c.args.self.now.stood;
     }
 
 pub returns-clause-packets_fit : goal.returns-clause-packets_fit

@@ -5,6 +5,8 @@ use Rattle.link_steps.proofs.Account.{nothing-stands}
 use Rattle.link_server.specs.Account.{account}
 use Rattle.link_server.specs.Planned.{left_in}
 use Rattle.link_server.specs.Sound.{IsSound}
+use Rattle.link_server.specs.Stood.{IsStood}
+use Rattle.link_server.proofs.StoodFacts.{nothing-stood}
 use Rattle.link_server.proofs.AccountFacts.{account-nothing}
 use Rattle.link_server.proofs.SoundSetup.{nothing-sound}
 use Rattle.link_server.proofs.link_state.LinkState.new.Goals as goal
@@ -14,6 +16,12 @@ invariant_of-result-clause-sound c =
     subst (IsSound c.args.shape c.from.result)
     (sym (account-nothing c.reserve.new.self c.new-2.result.items (c.reserve.ensures.taken ∙ c.new-packets.ensures.taken) (c.reserve.ensures.here ∙ c.new-packets.ensures.here) (c.reserve.ensures.on ∙ c.new-packets.ensures.on) (ap left_in c.reserve.ensures.best ∙ c.new-packets.ensures.best) c.new-2.ensures.items))
     (nothing-sound c.args.shape c.from.result (omega (arith, c.from.ensures)))
+
+pub invariant_of-result-clause-stood : goal.invariant_of-result-clause-stood
+invariant_of-result-clause-stood c =
+    subst (IsStood c.args.shape)
+    (sym (account-nothing c.reserve.new.self c.new-2.result.items (c.reserve.ensures.taken ∙ c.new-packets.ensures.taken) (c.reserve.ensures.here ∙ c.new-packets.ensures.here) (c.reserve.ensures.on ∙ c.new-packets.ensures.on) (ap left_in c.reserve.ensures.best ∙ c.new-packets.ensures.best) c.new-2.ensures.items))
+    (nothing-stood c.args.shape)
 
 pub returns-clause-stands : goal.returns-clause-stands
 returns-clause-stands c =

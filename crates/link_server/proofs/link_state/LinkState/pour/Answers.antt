@@ -7,6 +7,8 @@ use Rattle.link_steps.specs.declared.replies.Reply.TheVariants.{Planned, Refused
 use Rattle.link_steps.specs.declared.replies.Refusal.TheVariants.{TooBig}
 use Rattle.link_server.proofs.SoundSetup.{sound-pour}
 use Rattle.link_server.proofs.PourFacts.{pour-busy, pour-big, pour-planned, pour-same, pour-kept}
+use Rattle.link_server.proofs.StoodFacts.{still-stood}
+use Rattle.link_steps.specs.declared.asks.Ask.TheVariants.{Pour}
 use Rattle.link_server.proofs.link_state.LinkState.pour.Goals as goal
 
 pub returns-in-Some-clause-reply : goal.returns-in-Some-clause-reply
@@ -34,3 +36,9 @@ invariant_of-self-2-clause-sound c =
     subst (IsSound c.args.self.now.shape c.args.self.now.room) (sym (pour-kept c.args.self.now.shape c.args.self.now.clock c.args.self.now.packets c.args.self.now.rows.items c.args.count c.args.gap c.args.size c.args.self.now.clock c.in_default.ensures))
     (sound-pour c.args.self.now.shape c.args.self.now.room (kept_in c.args.self.now) c.args.count c.args.gap c.args.size (Planned c.args.self.now.clock) c.requires.fits c.args.self.now.sound
     (pour-planned c.args.self.now.shape c.args.self.now.clock c.args.self.now.packets c.args.self.now.rows.items c.args.count c.args.gap c.args.size c.in_default.ensures c.if-size-self.false))
+
+pub invariant_of-self-2-clause-stood : goal.invariant_of-self-2-clause-stood
+invariant_of-self-2-clause-stood c =
+    still-stood c.args.self.now (Pour c.args.count c.args.gap c.args.size) (Planned c.args.self.now.clock) _ (c.requires.some, c.requires.fits)
+    (pour-planned c.args.self.now.shape c.args.self.now.clock c.args.self.now.packets c.args.self.now.rows.items c.args.count c.args.gap c.args.size c.in_default.ensures c.if-size-self.false)
+    (pour-kept c.args.self.now.shape c.args.self.now.clock c.args.self.now.packets c.args.self.now.rows.items c.args.count c.args.gap c.args.size c.args.self.now.clock c.in_default.ensures)

@@ -15,6 +15,8 @@ use Rattle.link_server.proofs.SoundSetup.{sound-relax}
 use Rattle.link_server.proofs.PlaceFacts.{at-place}
 use Rattle.link_server.proofs.SumsFacts.{place-holds-upto, summed-moved, summed-committed, within-committed}
 use Rattle.link_server.proofs.AnswerFacts.{relax-absent, relax-phase, relax-unfit, relax-relaxed, relax-same, relax-kept}
+use Rattle.link_server.proofs.StoodFacts.{still-stood}
+use Rattle.link_steps.specs.declared.asks.Ask.TheVariants.{Relax}
 use Rattle.link_server.proofs.link_state.LinkState.relax.Goals as goal
 
 pub returns-in_default-clause-reply : goal.returns-in_default-clause-reply
@@ -81,7 +83,7 @@ invariant_of-self c =
           c.args.self.now.within;
       sound = subst (IsSound c.args.self.now.shape c.args.self.now.room) (sym kept) (sound-relax c.args.self.now.shape c.args.self.now.room (kept_in c.args.self.now) c.args.chan c.args.level c.args.up_bound (Relaxed c.args.self.now.clock) c.requires.fits c.args.self.now.sound reply);
       roomy = c.args.self.now.roomy;
-      room_most = c.args.self.now.room_most;
+      stood = still-stood c.args.self.now (Relax c.args.chan c.args.level c.args.up_bound) (Relaxed c.args.self.now.clock) _ c.requires.fits reply kept;
     }
 
 pub returns-clause-reply : goal.returns-clause-reply

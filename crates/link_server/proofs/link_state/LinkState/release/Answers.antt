@@ -18,6 +18,7 @@ use Rattle.link_server.specs.State.{kept_in}
 use Rattle.link_server.proofs.CloseFacts.{names-is, release-absent, release-phase, release-closes, release-same, release-kept, summed-closed, within-closed}
 use Rattle.link_server.proofs.PlaceFacts.{at-place}
 use Rattle.link_server.proofs.SoundSetup.{sound-release}
+use Rattle.link_server.proofs.StoodFacts.{still-stood}
 use Rattle.link_server.proofs.link_state.LinkState.release.Goals as goal
 use Rattle.link_server.proofs.link_state.LinkState.release.Goals.{In-Some, After-close}
 
@@ -79,7 +80,7 @@ invariant_of-self c =
           c.args.self.now.within;
       sound = subst (IsSound c.args.self.now.shape c.args.self.now.room) (sym (kept close place)) (sound-release c.args.self.now.shape c.args.self.now.room (kept_in c.args.self.now) c.args.chan c.args.upstream (Closing c.count_at_release-count.result c.cancelled_at_release-cancelled.result) c.args.self.now.sound (replied close place));
       roomy = c.args.self.now.roomy;
-      room_most = c.args.self.now.room_most;
+      stood = still-stood c.args.self.now (Release c.args.chan c.args.upstream) (Closing c.count_at_release-count.result c.cancelled_at_release-cancelled.result) _ tt (replied close place) (kept close place);
     }
 
 pub returns-clause-reply : goal.returns-clause-reply

@@ -15,6 +15,8 @@ use Rattle.link_server.proofs.AnswerFacts.{submit-absent, submit-phase, submit-b
 use Rattle.link_server.proofs.PlaceFacts.{at-place}
 use Rattle.link_server.proofs.SumsFacts.{summed-same, within-same}
 use Rattle.link_server.proofs.PlanFacts.{none-left}
+use Rattle.link_server.proofs.StoodFacts.{still-stood}
+use Rattle.link_steps.specs.declared.asks.Ask.TheVariants.{Submit}
 use Rattle.link_server.proofs.link_state.LinkState.submit.Goals as goal
 
 pub returns-in_default-clause-reply : goal.returns-in_default-clause-reply
@@ -86,7 +88,7 @@ invariant_of-self c =
           c.args.self.now.within;
       sound = subst (IsSound c.args.self.now.shape c.args.self.now.room) (sym kept) (sound-submit c.args.self.now.shape c.args.self.now.room (kept_in c.args.self.now) c.args.chan c.args.count c.args.gap c.args.size (Planned c.args.self.now.clock) c.requires.fits c.args.self.now.sound reply);
       roomy = c.args.self.now.roomy;
-      room_most = c.args.self.now.room_most;
+      stood = still-stood c.args.self.now (Submit c.args.chan c.args.count c.args.gap c.args.size) (Planned c.args.self.now.clock) _ c.requires.fits reply kept;
     }
 
 pub returns-clause-reply : goal.returns-clause-reply

@@ -9,22 +9,24 @@ use Rattle.link_server.proofs.PourFacts.{best-step-is, waiting-is}
 use Rattle.link_server.proofs.SoundSources.{from_best}
 use Rattle.link_steps.specs.declared.replies.Reply.TheVariants.{Ticked}
 use Rattle.link_steps.specs.declared.asks.Ask.TheVariants.{Tick}
-use Rattle.link_steps.specs.Kept.{held_rows, from_sources, present, occupies, served, kept_after}
+use Rattle.link_steps.specs.Kept.{held_rows, from_sources, present, occupies, served, kept_reply, kept_after}
+use Rattle.link_steps.specs.Split.{whole}
 use Rattle.link_server.specs.Account.{account}
 use Rattle.link_server.specs.Packets.{arrival_in, here_in, on_in}
 use Rattle.link_server.specs.Rows.{row_in, summed, AreWithin}
 use Rattle.link_server.specs.Serving.{CanServe}
 use Rattle.link_server.specs.Sound.{IsSound}
 use Rattle.link_server.specs.State.{kept_in}
-use Rattle.link_server.proofs.SoundNumbers.{rows-ready, rows-upto, sources-room, best-room, ahead-from, brought-small}
+use Rattle.link_server.proofs.SoundNumbers.{sources-room, best-room, ahead-from, brought-small}
 use Rattle.link_server.proofs.SoundServes.{sound-serves}
 use Rattle.link_server.proofs.SoundTick.{sound-tick}
+use Rattle.link_server.proofs.StoodFacts.{all-ready, rows-few, room-small, still-stood}
 use Rattle.link_server.proofs.TickFacts.{all-written, brought-is, present-is, taken-is, occupies-is, tick-replied, tick-kept}
 use Rattle.link_server.proofs.link_state.LinkState.tick.Goals as goal
 use Rattle.link_server.proofs.link_state.LinkState.tick.Goals.{After-deref_mut, After-take_source_packets-full, After-serve-left}
 
 pub expire-requires-clause-ready : goal.expire-requires-clause-ready
-expire-requires-clause-ready c = rows-ready c.args.self.now.shape c.args.self.now.room (kept_in c.args.self.now) c.requires.early c.args.self.now.room_most c.args.self.now.sound
+expire-requires-clause-ready c = all-ready c.args.self.now c.requires.early
 
 -- the rows that stay are those of the account
 stay : (c : After-deref_mut) → map row_in c.deref_mut.result.now ≡ held_rows c.args.self.now.shape (kept_in c.args.self.now)
@@ -32,11 +34,9 @@ stay c = ap (map row_in) c.deref_mut.ensures.value ∙ c.expire.ensures.rows
 
 pub take_source_packets-full-requires-clause-few : goal.take_source_packets-full-requires-clause-few
 take_source_packets-full-requires-clause-few c =
-    let upto = rows-upto c.args.self.now.shape c.args.self.now.room (kept_in c.args.self.now) c.args.self.now.sound in
-    let long = length-map c.args.self.now.rows.items row_in in
+    let few = rows-few c.args.self.now in
     let shown = ap length c.deref_mut.ensures.value in
-    let most = c.args.self.now.room_most in
-    omega (arith, upto, long, shown, most, c.expire.ensures.few)
+    omega (arith, few, shown, c.expire.ensures.few)
 
 pub take_source_packets-full-requires-clause-room : goal.take_source_packets-full-requires-clause-room
 take_source_packets-full-requires-clause-room c =
@@ -48,7 +48,7 @@ take_source_packets-full-requires-clause-room c =
 
 pub take_source_packets-full-requires-clause-numbers : goal.take_source_packets-full-requires-clause-numbers
 take_source_packets-full-requires-clause-numbers c =
-    let small = brought-small c.args.self.now.shape c.args.self.now.room (kept_in c.args.self.now) c.requires.early c.args.self.now.room_most c.args.self.now.sound in
+    let small = brought-small c.args.self.now.shape c.args.self.now.room (kept_in c.args.self.now) c.requires.early (room-small c.args.self.now) c.args.self.now.sound in
     let same = ap length (brought-is c.args.self.now.shape (kept_in c.args.self.now) c.deref_mut.result.now (stay (goal.at.take_source_packets-full-requires-clause-numbers c).After-deref_mut)) in
     let parts = length-append (from_sources c.args.self.now.shape (kept_in c.args.self.now)) (from_best c.args.self.now.shape (kept_in c.args.self.now)) in
     omega (arith, small, same, parts)
@@ -92,6 +92,13 @@ kept c =
     c.serve-left.ensures.taken c.serve-left.ensures.here c.serve-left.ensures.on
     (ap left_in c.serve-left.ensures.best ∙ c.take_best-best_lost.ensures.best ∙ ap (λ p. left_at (c.args.self.now.clock + 1) (left_in p)) c.take_source_packets-full.ensures.best)
 
+replied : (c : After-serve-left) → Ticked c.args.self.now.clock c.take_source_packets-full.result c.serve-left.result.sent c.serve-left.result.best_sent c.take_best-best_lost.result ≡ kept_reply (whole c.args.self.now.shape) (kept_in c.args.self.now) Tick
+replied c =
+    let stay = ap (map row_in) c.deref_mut.ensures.value ∙ c.expire.ensures.rows in
+    let here = present-is c.args.self.now.shape (kept_in c.args.self.now) c.deref_mut.result.now c.take_source_packets-full.new.packets c.take_best-best_lost.new.self (best_step c.waiting-waiting.result c.args.self.now.shape.best c.args.self.now.clock (left_in c.take_source_packets-full.new.packets.best)) stay c.take_source_packets-full.ensures.here c.take_source_packets-full.ensures.taken (best-step-is c.args.self.now.shape (kept_in c.args.self.now) c.waiting-waiting.result (left_in c.take_source_packets-full.new.packets.best) c.waiting-waiting.ensures (ap left_in c.take_source_packets-full.ensures.best)) c.take_best-best_lost.ensures.here in
+    let occupant = occupies-is c.args.self.now.shape (kept_in c.args.self.now) c.take_best-best_lost.new.self here (ap on_in (c.take_best-best_lost.ensures.on ∙ c.take_source_packets-full.ensures.on)) in
+    tick-replied c.args.self.now.shape (kept_in c.args.self.now) c.deref_mut.result.now c.take_best-best_lost.new.self c.take_source_packets-full.result c.serve-left.result.sent c.serve-left.result.best_sent c.take_best-best_lost.result (best_step c.waiting-waiting.result c.args.self.now.shape.best c.args.self.now.clock (left_in c.take_source_packets-full.new.packets.best)) stay c.take_source_packets-full.ensures.lost occupant c.serve-left.ensures.sent c.serve-left.ensures.best_sent (best-step-is c.args.self.now.shape (kept_in c.args.self.now) c.waiting-waiting.result (left_in c.take_source_packets-full.new.packets.best) c.waiting-waiting.ensures (ap left_in c.take_source_packets-full.ensures.best)) c.take_best-best_lost.ensures.lost
+
 pub invariant_of-self : goal.invariant_of-self
 invariant_of-self c =
     let rows = written (goal.at.invariant_of-self c).After-serve-left in
@@ -107,15 +114,11 @@ invariant_of-self c =
       within = subst (AreWithin (length c.args.self.now.shape.bounds)) (sym rows) c.take_source_packets-full.ensures.levels;
       sound = subst (IsSound c.args.self.now.shape c.args.self.now.room) (sym after) (sound-tick c.args.self.now.shape c.args.self.now.room (kept_in c.args.self.now) (Ticked c.args.self.now.clock c.take_source_packets-full.result c.serve-left.result.sent c.serve-left.result.best_sent c.take_best-best_lost.result) c.requires.early c.args.self.now.sound);
       roomy = omega (arith, roomy, first, second, third);
-      room_most = c.args.self.now.room_most;
+      stood = still-stood c.args.self.now Tick (Ticked c.args.self.now.clock c.take_source_packets-full.result c.serve-left.result.sent c.serve-left.result.best_sent c.take_best-best_lost.result) _ tt (replied (goal.at.invariant_of-self c).After-serve-left) after;
     }
 
 pub returns-clause-reply : goal.returns-clause-reply
-returns-clause-reply c =
-    let stay = ap (map row_in) c.deref_mut.ensures.value ∙ c.expire.ensures.rows in
-    let here = present-is c.args.self.now.shape (kept_in c.args.self.now) c.deref_mut.result.now c.take_source_packets-full.new.packets c.take_best-best_lost.new.self (best_step c.waiting-waiting.result c.args.self.now.shape.best c.args.self.now.clock (left_in c.take_source_packets-full.new.packets.best)) stay c.take_source_packets-full.ensures.here c.take_source_packets-full.ensures.taken (best-step-is c.args.self.now.shape (kept_in c.args.self.now) c.waiting-waiting.result (left_in c.take_source_packets-full.new.packets.best) c.waiting-waiting.ensures (ap left_in c.take_source_packets-full.ensures.best)) c.take_best-best_lost.ensures.here in
-    let occupant = occupies-is c.args.self.now.shape (kept_in c.args.self.now) c.take_best-best_lost.new.self here (ap on_in (c.take_best-best_lost.ensures.on ∙ c.take_source_packets-full.ensures.on)) in
-    tick-replied c.args.self.now.shape (kept_in c.args.self.now) c.deref_mut.result.now c.take_best-best_lost.new.self c.take_source_packets-full.result c.serve-left.result.sent c.serve-left.result.best_sent c.take_best-best_lost.result (best_step c.waiting-waiting.result c.args.self.now.shape.best c.args.self.now.clock (left_in c.take_source_packets-full.new.packets.best)) stay c.take_source_packets-full.ensures.lost occupant c.serve-left.ensures.sent c.serve-left.ensures.best_sent (best-step-is c.args.self.now.shape (kept_in c.args.self.now) c.waiting-waiting.result (left_in c.take_source_packets-full.new.packets.best) c.waiting-waiting.ensures (ap left_in c.take_source_packets-full.ensures.best)) c.take_best-best_lost.ensures.lost
+returns-clause-reply c = replied (goal.at.returns-clause-reply c).After-serve-left
 
 pub returns-clause-kept : goal.returns-clause-kept
 returns-clause-kept c =

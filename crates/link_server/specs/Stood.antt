@@ -1,0 +1,21 @@
+-- Every state of a link stands for an admissible history: it begins with the empty one, and each step goes on with an entry
+-- that is admissible. Which one it is the state doesn't keep, so here it is said that none can't be. What the rules promise
+-- of admissible histories, in whole numbers, so holds of every state: its rows keep no more than the buffer, and their
+-- eligible ticks are soon.
+use Rattle.std.specs.Prelude.{List}
+use Rattle.link_steps.specs.declared.replies.Entry.{Entry}
+use Rattle.link_steps.specs.declared.shape.LinkShape.{LinkShape}
+use Rattle.link_steps.specs.Admissible.{IsAdmissible}
+use Rattle.link_steps.specs.Kept.{Kept, StandsFor}
+
+-- no admissible history stands for the account
+abbrev pub StandsForNone : LinkShape → Kept → Type 0
+StandsForNone shape k = (h : List Entry) → IsAdmissible shape h → StandsFor shape k h → ⊥
+
+-- it can't be that none does
+abbrev pub IsStood : LinkShape → Kept → Type 0
+IsStood shape k = StandsForNone shape k → ⊥
+
+-- there is one proof of it at most
+pub IsStood-prop : (shape : LinkShape) (k : Kept) → IsProp (IsStood shape k)
+IsStood-prop shape k = Prim.hlevel
