@@ -1,7 +1,7 @@
 -- The answers to a pour, case by case, and the best-effort packet of a tick.
-use Rattle.std.proofs.Common.{◌≡◌, ℕ, suc, ◌+◌, ◌<◌, ◌≤◌, true, false, List, [], ◌∷◌, ◌++◌, length, Option, Some, None, refl, sym, ap, ◌∙◌, subst, arith}
+use Rattle.std.proofs.Common.{◌≡◌, ℕ, suc, ◌<◌, ◌≤◌, true, false, List, length, Option, Some, None, refl, sym, ap, ◌∙◌, subst}
 use Rattle.std.proofs.lemmas.Bool.{lt-leb, le-leb}
-use Rattle.std.specs.Prelude.{find, filter, nat_le, nat_lt}
+use Rattle.std.specs.Prelude.{find, filter, nat_lt}
 use Rattle.std.specs.Coded.{le_prop}
 use Rattle.net_units.specs.Numbers.{channel_number}
 use Rattle.net_units.specs.declared.numbers.ChanNo.{ChanNo}
@@ -16,7 +16,7 @@ use Rattle.link_steps.specs.Refusals.{busy}
 use Rattle.link_steps.specs.Replies.{pour_reply}
 use Rattle.link_steps.specs.Rows.{SourcePacket, planned_from, is_for}
 use Rattle.link_steps.specs.BestEffort.{best_step, best_arrival}
-use Rattle.link_steps.specs.Sources.{SourceStep, Rests, Brings, Loses, source_step}
+use Rattle.link_steps.specs.Sources.{Rests, Brings, Loses, source_step}
 use Rattle.link_steps.specs.Split.{whole}
 use Rattle.link_server.specs.Account.{account}
 use Rattle.link_server.specs.Planned.{left_in, size_of}

@@ -1,6 +1,6 @@
 -- Best-effort packets among those here: they are none of the channels', and those that are here are as many as wait, and
 -- one more at most.
-use Rattle.std.proofs.Common.{◌≡◌, ℕ, suc, ◌+◌, ◌<◌, ◌≤◌, Bool, true, false, List, [], ◌∷◌, ◌++◌, length, Option, Some, None, inl, inr, refl, sym, ap, ◌∙◌, arith, append-nil, length-append}
+use Rattle.std.proofs.Common.{◌≡◌, ℕ, suc, ◌+◌, ◌<◌, ◌≤◌, Bool, true, false, List, [], ◌∷◌, ◌++◌, length, Option, Some, None, inl, inr, refl, ap, ◌∙◌, arith, append-nil, length-append}
 use Rattle.std.proofs.lemmas.Bool.{cases_Bool, le-ltb, lt-ltb, ltb-true}
 use Rattle.std.proofs.lemmas.List.Elements.{filter-append}
 use Rattle.std.specs.Prelude.{filter, find, not, nat_lt}
@@ -13,7 +13,7 @@ use Rattle.link_steps.specs.Rows.{SourcePacket, is_for}
 use Rattle.link_steps.specs.Service.{Arrival, Start}
 use Rattle.link_steps.specs.Sources.{SourceStep, Rests, Brings, Loses, source_step}
 use Rattle.link_steps.proofs.ListFacts.{Each-filter, Each-find, Each-if, filter-all, filter-none, filter-filter}
-use Rattle.link_server.specs.Sound.{of_channels, best_count, AreNumbered, IsSoundPacket, HasSize, AreAhead, IsSound}
+use Rattle.link_server.specs.Sound.{of_channels, best_count, AreNumbered, IsSoundPacket, HasSize, AreAhead}
 use Rattle.link_server.proofs.SoundPackets.{HasLead, packets-lead, numbered-filter, count-upto}
 use Rattle.link_server.proofs.SoundRows.{ahead-sizes}
 use Rattle.link_server.proofs.SoundService.{LeavesOne, one-leaves}

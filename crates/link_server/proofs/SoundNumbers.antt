@@ -1,6 +1,6 @@
 -- What the numbers of a sound account leave to count on while a tick is made: there is a place for each packet that the
 -- sources bring, and each count can go on.
-use Rattle.std.proofs.Common.{◌≡◌, ℕ, suc, ◌+◌, ◌^◌, ◌<◌, ◌≤◌, List, [], ◌∷◌, ◌++◌, length, sym, ap, ◌∙◌, subst, arith, append-nil, length-append}
+use Rattle.std.proofs.Common.{◌≡◌, ℕ, suc, ◌+◌, ◌^◌, ◌<◌, ◌≤◌, List, [], ◌∷◌, ◌++◌, length, arith, length-append}
 use Rattle.traffic_contract.proofs.AdmissionFacts.{total-append, total-filter-le}
 use Rattle.traffic_contract.specs.Admission.{total}
 use Rattle.traffic_contract.specs.Eligible.{newest}
@@ -68,13 +68,13 @@ ahead-from t u (p ∷ plan) from ahead = (omega (arith, ahead.0), ahead-from t (
 pub rows-ready : (shape : LinkShape) (room : ℕ) (k : Kept) → k.clock < 2 ^ 61 → room < 2 ^ 63 → IsSound shape room k → Each (λ row. newest row.recent < 2 ^ 63) k.rows → Each (IsReady k.clock) k.rows
 rows-ready shape room k early few sound soon =
     let taken = taken-small shape room k early few sound in
-    Each-if (λ row. IsSoundRow (length shape.bounds) k.clock k.taken k.here row × (newest row.recent < 2 ^ 63)) (IsReady k.clock) k.rows
+    Each-if (λ row. IsSoundRow (length shape.bounds) k.clock k.taken row × (newest row.recent < 2 ^ 63)) (IsReady k.clock) k.rows
     (λ row both. record {
       ahead = ahead-from k.clock k.clock row.left (omega arith) both.0.ahead;
       last = both.1;
       few = (let most = both.0.taken_most in omega (arith, most, taken));
     })
-    (Each-both (IsSoundRow (length shape.bounds) k.clock k.taken k.here) (λ row. newest row.recent < 2 ^ 63) k.rows sound.rows soon)
+    (Each-both (IsSoundRow (length shape.bounds) k.clock k.taken) (λ row. newest row.recent < 2 ^ 63) k.rows sound.rows soon)
 
 -- ---- a reserve
 

@@ -1,14 +1,14 @@
 -- Lists of packets of a sound account: arrival numbers that rise, and how many packets of a row are among them.
 use Rattle.std.proofs.Common.{◌≡◌, ℕ, suc, ◌<◌, ◌≤◌, Bool, true, false, List, [], ◌∷◌, ◌++◌, length, ⊎_elim, ap, ◌∙◌, arith, length-append}
-use Rattle.std.proofs.lemmas.Bool.{cases_eq, cond_both, eq-eqb, ne_eqb, lt-ltb, and_from, and_left}
+use Rattle.std.proofs.lemmas.Bool.{cases_eq, cond_both, eq-eqb, ne_eqb}
 use Rattle.std.proofs.lemmas.List.Elements.{filter-append}
-use Rattle.std.specs.Prelude.{filter, nat_lt}
+use Rattle.std.specs.Prelude.{filter}
 use Rattle.link_steps.specs.Buffer.{has_lead, held_packets}
 use Rattle.link_steps.specs.Lists.{Each}
 use Rattle.link_steps.specs.Service.{Arrival}
 use Rattle.link_steps.specs.Sources.{lead_with}
 use Rattle.link_steps.proofs.ListFacts.{Each-if, filter-none}
-use Rattle.link_server.specs.Sound.{AreNumbered, IsSoundPacket, is_late, late_packets}
+use Rattle.link_server.specs.Sound.{AreNumbered, IsSoundPacket}
 use Rattle.link_server.proofs.SoundRows.{lead_with-later}
 
 -- ---- arrival numbers
@@ -82,32 +82,13 @@ held-none : (here : List Arrival) → Each HasLead here → held_packets 0 here 
 unfolding held_packets
 held-none here each = ap length (filter-none (has_lead 0) here (Each-if HasLead (λ p. has_lead 0 p ≡ false) here lead-other each))
 
-late-none : (t : ℕ) (here : List Arrival) → Each HasLead here → late_packets 0 t here ≡ 0
-unfolding late_packets
-late-none t here each =
-    ap length (filter-none (is_late 0 t) here (Each-if HasLead (λ p. is_late 0 t p ≡ false) here (λ p some. and_left (has_lead 0 p) (nat_lt t p.eligible) (lead-other p some)) each))
-
 -- more packets here hold no fewer slots
 pub held-more : (lead : ℕ) (here more : List Arrival) → held_packets lead here ≤ held_packets lead (here ++ more)
 unfolding held_packets
 held-more lead here more = count-more (has_lead lead) here more
-
-pub late-more : (lead t : ℕ) (here more : List Arrival) → late_packets lead t here ≤ late_packets lead t (here ++ more)
-unfolding late_packets
-late-more lead t here more = count-more (is_late lead t) here more
 
 -- a row that takes a packet has one more here
 pub held-taken : (lead place : ℕ) (here before : List Arrival) (p : Arrival) (behind : List Arrival) → Each HasLead here → p.lead ≡ lead_with lead place → suc (held_packets lead here) ≤ held_packets (lead_with lead place) (here ++ (before ++ p ∷ behind))
 unfolding held_packets
 held-taken lead place here before p behind each is =
     count-taken has_lead lead place here before p behind (unfold held_packets in held-none here each) (eq-eqb p.lead (lead_with lead place) is)
-
-pub late-taken : (lead place t : ℕ) (here before : List Arrival) (p : Arrival) (behind : List Arrival) → Each HasLead here → p.lead ≡ lead_with lead place → t < p.eligible → suc (late_packets lead t here) ≤ late_packets (lead_with lead place) t (here ++ (before ++ p ∷ behind))
-unfolding late_packets
-late-taken lead place t here before p behind each is later =
-    count-taken (λ n. is_late n t) lead place here before p behind (late-none t here each) (and_from (has_lead (lead_with lead place) p) (nat_lt t p.eligible) (eq-eqb p.lead (lead_with lead place) is) (lt-ltb t p.eligible later))
-
--- no more are late than are here
-pub late-upto : (lead t : ℕ) (here : List Arrival) → late_packets lead t here ≤ length here
-unfolding late_packets
-late-upto lead t here = count-upto (is_late lead t) here

@@ -1,5 +1,5 @@
 -- The service of a tick keeps an account sound.
-use Rattle.std.proofs.Common.{◌≡◌, ℕ, suc, ◌+◌, ◌^◌, ◌<◌, ◌≤◌, Bool, true, false, cond, not, List, length, Option, Some, None, refl, subst, arith}
+use Rattle.std.proofs.Common.{◌≡◌, ℕ, suc, ◌<◌, Bool, true, false, cond, not, List, length, Option, Some, None, refl, subst, arith}
 use Rattle.std.proofs.lemmas.Bool.{leb-false}
 use Rattle.std.proofs.lemmas.Option.{same_Some}
 use Rattle.std.specs.Prelude.{filter}
@@ -9,10 +9,10 @@ use Rattle.link_steps.specs.BestEffort.{is_best}
 use Rattle.link_steps.specs.Kept.{Kept, leaves_by, still_on, is_other, still_here}
 use Rattle.link_steps.specs.Lists.{Each}
 use Rattle.link_steps.specs.Service.{Arrival, Start, leaves_at}
-use Rattle.link_steps.proofs.ListFacts.{Each-filter, Each-if}
+use Rattle.link_steps.proofs.ListFacts.{Each-filter}
 use Rattle.link_server.specs.Sound.{of_channels, AreNumbered, AreAhead, IsSoundPacket, IsRunning, IsSoundRow, IsSound}
 use Rattle.link_server.proofs.SoundPackets.{HasLead, packets-lead, numbered-filter}
-use Rattle.link_server.proofs.SoundService.{LeavesOne, one-leaves, left-places, early-at, left-row}
+use Rattle.link_server.proofs.SoundService.{LeavesOne, one-leaves, left-places}
 use Rattle.link_server.proofs.SoundBest.{channels-filter, best-fewer}
 
 -- of the channels' packets one leaves at most
@@ -28,7 +28,7 @@ abbrev with_service : Kept → ℕ → List Arrival → Option Start → Kept
 with_service k clock here on = record k { clock = clock; here = here; on = on }
 
 -- no packet occupies the link
-serves-none : (shape : LinkShape) (room : ℕ) (k : Kept) → IsSound shape room k → Each (IsSoundRow (length shape.bounds) (suc k.clock) k.taken k.here) k.rows → AreAhead (suc k.clock) k.best_left → IsSound shape room (with_service k (suc k.clock) k.here None)
+serves-none : (shape : LinkShape) (room : ℕ) (k : Kept) → IsSound shape room k → Each (IsSoundRow (length shape.bounds) (suc k.clock) k.taken) k.rows → AreAhead (suc k.clock) k.best_left → IsSound shape room (with_service k (suc k.clock) k.here None)
 serves-none shape room k sound later ahead = record {
   taken_most = omega (arith, sound.taken_most);
   numbered = sound.numbered;
@@ -42,7 +42,7 @@ serves-none shape room k sound later ahead = record {
 }
 
 -- the one that occupies it stays
-serves-on : (shape : LinkShape) (room : ℕ) (k : Kept) (start : Start) → IsSound shape room k → Each (IsSoundRow (length shape.bounds) (suc k.clock) k.taken k.here) k.rows → AreAhead (suc k.clock) k.best_left → IsRunning shape.rate k.clock k.here start → suc k.clock < leaves_at shape.rate start → IsSound shape room (with_service k (suc k.clock) k.here (Some start))
+serves-on : (shape : LinkShape) (room : ℕ) (k : Kept) (start : Start) → IsSound shape room k → Each (IsSoundRow (length shape.bounds) (suc k.clock) k.taken) k.rows → AreAhead (suc k.clock) k.best_left → IsRunning shape.rate k.clock k.here start → suc k.clock < leaves_at shape.rate start → IsSound shape room (with_service k (suc k.clock) k.here (Some start))
 serves-on shape room k start sound later ahead running goes = record {
   taken_most = omega (arith, sound.taken_most);
   numbered = sound.numbered;
@@ -56,8 +56,8 @@ serves-on shape room k start sound later ahead running goes = record {
 }
 
 -- or it leaves
-serves-last : (shape : LinkShape) (room : ℕ) (k : Kept) (start : Start) → k.clock < 2 ^ 61 → IsSound shape room k → Each (IsSoundRow (length shape.bounds) (suc k.clock) k.taken k.here) k.rows → AreAhead (suc k.clock) k.best_left → IsRunning shape.rate k.clock k.here start → IsSound shape room (with_service k (suc k.clock) (filter (is_other start) k.here) None)
-serves-last shape room k start early sound later ahead running =
+serves-last : (shape : LinkShape) (room : ℕ) (k : Kept) (start : Start) → IsSound shape room k → Each (IsSoundRow (length shape.bounds) (suc k.clock) k.taken) k.rows → AreAhead (suc k.clock) k.best_left → IsRunning shape.rate k.clock k.here start → IsSound shape room (with_service k (suc k.clock) (filter (is_other start) k.here) None)
+serves-last shape room k start sound later ahead running =
     let levels : ℕ = length shape.bounds in
     let leaves = one-leaves start 0 k.here k.taken sound.numbered (packets-lead levels k.taken k.here sound.packets) in
     record {
@@ -65,20 +65,18 @@ serves-last shape room k start early sound later ahead running =
       numbered = numbered-filter (is_other start) 0 k.here k.taken sound.numbered;
       packets = Each-filter (IsSoundPacket levels k.taken) (is_other start) k.here sound.packets;
       apart = sound.apart;
-      rows = Each-if (IsSoundRow levels (suc k.clock) k.taken k.here) (IsSoundRow levels (suc k.clock) k.taken (filter (is_other start) k.here)) k.rows
-          (λ row each. left-row levels (suc k.clock) k.taken k.here start row (λ t late. early-at shape.rate k.clock k.taken t k.here start sound.numbered running (omega (arith, running.eligible, running.begun))) each)
-          later;
+      rows = later;
       fits = rw (channels-filter shape.bounds (is_other start) k.here) (omega (arith, left-places shape.bounds (of_channels shape.bounds k.here) (filter (is_other start) (of_channels shape.bounds k.here)) k.rows sound.apart (channels-leave start shape.bounds k.here levels k.taken sound.numbered sound.packets), sound.fits));
       best_few = omega (arith, best-fewer shape.bounds (is_other start) k.here, sound.best_few);
       best_ahead = ahead;
       running = λ other some. cc;
     }
 
-serves-start : (shape : LinkShape) (room : ℕ) (k : Kept) (start : Start) (by : Bool) → k.clock < 2 ^ 61 → IsSound shape room k → Each (IsSoundRow (length shape.bounds) (suc k.clock) k.taken k.here) k.rows → AreAhead (suc k.clock) k.best_left → IsRunning shape.rate k.clock k.here start → leaves_by shape.rate k.clock start ≡ by → IsSound shape room (with_service k (suc k.clock) (cond by (filter (is_other start) k.here) k.here) (cond by None (Some start)))
-serves-start shape room k start true early sound later ahead running by = serves-last shape room k start early sound later ahead running
-serves-start shape room k start false early sound later ahead running by = serves-on shape room k start sound later ahead running (leb-false (leaves_at shape.rate start) (suc k.clock) by)
+serves-start : (shape : LinkShape) (room : ℕ) (k : Kept) (start : Start) (by : Bool) → IsSound shape room k → Each (IsSoundRow (length shape.bounds) (suc k.clock) k.taken) k.rows → AreAhead (suc k.clock) k.best_left → IsRunning shape.rate k.clock k.here start → leaves_by shape.rate k.clock start ≡ by → IsSound shape room (with_service k (suc k.clock) (cond by (filter (is_other start) k.here) k.here) (cond by None (Some start)))
+serves-start shape room k start true sound later ahead running by = serves-last shape room k start sound later ahead running
+serves-start shape room k start false sound later ahead running by = serves-on shape room k start sound later ahead running (leb-false (leaves_at shape.rate start) (suc k.clock) by)
 
 -- the tick is over for the packets here and the one that occupies the link in it
-pub service-sound : (shape : LinkShape) (room : ℕ) (k : Kept) (on : Option Start) → k.clock < 2 ^ 61 → IsSound shape room k → Each (IsSoundRow (length shape.bounds) (suc k.clock) k.taken k.here) k.rows → AreAhead (suc k.clock) k.best_left → ForSome on (IsRunning shape.rate k.clock k.here) → IsSound shape room (with_service k (suc k.clock) (still_here shape.rate k.clock on k.here) (still_on shape.rate k.clock on))
-service-sound shape room k None early sound later ahead running = serves-none shape room k sound later ahead
-service-sound shape room k (Some start) early sound later ahead running = serves-start shape room k start (leaves_by shape.rate k.clock start) early sound later ahead (running start refl) refl
+pub service-sound : (shape : LinkShape) (room : ℕ) (k : Kept) (on : Option Start) → IsSound shape room k → Each (IsSoundRow (length shape.bounds) (suc k.clock) k.taken) k.rows → AreAhead (suc k.clock) k.best_left → ForSome on (IsRunning shape.rate k.clock k.here) → IsSound shape room (with_service k (suc k.clock) (still_here shape.rate k.clock on k.here) (still_on shape.rate k.clock on))
+service-sound shape room k None sound later ahead running = serves-none shape room k sound later ahead
+service-sound shape room k (Some start) sound later ahead running = serves-start shape room k start (leaves_by shape.rate k.clock start) sound later ahead (running start refl) refl

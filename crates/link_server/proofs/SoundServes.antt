@@ -1,5 +1,5 @@
 -- The account of a tick can be served once its packets have come.
-use Rattle.std.proofs.Common.{ℕ, ◌^◌, ◌<◌, arith}
+use Rattle.std.proofs.Common.{ℕ, arith}
 use Rattle.link_steps.specs.declared.shape.LinkShape.{LinkShape}
 use Rattle.link_steps.specs.Kept.{Kept}
 use Rattle.link_server.specs.Serving.{CanServe}

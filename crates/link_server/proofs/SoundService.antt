@@ -1,21 +1,21 @@
 -- The service of a tick keeps an account sound: at most one packet leaves, and it was eligible by then.
-use Rattle.std.proofs.Common.{◌≡◌, ℕ, suc, ◌+◌, ◌*◌, ◌^◌, ◌<◌, ◌≤◌, Bool, true, false, cond, not, List, [], ◌∷◌, length, Option, Some, None, inl, inr, refl, sym, ap, ◌∙◌, subst, arith}
-use Rattle.std.proofs.lemmas.Bool.{cases_Bool, eqb-true, eq-eqb, ne_eqb, leb-true, leb-false, le-ltb, and_right}
+use Rattle.std.proofs.Common.{◌≡◌, ℕ, ◌+◌, ◌<◌, ◌≤◌, true, false, cond, not, List, [], ◌∷◌, length, Option, Some, None, inl, inr, refl, sym, ap, subst, arith}
+use Rattle.std.proofs.lemmas.Bool.{cases_Bool, eqb-true, eq-eqb, ne_eqb, leb-true}
 use Rattle.std.proofs.lemmas.Option.{same_Some}
-use Rattle.std.specs.Prelude.{filter, find, nat_eq, nat_lt}
+use Rattle.std.specs.Prelude.{filter, find, nat_eq}
 use Rattle.std.specs.Option.{ForSome}
 use Rattle.traffic_contract.specs.Admission.{total}
 use Rattle.link_steps.specs.declared.shape.LinkShape.{LinkShape}
 use Rattle.link_steps.specs.Buffer.{has_lead, held_packets}
-use Rattle.link_steps.specs.Kept.{Kept, KeptRow, is_eligible_by, start_at, served, leaves_by, still_on, is_other, still_here}
+use Rattle.link_steps.specs.Kept.{KeptRow, is_eligible_by, start_at, served, is_other}
 use Rattle.link_steps.specs.Lists.{Each}
-use Rattle.link_steps.specs.Service.{Arrival, Start, leaves_at, first_in_line}
+use Rattle.link_steps.specs.Service.{Arrival, Start, first_in_line}
 use Rattle.link_steps.proofs.ChangeFacts.{Each-passes}
 use Rattle.link_steps.proofs.ListFacts.{Each-both, Each-filter, Each-if, filter-all}
 use Rattle.link_steps.proofs.ServiceFacts.{first_in_line-fact}
 use Rattle.traffic_contract.proofs.LoadFacts.{ceil_quotient-some}
-use Rattle.link_server.specs.Sound.{places_of, places, AreNumbered, IsApartFrom, AreApart, IsSoundPacket, is_at, IsRunning, is_late, late_packets, IsSoundRow, IsSound}
-use Rattle.link_server.proofs.SoundPackets.{HasLead, packets-lead, numbered-above, numbered-filter}
+use Rattle.link_server.specs.Sound.{places_of, places, AreNumbered, IsApartFrom, AreApart, IsSoundPacket, is_at, IsRunning}
+use Rattle.link_server.proofs.SoundPackets.{HasLead, numbered-above}
 
 -- ---- the packet that occupies the link
 
@@ -152,48 +152,3 @@ left-places bounds here others rows apart leaves =
     let gained = gain-one leaves.lead leaves.count rows leaves.has_lead apart in
     let more = total-le-both (places_of bounds others) (places_of bounds here) (gain leaves.lead leaves.count) rows (λ row. omega (arith, leaves.held row.lead)) in
     omega (arith, gained, more, leaves.fewer)
-
--- ---- packets that are eligible late
-
--- a packet of the arrival number of the one that leaves is eligible by then
-abbrev pub IsEarly : Start → ℕ → Arrival → Type 0
-IsEarly start t p = start.packet.place ≡ p.place → p.eligible ≤ t
-
-pub early-at : (rate clock taken t : ℕ) (here : List Arrival) (start : Start) → AreNumbered 0 here taken → IsRunning rate clock here start → start.packet.eligible ≤ t → Each (IsEarly start t) here
-early-at rate clock taken t here start numbered running early =
-    Each-if (IsFound here) (IsEarly start t) here
-    (λ p found same.
-    let e : start.packet ≡ p = same_Some start.packet p (sym running.is_here ∙ ap (λ place. find (is_at place) here) same ∙ found) in
-    subst (λ (q : Arrival). q.eligible ≤ t) e early)
-    (numbered-found 0 here taken numbered)
-
--- the packets that are eligible later stay
-late-stays : (start : Start) (lead t : ℕ) (here : List Arrival) → Each (IsEarly start t) here → late_packets lead t (filter (is_other start) here) ≡ late_packets lead t here
-unfolding late_packets
-late-stays start lead t [] early = refl
-late-stays start lead t (p ∷ here) early =
-    let rest = late-stays start lead t here early.1 in
-    elim (cases_Bool (nat_eq start.packet.place p.place)) [
-      | inl this ↦ (
-          let not_late : is_late lead t p ≡ false = and_right (has_lead lead p) (nat_lt t p.eligible) (le-ltb t p.eligible (early.0 (eqb-true start.packet.place p.place this))) in
-          rw (this, not_late) rest)
-      | inr other ↦ rw other (
-          elim (is_late lead t p) as (λ b. length (cond b (p ∷ filter (is_late lead t) (filter (is_other start) here)) (filter (is_late lead t) (filter (is_other start) here))) ≡ length (cond b (p ∷ filter (is_late lead t) here) (filter (is_late lead t) here))) [ true ↦ ap suc rest | false ↦ rest ])
-    ]
-
--- a row stays sound without the packet
-pub left-row : (levels clock taken : ℕ) (here : List Arrival) (start : Start) (row : KeptRow) → ((t : ℕ) → 2 ^ 62 ≤ t → Each (IsEarly start t) here) → IsSoundRow levels clock taken here row → IsSoundRow levels clock taken (filter (is_other start) here) row
-left-row levels clock taken here start row early sound = record {
-  contract = sound.contract;
-  level_most = sound.level_most;
-  reach_most = sound.reach_most;
-  up_reach_most = sound.up_reach_most;
-  up_bound_most = sound.up_bound_most;
-  taken_most = sound.taken_most;
-  lead_most = sound.lead_most;
-  paced = λ t late.
-      let same = late-stays start row.lead t here (early t late) in
-      let times : row.terms.contract.interval * late_packets row.lead t (filter (is_other start) here) ≡ row.terms.contract.interval * late_packets row.lead t here = ap (λ n. row.terms.contract.interval * n) same in
-      omega (arith, times, sound.paced t late);
-  ahead = sound.ahead;
-}

@@ -70,7 +70,7 @@ sound-larger shape room larger k more sound = record {
 
 -- the rows of the account are sound
 abbrev pub AreSoundRows : LinkShape → Kept → List KeptRow → Type 0
-AreSoundRows shape k rows = Each (IsSoundRow (length shape.bounds) k.clock k.taken k.here) rows
+AreSoundRows shape k rows = Each (IsSoundRow (length shape.bounds) k.clock k.taken) rows
 
 -- the account with other rows
 pub sound-rows : (shape : LinkShape) (room larger : ℕ) (k : Kept) (rows : List KeptRow) → IsSound shape room k → AreApart rows → AreSoundRows shape k rows → places shape.bounds (of_channels shape.bounds k.here) rows + suc shape.best ≤ larger → IsSound shape larger (with_kept_rows k rows)
@@ -87,12 +87,12 @@ sound-rows shape room larger k rows sound apart each fits = record {
 }
 
 -- the account with one row changed, which has no more slots than before and the same lead
-pub sound-changed : (shape : LinkShape) (room : ℕ) (k : Kept) (test : KeptRow → Bool) (change : KeptRow → KeptRow) → IsSound shape room k → ((row : KeptRow) → (change row).lead ≡ row.lead) → ((row : KeptRow) → find test k.rows ≡ Some row → IsSoundRow (length shape.bounds) k.clock k.taken k.here row → IsSoundRow (length shape.bounds) k.clock k.taken k.here (change row)) → ((row : KeptRow) → find test k.rows ≡ Some row → slots_of shape.bounds (change row).terms ≤ slots_of shape.bounds row.terms) → IsSound shape room (with_kept_rows k (change_first test change k.rows))
+pub sound-changed : (shape : LinkShape) (room : ℕ) (k : Kept) (test : KeptRow → Bool) (change : KeptRow → KeptRow) → IsSound shape room k → ((row : KeptRow) → (change row).lead ≡ row.lead) → ((row : KeptRow) → find test k.rows ≡ Some row → IsSoundRow (length shape.bounds) k.clock k.taken row → IsSoundRow (length shape.bounds) k.clock k.taken (change row)) → ((row : KeptRow) → find test k.rows ≡ Some row → slots_of shape.bounds (change row).terms ≤ slots_of shape.bounds row.terms) → IsSound shape room (with_kept_rows k (change_first test change k.rows))
 unfolding places
 sound-changed shape room k test change sound same each fewer =
     sound-rows shape room room k (change_first test change k.rows) sound
     (AreApart-changed test change same k.rows sound.apart)
-    (Each-change_found (IsSoundRow (length shape.bounds) k.clock k.taken k.here) test change k.rows each sound.rows)
+    (Each-change_found (IsSoundRow (length shape.bounds) k.clock k.taken) test change k.rows each sound.rows)
     (let less = total-change_first-le (places_of shape.bounds (of_channels shape.bounds k.here)) test change k.rows (λ row found. (let slots = fewer row found in let e : held_packets (change row).lead (of_channels shape.bounds k.here) ≡ held_packets row.lead (of_channels shape.bounds k.here) = ap (λ lead. held_packets lead (of_channels shape.bounds k.here)) (same row) in omega (arith, slots, e))) in
     omega (arith, less, sound.fits))
 
@@ -103,7 +103,7 @@ unfolding kept_after places
 sound-deny shape room k chan Is.Denied sound =
     sound-rows shape room room k (without_first (is_kept_of chan) k.rows) sound
     (AreApart-without_first (is_kept_of chan) k.rows sound.apart)
-    (Each-without_first (IsSoundRow (length shape.bounds) k.clock k.taken k.here) (is_kept_of chan) k.rows sound.rows)
+    (Each-without_first (IsSoundRow (length shape.bounds) k.clock k.taken) (is_kept_of chan) k.rows sound.rows)
     (omega (arith, total-without_first-le (places_of shape.bounds (of_channels shape.bounds k.here)) (is_kept_of chan) k.rows, sound.fits))
 sound-deny shape room k chan _ sound = sound
 
@@ -135,11 +135,10 @@ sound-relax shape room k chan level up_bound (Is.Relaxed clock) fits sound same 
       up_bound_most = fits.bound_most;
       taken_most = each.taken_most;
       lead_most = each.lead_most;
-      paced = each.paced;
       ahead = each.ahead;
     })
     (λ row found.
-    let each = Each-find (IsSoundRow (length shape.bounds) k.clock k.taken k.here) (is_kept_of chan) k.rows row sound.rows found in
+    let each = Each-find (IsSoundRow (length shape.bounds) k.clock k.taken) (is_kept_of chan) k.rows row sound.rows found in
     relax-slots shape row.terms level up_bound each.contract each.reach_most (relax-tells k.clock row.terms level up_bound clock (same ∙ relax-found shape k chan level up_bound row found)))
 sound-relax shape room k chan level up_bound _ fits sound same = sound
 
@@ -166,7 +165,6 @@ sound-submit shape room k chan count gap size (Is.Planned clock) fits sound same
       up_bound_most = each.up_bound_most;
       taken_most = each.taken_most;
       lead_most = each.lead_most;
-      paced = each.paced;
       ahead = submit-ahead k.clock count gap size row.left fits (submit-tells k.clock size row.terms (length row.left) clock (same ∙ submit-found shape k chan count gap size row found)).1;
     })
     (λ row found. omega arith)
@@ -212,7 +210,6 @@ sound-release shape room k chan upstream (Is.Closing count cancelled) sound same
       up_bound_most = each.up_bound_most;
       taken_most = each.taken_most;
       lead_most = each.lead_most;
-      paced = each.paced;
       ahead = tt;
     })
     (λ row found.
@@ -228,8 +225,8 @@ unfolding places most_places
 places-most bounds here rows = omega (arith, both-count bounds here, total-le (places_of bounds (of_channels bounds here)) (all_places_of bounds) rows (λ k d inside. omega arith))
 
 -- a new row is sound
-new-sound : (levels clock taken : ℕ) (here : List Arrival) (chan : ChanNo) (contract : Terms) (kind : Kind) (first : Bool) (next : Option LinkNo) (up_reach : ℕ) (level reach : Level) → ReserveFits contract up_reach first → level_number level ≤ levels → level_number reach ≤ levels → IsSoundRow levels clock taken here (new_kept (tentative chan contract kind first next up_reach level reach))
-new-sound levels clock taken here chan contract kind first next up_reach level reach fits level_most reach_most = record {
+new-sound : (levels clock taken : ℕ) (chan : ChanNo) (contract : Terms) (kind : Kind) (first : Bool) (next : Option LinkNo) (up_reach : ℕ) (level reach : Level) → ReserveFits contract up_reach first → level_number level ≤ levels → level_number reach ≤ levels → IsSoundRow levels clock taken (new_kept (tentative chan contract kind first next up_reach level reach))
+new-sound levels clock taken chan contract kind first next up_reach level reach fits level_most reach_most = record {
   contract = fits.is_contract;
   level_most = level_most;
   reach_most = reach_most;
@@ -237,7 +234,6 @@ new-sound levels clock taken here chan contract kind first next up_reach level r
   up_bound_most = omega arith;
   taken_most = omega arith;
   lead_most = omega arith;
-  paced = λ t late. omega arith;
   ahead = tt;
 }
 
@@ -247,5 +243,5 @@ sound-reserve shape room k chan contract kind delay up_reach first next level re
     let row : KeptRow = new_kept (tentative chan contract kind first next up_reach level reach) in
     sound-rows shape room room k (k.rows ++ row ∷ []) sound
     (AreApart-push k.rows row refl sound.apart)
-    (Each-append (IsSoundRow (length shape.bounds) k.clock k.taken k.here) k.rows (row ∷ []) sound.rows (new-sound (length shape.bounds) k.clock k.taken k.here chan contract kind first next up_reach level reach fits may.level_most (may-reach shape (map kept_terms k.rows) chan contract delay up_reach level reach may), tt))
+    (Each-append (IsSoundRow (length shape.bounds) k.clock k.taken) k.rows (row ∷ []) sound.rows (new-sound (length shape.bounds) k.clock k.taken chan contract kind first next up_reach level reach fits may.level_most (may-reach shape (map kept_terms k.rows) chan contract delay up_reach level reach may), tt))
     (omega (arith, places-most shape.bounds k.here (k.rows ++ row ∷ []), enough))

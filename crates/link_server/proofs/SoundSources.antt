@@ -1,5 +1,5 @@
 -- In a tick rows expire, and the sources of the others bring their packets: the account stays sound, and has room.
-use Rattle.std.proofs.Common.{◌≡◌, ℕ, suc, ◌+◌, ◌^◌, ◌<◌, ◌≤◌, Bool, true, false, List, [], ◌∷◌, ◌++◌, length, Option, Some, None, ⊎_elim, refl, sym, ap, ◌∙◌, subst, arith, append_assoc, length-append}
+use Rattle.std.proofs.Common.{◌≡◌, ℕ, suc, ◌+◌, ◌<◌, ◌≤◌, Bool, true, false, List, [], ◌∷◌, ◌++◌, length, Option, Some, None, ⊎_elim, refl, sym, ap, ◌∙◌, subst, arith, append_assoc, length-append}
 use Rattle.std.proofs.lemmas.Bool.{cases_eq, ltb-true}
 use Rattle.std.specs.Prelude.{find}
 use Rattle.traffic_contract.proofs.AdmissionFacts.{total-filter-le}
@@ -14,7 +14,7 @@ use Rattle.link_steps.specs.Service.{Arrival}
 use Rattle.link_steps.specs.Sources.{SourceStep, Rests, Brings, Loses, lead_with, source_step, taken_by}
 use Rattle.link_steps.proofs.ListFacts.{Each-append, Each-filter, Each-find, Each-if}
 use Rattle.link_server.specs.Sound.{places_of, places, of_channels, best_count, AreNumbered, HasSize, AreAhead, IsApartFrom, AreApart, IsSoundPacket, IsSoundRow, IsSound, with_brought}
-use Rattle.link_server.proofs.SoundPackets.{HasLead, packets-lead, numbered-append, held-more, held-taken, late-taken}
+use Rattle.link_server.proofs.SoundPackets.{HasLead, packets-lead, numbered-append, held-more, held-taken}
 use Rattle.link_server.proofs.SoundBest.{IsChannels, held-channels, channels-more, channels-lead, best-more, kept_best-is, best-numbered, best-sound, best-channels, best-upto, best-fits}
 use Rattle.link_server.proofs.SoundRows.{AreApart-filter, apart-lead_with, lead_with-first, lead_with-later, ahead-earlier, ahead-sizes, left-ahead}
 use Rattle.link_server.proofs.SourceFacts.{packet-length}
@@ -53,8 +53,8 @@ step-places bounds here chans before behind t place row Rests less leads is = om
 step-places bounds here chans before behind t place row Loses less leads is = omega (arith, held-more row.lead chans (before ++ behind))
 
 -- the row without what was planned for the tick
-past-sound : (levels t taken : ℕ) (here : List Arrival) (row : KeptRow) → IsSoundRow levels t taken here row → IsSoundRow levels (suc t) taken here (past_tick t row)
-past-sound levels t taken here row sound = record {
+past-sound : (levels t taken : ℕ) (row : KeptRow) → IsSoundRow levels t taken row → IsSoundRow levels (suc t) taken (past_tick t row)
+past-sound levels t taken row sound = record {
   contract = sound.contract;
   level_most = sound.level_most;
   reach_most = sound.reach_most;
@@ -62,27 +62,20 @@ past-sound levels t taken here row sound = record {
   up_bound_most = sound.up_bound_most;
   taken_most = sound.taken_most;
   lead_most = sound.lead_most;
-  paced = sound.paced;
   ahead = left-ahead t (suc t) row.left sound.ahead;
 }
 
 -- the row after its source's step
-step-sound : (levels t before_all taken more : ℕ) (here before behind : List Arrival) (row : KeptRow) (step : SourceStep) → t < 2 ^ 61 → before_all ≤ taken → taken + taken_by step ≤ more → Each HasLead here → IsSoundRow levels t before_all here row → IsSoundRow levels (suc t) more (here ++ (before ++ (kept_packet step t (suc taken) row ++ behind))) (kept_after_step step t (suc taken) row)
-step-sound levels t before_all taken more here before behind row (Brings size) early less upto leads sound =
-    let later = past-sound levels t before_all here row sound in
-    taken-sound levels (suc t) before_all more here (here ++ (before ++ (kept_packet (Brings size) t (suc taken) row ++ behind))) t 0 (suc taken) (past_tick t row)
-    (omega arith) (omega arith) (omega arith) (omega arith) (omega (arith, sound.taken_most))
-    (λ x past. late-taken row.lead (suc taken) x here before _ behind leads refl past)
-    later
-step-sound levels t before_all taken more here before behind row Rests early less upto leads sound =
-    more-sound levels (suc t) before_all more here (before ++ behind) (past_tick t row) (omega arith) (past-sound levels t before_all here row sound)
-step-sound levels t before_all taken more here before behind row Loses early less upto leads sound =
-    more-sound levels (suc t) before_all more here (before ++ behind) (past_tick t row) (omega arith) (past-sound levels t before_all here row sound)
+step-sound : (levels t before_all taken more : ℕ) (row : KeptRow) (step : SourceStep) → before_all ≤ taken → taken + taken_by step ≤ more → IsSoundRow levels t before_all row → IsSoundRow levels (suc t) more (kept_after_step step t (suc taken) row)
+step-sound levels t before_all taken more row (Brings size) less upto sound =
+    taken-sound levels (suc t) before_all more (suc taken) (kept_tick row t) (past_tick t row) (omega arith) (omega arith) (omega (arith, sound.taken_most)) (past-sound levels t before_all row sound)
+step-sound levels t before_all taken more row Rests less upto sound = more-sound levels (suc t) before_all more (past_tick t row) (omega arith) (past-sound levels t before_all row sound)
+step-sound levels t before_all taken more row Loses less upto sound = more-sound levels (suc t) before_all more (past_tick t row) (omega arith) (past-sound levels t before_all row sound)
 
 -- the packet that it brings
-step-packet : (levels t before_all taken more : ℕ) (bounds : List ℕ) (here : List Arrival) (row : KeptRow) (step : SourceStep) → before_all ≤ taken → taken + taken_by step ≤ more → IsStep bounds here row step → IsSoundRow levels t before_all here row → Each (IsSoundPacket levels more) (kept_packet step t (suc taken) row)
+step-packet : (levels t before_all taken more : ℕ) (bounds : List ℕ) (here : List Arrival) (row : KeptRow) (step : SourceStep) → before_all ≤ taken → taken + taken_by step ≤ more → IsStep bounds here row step → IsSoundRow levels t before_all row → Each (IsSoundPacket levels more) (kept_packet step t (suc taken) row)
 step-packet levels t before_all taken more bounds here row (Brings size) less upto is sound =
-    (packet-sound levels t before_all more here (suc taken) (suc row.taken) size t (kept_tick row t) row (omega arith) (omega arith) (omega arith) is.1 is.2 sound, tt)
+    (packet-sound levels t before_all more (suc taken) (suc row.taken) size t (kept_tick row t) row (omega arith) (omega arith) (omega arith) is.1 is.2 sound, tt)
 step-packet levels t before_all taken more bounds here row Rests less upto is sound = tt
 step-packet levels t before_all taken more bounds here row Loses less upto is sound = tt
 
@@ -103,9 +96,9 @@ step-lead-most t taken row Loses most = omega arith
 abbrev pub AreSteps : List ℕ → List Arrival → ℕ → List KeptRow → Type 0
 AreSteps bounds here t rows = Each (λ row. IsStep bounds here row (kept_step bounds here t row)) rows
 
-pub kept_steps-are : (bounds : List ℕ) (here : List Arrival) (levels t taken : ℕ) (rows : List KeptRow) → Each (IsSoundRow levels t taken here) rows → AreSteps bounds here t rows
+pub kept_steps-are : (bounds : List ℕ) (here : List Arrival) (levels t taken : ℕ) (rows : List KeptRow) → Each (IsSoundRow levels t taken) rows → AreSteps bounds here t rows
 kept_steps-are bounds here levels t taken rows each =
-    Each-if (IsSoundRow levels t taken here) (λ row. IsStep bounds here row (kept_step bounds here t row)) rows (λ row sound. kept_step-is bounds here t t row sound.ahead) each
+    Each-if (IsSoundRow levels t taken) (λ row. IsStep bounds here row (kept_step bounds here t row)) rows (λ row sound. kept_step-is bounds here t t row sound.ahead) each
 
 -- the packets brought take places of their rows
 pub sources-places : (bounds : List ℕ) (here chans before : List Arrival) (t taken : ℕ) (rows : List KeptRow) → ((l : ℕ) → held_packets l chans ≤ held_packets l here) → Each HasLead chans → AreSteps bounds here t rows → length (kept_packets bounds here t taken rows) + total (places_of bounds (chans ++ (before ++ kept_packets bounds here t taken rows))) (kept_rows_after bounds here t taken rows) ≤ total (places_of bounds chans) rows
@@ -132,7 +125,7 @@ sources-numbered bounds here t taken (row ∷ rows) =
     (numbered-append taken (taken + taken_by step) (taken + taken_by step + length behind) packet behind (packet-numbered step t taken row) (sources-numbered bounds here t (taken + taken_by step) rows))
 
 -- and are sound
-pub sources-packets : (levels t before_all taken more : ℕ) (bounds : List ℕ) (here : List Arrival) (rows : List KeptRow) → before_all ≤ taken → taken + length (kept_packets bounds here t taken rows) ≤ more → AreSteps bounds here t rows → Each (IsSoundRow levels t before_all here) rows → Each (IsSoundPacket levels more) (kept_packets bounds here t taken rows)
+pub sources-packets : (levels t before_all taken more : ℕ) (bounds : List ℕ) (here : List Arrival) (rows : List KeptRow) → before_all ≤ taken → taken + length (kept_packets bounds here t taken rows) ≤ more → AreSteps bounds here t rows → Each (IsSoundRow levels t before_all) rows → Each (IsSoundPacket levels more) (kept_packets bounds here t taken rows)
 unfolding kept_packets
 sources-packets levels t before_all taken more bounds here [] less upto steps each = tt
 sources-packets levels t before_all taken more bounds here (row ∷ rows) less upto steps each =
@@ -145,19 +138,16 @@ sources-packets levels t before_all taken more bounds here (row ∷ rows) less u
     (step-packet levels t before_all taken more bounds here row step less (omega (arith, upto, n, m)) steps.0 each.0)
     (sources-packets levels t before_all (taken + taken_by step) more bounds here rows (omega (arith, less)) (omega (arith, upto, n, m)) steps.1 each.1)
 
--- the rows are sound a tick later, with them here
-pub sources-rows : (levels t before_all taken more : ℕ) (bounds : List ℕ) (here before : List Arrival) (rows : List KeptRow) → t < 2 ^ 61 → before_all ≤ taken → taken + length (kept_packets bounds here t taken rows) ≤ more → Each HasLead here → Each (IsSoundRow levels t before_all here) rows → Each (IsSoundRow levels (suc t) more (here ++ (before ++ kept_packets bounds here t taken rows))) (kept_rows_after bounds here t taken rows)
+-- the rows are sound a tick later
+pub sources-rows : (levels t before_all taken more : ℕ) (bounds : List ℕ) (here : List Arrival) (rows : List KeptRow) → before_all ≤ taken → taken + length (kept_packets bounds here t taken rows) ≤ more → Each (IsSoundRow levels t before_all) rows → Each (IsSoundRow levels (suc t) more) (kept_rows_after bounds here t taken rows)
 unfolding kept_packets kept_rows_after
-sources-rows levels t before_all taken more bounds here before [] early less upto leads each = tt
-sources-rows levels t before_all taken more bounds here before (row ∷ rows) early less upto leads each =
+sources-rows levels t before_all taken more bounds here [] less upto each = tt
+sources-rows levels t before_all taken more bounds here (row ∷ rows) less upto each =
     let step : SourceStep = kept_step bounds here t row in
-    let packet : List Arrival = kept_packet (kept_step bounds here t row) t (suc taken) row in
-    let behind : List Arrival = kept_packets bounds here t (taken + taken_by (kept_step bounds here t row)) rows in
-    let n = length-append packet behind in
-    let m = packet-length step t (suc taken) row in
-    let rest = sources-rows levels t before_all (taken + taken_by step) more bounds here (before ++ packet) rows early (omega (arith, less)) (omega (arith, upto, n, m)) leads each.1 in (
-      step-sound levels t before_all taken more here before behind row step early less (omega (arith, upto, n, m)) leads each.0,
-      subst (λ ps. Each (IsSoundRow levels (suc t) more (here ++ ps)) (kept_rows_after bounds here t (taken + taken_by (kept_step bounds here t row)) rows)) (append_assoc before packet behind) rest,
+    let n = length-append (kept_packet (kept_step bounds here t row) t (suc taken) row) (kept_packets bounds here t (taken + taken_by (kept_step bounds here t row)) rows) in
+    let m = packet-length step t (suc taken) row in (
+      step-sound levels t before_all taken more row step less (omega (arith, upto, n, m)) each.0,
+      sources-rows levels t before_all (taken + taken_by step) more bounds here rows (omega (arith, less)) (omega (arith, upto, n, m)) each.1,
     )
 
 -- leads: those that the rows had, and new ones
@@ -188,11 +178,11 @@ sources-apart bounds here t taken (row ∷ rows) most apart =
 -- ---- the account in the tick
 
 -- the rows that stay held are sound
-pub held-sound : (shape : LinkShape) (room : ℕ) (k : Kept) → IsSound shape room k → Each (IsSoundRow (length shape.bounds) k.clock k.taken k.here) (held_rows shape k)
-held-sound shape room k sound = Each-filter (IsSoundRow (length shape.bounds) k.clock k.taken k.here) (kept_stays shape.bounds k.clock) k.rows sound.rows
+pub held-sound : (shape : LinkShape) (room : ℕ) (k : Kept) → IsSound shape room k → Each (IsSoundRow (length shape.bounds) k.clock k.taken) (held_rows shape k)
+held-sound shape room k sound = Each-filter (IsSoundRow (length shape.bounds) k.clock k.taken) (kept_stays shape.bounds k.clock) k.rows sound.rows
 
 -- the sources' packets are of channels
-sources-channels : (bounds : List ℕ) (here : List Arrival) (levels t before_all taken : ℕ) (rows : List KeptRow) → levels ≤ length bounds → Each (IsSoundRow levels t before_all here) rows → Each (IsChannels bounds) (kept_packets bounds here t taken rows)
+sources-channels : (bounds : List ℕ) (here : List Arrival) (levels t before_all taken : ℕ) (rows : List KeptRow) → levels ≤ length bounds → Each (IsSoundRow levels t before_all) rows → Each (IsChannels bounds) (kept_packets bounds here t taken rows)
 unfolding kept_packets
 sources-channels bounds here levels t before_all taken [] less each = tt
 sources-channels bounds here levels t before_all taken (row ∷ rows) less each =
@@ -218,20 +208,13 @@ abbrev pub from_best : LinkShape → Kept → List Arrival
 from_best shape k = best_packet (kept_best shape k) shape.bounds (suc (k.taken + length (from_sources shape k))) k.clock
 
 -- the rows lie ahead of the next tick
-pub brought-rows : (shape : LinkShape) (room : ℕ) (k : Kept) → k.clock < 2 ^ 61 → IsSound shape room k → Each (IsSoundRow (length shape.bounds) (suc k.clock) (k.taken + length (brought shape k)) (present shape k)) (kept_rows_after shape.bounds k.here k.clock k.taken (held_rows shape k))
-brought-rows shape room k early sound =
-    let levels : ℕ = length shape.bounds in
-    let src : List Arrival = from_sources shape k in
-    let best : List Arrival = from_best shape k in
-    let some = sources-rows levels k.clock k.taken k.taken (k.taken + length src) shape.bounds k.here [] (held_rows shape k) early (omega arith) (omega arith)
-    (packets-lead levels k.taken k.here sound.packets) (held-sound shape room k sound) in
-    subst (λ all. Each (IsSoundRow levels (suc k.clock) (k.taken + length (brought shape k)) all) (kept_rows_after shape.bounds k.here k.clock k.taken (held_rows shape k))) (append_assoc k.here src best)
-    (Each-if (IsSoundRow levels (suc k.clock) (k.taken + length src) (k.here ++ src)) (IsSoundRow levels (suc k.clock) (k.taken + length (brought shape k)) ((k.here ++ src) ++ best)) _
-    (λ row each. more-sound levels (suc k.clock) (k.taken + length src) (k.taken + length (brought shape k)) (k.here ++ src) best row (omega (arith, length-append src best)) each) some)
+pub brought-rows : (shape : LinkShape) (room : ℕ) (k : Kept) → IsSound shape room k → Each (IsSoundRow (length shape.bounds) (suc k.clock) (k.taken + length (brought shape k))) (kept_rows_after shape.bounds k.here k.clock k.taken (held_rows shape k))
+brought-rows shape room k sound =
+    sources-rows (length shape.bounds) k.clock k.taken k.taken (k.taken + length (brought shape k)) shape.bounds k.here (held_rows shape k) (omega arith) (omega (arith, length-append (from_sources shape k) (from_best shape k))) (held-sound shape room k sound)
 
 -- a row that lies ahead of the next tick lies ahead of this one
-row-earlier : (levels t taken : ℕ) (here : List Arrival) (row : KeptRow) → IsSoundRow levels (suc t) taken here row → IsSoundRow levels t taken here row
-row-earlier levels t taken here row sound = record {
+row-earlier : (levels t taken : ℕ) (row : KeptRow) → IsSoundRow levels (suc t) taken row → IsSoundRow levels t taken row
+row-earlier levels t taken row sound = record {
   contract = sound.contract;
   level_most = sound.level_most;
   reach_most = sound.reach_most;
@@ -239,14 +222,13 @@ row-earlier levels t taken here row sound = record {
   up_bound_most = sound.up_bound_most;
   taken_most = sound.taken_most;
   lead_most = sound.lead_most;
-  paced = sound.paced;
   ahead = ahead-earlier (suc t) t row.left (omega arith) sound.ahead;
 }
 
 -- once the sources have brought their packets, and the best-effort packet has come, the account is sound
-pub brought-sound : (shape : LinkShape) (room : ℕ) (k : Kept) → k.clock < 2 ^ 61 → IsSound shape room k → IsSound shape room (with_brought shape k)
+pub brought-sound : (shape : LinkShape) (room : ℕ) (k : Kept) → IsSound shape room k → IsSound shape room (with_brought shape k)
 unfolding with_brought places
-brought-sound shape room k early sound =
+brought-sound shape room k sound =
     let levels : ℕ = length shape.bounds in
     let rows : List KeptRow = held_rows shape k in
     let src : List Arrival = from_sources shape k in
@@ -271,9 +253,9 @@ brought-sound shape room k early sound =
           (sources-packets levels k.clock k.taken k.taken more shape.bounds k.here rows (omega arith) (omega (arith, parts)) (kept_steps-are shape.bounds k.here levels k.clock k.taken rows held) held)
           (best-sound (kept_best shape k) shape.bounds (kept_waiting shape k) shape.best (k.taken + length src) more k.clock is (omega (arith, parts))));
       apart = sources-apart shape.bounds k.here k.clock k.taken rows
-          (Each-if (IsSoundRow levels k.clock k.taken k.here) (λ row. row.lead ≤ k.taken) rows (λ row each. each.lead_most) held)
+          (Each-if (IsSoundRow levels k.clock k.taken) (λ row. row.lead ≤ k.taken) rows (λ row each. each.lead_most) held)
           (AreApart-filter (kept_stays shape.bounds k.clock) k.rows sound.apart);
-      rows = Each-if (IsSoundRow levels (suc k.clock) more (present shape k)) (IsSoundRow levels k.clock more (present shape k)) _ (row-earlier levels k.clock more (present shape k)) (brought-rows shape room k early sound);
+      rows = Each-if (IsSoundRow levels (suc k.clock) more) (IsSoundRow levels k.clock more) _ (row-earlier levels k.clock more) (brought-rows shape room k sound);
       fits = rw front (omega (arith, brought-places shape room k sound, total-filter-le (places_of shape.bounds chans) (kept_stays shape.bounds k.clock) k.rows, length-append chans src, sound.fits));
       best_few = omega (arith, counted, best-upto (kept_best shape k) shape.bounds (k.here ++ src) (suc (k.taken + length src)) k.clock, best-more shape.bounds k.here src of_chans, best-fits shape k (suc (k.taken + length src)) k.clock (kept_best shape k) is sound.numbered sound.packets sound.best_few);
       best_ahead = ahead-earlier (suc k.clock) k.clock (left_at (suc k.clock) k.best_left) (omega arith) (left-ahead k.clock (suc k.clock) k.best_left sound.best_ahead);

@@ -1,19 +1,14 @@
 -- A sound account stays sound when a row takes a packet; and so through an arrive.
-use Rattle.std.proofs.Common.{◌≡◌, ℕ, zero, suc, ◌+◌, ◌-◌, ◌*◌, ◌^◌, ◌<◌, ◌≤◌, Bool, true, false, List, [], ◌∷◌, ◌++◌, length, take, get_or, max, Option, Some, None, inl, inr, ⊎_elim, refl, sym, ap, ◌∙◌, subst, arith}
-use Rattle.std.proofs.Math.Nat.{mul-le-mul_left}
-use Rattle.std.proofs.lemmas.Bool.{cases_Bool, cases_eq, cases_lt, cond_both}
+use Rattle.std.proofs.Common.{◌≡◌, ℕ, suc, ◌<◌, ◌≤◌, Bool, List, [], ◌∷◌, ◌++◌, length, get_or, Option, Some, None, inl, inr, ⊎_elim, refl, sym, ap, ◌∙◌, subst, arith}
+use Rattle.std.proofs.lemmas.Bool.{cases_Bool, cases_eq}
 use Rattle.std.proofs.lemmas.List.{length_push}
 use Rattle.std.proofs.lemmas.List.Folds.{find-append}
 use Rattle.std.proofs.lemmas.Option.{same_Some}
 use Rattle.std.specs.Option.{option_or}
 use Rattle.std.specs.Prelude.{find}
-use Rattle.net_units.specs.declared.Kind.{Kind}
-use Rattle.net_units.specs.declared.Kind.TheVariants.{Rate, Jitter}
 use Rattle.traffic_contract.specs.Admission.{total}
 use Rattle.traffic_contract.proofs.AdmissionFacts.{total-le}
-use Rattle.traffic_contract.specs.Contract.{burst_of}
-use Rattle.traffic_contract.specs.Eligible.{first_from, newest, eligible}
-use Rattle.traffic_contract.specs.Keeping.{may_follow}
+use Rattle.traffic_contract.specs.Eligible.{eligible}
 use Rattle.link_steps.specs.declared.asks.Ask.TheVariants.{Arrive}
 use Rattle.link_steps.specs.declared.asks.Packet.{Packet}
 use Rattle.link_steps.specs.declared.replies.Reply.{Reply}
@@ -21,47 +16,17 @@ use Rattle.link_steps.specs.declared.replies.Reply.TheVariants as Is
 use Rattle.link_steps.specs.declared.shape.LinkShape.{LinkShape}
 use Rattle.link_steps.specs.Buffer.{slots_of, held_packets}
 use Rattle.link_steps.specs.Split.{whole}
-use Rattle.link_steps.specs.Kept.{Kept, KeptRow, recent_of, kept_with, is_kept_of, kept_arrive, kept_arrived_tick, kept_arrived_row, kept_arrived, kept_with_arrival, kept_reply, kept_after}
+use Rattle.link_steps.specs.Kept.{Kept, KeptRow, kept_with, is_kept_of, kept_arrive, kept_arrived_tick, kept_arrived_row, kept_arrived, kept_with_arrival, kept_reply, kept_after}
 use Rattle.link_steps.specs.Legal.{PacketFits}
 use Rattle.link_steps.specs.Lists.{change_first, Each}
-use Rattle.link_steps.specs.Regulator.{waits_until, eligible_next}
-use Rattle.link_steps.specs.Reservation.{Reservation}
 use Rattle.link_steps.specs.Service.{Arrival, Start}
 use Rattle.link_steps.specs.Sources.{lead_with, arrival_at}
 use Rattle.link_steps.proofs.ListFacts.{Each-append, Each-find, Each-if}
 use Rattle.link_steps.proofs.ReplyFacts.{arrive-tells}
-use Rattle.link_server.specs.Sound.{places_of, places, of_channels, IsSoundPacket, is_at, IsRunning, late_packets, IsSoundRow, IsSound}
-use Rattle.link_server.proofs.SoundPackets.{packets-lead, numbered-append, held-more, late-more, held-taken, late-taken}
+use Rattle.link_server.specs.Sound.{places_of, places, of_channels, IsSoundPacket, is_at, IsRunning, IsSoundRow, IsSound}
+use Rattle.link_server.proofs.SoundPackets.{packets-lead, numbered-append, held-more, held-taken}
 use Rattle.link_server.proofs.SoundBest.{held-channels, channels-more, channels-lead, best-more}
 use Rattle.link_server.proofs.SoundRows.{AreApart-taken, lead_with-first, lead_with-later}
-
--- ---- the eligible tick
-
--- a search over so many ticks ends behind them at the latest
-first_from-most : (test : ℕ → Bool) (low count : ℕ) → first_from test low count ≤ low + count
-unfolding first_from
-first_from-most test low zero = omega arith
-first_from-most test low (suc count) =
-    let later = first_from-most test (low + 1) count in
-    cond_both (test low) low (first_from test (low + 1) count) (λ t. t ≤ low + suc count) (λ _. omega arith) (λ _. omega (arith, later))
-
-waits-most : (kind : Kind) (first : Bool) (t due : ℕ) → waits_until kind first t due ≤ max t due
-waits-most Jitter false t due = omega arith
-waits-most Jitter true t due = omega arith
-waits-most Rate first t due = omega arith
-
--- a packet is eligible at most an interval after the row's newest, or where it may go
-eligible-most : (terms : Reservation) (recent : List ℕ) (t due : ℕ) → eligible_next terms recent t due ≤ max (max t due) (newest recent + terms.contract.interval)
-unfolding eligible_next eligible
-eligible-most terms recent t due =
-    let low = waits-most terms.kind terms.first t due in
-    let most = first_from-most (may_follow terms.contract recent) (waits_until terms.kind terms.first t due) (newest recent + terms.contract.interval - waits_until terms.kind terms.first t due) in
-    omega (arith, low, most)
-
--- the newest of some of the newest ticks is none later
-newest-take-le : (n e : ℕ) (ticks : List ℕ) → newest (take n (e ∷ ticks)) ≤ e
-newest-take-le zero e ticks = omega arith
-newest-take-le (suc n) e ticks = omega arith
 
 -- ---- leads
 
@@ -79,9 +44,9 @@ lead_with-least lead place some =
 
 -- ---- a row that takes a packet
 
--- it stays sound, where all that are here then have the packet among them
-pub taken-sound : (levels clock taken more : ℕ) (here all : List Arrival) (t due place : ℕ) (row : KeptRow) → t ≤ 2 ^ 62 → due ≤ 2 ^ 62 → taken ≤ more → place ≤ more → suc row.taken ≤ more → ((x : ℕ) → x < eligible_next row.terms row.recent t due → suc (late_packets row.lead x here) ≤ late_packets (lead_with row.lead place) x all) → IsSoundRow levels clock taken here row → IsSoundRow levels clock more all (kept_with place (eligible_next row.terms row.recent t due) row)
-taken-sound levels clock taken more here all t due place row early soon less upto counted one sound = record {
+-- it stays sound
+pub taken-sound : (levels clock taken more place e : ℕ) (row : KeptRow) → taken ≤ more → place ≤ more → suc row.taken ≤ more → IsSoundRow levels clock taken row → IsSoundRow levels clock more (kept_with place e row)
+taken-sound levels clock taken more place e row less upto counted sound = record {
   contract = sound.contract;
   level_most = sound.level_most;
   reach_most = sound.reach_most;
@@ -89,22 +54,12 @@ taken-sound levels clock taken more here all t due place row early soon less upt
   up_bound_most = sound.up_bound_most;
   taken_most = counted;
   lead_most = lead_with-most row.lead place more (omega (arith, sound.lead_most)) upto;
-  paced = λ x late. stays-paced x (eligible_next row.terms row.recent t due) late (eligible-most row.terms row.recent t due) (one x) (sound.paced x late);
   ahead = sound.ahead;
-} where
-  stays-paced : (x e : ℕ) → 2 ^ 62 ≤ x → e ≤ max (max t due) (newest row.recent + row.terms.contract.interval) → (x < e → suc (late_packets row.lead x here) ≤ late_packets (lead_with row.lead place) x all) → newest row.recent ≤ x + row.terms.contract.interval * late_packets row.lead x here → newest (recent_of row.terms.contract (e ∷ row.recent)) ≤ x + row.terms.contract.interval * late_packets (lead_with row.lead place) x all
-  stays-paced x e late most one paced =
-      let new = newest-take-le (burst_of row.terms.contract) e row.recent in
-      ⊎_elim
-      (λ (past : x < e).
-      let times : row.terms.contract.interval * suc (late_packets row.lead x here) ≤ row.terms.contract.interval * late_packets (lead_with row.lead place) x all = mul-le-mul_left row.terms.contract.interval (one past) in
-      omega (arith, new, times))
-      (λ (before : e ≤ x). omega (arith, new))
-      (cases_lt x e)
+}
 
 -- and so do the others
-pub more-sound : (levels clock taken more : ℕ) (here new : List Arrival) (row : KeptRow) → taken ≤ more → IsSoundRow levels clock taken here row → IsSoundRow levels clock more (here ++ new) row
-more-sound levels clock taken more here new row less sound = record {
+pub more-sound : (levels clock taken more : ℕ) (row : KeptRow) → taken ≤ more → IsSoundRow levels clock taken row → IsSoundRow levels clock more row
+more-sound levels clock taken more row less sound = record {
   contract = sound.contract;
   level_most = sound.level_most;
   reach_most = sound.reach_most;
@@ -112,9 +67,6 @@ more-sound levels clock taken more here new row less sound = record {
   up_bound_most = sound.up_bound_most;
   taken_most = omega (arith, sound.taken_most);
   lead_most = omega (arith, sound.lead_most);
-  paced = λ x late.
-      let times : row.terms.contract.interval * late_packets row.lead x here ≤ row.terms.contract.interval * late_packets row.lead x (here ++ new) = mul-le-mul_left row.terms.contract.interval (late-more row.lead x here new) in
-      omega (arith, times, sound.paced x late);
   ahead = sound.ahead;
 }
 
@@ -133,8 +85,8 @@ packets-more levels taken more here less each =
     each
 
 -- and the packet that is taken is sound
-pub packet-sound : (levels clock taken more : ℕ) (here : List Arrival) (place number size t e : ℕ) (row : KeptRow) → taken ≤ more → 1 ≤ place → place ≤ more → 1 ≤ size → size ≤ 65536 → IsSoundRow levels clock taken here row → IsSoundPacket levels more (arrival_at row.terms row.lead place number size t e)
-packet-sound levels clock taken more here place number size t e row less some upto least most sound = record {
+pub packet-sound : (levels clock taken more place number size t e : ℕ) (row : KeptRow) → taken ≤ more → 1 ≤ place → place ≤ more → 1 ≤ size → size ≤ 65536 → IsSoundRow levels clock taken row → IsSoundPacket levels more (arrival_at row.terms row.lead place number size t e)
+packet-sound levels clock taken more place number size t e row less some upto least most sound = record {
   lead_least = lead_with-least row.lead place some;
   lead_most = lead_with-most row.lead place more (omega (arith, sound.lead_most)) upto;
   size_least = least;
@@ -193,17 +145,16 @@ total-change_drop f g test change x (y ∷ xs) less found drop =
 -- ---- an arrive
 
 -- the account with the packet taken
-arrival-sound : (shape : LinkShape) (room : ℕ) (k : Kept) (packet : Packet) (clock eligible : ℕ) (found : Option KeptRow) → k.clock < 2 ^ 61 → PacketFits packet → IsSound shape room k → find (is_kept_of packet.chan) k.rows ≡ found → Is.Taken clock eligible ≡ kept_arrive shape k.clock k.here packet found → IsSound shape room (kept_with_arrival packet k found)
+arrival-sound : (shape : LinkShape) (room : ℕ) (k : Kept) (packet : Packet) (clock eligible : ℕ) (found : Option KeptRow) → PacketFits packet → IsSound shape room k → find (is_kept_of packet.chan) k.rows ≡ found → Is.Taken clock eligible ≡ kept_arrive shape k.clock k.here packet found → IsSound shape room (kept_with_arrival packet k found)
 unfolding kept_with_arrival places
-arrival-sound shape room k packet clock eligible None early fits sound found same = sound
-arrival-sound shape room k packet clock eligible (Some row) early fits sound found same =
+arrival-sound shape room k packet clock eligible None fits sound found same = sound
+arrival-sound shape room k packet clock eligible (Some row) fits sound found same =
     let levels : ℕ = length shape.bounds in
     let place : ℕ = suc k.taken in
     let new : Arrival = kept_arrived k.clock place packet row in
-    let all : List Arrival = k.here ++ new ∷ [] in
     let longer = length_push k.here new in
     let leads = packets-lead levels k.taken k.here sound.packets in
-    let one = Each-find (IsSoundRow levels k.clock k.taken k.here) (is_kept_of packet.chan) k.rows row sound.rows found in
+    let one = Each-find (IsSoundRow levels k.clock k.taken) (is_kept_of packet.chan) k.rows row sound.rows found in
     let tells = arrive-tells shape.bounds k.clock packet row.terms row.taken (held_packets row.lead k.here) (kept_arrived_tick k.clock packet row) clock eligible same in
     let chans : List Arrival = of_channels shape.bounds k.here in
     let held = held-taken row.lead place chans [] new [] (channels-lead shape.bounds k.here leads) refl in
@@ -211,15 +162,11 @@ arrival-sound shape room k packet clock eligible (Some row) early fits sound fou
       taken_most = omega (arith, sound.taken_most, longer);
       numbered = numbered-append 0 k.taken place k.here (new ∷ []) sound.numbered (omega arith, omega arith);
       packets = Each-append (IsSoundPacket levels place) k.here (new ∷ []) (packets-more levels k.taken place k.here (omega arith) sound.packets)
-          (packet-sound levels k.clock k.taken place k.here place packet.number packet.size k.clock (kept_arrived_tick k.clock packet row) row (omega arith) (omega arith) (omega arith) fits.size_least fits.size_most one, tt);
-      apart = AreApart-taken (is_kept_of packet.chan) (kept_arrived_row k.clock place packet) place (λ r. refl) k.rows (Each-if (IsSoundRow levels k.clock k.taken k.here) (λ r. r.lead < place) k.rows (λ r each. omega (arith, each.lead_most)) sound.rows) sound.apart;
-      rows = Each-change_both (IsSoundRow levels k.clock k.taken k.here) (IsSoundRow levels k.clock place all) (is_kept_of packet.chan) (kept_arrived_row k.clock place packet) k.rows
-          (λ r each. more-sound levels k.clock k.taken place k.here (new ∷ []) r (omega arith) each)
-          (λ r is each.
-          let same_row = same_Some row r (sym found ∙ is) in
-          taken-sound levels k.clock k.taken place k.here all k.clock packet.due place r (omega arith) (omega (arith, fits.due_most)) (omega arith) (omega arith) (omega (arith, each.taken_most))
-          (λ x past. subst (λ q. suc (late_packets q.lead x k.here) ≤ late_packets (lead_with q.lead place) x all) same_row (late-taken row.lead place x k.here [] new [] leads refl (subst (λ q. x < eligible_next q.terms q.recent k.clock packet.due) (sym same_row) past)))
-          each)
+          (packet-sound levels k.clock k.taken place place packet.number packet.size k.clock (kept_arrived_tick k.clock packet row) row (omega arith) (omega arith) (omega arith) fits.size_least fits.size_most one, tt);
+      apart = AreApart-taken (is_kept_of packet.chan) (kept_arrived_row k.clock place packet) place (λ r. refl) k.rows (Each-if (IsSoundRow levels k.clock k.taken) (λ r. r.lead < place) k.rows (λ r each. omega (arith, each.lead_most)) sound.rows) sound.apart;
+      rows = Each-change_both (IsSoundRow levels k.clock k.taken) (IsSoundRow levels k.clock place) (is_kept_of packet.chan) (kept_arrived_row k.clock place packet) k.rows
+          (λ r each. more-sound levels k.clock k.taken place r (omega arith) each)
+          (λ r is each. taken-sound levels k.clock k.taken place place (kept_arrived_tick k.clock packet r) r (omega arith) (omega arith) (omega (arith, each.taken_most)) each)
           sound.rows;
       fits = (let drop = total-change_drop (places_of shape.bounds chans) (places_of shape.bounds (chans ++ new ∷ [])) (is_kept_of packet.chan) (kept_arrived_row k.clock place packet) row k.rows (places-more shape.bounds chans (new ∷ [])) found (places-taken shape.bounds chans (chans ++ new ∷ []) place (kept_arrived_tick k.clock packet row) row (omega (arith, tells.free, held-channels shape.bounds k.here row.lead)) held) in
           rw (channels-more shape.bounds k.here (new ∷ []) (one.level_most, tt)) (omega (arith, drop, length_push chans new, sound.fits)));
@@ -228,8 +175,8 @@ arrival-sound shape room k packet clock eligible (Some row) early fits sound fou
       running = λ start on. running-more shape.rate k.clock k.here (new ∷ []) start (sound.running start on);
     }
 
-pub sound-arrive : (shape : LinkShape) (room : ℕ) (k : Kept) (packet : Packet) (reply : Reply) → k.clock < 2 ^ 61 → PacketFits packet → IsSound shape room k → reply ≡ kept_reply (whole shape) k (Arrive packet) → IsSound shape room (kept_after shape k (Arrive packet) reply)
+pub sound-arrive : (shape : LinkShape) (room : ℕ) (k : Kept) (packet : Packet) (reply : Reply) → PacketFits packet → IsSound shape room k → reply ≡ kept_reply (whole shape) k (Arrive packet) → IsSound shape room (kept_after shape k (Arrive packet) reply)
 unfolding kept_after kept_reply
-sound-arrive shape room k packet (Is.Taken clock eligible) early fits sound same =
-    arrival-sound shape room k packet clock eligible (find (is_kept_of packet.chan) k.rows) early fits sound refl same
-sound-arrive shape room k packet _ early fits sound same = sound
+sound-arrive shape room k packet (Is.Taken clock eligible) fits sound same =
+    arrival-sound shape room k packet clock eligible (find (is_kept_of packet.chan) k.rows) fits sound refl same
+sound-arrive shape room k packet _ fits sound same = sound

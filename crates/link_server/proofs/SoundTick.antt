@@ -1,5 +1,5 @@
 -- A tick keeps an account sound: rows expire, the sources bring their packets, and the link serves.
-use Rattle.std.proofs.Common.{ℕ, suc, ◌+◌, ◌^◌, ◌<◌, length}
+use Rattle.std.proofs.Common.{ℕ, suc, ◌+◌, length}
 use Rattle.link_steps.specs.declared.asks.Ask.TheVariants.{Tick}
 use Rattle.link_steps.specs.declared.replies.Reply.{Reply}
 use Rattle.link_steps.specs.declared.shape.LinkShape.{LinkShape}
@@ -10,9 +10,9 @@ use Rattle.link_server.proofs.SoundServed.{service-sound}
 use Rattle.link_server.proofs.SoundRows.{left-ahead}
 use Rattle.link_server.proofs.SoundSources.{brought-sound, brought-rows}
 
-pub sound-tick : (shape : LinkShape) (room : ℕ) (k : Kept) (reply : Reply) → k.clock < 2 ^ 61 → IsSound shape room k → IsSound shape room (kept_after shape k Tick reply)
+pub sound-tick : (shape : LinkShape) (room : ℕ) (k : Kept) (reply : Reply) → IsSound shape room k → IsSound shape room (kept_after shape k Tick reply)
 unfolding kept_after kept_after_tick with_brought
-sound-tick shape room k reply early sound =
-    let served = brought-sound shape room k early sound in
-    service-sound shape room (with_brought shape k) (occupies shape k) early served (brought-rows shape room k early sound) (left-ahead k.clock (suc k.clock) k.best_left sound.best_ahead)
+sound-tick shape room k reply sound =
+    let served = brought-sound shape room k sound in
+    service-sound shape room (with_brought shape k) (occupies shape k) served (brought-rows shape room k sound) (left-ahead k.clock (suc k.clock) k.best_left sound.best_ahead)
     (served-running shape (length shape.bounds) (k.taken + length (brought shape k)) k.clock (present shape k) k.on served.numbered served.packets served.running)

@@ -1,11 +1,10 @@
 -- A state of a link stands for an admissible history from its beginning on, and so its numbers have the bounds that these
 -- promise.
-use Rattle.std.proofs.Common.{◌≡◌, ℕ, zero, suc, ◌+◌, ◌*◌, ◌/◌, ◌%◌, ◌^◌, ◌<◌, ◌≤◌, List, [], ◌∷◌, length, map, take, ⊎_elim, refl, sym, ap, ◌∙◌, subst, arith}
+use Rattle.std.proofs.Common.{◌≡◌, ℕ, zero, suc, ◌*◌, ◌/◌, ◌%◌, ◌^◌, ◌<◌, ◌≤◌, List, [], ◌∷◌, length, map, take, ⊎_elim, refl, sym, ap, subst, arith}
 use Rattle.std.proofs.Math.Nat.{mul-le-mul_right, mod-eq_of_lt}
 use Rattle.std.proofs.lemmas.Bool.{cases_lt}
 use Rattle.std.proofs.lemmas.List.{length-map}
 use Rattle.net_units.proofs.BoundFacts.{bound_least}
-use Rattle.net_units.specs.LevelBounds.{bound_at}
 use Rattle.net_units.specs.Numbers.{level_number}
 use Rattle.net_units.specs.Quotient.{ceil_quotient}
 use Rattle.traffic_contract.proofs.ContractFacts.{burst-least}
@@ -27,10 +26,9 @@ use Rattle.link_steps.specs.Kept.{HasContract, Kept, KeptRow, StandsFor, nothing
 use Rattle.link_steps.specs.Legal.{AskFits, ReserveFits}
 use Rattle.link_steps.specs.Lists.{Each}
 use Rattle.link_steps.specs.Reservation.{Reservation}
-use Rattle.link_steps.specs.Rows.{Row, row_terms}
+use Rattle.link_steps.specs.Rows.{Row}
 use Rattle.link_steps.specs.Scan.{clock_of, scan_of}
 use Rattle.link_steps.specs.Slots.{IsSoon, HasSoonTicks}
-use Rattle.link_steps.specs.Service.{Arrival}
 use Rattle.link_steps.specs.Split.{whole}
 use Rattle.link_steps.proofs.Account.{nothing-stands, stands-entry}
 use Rattle.link_steps.proofs.TicksBounded.{ticks-soon}
@@ -143,11 +141,11 @@ units-some shape terms valid level reach =
     let e : 1 * terms.contract.smax ≤ most_in terms.contract (stay_of shape.bounds terms) * terms.contract.smax = mul-le-mul_right terms.contract.smax packets in
     omega (arith, e, valid.smax_least)
 
-rows-units : (shape : LinkShape) (clock taken : ℕ) (here : List Arrival) (rows : List KeptRow) → Each (IsSoundRow (length shape.bounds) clock taken here) rows → length rows ≤ total (kept_units shape.bounds) (map kept_terms rows)
-rows-units shape clock taken here [] each = omega arith
-rows-units shape clock taken here (row ∷ rows) each =
+rows-units : (shape : LinkShape) (clock taken : ℕ) (rows : List KeptRow) → Each (IsSoundRow (length shape.bounds) clock taken) rows → length rows ≤ total (kept_units shape.bounds) (map kept_terms rows)
+rows-units shape clock taken [] each = omega arith
+rows-units shape clock taken (row ∷ rows) each =
     let one = units-some shape row.terms each.0.contract each.0.level_most each.0.reach_most in
-    omega (arith, one, rows-units shape clock taken here rows each.1)
+    omega (arith, one, rows-units shape clock taken rows each.1)
 
 -- ---- a state
 
@@ -155,7 +153,7 @@ rows-units shape clock taken here (row ∷ rows) each =
 pub rows-few : (link : LinkState) → length link.rows.items < 2 ^ 32
 rows-few link =
     let units = units-stood link.shape (kept_in link) link.stood in
-    let rows = rows-units link.shape link.clock link.packets.taken (kept_in link).here (kept_in link).rows link.sound.rows in
+    let rows = rows-units link.shape link.clock link.packets.taken (kept_in link).rows link.sound.rows in
     let long = length-map link.rows.items row_in in
     let buffer : link.shape.buffer ≤ 262144 = link.shape.buffer_most in
     omega (arith, units, rows, long, buffer)

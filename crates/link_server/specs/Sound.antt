@@ -1,19 +1,17 @@
 -- An account is sound when its numbers keep their bounds and its packets have room, as in every state of a link. At most
 -- one packet leaves in a tick: so a link has taken at most as many packets as it has made ticks and has packets here.
 -- The packets here stand in the order of their arrival numbers, and no two rows have the same first packet. There is
--- room for the packets here, for one packet more in each slot that is free, and for one more a row. A row's newest
--- eligible tick is past tick 2^62 by at most an interval for each of its packets here that are eligible so late. What a
--- row plans lies ahead, in order of time. The packet that occupies the link is one of those here, was eligible when it
--- started, and hasn't left.
-use Rattle.std.specs.Prelude.{◌≡◌, ℕ, suc, ◌+◌, ◌-◌, ◌*◌, ◌^◌, ◌<◌, ◌≤◌, Bool, nat_eq, nat_lt, ◌&&◌, not, Some, List, [], ◌∷◌, length, filter, find}
+-- room for the packets here, for one packet more in each slot that is free, and for one more a row. What a row plans lies
+-- ahead, in order of time. The packet that occupies the link is one of those here, was eligible when it started, and
+-- hasn't left.
+use Rattle.std.specs.Prelude.{◌≡◌, ℕ, suc, ◌+◌, ◌-◌, ◌<◌, ◌≤◌, Bool, nat_eq, not, Some, List, [], ◌∷◌, length, filter, find}
 use Rattle.std.specs.Option.{ForSome}
 use Rattle.net_units.specs.Numbers.{level_number}
 use Rattle.traffic_contract.specs.Admission.{total}
 use Rattle.traffic_contract.specs.Contract.{IsContract}
-use Rattle.traffic_contract.specs.Eligible.{newest}
 use Rattle.link_steps.specs.declared.shape.LinkShape.{LinkShape}
 use Rattle.link_steps.specs.BestEffort.{is_best}
-use Rattle.link_steps.specs.Buffer.{slots_of, has_lead, held_packets}
+use Rattle.link_steps.specs.Buffer.{slots_of, held_packets}
 use Rattle.link_steps.specs.Kept.{Kept, KeptRow, kept_rows_after, held_rows, brought, present}
 use Rattle.link_steps.specs.Lists.{Each}
 use Rattle.link_steps.specs.Rows.{SourcePacket, left_at}
@@ -79,14 +77,6 @@ pub record IsRunning (rate clock : ℕ) (here : List Arrival) (start : Start) : 
 
 -- ---- rows
 
--- whether a packet has this lead and is eligible later than tick t
-abbrev pub is_late : ℕ → ℕ → Arrival → Bool
-is_late lead t p = has_lead lead p && nat_lt t p.eligible
-
--- how many of the packets here are so
-unfoldable pub late_packets : ℕ → ℕ → List Arrival → ℕ
-late_packets lead t here = length (filter (is_late lead t) here)
-
 -- the size of a planned packet is in its bounds
 pub record HasSize (p : SourcePacket) : Type 0 where
   pub least : 1 ≤ p.size
@@ -107,8 +97,7 @@ AreApart [] = Unit {0}
 AreApart (row ∷ rows) = Each (IsApartFrom row.lead) rows × AreApart rows
 
 -- the numbers of a row are in their bounds, at a link of so many levels that has taken so many packets, at this clock
--- and with these packets here
-pub record IsSoundRow (levels clock taken : ℕ) (here : List Arrival) (row : KeptRow) : Type 0 where
+pub record IsSoundRow (levels clock taken : ℕ) (row : KeptRow) : Type 0 where
   pub contract : IsContract row.terms.contract
   pub level_most : level_number row.terms.level ≤ levels
   pub reach_most : level_number row.terms.reach ≤ levels
@@ -116,7 +105,6 @@ pub record IsSoundRow (levels clock taken : ℕ) (here : List Arrival) (row : Ke
   pub up_bound_most : row.terms.up_bound ≤ 1048576
   pub taken_most : row.taken ≤ taken
   pub lead_most : row.lead ≤ taken
-  pub paced : (t : ℕ) → 2 ^ 62 ≤ t → newest row.recent ≤ t + row.terms.contract.interval * late_packets row.lead t here
   pub ahead : AreAhead clock row.left
 
 -- ---- the account
@@ -127,7 +115,7 @@ pub record IsSound (shape : LinkShape) (room : ℕ) (k : Kept) : Type 0 where
   pub numbered : AreNumbered 0 k.here k.taken
   pub packets : Each (IsSoundPacket (length shape.bounds) k.taken) k.here
   pub apart : AreApart k.rows
-  pub rows : Each (IsSoundRow (length shape.bounds) k.clock k.taken k.here) k.rows
+  pub rows : Each (IsSoundRow (length shape.bounds) k.clock k.taken) k.rows
   pub fits : places shape.bounds (of_channels shape.bounds k.here) k.rows + suc shape.best ≤ room
   pub best_few : best_count shape.bounds k.here ≤ suc shape.best
   pub best_ahead : AreAhead k.clock k.best_left

@@ -45,8 +45,8 @@ AreApart-prop : (rows : List KeptRow) → IsProp (AreApart rows)
 AreApart-prop [] = Unit-prop
 AreApart-prop (row ∷ rows) = ×_prop (Each-prop (IsApartFrom row.lead) (λ other. Prim.hlevel ℕ_set) rows) (AreApart-prop rows)
 
-IsSoundRow-prop : (levels clock taken : ℕ) (here : List Arrival) (row : KeptRow) → IsProp (IsSoundRow levels clock taken here row)
-IsSoundRow-prop levels clock taken here row = Prim.hlevel (le_prop, AreAhead-prop)
+IsSoundRow-prop : (levels clock taken : ℕ) (row : KeptRow) → IsProp (IsSoundRow levels clock taken row)
+IsSoundRow-prop levels clock taken row = Prim.hlevel (le_prop, AreAhead-prop)
 
 -- ---- the account
 

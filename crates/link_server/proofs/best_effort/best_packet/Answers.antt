@@ -1,5 +1,5 @@
 -- It names channel 0, and its level is below all levels.
-use Rattle.std.proofs.Common.{◌≡◌, Option, Some, sym, subst, arith}
+use Rattle.std.proofs.Common.{◌≡◌, Option, Some, subst, arith}
 use Rattle.std.specs.Prelude.{IfSome}
 use Rattle.net_units.specs.Numbers.{channel_number}
 use Rattle.net_units.specs.declared.numbers.ChanNo.{ChanNo}

@@ -1,5 +1,5 @@
 -- The count is of the packets that pass the test of the level.
-use Rattle.std.proofs.Common.{ℕ, length, not, ◌&&◌, nat_eq, nat_lt, ap, ◌∙◌, rules, tests}
+use Rattle.std.proofs.Common.{ℕ, length, nat_lt, ap, ◌∙◌, rules, tests}
 use Rattle.std.proofs.lemmas.Iterator.{YieldsList-from_slice}
 use Rattle.std.proofs.lemmas.Iterator.Consumers.{YieldsList-from_filter, count_from_yields_List}
 use Rattle.link_steps.specs.Service.{Arrival}

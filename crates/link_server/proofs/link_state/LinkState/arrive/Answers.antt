@@ -90,7 +90,7 @@ replied c place =
 
 sound : (c : After-take-taken) → IsPlaceOf c.args.packet.now.chan c.args.self.now.rows.items c.in-Some.place → IsSound c.args.self.now.shape c.args.self.now.room (kept_after c.args.self.now.shape (kept_in c.args.self.now) (Arrive c.args.packet.now) (Taken c.args.self.now.clock c.take-taken.result.eligible))
 sound c place =
-    sound-arrive c.args.self.now.shape c.args.self.now.room (kept_in c.args.self.now) c.args.packet.now (Taken c.args.self.now.clock c.take-taken.result.eligible) c.requires.early c.requires.fits c.args.self.now.sound (replied c place)
+    sound-arrive c.args.self.now.shape c.args.self.now.room (kept_in c.args.self.now) c.args.packet.now (Taken c.args.self.now.clock c.take-taken.result.eligible) c.requires.fits c.args.self.now.sound (replied c place)
 
 pub push-requires-clause-room : goal.push-requires-clause-room
 push-requires-clause-room c =

@@ -1,6 +1,6 @@
 -- The channel had no row, so its number is new to the sums; the row is put at the end of both, and there is room for its
 -- packets.
-use Rattle.std.proofs.Common.{◌≡◌, ◌+◌, ◌≤◌, suc, [], ◌∷◌, ◌++◌, map, length, sym, ap, ◌∙◌, subst}
+use Rattle.std.proofs.Common.{◌≡◌, map, sym, ap, ◌∙◌, subst}
 use Rattle.link_steps.specs.declared.replies.Reply.TheVariants.{Offer}
 use Rattle.link_steps.specs.Kept.{kept_terms, kept_after}
 use Rattle.link_steps.proofs.ReplyFacts.{may-reach}

@@ -8,7 +8,7 @@ use Rattle.link_server.proofs.AccountFacts.{account-same}
 use Rattle.link_server.proofs.RoomFacts.{most_places-are}
 use Rattle.link_server.proofs.SoundSetup.{sound-larger}
 use Rattle.link_server.specs.Stood.{IsStood}
-use Rattle.link_server.proofs.StoodFacts.{rows-few, room-small}
+use Rattle.link_server.proofs.StoodFacts.{rows-few}
 use Rattle.link_server.proofs.link_state.LinkState.make_room.Goals as goal
 
 pub places_of-requires-clause-few : goal.places_of-requires-clause-few

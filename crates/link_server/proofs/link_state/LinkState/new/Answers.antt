@@ -1,8 +1,6 @@
 -- Nothing is kept of no history.
-use Rattle.std.proofs.Common.{◌≡◌, ◌∙◌, sym, ap, subst, arith}
-use Rattle.link_steps.specs.Kept.{nothing_kept}
+use Rattle.std.proofs.Common.{◌∙◌, sym, ap, subst, arith}
 use Rattle.link_steps.proofs.Account.{nothing-stands}
-use Rattle.link_server.specs.Account.{account}
 use Rattle.link_server.specs.Planned.{left_in}
 use Rattle.link_server.specs.Sound.{IsSound}
 use Rattle.link_server.specs.Stood.{IsStood}

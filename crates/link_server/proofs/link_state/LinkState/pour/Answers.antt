@@ -1,6 +1,5 @@
 -- The plan and the size are judged, and then the packets are planned.
-use Rattle.std.proofs.Common.{refl, sym, ap, ◌∙◌, subst}
-use Rattle.link_server.specs.Planned.{left_in}
+use Rattle.std.proofs.Common.{sym, ap, ◌∙◌, subst}
 use Rattle.link_server.specs.Sound.{IsSound}
 use Rattle.link_server.specs.State.{kept_in}
 use Rattle.link_steps.specs.declared.replies.Reply.TheVariants.{Planned, Refused}

@@ -1,5 +1,5 @@
 -- The packet that occupies the link can go on, so where it doesn't it departs.
-use Rattle.std.proofs.Common.{◌∙◌, arith}
+use Rattle.std.proofs.Common.{arith}
 use Rattle.link_server.proofs.ServingFacts.{running-goes-on, departs-now, best-departs-now}
 use Rattle.link_server.proofs.packets.Packets.serve.Goals as goal
 

@@ -1,10 +1,9 @@
 -- The step of the plan is found, and what it makes of the packets is said.
-use Rattle.std.proofs.Common.{◌≡◌, ◌+◌, ◌++◌, ◌∷◌, [], suc, nat_eq, refl, sym, ap, ◌∙◌, arith, append-nil}
+use Rattle.std.proofs.Common.{◌≡◌, ◌+◌, ◌++◌, ◌∷◌, [], suc, refl, sym, ap, ◌∙◌, arith, append-nil}
 use Rattle.std.proofs.lemmas.Bool.{le-ltb, lt-ltb}
 use Rattle.std.proofs.lemmas.List.{map_push}
 use Rattle.link_steps.specs.BestEffort.{best_step, best_arrival}
-use Rattle.link_steps.specs.Sources.{lost_by, taken_by}
-use Rattle.link_steps.specs.Sources.SourceStep.{Rests, Brings, Loses}
+use Rattle.link_steps.specs.Sources.SourceStep.{Rests}
 use Rattle.link_server.specs.Packets.{arrival_in, here_in}
 use Rattle.link_server.specs.Planned.{left_in}
 use Rattle.link_server.proofs.PourFacts.{best-rests, best-loses, best-brings}
