@@ -1,5 +1,6 @@
 -- On the link as it is opened, with no row held, the second level passes with the contract, and its need is free.
-use Rattle.std.proofs.Common.{◌≡◌, ℕ, ◌-◌, ◌≤◌, true, List, [], ◌∷◌, length, map, refl, sym, ap, ◌∙◌, subst, arith, lit≤}
+use Rattle.std.proofs.Common.{◌≡◌, ℕ, ◌-◌, ◌≤◌, true, List, [], ◌∷◌, length, map, Option, Some, refl, sym, ap, ◌∙◌, subst, arith, lit≤}
+use Rattle.std.specs.Prelude.{IfSome}
 use Rattle.net_units.specs.Numbers.{level_number}
 use Rattle.net_units.specs.Quotient.{ceil_quotient}
 use Rattle.net_units.specs.declared.numbers.ChanNo.{ChanNo}
@@ -11,9 +12,15 @@ use Rattle.traffic_contract.specs.declared.admission.Test.TheVariants.{Whole}
 use Rattle.link_steps.specs.declared.shape.LinkShape.{LinkShape}
 use Rattle.link_steps.specs.Admissible.{MayOffer}
 use Rattle.link_steps.specs.Buffer.{need_of, kept_units, free_units}
+use Rattle.link_steps.specs.Kept.{Kept, StandsFor, kept_terms}
 use Rattle.link_steps.specs.Levels.{level_of}
 use Rattle.link_steps.specs.Replies.{reach_of}
+use Rattle.link_steps.specs.Scan.{scan_of}
 use Rattle.link_steps.specs.Shape.{server_of, IsShapeOf}
+use Rattle.link_server.specs.Held.{held_by}
+use Rattle.link_server.specs.State.{kept_in}
+use Rattle.link_server.proofs.ChosenFacts.{terms-stand}
+use Rattle.link_server.proofs.tests.chosen.a_caller_chooses_the_level.Goals as goal
 
 abbrev voice : Terms
 voice = terms_of 5 10 20 2
@@ -47,3 +54,20 @@ may-first number shape chan level is second =
           (subst (λ bs. need_of bs voice 0 (level_number (level_of (reach_of bs 50 2))) ≤ shape.buffer - 0) (sym is.bounds_are)
           (subst (λ b. need_of bounds voice 0 (level_number (level_of (reach_of bounds 50 2))) ≤ b - 0) (sym is.buffer_is) need-free));
     }
+
+-- nothing is held
+none-held : (shape : LinkShape) (k : Kept) → StandsFor shape k [] → map kept_terms k.rows ≡ []
+unfolding scan_of
+none-held shape k stands = terms-stand shape k [] stands
+
+-- the number of a level that was made of it
+made : (found : Option Level) (level : Level) (n : ℕ) → IfSome found (λ l. level_number l ≡ n) → found ≡ Some level → level_number level ≡ n
+made found level n value is = subst (λ o. IfSome o (λ l. level_number l ≡ n)) is value
+
+pub reserve_at-requires-clause-may : goal.reserve_at-requires-clause-may
+reserve_at-requires-clause-may g c =
+    let second = made c.new-2.result c.in_ok-level.level 2 c.new-2.ensures.value c.in_ok-level.ensures.ok_part in
+    let alone = may-first c.in_ok-link.link.shape.link c.in_ok-link.link.shape c.in_ok-chan.chan c.in_ok-level.level c.in_ok-link.ensures.shape second in
+    let far : Level = level_of (reach_of c.in_ok-link.link.shape.bounds 50 (level_number c.in_ok-level.level)) in
+    subst (λ terms. MayOffer c.in_ok-link.link.shape (held_by c.in_ok-link.link) c.in_ok-chan.chan terms 50 0 c.in_ok-level.level far) (sym c.in_ok-contract.ensures.value)
+    (subst (λ held. MayOffer c.in_ok-link.link.shape held c.in_ok-chan.chan voice 50 0 c.in_ok-level.level far) (sym (none-held c.in_ok-link.link.shape (kept_in c.in_ok-link.link) c.in_ok-link.ensures.stands)) alone)
