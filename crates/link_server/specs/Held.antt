@@ -2,8 +2,7 @@
 -- phase, and the units that it keeps. They are the rows held after every history that the link stands for. A caller who
 -- goes by rules of its own, as a link that is split between groups does, may so reserve at a level that it chooses: the
 -- offer has to be one that a link may make that holds these rows.
-use Rattle.std.specs.Prelude.{◌≡◌, Some, List, map, slice_get, Option}
-use Rattle.std.proofs.Common.{ℕ}
+use Rattle.std.specs.Prelude.{◌≡◌, ℕ, Option, Some, List, map, slice_get}
 use Rattle.net_units.specs.Numbers.{level_number}
 use Rattle.net_units.specs.declared.numbers.Level.{Level}
 use Rattle.traffic_contract.specs.Admission.{best_level}

@@ -11,6 +11,7 @@ pub(crate) fn best_packet(bounds: &Bounds, place: u64, size: u32, clock: u64) ->
     requires size { 1 ≤ size }
     ensures { arrival_in result ≡ best_arrival bounds.now place size clock }
 {
+    // It is of no channel, and the rules look at none.
     let chan = ChanNo::new(0).unwrap();
     HeldPacket {
         place,

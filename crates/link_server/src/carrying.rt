@@ -1,4 +1,4 @@
-//! The asks by which a link carries packets: submit, release, arrive and tick.
+//! The asks by which a link carries packets: submit, release, arrive, pour and tick.
 ghost use Rattle.std.specs.Prelude.{◌≡◌, ◌^◌, ◌<◌, ◌≤◌, suc};
 ghost use Rattle.link_steps.specs.declared.asks.Ask.TheVariants.{Submit as AskSubmit, Release as AskRelease, Arrive as AskArrive, Tick as AskTick, Pour as AskPour};
 ghost use Rattle.link_steps.specs.Split.{whole};

@@ -2,7 +2,7 @@
 //!
 //! A link is a rate-controlled static-priority server (Zhang & Ferrari 1993). Its state keeps what the rules of
 //! `link_steps` need of its history, and answers each ask by them. Time counts in ticks, sizes and buffer in units.
-//! A reserve alone takes memory.
+//! Of the asks a reserve alone takes memory.
 #![tactic(auto)]
 
 mod best_effort;

@@ -183,8 +183,8 @@ impl Packets {
         }
     }
 
-    // Takes the best-effort packet that is planned for this tick, if there is one, where so many wait. It answers whether
-    // that found no place, and so was lost. It takes no memory.
+    // Takes the best-effort packet that is planned for this tick, if there is one, where so many wait already. It answers
+    // whether that one found no place, and so was lost. It takes no memory.
     pub(crate) fn take_best(&mut self, waiting: usize, shape: &LinkShape, clock: u64) -> bool
         requires ahead { IsAhead clock self.old.best }
         requires room { waiting < shape.now.best → length self.old.here.items < vec_capacity self.old.here }

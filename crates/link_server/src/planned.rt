@@ -1,4 +1,4 @@
-//! The source packets of a row that are planned and left.
+//! The packets that are planned and left: those of a row's source, or best-effort packets.
 ghost use Rattle.std.specs.Prelude.{◌≡◌, ◌+◌, ◌*◌, ◌^◌, ◌<◌, ◌≤◌, find, IfSome};
 
 // The first at `tick`, and then one each `gap` ticks, `count` in all, each of `size` units.
