@@ -3,6 +3,7 @@
 
 mod block;
 mod fault_plan;
+pub mod laws;
 pub mod lines;
 pub mod mem_sink;
 pub mod mem_source;
