@@ -51,11 +51,12 @@ offer-is shape held chan contract delay up_reach level reach same =
     let may = whole-offer-may (whole shape) held chan contract delay up_reach level reach same in
     record { most = may.level_most; reach_is = may.reach_is }
 
--- the level that is allotted lies from the offer to the reach
+-- the level that is allotted lies from the offer to the reach, and its delay is within the one asked for
 pub record IsFit (shape : LinkShape) (request : Request) (level reach : Level) : Type 0 where
   pub from : level_number level ≤ level_number (level_of (relaxed_to shape request level))
   pub upto : level_number (level_of (relaxed_to shape request level)) ≤ level_number reach
   pub is : level_number (level_of (relaxed_to shape request level)) ≡ relaxed_to shape request level
+  pub in_time : delay_at shape (relaxed_to shape request level) ≤ request.delay
 
 pub relaxed-fits : (shape : LinkShape) (request : Request) (level reach : Level) → OfferIs shape request.delay level reach → is_late shape request level ≡ false → IsFit shape request level reach
 relaxed-fits shape request level reach offer in_time =
@@ -64,6 +65,7 @@ relaxed-fits shape request level reach offer in_time =
     let from = within-least shape (bound_at shape.bounds (level_number level) + (request.delay - delay_at shape (level_number level))) (level_number level) offer.most (omega arith) in
     let upto = within-more shape (bound_at shape.bounds (level_number level) + (request.delay - delay_at shape (level_number level))) (max request.delay (bound_at shape.bounds (level_number level))) (relaxed_to shape request level)
     (omega (arith, by)) refl (omega (arith, from, one)) in
+    let fits = level_fits shape.bounds (bound_at shape.bounds (level_number level) + (request.delay - delay_at shape (level_number level))) (relaxed_to shape request level) refl (omega (arith, from, one)) in
     let few = within_most shape.bounds (bound_at shape.bounds (level_number level) + (request.delay - delay_at shape (level_number level))) shape.bounds_rise in
     let few_reached = within_most shape.bounds (max request.delay (bound_at shape.bounds (level_number level))) shape.bounds_rise in
     let is = level_of-number (relaxed_to shape request level) (omega (arith, from, one)) few in
@@ -72,6 +74,7 @@ relaxed-fits shape request level reach offer in_time =
       from = omega (arith, is, from);
       upto = omega (arith, is, upto, reached);
       is = is;
+      in_time = omega (arith, by, fits);
     }
 
 pub relax-granted : (t : ℕ) (chan : ChanNo) (contract : Terms) (level reach relaxed : Level) → level_number level ≤ level_number relaxed → level_number relaxed ≤ level_number reach

@@ -1,7 +1,8 @@
 -- Before the first line, what is ahead comes to what all bytes come to, and so it does behind each line. What was
 -- read is a draft all the while.
-use Rattle.std.proofs.Common.{◌≡◌, ◌≢◌, ℕ, false, List, [], ◌∷◌, ◌++◌, Option, Some, None, IfSome, Ok, Err, refl, ◌∙◌, ap, subst, sym, append_assoc}
+use Rattle.std.proofs.Common.{◌≡◌, ◌≢◌, ℕ, false, List, [], ◌∷◌, ◌++◌, length, Option, Some, None, IfSome, Ok, Err, refl, arith, ◌∙◌, ap, subst, sym, append_assoc}
 use Rattle.std.proofs.KnownBytes.{Consumes-nil, Consumes-trans}
+use Rattle.std.proofs.lemmas.List.{length-append}
 use Rattle.std.proofs.lemmas.List.Elements.{All-take}
 use Rattle.byte_ends.specs.Answers.{AnswersLine, AnswersReadFault}
 use Rattle.byte_ends.specs.WholeLines.{feed, whole_lines}
@@ -45,6 +46,7 @@ passes_line s t said after left left' item a judged added =
     record {
       bytes = bytes;
       from_source = a.moves.from_source;
+      counted = a.moves.counted;
       same = λ more.
           let rest = t.pending ++ more in
           let split : s.pending ++ (bytes ++ more) ≡ t.line ++ feed ∷ rest =
@@ -56,20 +58,21 @@ passes_line s t said after left left' item a judged added =
           ∙ ap (λ d. are_let_pass (whole_lines (allowance t) rest) d) (sym added);
     }
 
--- where the source failed, no whole line is ahead
+-- where the source failed, no whole line is ahead, and no byte too many was taken
 pub passes_fault : (s t : Cutting) (said : Said) (left left' : Option (List ℕ)) (faults faults' : ℕ) → AnswersReadFault s t left left' faults faults' → StopsPassing s said left left'
 passes_fault s t said left left' faults faults' a =
     let m = a.stays.moves in
     record {
       bytes = m.bytes;
       from_source = m.from_source;
+      few = omega (arith, m.counted, m.same_most, a.open_still.room);
       passing = ap (λ xs. are_let_pass (whole_lines (allowance s) xs) said) m.joined
           ∙ ap (λ ls. are_let_pass ls said) (whole_lines-none (allowance s) t.pending (All-take (λ b. b ≢ feed) (allowance s) t.pending a.open_still.no_line));
     }
 
 -- before the first line no byte was taken
 pub passes_at_start : (left : Option (List ℕ)) → PassesOn at_start at_start nothing_said nothing_said left left
-passes_at_start left = record { bytes = []; from_source = Consumes-nil left; same = λ more. refl }
+passes_at_start left = record { bytes = []; from_source = Consumes-nil left; counted = refl; same = λ more. refl }
 
 -- and so on behind one line more
 pub passes_next : (r s t : Cutting) (first said after : Said) (left left' left'' : Option (List ℕ)) → PassesOn r s first said left left' → PassesOn s t said after left' left''
@@ -77,21 +80,23 @@ pub passes_next : (r s t : Cutting) (first said after : Said) (left left' left''
 passes_next r s t first said after left left' left'' p q = record {
   bytes = p.bytes ++ q.bytes;
   from_source = Consumes-trans left left' left'' p.bytes q.bytes p.from_source q.from_source;
+  counted = omega (arith, p.counted, q.counted, length-append p.bytes q.bytes);
   same = λ more. ap (λ xs. are_let_pass (whole_lines (allowance r) (r.pending ++ xs)) first) (append_assoc p.bytes q.bytes more) ∙ p.same (q.bytes ++ more) ∙ q.same more;
 }
 
--- what was taken up to a fault holds no whole line that is refused
-pub passes_to_fault : (s : Cutting) (said : Said) (left left' left'' : Option (List ℕ)) → PassesOn at_start s nothing_said said left left' → StopsPassing s said left' left''
+-- what was taken up to a fault is no more than may be read, and holds no whole line that is refused
+pub passes_to_fault : (s : Cutting) (said : Said) (left left' left'' : Option (List ℕ)) → s.most ≡ MOST_BYTES → PassesOn at_start s nothing_said said left left' → StopsPassing s said left' left''
     → LetsPass MOST_BYTES left left''
-passes_to_fault s said left left' left'' p q = record {
+passes_to_fault s said left left' left'' most p q = record {
   bytes = p.bytes ++ q.bytes;
   from_source = Consumes-trans left left' left'' p.bytes q.bytes p.from_source q.from_source;
+  few = omega (arith, most, p.counted, q.few, length-append p.bytes q.bytes);
   passing = p.same q.bytes ∙ q.passing;
 }
 
 -- the same of a next line that a fault kept from being read
-pub reads_to_fault : (e : ReadRefusal) (s t : Cutting) (said after : Said) (left left' left'' : Option (List ℕ)) (faults faults' : ℕ) → e ≡ ReadFault
+pub reads_to_fault : (e : ReadRefusal) (s t : Cutting) (said after : Said) (left left' left'' : Option (List ℕ)) (faults faults' : ℕ) → e ≡ ReadFault → s.most ≡ MOST_BYTES
     → PassesOn at_start s nothing_said said left left' → ReadsLine (Err e) s t said after left' left'' faults faults' → LetsPass MOST_BYTES left left''
-reads_to_fault e s t said after left left' left'' faults faults' is p reads =
+reads_to_fault e s t said after left left' left'' faults faults' is most p reads =
     let fails = rw is at reads in
-    passes_to_fault s said left left' left'' p fails.stops
+    passes_to_fault s said left left' left'' most p fails.stops

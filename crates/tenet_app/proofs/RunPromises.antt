@@ -1,5 +1,5 @@
--- In every run each accepted request whose source keeps its contract is carried within the delay that it was told: its
--- channel has one row, with its contract and at its level, and the link serves the source of that row promptly.
+-- In every run each accepted request is told a delay within the one that it asked for, and while its source keeps its
+-- contract it is carried within the delay told: its channel has one row, with its contract and at its level, and the link serves the source of that row promptly.
 use Rattle.std.proofs.Common.{◌≡◌, ℕ, zero, suc, ◌+◌, true, List, [], ◌∷◌, map, refl, sym, ap, ◌∙◌, subst, arith}
 use Rattle.std.specs.Prelude.{filter}
 use Rattle.net_units.specs.LevelBounds.{bound_at}
@@ -22,7 +22,7 @@ use Rattle.link_steps.proofs.SourceHistory.{source-guarantee}
 use Rattle.tenet_app.specs.Channels.{planned_in, offered_in}
 use Rattle.tenet_app.specs.Establishment.{Settled, IsAccepted}
 use Rattle.tenet_app.specs.Plans.{Said, requests_of, rounds_of, tail_of, IsScript}
-use Rattle.tenet_app.specs.Promises.{is_packet_in, arrival_tick, taken_in, PromiseIsKept, PromisesAreKept, KeepsPromises}
+use Rattle.tenet_app.specs.Promises.{is_packet_in, arrival_tick, taken_in, IsCarriedWithin, PromiseIsKept, PromisesAreKept, KeepsPromises}
 use Rattle.tenet_app.specs.Run.{no_steps, after_script, after_ticks, run_of}
 use Rattle.tenet_app.specs.declared.scenario.plan.Request.{Request}
 use Rattle.tenet_app.proofs.ChannelRow.{is_row_in, IsOnly, IsHeld, IsGone, IsOf}
@@ -43,7 +43,7 @@ only-fact P n row rows gone (IsHeld held none) first second = (subst (Each P) he
 only-fact P n row rows gone (IsGone none was) first second = (subst (Each P) was (Each-filter P (is_row_in n) gone second)).0
 
 -- the packets of a channel whose source keeps its contract are taken as they are offered, and arrive within its bound
-row-promise : (shape : LinkShape) (h : List Entry) (n : ℕ) (request : Request) (level bound : ℕ) → IsLegal (whole shape) h → RowIsKept shape h n request (IsAccepted level bound) → PromiseIsKept shape n request (IsAccepted level bound) h
+row-promise : (shape : LinkShape) (h : List Entry) (n : ℕ) (request : Request) (level bound : ℕ) → IsLegal (whole shape) h → RowIsKept shape h n request (IsAccepted level bound) → Keeps request.contract (offered_in n h) → IsCarriedWithin shape n bound h
 row-promise shape h n request level bound legal kept keeps =
     let has = kept.0 in
     let offered : offered_by (clock_of h) has.row ≡ offered_in n h = ap (λ plan. map tick_of (made_by (clock_of h) plan)) has.is.planned in
@@ -71,7 +71,7 @@ row-promise shape h n request level bound legal kept keeps =
     record { taken = taken; in_time = in_time }
 
 promise-kept : (shape : LinkShape) (h : List Entry) (n : ℕ) (request : Request) (verdict : Settled) → IsLegal (whole shape) h → RowIsKept shape h n request verdict → PromiseIsKept shape n request verdict h
-promise-kept shape h n request (IsAccepted level bound) legal kept = row-promise shape h n request level bound legal kept
+promise-kept shape h n request (IsAccepted level bound) legal kept = (kept.2, row-promise shape h n request level bound legal kept)
 promise-kept shape h n request _ legal kept = tt
 
 promises-kept : (shape : LinkShape) (h : List Entry) (n : ℕ) (requests : List Request) (verdicts : List Settled) → IsLegal (whole shape) h → RowsAreKept shape h n requests verdicts → PromisesAreKept shape n requests verdicts h

@@ -92,9 +92,9 @@ relaxed-row n shape t scan chan request level reach relaxed clock same below no_
 
 -- ---- the rows of all accepted requests
 
--- the channel of an accepted request has a row, with its contract and level
+-- the channel of an accepted request has a row, with its contract and level, whose delay is within the one asked for
 abbrev pub RowIsKept : LinkShape → List Entry → ℕ → Request → Settled → Type 0
-RowIsKept shape h number request (IsAccepted level bound) = HasRow number request.contract level (planned_in number h) (scan_of shape h) × (bound ≡ delay_at shape level)
+RowIsKept shape h number request (IsAccepted level bound) = HasRow number request.contract level (planned_in number h) (scan_of shape h) × (bound ≡ delay_at shape level) × (bound ≤ request.delay)
 RowIsKept shape h number request _ = Unit {0}
 
 abbrev pub RowsAreKept : LinkShape → List Entry → ℕ → List Request → List Settled → Type 0
@@ -109,7 +109,7 @@ unfolding planned_in scan_of reply_to
 has-asked n contract level shape h ask spares has = has-after n contract level (planned_in n h) shape (clock_of h) (scan_of shape h) ask (reply_to (whole shape) h ask) spares refl has
 
 row-asked : (shape : LinkShape) (h : List Entry) (ask : Ask) (n : ℕ) (request : Request) (verdict : Settled) → Spares n ask → RowIsKept shape h n request verdict → RowIsKept shape (asked shape h ask) n request verdict
-row-asked shape h ask n request (IsAccepted level bound) spares kept = (has-asked n request.contract level shape h ask spares kept.0, kept.1)
+row-asked shape h ask n request (IsAccepted level bound) spares kept = (has-asked n request.contract level shape h ask spares kept.0, kept.1, kept.2)
 row-asked shape h ask n request _ spares kept = tt
 
 pub rows-asked : (shape : LinkShape) (h : List Entry) (ask : Ask) (n : ℕ) (requests : List Request) (verdicts : List Settled) → ((i : ℕ) → i < n + length verdicts → Spares i ask) → RowsAreKept shape h n requests verdicts → RowsAreKept shape (asked shape h ask) n requests verdicts
@@ -261,7 +261,7 @@ module _ (shape : LinkShape) (n : ℕ) (requests : List Request) (verdicts : Lis
         | inr in_time ↦ (let offer = offer-is shape (map row_terms (scan_of shape h).rows) (channel_at n) request.contract request.delay 0 level reach offered in
             let fit = relaxed-fits shape request level reach offer in_time in
             let has = relaxed-has level reach (level_of (relaxed_to shape request level)) offered fit.from fit.upto stands in
-            rw in_time (subst (λ l. HasRow n request.contract l (planned_in n (asked shape (reserved shape h n request) (Relax (channel_at n) (level_of (relaxed_to shape request level)) 0))) (scan_of shape (asked shape (reserved shape h n request) (Relax (channel_at n) (level_of (relaxed_to shape request level)) 0)))) fit.is has, refl))
+            rw in_time (subst (λ l. HasRow n request.contract l (planned_in n (asked shape (reserved shape h n request) (Relax (channel_at n) (level_of (relaxed_to shape request level)) 0))) (scan_of shape (asked shape (reserved shape h n request) (Relax (channel_at n) (level_of (relaxed_to shape request level)) 0)))) fit.is has, refl, fit.in_time))
       ]
 
   -- with one more verdict

@@ -67,7 +67,7 @@ ComesTo left P = IfSome left (λ bytes. P (reading MOST_BYTES bytes))
 -- after every step the rows that the link holds pass the admission test; each packet leaves the link within the bound
 -- of its level of its eligible tick; a source that keeps its contract loses none, and each of its packets leaves within
 -- that bound of its arrival; and so each request that was accepted is served as its `accept` line tells, while its
--- source keeps its contract
+-- source keeps its contract, and the delay that the line tells is within the one asked for
 pub record PlaysDone (before after : Ends) : Type 0 where
   pub said : Said
   pub plan : IsPlan said
@@ -94,7 +94,7 @@ pub record PlaysTooLong (before after : Ends) : Type 0 where
   pub over : ComesTo before.left (λ r. r ≡ IsOver)
   pub written : Keeps before.written after.written
 
--- the source failed before a whole line that is refused was taken from it, and nothing was written
+-- the source failed before a whole line that is refused or a byte too many was taken from it, and nothing was written
 pub record PlaysReadFault (before after : Ends) : Type 0 where
   pub passing : LetsPass MOST_BYTES before.left after.left
   pub rises : Rises before.read_faults after.read_faults

@@ -1,9 +1,10 @@
 -- What an accepted request is promised. Its `accept` line tells an end-to-end bound: the bound of its level over the
--- link, and the propagation. As long as its source keeps the contract that the request asked for, counted over all
--- packets that it has offered by the clock, two things hold. The link has taken each of these packets in the tick in
--- which it was offered, so none was dropped. And each that has left the link is at the destination no later than the
--- bound after it arrived at the link. This holds whatever the other sources do, and for a channel that was closed as
--- well. There is one verdict for each request, and the request at place i has the channel of number i.
+-- link, and the propagation. It is at most the delay that the request asked for. As long as its source keeps the
+-- contract that the request asked for, counted over all packets that it has offered by the clock, two things hold. The
+-- link has taken each of these packets in the tick in which it was offered, so none was dropped. And each that has left
+-- the link is at the destination no later than the bound after it arrived at the link. This holds whatever the other
+-- sources do, and for a channel that was closed as well. There is one verdict for each request, and the request at place
+-- i has the channel of number i.
 use Rattle.std.specs.Prelude.{◌≡◌, ℕ, suc, ◌≤◌, Bool, List, [], ◌∷◌, map, filter}
 use Rattle.traffic_contract.specs.Keeping.{Keeps}
 use Rattle.link_steps.specs.Lists.{Each}
@@ -39,7 +40,7 @@ pub record IsCarriedWithin (shape : LinkShape) (number bound : ℕ) (h : List En
 
 -- what the source of an accepted request gets after a history
 abbrev pub PromiseIsKept : LinkShape → ℕ → Request → Settled → List Entry → Type 0
-PromiseIsKept shape number request (IsAccepted level bound) h = Keeps request.contract (offered_in number h) → IsCarriedWithin shape number bound h
+PromiseIsKept shape number request (IsAccepted level bound) h = (bound ≤ request.delay) × (Keeps request.contract (offered_in number h) → IsCarriedWithin shape number bound h)
 PromiseIsKept shape number request _ h = Unit {0}
 
 -- the requests from this number on, and what they came to

@@ -1,6 +1,6 @@
 -- How a scenario is read line by line: after each line, what is to come of the bytes ahead, after what was read so
 -- far, comes to the same. So the answer is a function of all bytes, where the source tells them.
-use Rattle.std.specs.Prelude.{◌≡◌, ℕ, ◌+◌, ◌++◌, Bool, true, false, List, Option, Some, None, IfSome, Result, Ok, Err, ⊤}
+use Rattle.std.specs.Prelude.{◌≡◌, ℕ, ◌+◌, ◌≤◌, ◌++◌, length, Bool, true, false, List, Option, Some, None, IfSome, Result, Ok, Err, ⊤}
 use Rattle.std.specs.Io.KnownBytes.{Consumes, IsAtEnd}
 use Rattle.byte_ends.specs.Cutting.{Cutting, IsCutting, IsOf, allowance}
 use Rattle.byte_ends.specs.WholeLines.{all_given, outlook, whole_lines}
@@ -38,15 +38,17 @@ pub record IsAdded (said after : Said) : Type 0 where
 pub record PassesOn (s t : Cutting) (said after : Said) (left left' : Option (List ℕ)) : Type 0 where
   pub bytes : List ℕ
   pub from_source : Consumes left left' bytes
+  pub counted : t.taken ≡ s.taken + length bytes
   pub same : (more : List ℕ) → are_let_pass (whole_lines (allowance s) (s.pending ++ (bytes ++ more))) said ≡ are_let_pass (whole_lines (allowance t) (t.pending ++ more)) after
 
--- bytes were taken, and no whole line that is refused is ahead in them
+-- bytes were taken, no more in all than may be, and no whole line that is refused is ahead in them
 pub record StopsPassing (s : Cutting) (said : Said) (left left' : Option (List ℕ)) : Type 0 where
   pub bytes : List ℕ
   pub from_source : Consumes left left' bytes
+  pub few : s.taken + length bytes ≤ s.most
   pub passing : are_let_pass (whole_lines (allowance s) (s.pending ++ bytes)) said ≡ true
 
--- the source failed where no whole line that is refused had been taken from it
+-- the source failed where neither a whole line that is refused nor a byte too many had been taken from it
 pub record Fails (s : Cutting) (said : Said) (left left' : Option (List ℕ)) (faults faults' : ℕ) : Type 0 where
   pub rises : Rises faults faults'
   pub stops : StopsPassing s said left left'

@@ -2,7 +2,7 @@
 -- said; the first that is refused gives the verdict. A line ends with a line feed, and only the lines that are
 -- whole within the first `most` bytes are judged. Where none is refused, more bytes than that are too many; a rest
 -- behind the last line feed is a line that was cut; and without a `tail` line the input ended too early.
-use Rattle.std.specs.Prelude.{◌≡◌, ℕ, suc, Bool, true, false, if◌then◌else◌, Option, Result, Ok, Err, List, [], ◌∷◌}
+use Rattle.std.specs.Prelude.{◌≡◌, ℕ, ◌≤◌, suc, length, Bool, true, false, if◌then◌else◌, Option, Result, Ok, Err, List, [], ◌∷◌}
 use Rattle.std.specs.Io.KnownBytes.{Consumes}
 use Rattle.byte_ends.specs.WholeLines.{Ending, all_given, cut_short, too_long, Outlook, outlook, whole_lines}
 use Rattle.tenet_app.specs.Plans.{Said, nothing_said, with_item, is_complete}
@@ -52,8 +52,10 @@ abbrev pub are_let_pass : List (List ℕ) → Said → Bool
 are_let_pass [] said = true
 are_let_pass (line ∷ lines) said = passes_and (judge said line) said (λ after. are_let_pass lines after)
 
--- the bytes taken from a source, `left` being what it told before and after, hold no whole line that is refused
+-- the bytes taken from a source, `left` being what it told before and after, are no more than may be read, and hold no
+-- whole line that is refused
 pub record LetsPass (most : ℕ) (left left' : Option (List ℕ)) : Type 0 where
   pub bytes : List ℕ
   pub from_source : Consumes left left' bytes
+  pub few : length bytes ≤ most
   pub passing : are_let_pass (whole_lines most bytes) nothing_said ≡ true

@@ -43,8 +43,9 @@ pub fn every_source_that_keeps_its_contract_is_served()
     ensures { (shape : LinkShape) (said : Said) → IsScript said.script → SourceGuarantee shape (run_of shape said).history }
 {}
 
-/// In every such run each request that is accepted with a delay, and whose source keeps its contract, has each packet
-/// that it offers taken at once, and none that is at the destination later than that delay after its arrival.
+/// In every such run each request that is accepted is told a delay of at most the one that it asked for. Where its source
+/// keeps its contract, each packet that it offers is taken at once, and none is at the destination later than the delay
+/// told after its arrival.
 pub fn accepted_delays_are_kept()
     ensures { (shape : LinkShape) (said : Said) → IsScript said.script → KeepsPromises shape said }
 {}

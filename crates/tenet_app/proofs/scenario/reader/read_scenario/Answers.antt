@@ -43,4 +43,4 @@ returns-in_err-read_line-clause-passing g c =
     λ fault.
     let left = g.S.Source.left in
     reads_to_fault c.in_err-read_line.field-0.0 c.loop-draft.lines c.read_line.new.lines c.loop-draft.draft c.read_line.new.draft
-    (left c.args.source.now) (left c.loop-draft.source) (left c.read_line.new.source) _ _ (search rules) c.loop-draft.invariant.passed c.in_err-read_line.ensures.reads
+    (left c.args.source.now) (left c.loop-draft.source) (left c.read_line.new.source) _ _ (search rules) c.loop-draft.invariant.most c.loop-draft.invariant.passed c.in_err-read_line.ensures.reads
