@@ -34,6 +34,7 @@ pub mod OfferFacts
 pub mod RunRows
 pub mod RunPromises
 pub mod WorkedRuns
+pub mod WorkedLimits
 pub mod ReportFacts
 pub mod RunFacts
 pub mod EstablishmentFacts

@@ -20,6 +20,7 @@ use std::sync::Wait;
 use std::test::Fail;
 use std::thread::Threads;
 
+mod many;
 mod runs;
 mod voices;
 
@@ -188,7 +189,7 @@ fn ends_with<R: Threads + Wait + Abort + Sync>(
     let failing_reads = Vec::from_slice(alloc, &[ends.failing_read])?;
     let failing_writes = Vec::from_slice(alloc, &[ends.failing_write])?;
     let mut source = MemSource::new(input, ends.block, failing_reads);
-    let mut sink = MemSink::new(alloc, 20_000, ends.piece, failing_writes)?;
+    let mut sink = MemSink::new(alloc, 200_000, ends.piece, failing_writes)?;
     let ended = top(rt, alloc, said.as_slice(), &mut source, &mut sink, &NoGate);
     assert_eq!(rt; ended.status, status);
     assert_eq!(rt; sink.bytes(), text.as_bytes());

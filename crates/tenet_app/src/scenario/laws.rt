@@ -3,6 +3,7 @@ ghost use Rattle.std.specs.Prelude.{◌≡◌, ◌≤◌, ℕ, List, length};
 ghost use Rattle.tenet_app.specs.PlanText.{plan_text};
 ghost use Rattle.tenet_app.specs.Plans.{Said, IsPlan};
 ghost use Rattle.tenet_app.specs.Reading.{IsRead, reading};
+ghost use Rattle.tenet_app.specs.declared.scenario.reader.TheConstants.{MOST_BYTES};
 
 /// Only a plan's text is read: bytes that are read as a scenario are the text of the plan that they are read as,
 /// and are no more than they may be.
@@ -21,4 +22,9 @@ pub fn a_plans_text_is_read_as_that_plan()
 pub fn a_text_is_of_one_plan()
     ensures { (said other : Said) (plan : IsPlan said) (its : IsPlan other)
         → plan_text plan.link said ≡ plan_text its.link other → said ≡ other }
+{}
+
+/// A scenario may have 4,194,304 bytes.
+pub fn a_scenario_has_at_most_4194304_bytes()
+    ensures { MOST_BYTES ≡ 4194304 }
 {}
