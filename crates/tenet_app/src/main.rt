@@ -1,7 +1,7 @@
 //! The program `tenet`: from the bytes of a scenario to the bytes of a report.
 #![tactic(auto)]
 
-ghost use Rattle.std.specs.Prelude.{◌≡◌, ◌↔◌};
+ghost use Rattle.std.specs.Prelude.{◌≡◌, ◌↔◌, drop};
 ghost use Rattle.std.specs.IoError.{error_kind};
 ghost use Rattle.std.specs.declared.io.ErrorKind.TheVariants.{OutOfMemory};
 ghost use Rattle.tenet_app.specs.declared.status.Status.TheVariants.{Memory, Words};
@@ -31,15 +31,14 @@ use top::top;
 
 // Plays over standard input and output, and exits with the status that `top` answers. It prints nothing itself.
 fn main(rt: HostRuntime) -> ExitCode {
-    let words: io::Result<Vec<String>> = read_words(&rt);
-    let status = match words {
+    let status = match read_words(&rt) {
         Ok(words) => {
             let mut source = StdSource::new(rt.reader());
             let mut sink = StdSink::new(io::writer(&rt));
             top(
                 &rt,
                 rt.alloc(),
-                words.as_slice(),
+                words_behind_first(words.as_slice()),
                 &mut source,
                 &mut sink,
                 &NoGate,
@@ -51,13 +50,19 @@ fn main(rt: HostRuntime) -> ExitCode {
     ExitCode::from(status.code())
 }
 
-// The words after the program's name.
+// All words, the program's name first.
 fn read_words(rt: &(impl Env + AllocGlobal)) -> io::Result<Vec<String>> {
-    let mut words = Vec::new(rt.alloc());
-    for word in env::args(rt)?.skip(1) {
-        words.push(word)?;
+    Ok(env::args(rt)?.collect(rt.alloc())?)
+}
+
+// The words behind the first.
+fn words_behind_first(words: &[String]) -> &[String]
+    ensures { result.now ≡ drop 1 words.now }
+{
+    match words {
+        [] => &[],
+        [_, behind @ ..] => behind,
     }
-    Ok(words)
 }
 
 // Words that can't be read aren't accepted, unless only memory for them lacks.
