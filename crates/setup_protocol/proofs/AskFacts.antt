@@ -40,7 +40,7 @@ bound-most bs level are =
     ]
 
 -- each hop of a route has bounds
-HaveBounds-at : (hops : List Hop) (i : ℕ) (hop : Hop) → HaveBounds hops → slice_get hops i ≡ Some hop → are_bounds hop.bounds ≡ true
+pub HaveBounds-at : (hops : List Hop) (i : ℕ) (hop : Hop) → HaveBounds hops → slice_get hops i ≡ Some hop → are_bounds hop.bounds ≡ true
 unfolding HaveBounds
 HaveBounds-at [] i hop bounds found = absurd (let clash : None ≡ Some hop = found in cc)
 HaveBounds-at (first ∷ hops) zero hop bounds found = (let same : first ≡ hop = cc in subst (λ h. are_bounds h.bounds ≡ true) same bounds.0)

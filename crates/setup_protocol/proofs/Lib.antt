@@ -2,3 +2,5 @@ mod AskFacts
 mod LawFacts
 mod ProgressFacts
 mod RouteFacts
+mod WayBackFacts
+mod FitFacts

@@ -6,3 +6,4 @@ pub mod Standing
 pub mod State
 pub mod StateProp
 pub mod Teardown
+pub mod WayBack

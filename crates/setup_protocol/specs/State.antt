@@ -1,17 +1,18 @@
 -- How far a setup has come is kept in a state beside the offers: which hops are still to be asked, and for what. A reply
 -- to what is asked takes it on by one hop.
-use Rattle.std.specs.Prelude.{◌≡◌, ℕ, suc, ◌-◌, ◌≤◌, nat_lt, if◌then◌else◌, List, [], ◌∷◌, ◌++◌, length}
+use Rattle.std.specs.Prelude.{◌≡◌, ℕ, suc, ◌-◌, ◌≤◌, true, nat_lt, if◌then◌else◌, List, [], ◌∷◌, ◌++◌, length}
 use Rattle.net_units.specs.Allotted.{levels_of}
 use Rattle.net_units.specs.Numbers.{level_number}
 use Rattle.hop_reservation.specs.Offers.{next_bound, AreLevels}
 use Rattle.hop_reservation.specs.declared.route.Hop.{Hop}
 use Rattle.link_steps.specs.declared.replies.Reply.{Reply}
 use Rattle.link_steps.specs.declared.replies.Reply.TheVariants.{Offer}
-use Rattle.setup_protocol.specs.Setup.{Outcome, Accepts, Denies, Progress, Reserving, Undoing, Relaxing, Settled, undoing, relaxing, at_destination, refusal_in}
+use Rattle.setup_protocol.specs.Setup.{Outcome, Accepts, Denies, Progress, Reserving, Undoing, Relaxing, Settled, undoing, relaxing, at_destination, refusal_in, is_reserve_refusal}
 use Rattle.setup_protocol.specs.declared.request.Request.{Request}
 use Rattle.setup_protocol.specs.declared.setup.State.{State}
 use Rattle.setup_protocol.specs.declared.setup.State.TheVariants as state
-use Rattle.setup_protocol.specs.declared.verdict.Deny.TheVariants.{Hop as AtHop}
+use Rattle.setup_protocol.specs.declared.verdict.Deny.{Deny}
+use Rattle.setup_protocol.specs.declared.verdict.Deny.TheVariants.{Hop as AtHop, End}
 use Rattle.setup_protocol.specs.declared.verdict.Verdict.{Verdict}
 use Rattle.setup_protocol.specs.declared.verdict.Verdict.TheVariants as verdict
 
@@ -37,12 +38,22 @@ pub record HaveLevels (route : List Hop) (levels : List ℕ) : Type 0 where
   pub are_levels : AreLevels route levels
   pub whole : length levels ≡ length route
 
+-- a denial by a hop names a place of the route, and tells a refusal of a reserve
+abbrev pub IsDenyOf : List Hop → Deny → Type 0
+IsDenyOf route (AtHop hop refusal) = IsPlace route hop × (is_reserve_refusal refusal ≡ true)
+IsDenyOf route (End denial) = Unit {0}
+
+-- an acceptance gives each hop one of its levels
+abbrev pub IsVerdictOf : List Hop → Verdict → Type 0
+IsVerdictOf route (verdict.Accepted levels delay) = HaveLevels route (levels_of levels)
+IsVerdictOf route (verdict.Denied deny) = IsDenyOf route deny
+
 -- a state that a setup over this route, with so many offers, can be in
 abbrev pub IsStateOf : List Hop → List ℕ → State → Type 0
 IsStateOf route offers state.Reserving = suc (length offers) ≤ length route
-IsStateOf route offers (state.Undoing left deny) = IsPlace route left
+IsStateOf route offers (state.Undoing left deny) = IsPlace route left × IsDenyOf route deny
 IsStateOf route offers (state.Relaxing left levels) = IsPlace route left × HaveLevels route (levels_of levels)
-IsStateOf route offers (state.Settled verdict) = Unit {0}
+IsStateOf route offers (state.Settled verdict) = IsVerdictOf route verdict
 
 -- ---- one reply more
 

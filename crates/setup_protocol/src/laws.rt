@@ -1,5 +1,6 @@
 //! Laws of a setup, each as the contract of a function that does nothing.
 ghost use Rattle.setup_protocol.specs.Laws.{AcceptedKeepTheirBounds, AcceptedWhereAllPass, EveryAskFits, EveryOfferIsAskedBack};
+ghost use Rattle.setup_protocol.specs.WayBack.{EveryHopIsAskedBack, EveryRelaxIsFit, EveryReleaseGoesToItsHop};
 
 /// A settled request is accepted exactly where every hop of its route has offered and the destination denies nothing.
 pub fn accepted_where_all_hops_and_the_destination_pass()
@@ -22,4 +23,22 @@ pub fn every_ask_fits()
 /// that has offered is asked once more.
 pub fn every_offer_is_asked_back()
     ensures { EveryOfferIsAskedBack }
+{}
+
+/// Before a request settles, each hop that has offered is asked once more, at its link: to give its row back where the
+/// request is denied, and to relax to the level that it is allotted where it is accepted.
+pub fn every_hop_is_asked_back()
+    ensures { EveryHopIsAskedBack }
+{}
+
+/// Where each offer tells the reach that a link tells, no relax of a setup is unfit: its level lies from the offered one to
+/// the reach told, and its bound before is at most the one that the reserve of that hop carried.
+pub fn every_relax_is_fit()
+    ensures { EveryRelaxIsFit }
+{}
+
+/// Each ask of a teardown releases the channel at a hop of its route, that of the next reply, and meets the conditions on an
+/// ask at every link.
+pub fn every_release_goes_to_its_hop()
+    ensures { EveryReleaseGoesToItsHop }
 {}

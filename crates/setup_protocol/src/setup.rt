@@ -1,5 +1,5 @@
 //! The setup of a channel.
-ghost use Rattle.std.specs.Prelude.{◌≡◌, ◌↔◌, ℕ, ◌+◌, ◌-◌, ◌<◌, ◌≤◌, ◌&&◌, ◌++◌, ◌∷◌, [], List, None, Some, IsTrue, IsOk, IsSome, IsNone, IfErr, OnErr, OnOk, nat_le, length, option_map};
+ghost use Rattle.std.specs.Prelude.{◌≡◌, ◌↔◌, ℕ, ◌+◌, ◌-◌, ◌<◌, ◌≤◌, ◌&&◌, ◌++◌, ◌∷◌, [], List, None, Some, IsTrue, IsOk, IsSome, IsNone, IfSome, IfErr, OnErr, OnOk, nat_le, length, option_map};
 ghost use Rattle.std.specs.List.{slice_get};
 ghost use Rattle.net_units.specs.Allotted.{levels_of};
 ghost use Rattle.net_units.specs.Numbers.{level_number};
@@ -8,7 +8,7 @@ ghost use Rattle.hop_reservation.specs.declared.route.Hop.{Hop};
 ghost use Rattle.link_steps.specs.declared.replies.Reply.{Reply as Replied};
 ghost use Rattle.setup_protocol.specs.Setup.{answers_reserve, asked, asked_of, at_destination, bound_given, is_expected, is_reserve_refusal, link_in, next_ask, progress_of, relax_of, relaxing, reserve_of, settled_in, undoing, verdict_of};
 ghost use Rattle.link_steps.specs.declared.asks.Ask.TheVariants.{Deny as GiveBack};
-ghost use Rattle.setup_protocol.specs.State.{advance, after_reserve, outcome_of, progress_at, with_offers, HaveLevels, IsPlace, IsStateOf};
+ghost use Rattle.setup_protocol.specs.State.{advance, after_reserve, outcome_of, progress_at, with_offers, HaveLevels, IsDenyOf, IsPlace, IsStateOf, IsVerdictOf};
 ghost use Rattle.setup_protocol.specs.StateProp.{IsStateOf-prop};
 
 use crate::request::Request;
@@ -91,9 +91,12 @@ impl Setup {
         }
     }
 
-    /// What the request has come to, Some exactly where it is settled.
+    /// What the request has come to, Some exactly where it is settled. A denial by a hop names a place of the route, and tells
+    /// that no level admits the contract, that the buffer isn't free, or that its packets are too large, and no other
+    /// refusal; an acceptance gives each hop one of its levels (`fits`).
     pub fn verdict(&self) -> Option<Verdict>
         ensures value { option_map outcome_of result ≡ settled_in (progress_in self.now) }
+        ensures fits { IfSome result (λ verdict. IsVerdictOf self.now.request.route verdict) }
         ensures verdict { (replies : List Replied) → Stands self.now replies → option_map outcome_of result ≡ verdict_of self.now.request replies }
     {
         match self.state {
@@ -275,7 +278,7 @@ fn test(request: &Request, it: &Itinerary) -> State
 // So many hops are left to give their rows back.
 fn undo(left: u8, deny: Deny) -> State
     ensures progress { (offers : List ℕ) (reach : ℕ) → progress_at offers reach result ≡ undoing left deny }
-    ensures range { (route : List Hop) (offers : List ℕ) → left ≤ length route → IsStateOf route offers result }
+    ensures range { (route : List Hop) (offers : List ℕ) → left ≤ length route → IsDenyOf route deny → IsStateOf route offers result }
 {
     if left == 0 {
         State::Settled(Verdict::Denied(deny))

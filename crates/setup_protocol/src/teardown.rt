@@ -2,6 +2,9 @@
 ghost use Rattle.std.specs.Prelude.{◌≡◌, ◌↔◌, ◌+◌, ◌<◌, ◌≤◌, ◌++◌, ◌∷◌, [], List, None, Some, IsTrue, IsOk, IsNone, IfErr, OnOk, OnErr, length, option_map};
 ghost use Rattle.link_steps.specs.declared.replies.Reply.{Reply as Replied};
 ghost use Rattle.hop_reservation.specs.Routes.{IsRoute};
+ghost use Rattle.link_steps.specs.declared.asks.Ask.TheVariants.{Release as Closes};
+ghost use Rattle.std.specs.List.{slice_get};
+ghost use Rattle.setup_protocol.specs.Setup.{asked_of};
 ghost use Rattle.setup_protocol.specs.Teardown.{is_closing, next_release};
 
 use hop_reservation::Route;
@@ -39,9 +42,11 @@ impl Teardown {
         }
     }
 
-    /// The next ask, and the link that it goes to; None exactly where all hops have replied.
+    /// The next ask, a release of the next hop of the route, and the link that it goes to; None exactly where all hops have
+    /// replied.
     pub fn next_ask(&self) -> Option<(LinkNo, Ask)>
         ensures next { (replies : List Replied) → Releases self.now replies → result ≡ next_release self.now.chan self.now.route replies }
+        ensures asked { result ≡ asked_of (slice_get self.now.route self.now.made) (λ hop. Closes self.now.chan self.now.count) }
         ensures done { IsNone result ↔ (self.now.made ≡ length self.now.route) }
         ensures valid { IsRoute self.now.route }
     {

@@ -11,5 +11,8 @@ relax_on-requires-clause-levels c =
     let levels : HaveLevels c.args.it.now.route (levels_of c.allot.new.out) = record { are_levels = have.0; whole = omega (arith, have.1, c.requires.whole, ap length c.requires.same) } in
     subst (λ route. HaveLevels route (levels_of c.allot.new.out)) c.requires.same levels
 
+pub returns-in-Err-clause-range : goal.returns-in-Err-clause-range
+returns-in-Err-clause-range c = c.undo.ensures.range c.args.request.now.route c.args.it.now.levels (omega (arith, c.offers-in-Err.ensures.value, c.requires.whole)) tt
+
 pub returns-in-Ok-clause-range : goal.returns-in-Ok-clause-range
 returns-in-Ok-clause-range c = c.relax_on.ensures.range c.args.it.now.levels
