@@ -44,3 +44,5 @@ pub mod SlotsHeld
 pub mod TogetherHeld
 pub mod TicksBounded
 pub mod JournalFacts
+mod BufferFacts
+mod OrderFacts

@@ -44,7 +44,7 @@ Among-last x y (z ∷ zs) (inl same) = inr (inl same)
 Among-last x y (z ∷ zs) (inr among) = ⊎_elim (λ (last : x ≡ y). inl last) (λ (front : Among x zs). inr (inr front)) (Among-last x y zs among)
 
 -- an element of a list turned round is one of the list
-Among-reverse : {X : Type 0} (x : X) (xs : List X) → Among x (reverse xs) → Among x xs
+pub Among-reverse : {X : Type 0} (x : X) (xs : List X) → Among x (reverse xs) → Among x xs
 Among-reverse x [] among = absurd among
 Among-reverse x (y ∷ ys) among =
     ⊎_elim (λ (last : x ≡ y). inl last) (λ (front : Among x (reverse ys)). inr (Among-reverse x ys front))

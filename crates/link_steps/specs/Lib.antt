@@ -26,3 +26,5 @@ pub mod RowLaws
 pub mod Kept
 pub mod BusyPeriod
 pub mod Laws
+pub mod BufferHolds
+pub mod ServiceOrder

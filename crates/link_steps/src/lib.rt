@@ -11,6 +11,7 @@
 pub mod asks;
 pub mod laws;
 pub mod link_step;
+pub mod order_laws;
 pub mod quota;
 pub mod replies;
 pub mod row_laws;
