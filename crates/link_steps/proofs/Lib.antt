@@ -6,6 +6,8 @@ pub mod WorkedLaterHop
 pub mod WorkedSources
 pub mod WorkedSplit
 pub mod WorkedBest
+pub mod WorkedRefusals
+pub mod WorkedNext
 pub mod LevelFacts
 pub mod ListFacts
 pub mod RefusalFacts

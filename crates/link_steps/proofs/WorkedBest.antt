@@ -9,7 +9,7 @@ use Rattle.link_steps.proofs.Play.{legal_replies, replied, replied-legal}
 use Rattle.link_steps.proofs.WorkedLink.{shape_a, voice, chan1, reserve, relax, offer, ticks, quiet, left}
 
 -- the link with a place for one best-effort packet
-abbrev best_a : LinkShape
+abbrev pub best_a : LinkShape
 best_a = record shape_a { test = Least; best = 1; best_most = lit≤ tt }
 
 -- the first waits for the channel's packet, and the other two find its place taken

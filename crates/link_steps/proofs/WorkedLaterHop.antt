@@ -15,13 +15,13 @@ use Rattle.link_steps.proofs.Play.{legal_replies, replied, replied-legal}
 use Rattle.link_steps.proofs.WorkedLink.{shape_a, voice, chan1, chan2, reserve, offer, ticks, quiet, left, sends}
 
 -- a reserve behind a hop with a reach of 40 ticks, a relax behind one allotted 20 ticks, and a packet that arrives
-abbrev reserve_behind : ChanNo → Kind → Ask
+abbrev pub reserve_behind : ChanNo → Kind → Ask
 reserve_behind chan kind = Reserve chan voice kind 50 40 false None
 
-abbrev relax_behind : ChanNo → ℕ → Ask
+abbrev pub relax_behind : ChanNo → ℕ → Ask
 relax_behind chan level = Relax chan (level_of level) 20
 
-abbrev arrive : ChanNo → ℕ → ℕ → ℕ → Ask
+abbrev pub arrive : ChanNo → ℕ → ℕ → ℕ → Ask
 arrive chan number size due = Arrive (record { chan = chan; number = number; size = size; due = due })
 
 -- under delay-jitter control packets that arrive at 4 and 14 wait until 22 and 32, at which they are due
