@@ -73,6 +73,15 @@ fn names_begin_with_a_letter(rt: HostRuntime) {
         ("_r", false),
         ("r-1", false),
         ("r 1", false),
+        ("Z0", true),
+        ("a9", true),
+        ("z_", true),
+        ("@", false),
+        ("[", false),
+        ("`", false),
+        ("{", false),
+        ("a/", false),
+        ("a:", false),
     ] {
         assert_eq!(rt; Name::new(text.as_bytes()).is_some(), fits, "{text}");
     }
@@ -104,6 +113,22 @@ fn numbers_end_at_their_limits(rt: HostRuntime) {
     let last = ChanNo::new(1_048_575).map(|channel| channel.get());
     assert_eq!(rt; last, Some(1_048_575));
     assert_eq!(rt; ChanNo::new(1_048_576), None);
+}
+
+#[test]
+fn a_route_has_up_to_16_levels(rt: HostRuntime) -> Result<(), Fail> {
+    let last = Level::new(8).ok_or("level")?;
+    let mut levels = Levels::new();
+    for _ in 0..15 {
+        assert!(rt; levels.len() < 16);
+        levels.push(Level::LEAST);
+    }
+    assert!(rt; levels.len() < 16);
+    levels.push(last);
+    assert_eq!(rt; levels.len(), 16);
+    assert_eq!(rt; levels.at(15).get(), 1);
+    assert_eq!(rt; levels.at(16).get(), 8);
+    Ok(())
 }
 
 #[test]
