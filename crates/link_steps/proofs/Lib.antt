@@ -8,6 +8,7 @@ pub mod WorkedSplit
 pub mod WorkedBest
 pub mod WorkedRefusals
 pub mod WorkedNext
+pub mod WorkedShares
 pub mod LevelFacts
 pub mod ListFacts
 pub mod RefusalFacts
