@@ -1,10 +1,10 @@
 -- The buffer of a link holds the packets of its channels that are here. Each is of a held row, since those of the rows that are
 -- gone have left; of each row there are no more here than slots; and none is larger than its row's contract allows.
-use Rattle.std.proofs.Common.{◌≡◌, ℕ, suc, ◌+◌, ◌*◌, ◌<◌, ◌≤◌, Bool, true, false, not, cond, List, [], ◌∷◌, ◌++◌, length, map, Option, Some, None, inl, inr, ⊎_elim, refl, sym, ap, ◌∙◌, subst, arith, append-nil}
+use Rattle.std.proofs.Common.{◌≡◌, ℕ, suc, ◌+◌, ◌*◌, ◌<◌, ◌≤◌, Bool, true, false, cond, List, [], ◌∷◌, ◌++◌, length, Option, Some, None, inl, inr, ⊎_elim, refl, sym, ◌∙◌, subst, arith, append-nil}
 use Rattle.std.proofs.Math.Nat.{mul-le-mul_right}
-use Rattle.std.proofs.lemmas.Bool.{cases_Bool, eq-eqb, ltb-false, not-true, le-leb}
-use Rattle.std.specs.Prelude.{filter, find, nat_eq, reverse}
-use Rattle.net_units.specs.LevelBounds.{bound_at, last_bound}
+use Rattle.std.proofs.lemmas.Bool.{cases_Bool, eq-eqb, ltb-false, not-true}
+use Rattle.std.specs.Prelude.{filter, find, reverse}
+use Rattle.net_units.specs.LevelBounds.{last_bound}
 use Rattle.net_units.proofs.BoundFacts.{bound_at-rising}
 use Rattle.traffic_contract.specs.Admission.{total}
 use Rattle.traffic_contract.proofs.AdmissionFacts.{total-map}
@@ -22,16 +22,16 @@ use Rattle.link_steps.specs.Buffer.{slots_of, kept_units, has_lead, has_slot, he
 use Rattle.link_steps.specs.BufferHolds.{units_of, here_after, FitsItsShare, BufferHolds, BufferAlwaysHolds}
 use Rattle.link_steps.specs.Hold.{expires, stays}
 use Rattle.link_steps.specs.HopGuarantee.{HasLeftInTime}
-use Rattle.link_steps.specs.Lists.{change_first, Each, Any}
+use Rattle.link_steps.specs.Lists.{Each, Any}
 use Rattle.link_steps.specs.Replies.{arrive_to, reply_at}
 use Rattle.link_steps.specs.Reservation.{tentative}
 use Rattle.link_steps.specs.Rows.{Row, SourcePacket, row_terms, new_row, is_for}
-use Rattle.link_steps.specs.Scan.{Scan, clock_with, clock_of, is_row_of, is_row_at_hop, names_first_hop, relax_row, plan_row, close_row, arrived_packet, arrived_row, with_arrival, without_expired, with_sources, with_best, best_step_at, after_tick, after, scan_of, starts_of}
+use Rattle.link_steps.specs.Scan.{Scan, clock_of, is_row_of, is_row_at_hop, names_first_hop, relax_row, plan_row, close_row, arrived_packet, arrived_row, with_arrival, without_expired, with_sources, with_best, best_step_at, after_tick, after, scan_of, starts_of}
 use Rattle.link_steps.specs.Service.{Arrival, is_here, here_at, has_departed, starts_below}
 use Rattle.link_steps.specs.Slots.{HasSlots}
 use Rattle.link_steps.specs.Sources.{source_step, step_of, packet_of, row_after}
 use Rattle.link_steps.proofs.ChangeFacts.{Each-from_among, Each-passes, Each-if_passes}
-use Rattle.link_steps.proofs.HopHolds.{hop-guarantee, guaranteed}
+use Rattle.link_steps.proofs.HopHolds.{guaranteed}
 use Rattle.link_steps.proofs.LegalOrder.{ScanInOrder, HasExpired, IsCarried, legal-order}
 use Rattle.link_steps.proofs.LegalRowFacts.{SizeFits, IsInOrder}
 use Rattle.link_steps.proofs.ListFacts.{Each-append, Each-both, Each-mapped, Each-filter, Each-find, Each-if, Among, Each-among, Among-filter}
@@ -72,12 +72,12 @@ narrow-tick : (shape : LinkShape) (t : ℕ) (scan : Scan) → ScanInOrder shape 
 unfolding after_tick with_best with_sources without_expired
 narrow-tick shape t scan order narrow =
     let ready = stand-if AreNarrow AreNarrow AreNarrow IsReadyRow (λ row. Unit {0}) (IsInOrder shape t) scan.packets (scan.gone ++ filter (expires shape.bounds t) scan.rows) (filter (stays shape.bounds t) scan.rows)
-        (λ row none fact. fact) (λ row own fact. record { narrow = fact; planned = own.planned })
-        (Each-from_among (λ row. Unit {0}) (scan.gone ++ filter (expires shape.bounds t) scan.rows) (λ row among. tt)) (Each-filter (IsInOrder shape t) (stays shape.bounds t) scan.rows order.held)
-        (stand-expired AreNarrow (expires shape.bounds t) scan.packets scan.gone scan.rows narrow) in
+    (λ row none fact. fact) (λ row own fact. record { narrow = fact; planned = own.planned })
+    (Each-from_among (λ row. Unit {0}) (scan.gone ++ filter (expires shape.bounds t) scan.rows) (λ row among. tt)) (Each-filter (IsInOrder shape t) (stays shape.bounds t) scan.rows order.held)
+    (stand-expired AreNarrow (expires shape.bounds t) scan.packets scan.gone scan.rows narrow) in
     let stand = stand-sources AreNarrow IsReadyRow shape.bounds (here_at shape.rate scan.packets t) t
-        (λ row own place is. narrow-source shape.bounds (here_at shape.rate scan.packets t) t row own place is)
-        (filter (stays shape.bounds t) scan.rows) (scan.gone ++ filter (expires shape.bounds t) scan.rows) scan.packets (length scan.packets) refl ready in
+    (λ row own place is. narrow-source shape.bounds (here_at shape.rate scan.packets t) t row own place is)
+    (filter (stays shape.bounds t) scan.rows) (scan.gone ++ filter (expires shape.bounds t) scan.rows) scan.packets (length scan.packets) refl ready in
     stand-best AreNarrow shape.bounds t (best_step_at shape t scan) _ _ _ stand
 
 narrow-arrival : (shape : LinkShape) (t : ℕ) (packet : Packet) (scan : Scan) (found : Option Row) (clock e : ℕ) → find (is_row_of packet.chan) scan.rows ≡ found → Is.Taken clock e ≡ arrive_to shape t scan.packets packet found → ScanIsNarrow scan → ScanIsNarrow (with_arrival t packet scan found)
@@ -132,7 +132,7 @@ row-share shape h row slots narrow =
     let all = Each-if_passes (λ p. p.size ≤ row.terms.contract.smax) (has_lead row.lead) (scan_of shape h).packets narrow in
     let some = Each-filter (λ p. has_lead row.lead p ≡ true → p.size ≤ row.terms.contract.smax) (is_here shape.rate (starts_below shape.rate (scan_of shape h).packets (clock_of h)) (clock_of h)) (scan_of shape h).packets all in
     let own = Each-if (λ p. (has_lead row.lead p ≡ true → p.size ≤ row.terms.contract.smax) × (has_lead row.lead p ≡ true)) (λ p. p.size ≤ row.terms.contract.smax) (filter (has_lead row.lead) here) (λ p both. both.0 both.1)
-        (Each-both _ (λ p. has_lead row.lead p ≡ true) (filter (has_lead row.lead) here) (Each-filter _ (has_lead row.lead) here some) (Each-passes (has_lead row.lead) here)) in
+    (Each-both _ (λ p. has_lead row.lead p ≡ true) (filter (has_lead row.lead) here) (Each-filter _ (has_lead row.lead) here some) (Each-passes (has_lead row.lead) here)) in
     let sum = total-narrow shape.bounds row.terms.contract.smax (filter (has_lead row.lead) here) own in
     let few = mul-le-mul_right row.terms.contract.smax slots.few in
     record { units = omega (arith, sum, few) }
@@ -228,7 +228,7 @@ holds-now shape h legal =
     let kept = units-held shape h legal in
     let narrow = Each-if (IsHeld AreNarrow (scan_of shape h).packets) (λ row. AreNarrow row (own_packets row (scan_of shape h).packets)) rows (λ row held. held.fact) (legal-narrow shape h legal).held in
     let shares = Each-if (λ row. HasSlots shape h row × AreNarrow row (own_packets row (scan_of shape h).packets)) (FitsItsShare shape h) rows (λ row both. row-share shape h row both.0 both.1)
-        (Each-both (HasSlots shape h) (λ row. AreNarrow row (own_packets row (scan_of shape h).packets)) rows (slots-held shape h legal) narrow) in
+    (Each-both (HasSlots shape h) (λ row. AreNarrow row (own_packets row (scan_of shape h).packets)) rows (slots-held shape h legal) narrow) in
     let here = covered shape.bounds rows (here_after shape h) (held-here shape h legal) in
     let sum = total-shares shape h rows shares in
     let same = total-map (kept_units shape.bounds) row_terms rows in

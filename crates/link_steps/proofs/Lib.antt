@@ -9,6 +9,7 @@ pub mod WorkedBest
 pub mod WorkedRefusals
 pub mod WorkedNext
 pub mod WorkedShares
+pub mod WorkedQuotas
 pub mod LevelFacts
 pub mod ListFacts
 pub mod RefusalFacts

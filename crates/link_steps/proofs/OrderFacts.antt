@@ -1,11 +1,11 @@
 -- Packets start in order: each ahead of all others that wait, and so those of one level in turn.
-use Rattle.std.proofs.Common.{◌≡◌, ℕ, zero, suc, ◌<◌, ◌≤◌, Bool, true, false, not, List, [], ◌∷◌, Option, Some, None, inl, inr, ⊎_elim, refl, sym, ap, subst, arith}
-use Rattle.std.proofs.lemmas.Bool.{cases_Bool, cases_lt, leb-true, le-leb, ltb-true, ltb-false, eqb-true, eq-eqb, and_parts, and_from, or_cases, or_parts, not-true, cond_both}
+use Rattle.std.proofs.Common.{◌≡◌, ℕ, zero, suc, ◌<◌, ◌≤◌, true, false, not, List, [], ◌∷◌, Option, Some, None, ⊎_elim, refl, sym, subst, arith}
+use Rattle.std.proofs.lemmas.Bool.{cases_lt, leb-true, le-leb, ltb-true, ltb-false, eqb-true, eq-eqb, and_parts, and_from, or_cases, or_parts, not-true, cond_both}
 use Rattle.std.proofs.lemmas.Option.{same_Some}
 use Rattle.std.specs.Prelude.{filter, nat_eq, nat_lt, nat_le, ◌&&◌, ◌||◌}
 use Rattle.link_steps.specs.Lists.{Each}
 use Rattle.link_steps.specs.Service.{Arrival, Start, goes_before, sooner, first_in_line, has_started, is_waiting, is_busy, add_start, serve_tick, starts_below}
-use Rattle.link_steps.specs.ServiceOrder.{IsSooner, IsAhead, ComesBehind, AreByPriority, GoesBehind, AreInTurn, ServesInOrder, PacketsStartInOrder}
+use Rattle.link_steps.specs.ServiceOrder.{ComesBehind, AreByPriority, GoesBehind, AreInTurn, PacketsStartInOrder}
 use Rattle.link_steps.proofs.ChangeFacts.{Each-from_among, Each-passes}
 use Rattle.link_steps.proofs.ListFacts.{Each-both, Each-filter, Each-if, Among, Each-among}
 use Rattle.link_steps.proofs.PacketRows.{Among-passes}
@@ -43,9 +43,9 @@ not_before-upto p q out =
     let parts = or_parts (nat_lt q.level p.level) _ out in
     let level = ltb-false q.level p.level parts.0 in
     let within : p.level ≡ q.level → (nat_lt q.eligible p.eligible ≡ false) × (p.eligible ≡ q.eligible → nat_lt q.place p.place ≡ false) = λ l.
-        let own : nat_eq q.level p.level ≡ true = eq-eqb q.level p.level (sym l) in
-        let rest = or_parts (nat_lt q.eligible p.eligible) _ (rw own at parts.1) in
-        (rest.0, λ e. (let same : nat_eq q.eligible p.eligible ≡ true = eq-eqb q.eligible p.eligible (sym e) in rw same at rest.1)) in
+    let own : nat_eq q.level p.level ≡ true = eq-eqb q.level p.level (sym l) in
+    let rest = or_parts (nat_lt q.eligible p.eligible) _ (rw own at parts.1) in
+    (rest.0, λ e. (let same : nat_eq q.eligible p.eligible ≡ true = eq-eqb q.eligible p.eligible (sym e) in rw same at rest.1)) in
     record {
       level = omega (arith, level);
       eligible = λ l. ltb-false q.eligible p.eligible (within l).0;
@@ -106,7 +106,7 @@ next-is : (packets : List Arrival) (starts : List Start) (t : ℕ) (p : Arrival)
 next-is packets starts t p found =
     let all = Each-filter (λ q. Among q packets) (is_waiting starts t) packets (Each-from_among (λ q. Among q packets) packets (λ q among. among)) in
     let both = first_in_line-fact (λ q. Among q packets × (is_waiting starts t q ≡ true)) (filter (is_waiting starts t) packets) p
-        (Each-both (λ q. Among q packets) (λ q. is_waiting starts t q ≡ true) (filter (is_waiting starts t) packets) all (Each-passes (is_waiting starts t) packets)) found in
+    (Each-both (λ q. Among q packets) (λ q. is_waiting starts t q ≡ true) (filter (is_waiting starts t) packets) all (Each-passes (is_waiting starts t) packets)) found in
     record { among = both.0; waits = both.1; first = first-upto (filter (is_waiting starts t) packets) p found }
 
 -- the packets behind it
@@ -133,9 +133,9 @@ waits-behind packets [] start among out by = tt
 waits-behind packets (other ∷ earlier) start among out by =
     let parts = or_parts (nat_eq other.packet.place start.packet.place) (has_started earlier start.packet) out in
     let behind : GoesBehind start other = λ l. ⊎_elim
-        (λ (later : other.tick < start.packet.eligible). (let own = by.0 in record { eligible = omega (arith, later, own); arrived = λ e. absurd (omega (arith, later, own, e)) }))
-        (λ (eligible : start.packet.eligible ≤ other.tick). (Each-among (ComesBehind other earlier) start.packet packets by.1 among eligible out).sooner l)
-        (cases_lt other.tick start.packet.eligible) in
+    (λ (later : other.tick < start.packet.eligible). (let own = by.0 in record { eligible = omega (arith, later, own); arrived = λ e. absurd (omega (arith, later, own, e)) }))
+    (λ (eligible : start.packet.eligible ≤ other.tick). (Each-among (ComesBehind other earlier) start.packet packets by.1 among eligible out).sooner l)
+    (cases_lt other.tick start.packet.eligible) in
     (behind, waits-behind packets earlier start among parts.1 by.2)
 
 -- ---- all starts
@@ -146,8 +146,8 @@ start-in-order rate packets zero = record { by_priority = tt; in_turn = tt }
 start-in-order rate packets (suc t) =
     let before = start-in-order rate packets t in
     let parts = cond_both (is_busy rate (starts_below rate packets t) t) (starts_below rate packets t) (add_start (first_in_line (filter (is_waiting (starts_below rate packets t) t) packets)) t (starts_below rate packets t)) (λ starts. AreByPriority packets starts × AreInTurn starts)
-        (λ _. (before.by_priority, before.in_turn))
-        (λ _. add-order (first_in_line (filter (is_waiting (starts_below rate packets t) t) packets)) (starts_below rate packets t) (λ p found. next-is packets (starts_below rate packets t) t p found) before.by_priority before.in_turn) in
+    (λ _. (before.by_priority, before.in_turn))
+    (λ _. add-order (first_in_line (filter (is_waiting (starts_below rate packets t) t) packets)) (starts_below rate packets t) (λ p found. next-is packets (starts_below rate packets t) t p found) before.by_priority before.in_turn) in
     record { by_priority = parts.0; in_turn = parts.1 }
   where
     add-order : (best : Option Arrival) (starts : List Start) → ((p : Arrival) → best ≡ Some p → IsNext packets starts t p) → AreByPriority packets starts → AreInTurn starts

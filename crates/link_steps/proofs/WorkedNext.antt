@@ -1,6 +1,6 @@
 -- Packets that go on to another link: each tells the link that its own reservation named, whether its source sent it here or
 -- it came from the link before.
-use Rattle.std.proofs.Common.{◌≡◌, [], ◌∷◌, ◌++◌, None, Some, refl, ◌∙◌, lit<, true, false}
+use Rattle.std.proofs.Common.{◌≡◌, [], ◌∷◌, ◌++◌, Some, refl, ◌∙◌, lit<, true, false}
 use Rattle.net_units.specs.declared.Kind.TheVariants.{Rate}
 use Rattle.net_units.specs.declared.numbers.LinkNo.{LinkNo}
 use Rattle.link_steps.specs.declared.asks.Ask.TheVariants.{Reserve, Submit}

@@ -1,13 +1,12 @@
 -- Asks for which two causes and more apply at once: the reply tells the first of the fixed order.
-use Rattle.std.proofs.Common.{◌≡◌, [], ◌∷◌, None, Some, refl, ◌∙◌, lit≤}
+use Rattle.std.proofs.Common.{◌≡◌, [], ◌∷◌, Some, refl, ◌∙◌, lit≤}
 use Rattle.net_units.specs.declared.Kind.TheVariants.{Rate}
 use Rattle.traffic_contract.specs.Contract.{terms_of}
 use Rattle.link_steps.specs.declared.asks.Ask.TheVariants.{Deny, Submit, Release, Pour}
 use Rattle.link_steps.specs.declared.replies.Phase.TheVariants as phase
-use Rattle.link_steps.specs.declared.replies.Refusal.TheVariants.{NoLevel, NoBuffer, Twice, TooWide, NotInPhase, NoSuch, Unfit, Busy, TooBig, Full, Stray}
+use Rattle.link_steps.specs.declared.replies.Refusal.TheVariants.{NoLevel, NoBuffer, Twice, TooWide, NotInPhase, Busy, TooBig, Stray}
 use Rattle.link_steps.specs.declared.replies.Reply.TheVariants.{Relaxed, Planned, Closing, Taken, Refused}
-use Rattle.link_steps.specs.declared.replies.Why.TheVariants.{NoRow, FirstHop, Uncommitted, WrongNumber, PastCount, Big}
-use Rattle.link_steps.specs.Levels.{level_of}
+use Rattle.link_steps.specs.declared.replies.Why.TheVariants.{FirstHop, Uncommitted, WrongNumber, PastCount, Big}
 use Rattle.link_steps.specs.Split.{whole}
 use Rattle.link_steps.proofs.Play.{legal_replies, replied, replied-legal}
 use Rattle.link_steps.proofs.WorkedBest.{best_a}

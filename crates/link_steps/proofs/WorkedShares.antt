@@ -1,6 +1,6 @@
 -- What a reservation behind another hop keeps of the buffer, before its relax and behind it; and a release that is told fewer
 -- packets than the link has taken.
-use Rattle.std.proofs.Common.{◌≡◌, [], ◌∷◌, ◌++◌, None, Some, refl, ◌∙◌, lit≤}
+use Rattle.std.proofs.Common.{◌≡◌, [], ◌∷◌, Some, refl, ◌∙◌, lit≤}
 use Rattle.net_units.specs.declared.Kind.TheVariants.{Rate}
 use Rattle.link_steps.specs.declared.asks.Ask.TheVariants.{Relax, Release}
 use Rattle.link_steps.specs.declared.replies.Refusal.TheVariants.{NoBuffer, Unfit, NotInPhase}
