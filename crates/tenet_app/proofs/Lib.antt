@@ -35,6 +35,7 @@ pub mod RunRows
 pub mod RunPromises
 pub mod WorkedRuns
 pub mod WorkedLimits
+pub mod WorkedCauses
 pub mod ReportFacts
 pub mod RunFacts
 pub mod EstablishmentFacts

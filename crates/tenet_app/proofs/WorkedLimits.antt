@@ -15,26 +15,26 @@ use Rattle.tenet_app.specs.declared.scenario.plan.Request.{Request}
 use Rattle.tenet_app.specs.declared.status.Status.TheVariants as status
 
 -- the cause by which a line is refused, if it is
-cause_in : Result Item Cause → Option Cause
+unfoldable pub cause_in : Result Item Cause → Option Cause
 cause_in (Ok item) = None
 cause_in (Err cause) = Some cause
 
 -- the causes of a line with each of these texts between its front and its rest
-causes_of : Said → List ℕ → List ℕ → List (List ℕ) → List (Option Cause)
+unfoldable pub causes_of : Said → List ℕ → List ℕ → List (List ℕ) → List (Option Cause)
 unfolding judge cause_in
 causes_of said front rest texts = map (λ text. cause_in (judge said (front ++ text ++ rest))) texts
 
 -- ---- what was read before the line
 
 -- a header
-abbrev headed : Said
+abbrev pub headed : Said
 headed = record { headed = true; links = []; script = []; rounds = None; tail = None }
 
-abbrev link_a : Link
+abbrev pub link_a : Link
 link_a = record { name = codes "A"; from = codes "n1"; to = codes "n2"; rate = 1; cap = 4; prop = 2; buffer = 100; bounds = 10 ∷ 20 ∷ 40 ∷ [] }
 
 -- a link
-abbrev linked : Said
+abbrev pub linked : Said
 linked = record headed { links = link_a ∷ [] }
 
 -- a caller
@@ -45,7 +45,7 @@ abbrev request_1 : Request
 request_1 = record { name = codes "r1"; contract = record { xmin = 5; xave = 10; interval = 20; smax = 2 }; delay = 12 }
 
 -- a request
-abbrev opened : Said
+abbrev pub opened : Said
 opened = record linked { script = Caller (codes "k1") ∷ Open request_1 ∷ [] }
 
 -- ---- a link
