@@ -1,13 +1,13 @@
 -- The delays of a channel are those of its packets that have departed: what bounds the latter bounds the former.
-use Rattle.std.proofs.Common.{◌≡◌, ℕ, suc, ◌+◌, ◌-◌, ◌≤◌, true, Option, Some, None, List, [], ◌∷◌, ◌++◌, length, map, refl, sym, ap, ◌∙◌, subst, arith, inl, inr}
+use Rattle.std.proofs.Common.{◌≡◌, ℕ, suc, ◌+◌, ◌-◌, ◌≤◌, true, Option, Some, None, List, [], ◌∷◌, length, map, refl, sym, ap, ◌∙◌, subst, arith, inl, inr}
 use Rattle.std.proofs.lemmas.Bool.{cases_Bool, eqb-true, cond_both}
-use Rattle.std.specs.Prelude.{find, filter, nat_eq, unwrap_or}
+use Rattle.std.specs.Prelude.{filter, nat_eq}
 use Rattle.link_steps.specs.Legal.{IsLegal}
 use Rattle.link_steps.specs.Lists.{Each}
 use Rattle.link_steps.specs.Refusals.{Rule, first_refusal, not_in_phase, unfit, busy, too_big, too_big_for, first_hop, uncommitted, wrong_number, past_count, big, full}
 use Rattle.link_steps.specs.Replies.{reserve_rules, best_offer, reserve_reply_in, reserve_reply, count_at_release, cancelled_at_release, relax_reply, deny_reply, submit_reply, submit_to, release_reply, release_to, arrive_reply, arrive_to, pour_reply, sent_at, reply_at, reply_to}
 use Rattle.net_units.specs.declared.numbers.Level.{Level}
-use Rattle.link_steps.specs.Reservation.{Reservation, is_of}
+use Rattle.link_steps.specs.Reservation.{Reservation}
 use Rattle.link_steps.specs.BestEffort.{is_best}
 use Rattle.link_steps.specs.Room.{Room, room_of}
 use Rattle.link_steps.specs.Regulator.{eligible_next}

@@ -7,7 +7,7 @@ use Rattle.net_units.specs.LevelBounds.{bound_at, levels_within}
 use Rattle.net_units.specs.declared.Kind.TheVariants.{Rate}
 use Rattle.net_units.specs.declared.numbers.ChanNo.{ChanNo}
 use Rattle.net_units.specs.declared.numbers.Level.{Level}
-use Rattle.net_units.proofs.BoundFacts.{bounds_parts, within_count, within_most, level_fits, level_largest}
+use Rattle.net_units.proofs.BoundFacts.{within_count, within_most, level_fits, level_largest}
 use Rattle.traffic_contract.specs.Contract.{Terms}
 use Rattle.link_steps.specs.Levels.{level_of}
 use Rattle.link_steps.specs.Replies.{reach_of, reserve_reply, relax_reply}

@@ -10,7 +10,6 @@ use Rattle.link_steps.specs.Lists.{Each}
 use Rattle.link_steps.specs.Rows.{Row, made_by, offered_by, tick_of}
 use Rattle.link_steps.specs.Scan.{clock_of, scan_of, starts_of}
 use Rattle.link_steps.specs.SourceGuarantee.{SourceKeeps, IsEligibleAtOnce, LeavesPromptly, KeepingIsServed}
-use Rattle.link_steps.specs.Service.{Arrival}
 use Rattle.link_steps.specs.declared.asks.Ask.TheVariants.{Tick}
 use Rattle.link_steps.specs.declared.replies.Entry.{Entry}
 use Rattle.link_steps.specs.declared.shape.LinkShape.{LinkShape}

@@ -11,7 +11,7 @@ use Rattle.link_steps.specs.declared.replies.Reply.{Reply}
 use Rattle.link_steps.specs.declared.replies.Reply.TheVariants as Is
 use Rattle.link_steps.specs.declared.replies.Sent.{Sent}
 use Rattle.link_steps.specs.Rows.{SourcePacket, tick_of}
-use Rattle.link_steps.specs.Scan.{clock_of, clock_with}
+use Rattle.link_steps.specs.Scan.{clock_of}
 use Rattle.link_steps.proofs.WindowFits.{clock_with-most}
 use Rattle.tenet_app.specs.Channels.{is_number, planned_after, planned_in, refused_by, refused_in, sent_by, delay_of, delays_in, departures_by, departures_in, dropped_by, dropped_in}
 use Rattle.tenet_app.specs.Tallies.{tally_of, each_from, tallies_of, with_delay, with_refusal, change_at, with_packet, counted, AreFew, ticks_in, Tells}
