@@ -1,6 +1,6 @@
 -- What the reply to a reserve comes to, and what is asked behind it.
 use Rattle.std.proofs.Common.{◌≡◌, ℕ, ◌-◌, ◌<◌, ◌≤◌, false, List, length, map, refl, sym, subst, ◌∙◌, ap, ltb, arith}
-use Rattle.std.specs.Prelude.{Result, Ok, Err, OnOk}
+use Rattle.std.specs.Prelude.{Result, Ok, Err, IfOk, OnOk}
 use Rattle.std.proofs.lemmas.Bool.{le-ltb, lt-ltb}
 use Rattle.net_units.specs.Numbers.{level_number}
 use Rattle.net_units.specs.declared.numbers.ChanNo.{ChanNo}
@@ -18,9 +18,10 @@ use Rattle.link_steps.specs.declared.replies.Reply.{Reply}
 use Rattle.link_steps.specs.declared.replies.Reply.TheVariants as Is
 use Rattle.link_steps.specs.declared.shape.LinkShape.{LinkShape}
 use Rattle.link_steps.proofs.LevelFacts.{same_level, level_of-number}
-use Rattle.tenet_app.specs.Establishment.{Settled, IsAccepted, IsTooLate, IsPending, reserve_for, delay_at, allotted, relaxed_to, way_back, at_destination, settled}
+use Rattle.tenet_app.specs.Establishment.{Settled, IsAccepted, IsTooLate, IsPending, reserve_for, delay_at, allotted, relaxed_to, way_back, at_destination, settled, verdict_of}
 use Rattle.tenet_app.specs.Run.{asked, replied, after_open}
 use Rattle.tenet_app.specs.Tallies.{IsAt, SameLink}
+use Rattle.tenet_app.specs.declared.establishment.Verdict.{Verdict}
 use Rattle.tenet_app.specs.declared.player.Player.{Player}
 use Rattle.tenet_app.specs.declared.scenario.plan.Request.{Request}
 use Rattle.tenet_app.proofs.OfferFacts.{offer-is}
@@ -137,3 +138,15 @@ pub verdict-ended : (old : Player) (chan : ChanNo) (request : Request) (ask : As
     → (h : List Entry) → IsAt h old → verdict ≡ settled old.link.shape request (reply_to (whole old.link.shape) h (reserve_for chan request))
 verdict-ended old chan request ask reply verdict is legal told h at =
     told ∙ ap (settled old.link.shape request) (legal h at ∙ ap (reply_to (whole old.link.shape) h) is)
+
+-- what a reserve with an offer comes to is what the destination makes of it
+pub verdict-offered : {E : Type 0} (result : Result Verdict E) (old between : Player) (chan : ChanNo) (request : Request) (ask : Ask) (reply : Reply) (level reach : Level) → ask ≡ reserve_for chan request
+    → SameLink old between
+    → ((h : List Entry) → IsAt h old → reply ≡ reply_to (whole old.link.shape) h ask)
+    → reply ≡ Is.Offer level reach
+    → IfOk result (λ verdict. verdict_of verdict ≡ at_destination between.link.shape request level)
+    → IfOk result (λ verdict. (h : List Entry) → IsAt h old → verdict_of verdict ≡ settled old.link.shape request (reply_to (whole old.link.shape) h (reserve_for chan request)))
+verdict-offered (Ok verdict) old between chan request ask reply level reach is same legal offer told =
+    verdict-ended old chan request ask reply (verdict_of verdict) is legal
+    (told ∙ ap (λ shape. at_destination shape request level) same.shape ∙ sym (ap (settled old.link.shape request) offer))
+verdict-offered (Err error) old between chan request ask reply level reach is same legal offer told = tt

@@ -1,7 +1,7 @@
 use Rattle.std.proofs.Common.{true, None, sym, ap, arith}
 use Rattle.net_units.specs.declared.Kind.TheVariants.{Rate}
 use Rattle.link_steps.specs.declared.asks.Ask.TheVariants.{Reserve}
-use Rattle.tenet_app.proofs.EstablishmentFacts.{offer-within, on_ok-more, at-settled, at-ended, verdict-ended, pending-else}
+use Rattle.tenet_app.proofs.EstablishmentFacts.{offer-within, on_ok-more, at-settled, at-ended, verdict-ended, verdict-offered, pending-else}
 use Rattle.tenet_app.proofs.establishment.establish.Goals as goal
 
 pub settle-requires-clause-within : goal.settle-requires-clause-within
@@ -18,6 +18,12 @@ returns-in-Offer-clause-at c =
     (ap (λ delay. Reserve c.args.chan c.args.request.now.contract Rate delay 0 true None) c.from.ensures)
     c.in_ok-reply.ensures.same c.in_ok-reply.ensures.reply c.in_ok-reply.ensures.at c.in-Offer.is)
     c.settle.ensures.at
+
+pub returns-in-Offer-clause-verdict : goal.returns-in-Offer-clause-verdict
+returns-in-Offer-clause-verdict c =
+    verdict-offered c.settle.result c.args.player.now c.ask.new.self c.args.chan c.args.request.now _ c.in_ok-reply.reply c.in-Offer.level c.in-Offer.reach
+    (ap (λ delay. Reserve c.args.chan c.args.request.now.contract Rate delay 0 true None) c.from.ensures)
+    c.in_ok-reply.ensures.same c.in_ok-reply.ensures.reply c.in-Offer.is c.settle.ensures.verdict
 
 pub returns-in-Refused-clause-at : goal.returns-in-Refused-clause-at
 returns-in-Refused-clause-at c =
