@@ -1,0 +1,165 @@
+-- Closing: the seat of a link joins a pass, which then has the link's list, and a pass joins a pass, which then has all
+-- that the other had.
+use Rattle.std.proofs.Common.{◌≡◌, ◌⊎◌, ℕ, ◌≤◌, max, List, [], ◌∷◌, ◌++◌, refl, sym, ap, ◌∙◌, subst, inl, ⊎_elim, arith}
+use Rattle.std.proofs.lemmas.Bool.{eqb-true}
+use Rattle.std.proofs.lemmas.List.{append-nil}
+use Rattle.std.proofs.lemmas.List.Elements.{filter-append}
+use Rattle.std.proofs.Math.Nat.{le-max_right, max-le}
+use mathlib.Core.List.{IsPrefix}
+use Rattle.atomic_table.specs.Table.{Joins}
+use Rattle.net_units.specs.Numbers.{actor_number}
+use Rattle.link_steps.specs.Lists.{Each}
+use Rattle.link_steps.proofs.ListFacts.{Each-if, Each-append}
+use Rattle.step_stamp.specs.declared.marks.Drawn.{Drawn}
+use Rattle.step_stamp.specs.declared.marks.Mark.{Mark}
+use Rattle.step_stamp.specs.declared.views.Shelf.{Shelf}
+use Rattle.step_stamp.specs.declared.views.View.{View}
+use Rattle.step_stamp.specs.Lists.{Has}
+use Rattle.step_stamp.specs.Marks.{Rises, by_actor, of_actor, longer}
+use Rattle.step_stamp.specs.Rule.{Tally, Begins, Fits, Learnt}
+use Rattle.step_stamp.specs.Seats.{Settled, Gathered}
+use Rattle.step_stamp.specs.Views.{shelf, shelf_of, known_of, first_of, settled, merged, gathered, nobody}
+use Rattle.step_stamp.proofs.ListFacts.{has_left, has_right, has_split, each_has, filter_none, begins_nothing}
+use Rattle.step_stamp.proofs.MarkFacts.{longer_both, longer_whole, longer_other}
+use Rattle.step_stamp.proofs.Meeting.{most_left}
+use Rattle.step_stamp.proofs.ShelfFacts.{shelf_cases, shelf_here, shelf_else, shelf_made, shelf_none, no_known, no_shelf}
+use Rattle.step_stamp.proofs.ViewFacts.{Law, stays, moves, joins_all}
+
+-- stamps that the other had seen are at most what is seen after a join
+most_right : (v w : View) (ms : List Mark) → Each (λ (m : Mark). m.stamp ≤ w.seen) ms → Each (λ (m : Mark). m.stamp ≤ max v.seen w.seen) ms
+most_right v w ms most = Each-if (λ (m : Mark). m.stamp ≤ w.seen) (λ (m : Mark). m.stamp ≤ max v.seen w.seen) ms (λ m le. omega (arith, le, le-max_right v.seen w.seen)) most
+
+-- a view has drawn nothing of an actor that another view has
+none_of : (t : Tally) (a j other : ℕ) (u : View) → Fits t j u → t.owner a ≡ other → (other ≡ j → ⊥) → of_actor a u.drawn ≡ []
+none_of t a j other u g owns apart =
+    filter_none (by_actor a) u.drawn
+    (λ d has on.
+    let acts = each_has (λ (x : Drawn). Has (actor_number x.mark.actor) u.actors) d u.drawn g.drew has in
+    apart (sym owns ∙ (g.acts a (subst (λ k. Has k u.actors) (eqb-true (actor_number d.mark.actor) a on) acts)).here))
+
+module _ {S : Type 0} where
+  pub settles : (id l : ℕ) (v : View) (other : ℕ) (w : View) → w.links ≡ l ∷ [] → Joins {S = S} Law id v other w (settled l v w) nobody
+  settles id l v other w links = joins_all id v other w (settled l v w)
+      (λ t apart f g.
+      let own = g.has l (subst (Has l) (sym links) (inl refl)) in
+      let sh = shelf l (known_of l w) (known_of l v) (known_of l w) in
+      let known : (k : ℕ) → ((l ≡ k → ⊥) → known_of k v ≡ t.log k) → known_of k (settled l v w) ≡ t.log k =
+      λ k else. shelf_cases (λ s. s.known ≡ t.log k) k sh v.shelves (λ (e : l ≡ k). own.whole ∙ ap t.log e) else in
+      record {
+        seen = max-le f.seen g.seen;
+        among = f.among;
+        knows = λ k. shelf_cases (λ s. Begins (t.log k) s) k sh v.shelves
+            (λ (e : l ≡ k). subst (λ n. Begins (t.log n) sh) e (record { known = (g.knows l).known; first = (f.knows l).known; second = (g.knows l).known }))
+            (λ _. f.knows k);
+        has = λ k has. ⊎_elim
+            (λ mine.
+            let old = f.has k mine in
+            record { here = stays other id (t.seat k) id old.here (λ e. absurd (apart (sym e))); whole = known k (λ _. old.whole); most = most_left v w (t.log k) old.most })
+            (λ theirs.
+            let k_is : l ≡ k = ⊎_elim (λ (e : l ≡ k). e) (λ no. absurd no) (subst (Has k) links theirs) in
+            let old = g.has k theirs in
+            record { here = moves other id (t.seat k) old.here; whole = known k (λ no. absurd (no k_is)); most = most_right v w (t.log k) old.most })
+            (has_split k v.links w.links has);
+        acts = λ a has. (let old = f.acts a has in record { here = stays other id (t.owner a) id old.here (λ e. absurd (apart (sym e))); whole = old.whole; small = old.small });
+        drew = f.drew;
+        holds = f.holds;
+      })
+
+  pub gathers : (id : ℕ) (v : View) (other : ℕ) (w : View) → Joins {S = S} Law id v other w (gathered v w) nobody
+  gathers id v other w = joins_all id v other w (gathered v w)
+      (λ t apart f g.
+      let at_link : ℕ → Shelf = λ l. shelf l (longer (known_of l v) (known_of l w)) (known_of l v) (known_of l w) in
+      let ss = v.shelves ++ w.shelves in
+      let made : (l : ℕ) (P : Shelf → Type 0) → P (at_link l) → (((s : Shelf) → Has s ss → s.link ≡ l → ⊥) → P (shelf_of l [])) → P (shelf_of l (gathered v w).shelves) =
+      λ l P here none. shelf_made P (merged v w) at_link (λ s. refl) (λ k. refl) l ss here none in
+      record {
+        seen = max-le f.seen g.seen;
+        among = f.among;
+        knows = λ l. made l (λ s. Begins (t.log l) s)
+            (record { known = longer_both (λ ms. IsPrefix ms (t.log l)) (known_of l v) (known_of l w) (f.knows l).known (g.knows l).known; first = (f.knows l).known; second = (g.knows l).known })
+            (λ _. no_shelf (t.log l) l);
+        has = λ k has. ⊎_elim
+            (λ mine.
+            let old = f.has k mine in
+            record {
+              here = stays other id (t.seat k) id old.here (λ e. absurd (apart (sym e)));
+              whole = made k (λ s. s.known ≡ t.log k) (longer_whole (t.log k) (known_of k v) (known_of k w) old.whole (g.knows k).known)
+                  (λ no. sym (ap (λ (s : Shelf). s.known) (shelf_none k v.shelves (λ s has'. no s (has_left s v.shelves w.shelves has')))) ∙ old.whole);
+              most = most_left v w (t.log k) old.most;
+            })
+            (λ theirs.
+            let old = g.has k theirs in
+            record {
+              here = moves other id (t.seat k) old.here;
+              whole = made k (λ s. s.known ≡ t.log k) (longer_other (t.log k) (known_of k v) (known_of k w) old.whole (f.knows k).known)
+                  (λ no. sym (ap (λ (s : Shelf). s.known) (shelf_none k w.shelves (λ s has'. no s (has_right s v.shelves w.shelves has')))) ∙ old.whole);
+              most = most_right v w (t.log k) old.most;
+            })
+            (has_split k v.links w.links has);
+        acts = λ a has. ⊎_elim
+            (λ mine.
+            let old = f.acts a mine in
+            record {
+              here = stays other id (t.owner a) id old.here (λ e. absurd (apart (sym e)));
+              whole = filter-append (by_actor a) v.drawn w.drawn ∙ ap (λ ds. of_actor a v.drawn ++ ds) (none_of t a other id w g old.here (λ e. apart (sym e))) ∙ append-nil (of_actor a v.drawn) ∙ old.whole;
+              small = old.small;
+            })
+            (λ theirs.
+            let old = g.acts a theirs in
+            record {
+              here = moves other id (t.owner a) old.here;
+              whole = filter-append (by_actor a) v.drawn w.drawn ∙ ap (λ ds. ds ++ of_actor a w.drawn) (none_of t a id other v f old.here apart) ∙ old.whole;
+              small = old.small;
+            })
+            (has_split a v.actors w.actors has);
+        drew = Each-append (λ (d : Drawn). Has (actor_number d.mark.actor) (v.actors ++ w.actors)) v.drawn w.drawn
+            (Each-if (λ (d : Drawn). Has (actor_number d.mark.actor) v.actors) (λ (d : Drawn). Has (actor_number d.mark.actor) (v.actors ++ w.actors)) v.drawn (λ d has. has_left (actor_number d.mark.actor) v.actors w.actors has) f.drew)
+            (Each-if (λ (d : Drawn). Has (actor_number d.mark.actor) w.actors) (λ (d : Drawn). Has (actor_number d.mark.actor) (v.actors ++ w.actors)) w.drawn (λ d has. has_right (actor_number d.mark.actor) v.actors w.actors has) g.drew);
+        holds = Each-append (λ (d : Drawn). Has d t.draws) v.hand w.hand f.holds g.holds;
+      })
+
+-- ---- what a join for good tells
+
+pub settled_facts : (l : ℕ) (v w : View) → w.links ≡ l ∷ [] → 1 ≤ v.among → Learnt (settled l v w) → Settled l v w (settled l v w)
+settled_facts l v w links some told =
+    let now = settled l v w in
+    let here : Has l now.links = has_right l v.links w.links (subst (Has l) (sym links) (inl refl)) in
+    let on_shelf = shelf_here l (known_of l w) (known_of l v) (known_of l w) v.shelves in
+    let knows : known_of l now ≡ known_of l w = ap (λ (s : Shelf). s.known) on_shelf in
+    let first : first_of l now ≡ known_of l v = ap (λ (s : Shelf). s.first) on_shelf in
+    record {
+      begins = subst (λ (x : List Mark × List Mark). IsPrefix x.0 x.1) (λ i. (first i, knows i)) (told.begun l here);
+      rises = subst Rises knows (told.rises l here);
+      own = λ m has acts. told.own l m (subst (Has m) (sym knows) has) acts;
+      all = λ every m has. told.all some every l m (subst (Has m) (sym knows) has);
+      knows = knows;
+      others = λ k other. ap (λ (s : Shelf). s.known) (shelf_else l k (shelf l (known_of l w) (known_of l v) (known_of l w)) v.shelves refl other);
+      drawn = refl;
+      actors = refl;
+      saw = refl;
+      among = refl;
+    }
+
+pub gathered_facts : (v w : View) → Learnt (gathered v w) → Gathered v w (gathered v w)
+gathered_facts v w told =
+    let at_link : ℕ → Shelf = λ l. shelf l (longer (known_of l v) (known_of l w)) (known_of l v) (known_of l w) in
+    let ss = v.shelves ++ w.shelves in
+    let nothing : (l : ℕ) → ((s : Shelf) → Has s ss → s.link ≡ l → ⊥) → (known_of l v ≡ []) × (known_of l w ≡ []) =
+    λ l never. (
+      ap (λ (s : Shelf). s.known) (shelf_none l v.shelves (λ s has. never s (has_left s v.shelves w.shelves has))) ∙ no_known l,
+      ap (λ (s : Shelf). s.known) (shelf_none l w.shelves (λ s has. never s (has_right s v.shelves w.shelves has))) ∙ no_known l,
+    ) in
+    record {
+      drawn = refl;
+      once = told.once;
+      actors = refl;
+      knows = λ l. shelf_made (λ s. s.known ≡ longer (known_of l v) (known_of l w)) (merged v w) at_link (λ s. refl) (λ k. refl) l ss refl
+          (λ never. let none = nothing l never in no_known l ∙ (λ i. longer (sym none.0 i) (sym none.1 i)));
+      in_line = λ l.
+          shelf_made (λ s. (IsPrefix s.first s.second ⊎ IsPrefix s.second s.first) → IsPrefix (known_of l v) (known_of l w) ⊎ IsPrefix (known_of l w) (known_of l v)) (merged v w) at_link (λ s. refl) (λ k. refl) l ss
+          (λ line. line)
+          (λ never _. inl (subst (λ ms. IsPrefix ms (known_of l w)) (sym (nothing l never).0) (begins_nothing (known_of l w))))
+          (told.in_line l);
+      saw = refl;
+      among = refl;
+    }

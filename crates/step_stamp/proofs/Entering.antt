@@ -1,0 +1,128 @@
+-- A mark goes into a link's list: the pass hands it over to a copy, and the copy joins the link's seat. The list then
+-- rises still, since the stamp is above all that the seat had seen.
+use Rattle.std.proofs.Common.{◌≡◌, ℕ, eqb, ◌<◌, ◌≤◌, max, cond, List, [], ◌∷◌, ◌++◌, refl, sym, ap, ◌∙◌, subst, inl, ⊎_elim, set, arith}
+use Rattle.std.proofs.lemmas.Bool.{cond_both, eq-eqb, eqb-true}
+use Rattle.std.proofs.Math.Nat.{le-max_right, max-le, max-eq_right}
+use mathlib.Core.List.{IsPrefix}
+use Rattle.atomic_table.specs.Table.{Splits, Joins}
+use Rattle.link_steps.specs.Lists.{Each}
+use Rattle.link_steps.proofs.ListFacts.{Each-append}
+use Rattle.step_stamp.specs.declared.marks.Drawn.{Drawn}
+use Rattle.step_stamp.specs.declared.marks.Mark.{Mark}
+use Rattle.step_stamp.specs.declared.views.Shelf.{Shelf}
+use Rattle.step_stamp.specs.declared.views.View.{View}
+use Rattle.step_stamp.specs.Lists.{Has}
+use Rattle.step_stamp.specs.Marks.{Rises, drawn_for, marks_in}
+use Rattle.step_stamp.specs.Rule.{Tally, Begins, HasList, Fits}
+use Rattle.step_stamp.specs.Seats.{EntersMark}
+use Rattle.step_stamp.specs.Views.{shelf, shelf_of, known_of, emptied, handed, entered, nobody}
+use Rattle.step_stamp.proofs.ListFacts.{begins_nothing, begins_itself, begins_longer}
+use Rattle.step_stamp.proofs.MarkFacts.{rises-append}
+use Rattle.step_stamp.proofs.Meeting.{most_left}
+use Rattle.step_stamp.proofs.ShelfFacts.{shelf_cases, shelf_here}
+use Rattle.step_stamp.proofs.ViewFacts.{Law, splits, copy_fits, nobody_fits, views_set, other_view}
+
+-- the lists with one mark more at link l
+with_mark : ℕ → Mark → (ℕ → List Mark) → ℕ → List Mark
+with_mark l m log k = cond (eqb k l) (log l ++ m ∷ []) (log k)
+
+log_cases : (l : ℕ) (m : Mark) (log : ℕ → List Mark) (P : ℕ → List Mark → Type 0) → P l (log l ++ m ∷ []) → ((k : ℕ) → (k ≡ l → ⊥) → P k (log k)) → (k : ℕ) → P k (with_mark l m log k)
+unfolding with_mark
+log_cases l m log P here else k = cond_both (eqb k l) (log l ++ m ∷ []) (log k) (P k) (λ on. subst (λ j. P j (log l ++ m ∷ [])) (sym (eqb-true k l on)) here) (λ no. else k (λ e. absurd (cc (no, eq-eqb k l e))))
+
+with_mark-here : (l : ℕ) (m : Mark) (log : ℕ → List Mark) → with_mark l m log l ≡ log l ++ m ∷ []
+unfolding with_mark
+with_mark-here l m log = ap (λ b. cond b (log l ++ m ∷ []) (log l)) (eq-eqb l l refl)
+
+-- what began a list still begins it
+begins_still : (l : ℕ) (m : Mark) (log : ℕ → List Mark) (k : ℕ) (sh : Shelf) → Begins (log k) sh → Begins (with_mark l m log k) sh
+begins_still l m log k sh = log_cases l m log (λ j ms. Begins (log j) sh → Begins ms sh)
+    (λ b. record { known = begins_longer sh.known (log l) (m ∷ []) b.known; first = begins_longer sh.first (log l) (m ∷ []) b.first; second = begins_longer sh.second (log l) (m ∷ []) b.second })
+    (λ j _ b. b) k
+
+-- a view that hasn't the list fits as before
+apart_fits : (t : Tally) (l j : ℕ) (m : Mark) (u : View) → (t.seat l ≡ j → ⊥) → Fits t j u → Fits (record t { log = with_mark l m t.log }) j u
+apart_fits t l j m u apart g = record {
+  seen = g.seen;
+  among = g.among;
+  knows = λ k. begins_still l m t.log k (shelf_of k u.shelves) (g.knows k);
+  has = λ k has.
+      let was = g.has k has in
+      let same : with_mark l m t.log k ≡ t.log k = log_cases l m t.log (λ j' ms. (k ≡ j') → ms ≡ t.log j') (λ (e : k ≡ l). absurd (apart (ap t.seat (sym e) ∙ was.here))) (λ j' _ _. refl) k refl in
+      record { here = was.here; whole = was.whole ∙ sym same; most = subst (Each (λ (x : Mark). x.stamp ≤ u.seen)) (sym same) was.most };
+  acts = λ a h. let was = g.acts a h in record { here = was.here; whole = was.whole; small = was.small };
+  drew = g.drew;
+  holds = g.holds;
+}
+
+-- the link's seat with the mark
+entered_fits : (t : Tally) (id other l : ℕ) (v w : View) (m : Mark) → Fits t id v → Fits t other w → v.links ≡ l ∷ [] → w.hand ≡ drawn_for l m ∷ [] → m.stamp ≤ w.seen → Fits (record t { log = with_mark l m t.log }) id (entered l v w)
+entered_fits t id other l v w m f g links hand most =
+    let own = f.has l (subst (Has l) (sym links) (inl refl)) in
+    let now_here = with_mark-here l m t.log in
+    let marks : known_of l v ++ marks_in w.hand ≡ t.log l ++ m ∷ [] = ap (λ ds. known_of l v ++ marks_in ds) hand ∙ ap (λ ms. ms ++ m ∷ []) own.whole in
+    let sh = shelf l (known_of l v ++ marks_in w.hand) (known_of l v) (known_of l w) in
+    let after : Tally = record t { log = with_mark l m t.log } in
+    record {
+      seen = max-le f.seen g.seen;
+      among = f.among;
+      knows = λ k. shelf_cases (λ s. Begins (after.log k) s) k sh v.shelves
+          (λ (e : l ≡ k). subst (λ q. Begins (after.log q) sh) e
+          (record { known = subst (IsPrefix (known_of l v ++ marks_in w.hand)) (marks ∙ sym now_here) (begins_itself (known_of l v ++ marks_in w.hand)); first = (begins_still l m t.log l (shelf_of l v.shelves) (f.knows l)).known; second = (begins_still l m t.log l (shelf_of l w.shelves) (g.knows l)).known }))
+          (λ _. begins_still l m t.log k (shelf_of k v.shelves) (f.knows k));
+      has = λ k has.
+          let k_is : l ≡ k = ⊎_elim (λ (e : l ≡ k). e) (λ no. absurd no) (subst (Has k) links has) in
+          let here : HasList after id l (entered l v w) =
+          record {
+            here = own.here;
+            whole = ap (λ (s : Shelf). s.known) (shelf_here l (known_of l v ++ marks_in w.hand) (known_of l v) (known_of l w) v.shelves) ∙ marks ∙ sym now_here;
+            most = subst (Each (λ (x : Mark). x.stamp ≤ max v.seen w.seen)) (sym now_here)
+                (Each-append (λ (x : Mark). x.stamp ≤ max v.seen w.seen) (t.log l) (m ∷ []) (most_left v w (t.log l) own.most) (omega (arith, most, le-max_right v.seen w.seen), tt));
+          } in
+          subst (λ q. HasList after id q (entered l v w)) k_is here;
+      acts = λ a h. let was = f.acts a h in record { here = was.here; whole = was.whole; small = was.small };
+      drew = f.drew;
+      holds = f.holds;
+    }
+
+module _ {S : Type 0} where
+  pub hands_over : (id l : ℕ) (v : View) → Splits {S = S} Law id v (emptied v) (handed l v)
+  hands_over id l v = splits id v (emptied v) (handed l v)
+      (λ t f. (
+        record { seen = f.seen; among = f.among; knows = f.knows; has = λ k h. (let was = f.has k h in record { here = was.here; whole = was.whole; most = was.most }); acts = f.acts; drew = f.drew; holds = tt },
+        λ j. copy_fits t id j v v.hand l [] f f.holds (begins_nothing (t.log l)),
+      ))
+
+  -- a link's list takes the mark that a copy has in hand
+  pub enters : (id l : ℕ) (v : View) (other : ℕ) (w : View) (m : Mark) → v.links ≡ l ∷ [] → w.hand ≡ drawn_for l m ∷ [] → v.seen < m.stamp → m.stamp ≤ w.seen → Joins {S = S} Law id v other w (entered l v w) nobody
+  enters id l v other w m links hand above most s h at apart there =
+      let t = h.tally in
+      let f = h.fits id v at in
+      let both = entered l v w in
+      let g = other_view (Fits t) s.views id other both w apart h.fits there in
+      let own = f.has l (subst (Has l) (sym links) (inl refl)) in
+      let after : Tally = record t { log = with_mark l m t.log } in
+      let in_draws : Has (drawn_for l m) t.draws = (subst (Each (λ (d : Drawn). Has d t.draws)) hand g.holds).0 in
+      record {
+        tally = after;
+        word = h.word;
+        numbered = h.numbered;
+        room = h.room;
+        acting = h.acting;
+        rises = log_cases l m t.log (λ k ms. Rises ms) (rises-append 0 v.seen (t.log l) m (h.rises l) own.most (omega arith) above) (λ k _. h.rises k);
+        drawn = log_cases l m t.log (λ k ms. Each (λ (x : Mark). Has (drawn_for k x) t.draws) ms) (Each-append (λ (x : Mark). Has (drawn_for l x) t.draws) (t.log l) (m ∷ []) (h.drawn l) (in_draws, tt)) (λ k _. h.drawn k);
+        fits = views_set (Fits after) (set s.views id both) other nobody
+            (λ j u _ e. views_set (Fits after) s.views id both
+            (λ i x elsewhere e'. apart_fits t l i m x (λ has. elsewhere (sym has ∙ own.here)) (h.fits i x e'))
+            (entered_fits t id other l v w m f g links hand most) j u e)
+            (nobody_fits after other);
+      }
+
+-- ---- what entering tells
+
+pub entered_facts : (l : ℕ) (k w : View) (m : Mark) → w.hand ≡ drawn_for l m ∷ [] → w.seen ≡ m.stamp → k.seen < m.stamp → EntersMark l k (entered l k w) m
+entered_facts l k w m hand saw above = record {
+  list = ap (λ (s : Shelf). s.known) (shelf_here l (known_of l k ++ marks_in w.hand) (known_of l k) (known_of l w) k.shelves) ∙ ap (λ ds. known_of l k ++ marks_in ds) hand;
+  saw = ap (max k.seen) saw ∙ max-eq_right (omega (arith, above));
+  among = refl;
+}

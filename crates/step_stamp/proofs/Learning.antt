@@ -1,0 +1,125 @@
+-- What the rule tells of a view: by a load that changes nothing, and by one that counts as seen.
+use Rattle.std.proofs.Common.{◌≡◌, ℕ, ◌^◌, ◌<◌, ◌≤◌, List, [], ◌∷◌, length, set, refl, sym, ap, ◌∙◌, subst, inl, ⊎_elim, arith}
+use Rattle.std.specs.Prelude.{slice_index, slice_set}
+use Rattle.std.proofs.lemmas.Bool.{eq-eqb, eqb-true}
+use mathlib.Core.Option.{some}
+use mathlib.Core.List.{IsPrefix}
+use lib.ListN.{get_elem?}
+use Rattle.atomic_table.specs.Table.{Me, keeps, Allows}
+use Rattle.atomic_table.proofs.Lists.{set_again}
+use Rattle.net_units.specs.Numbers.{actor_number}
+use Rattle.link_steps.proofs.ListFacts.{Each-if}
+use Rattle.step_stamp.specs.declared.marks.Drawn.{Drawn}
+use Rattle.step_stamp.specs.declared.marks.Mark.{Mark}
+use Rattle.step_stamp.specs.declared.views.View.{View}
+use Rattle.step_stamp.specs.Lists.{Has}
+use Rattle.step_stamp.specs.Marks.{Rises, marks_in, by_actor, of_actor, drawn_for}
+use Rattle.step_stamp.specs.Rule.{Fits, Kept, Learnt}
+use Rattle.step_stamp.specs.Views.{known_of, first_of, second_of, saw}
+use Rattle.step_stamp.proofs.ListFacts.{has_prefix, each_has, has_passed, has_kept, passes_test, prefixes}
+use Rattle.step_stamp.proofs.MarkFacts.{numbered_rise, draws_filter, same_stamp, no_twice, most_drawn}
+use Rattle.step_stamp.proofs.ViewFacts.{Law, views_set}
+
+-- what the rule says of a view
+pub learnt : (words : List ℕ) (views : List View) (id : ℕ) (v : View) → Kept words views → get_elem? views id ≡ some v → Learnt v
+learnt words views id v h at =
+    let f = h.fits id v at in
+    let t = h.tally in
+    record {
+      begun = λ l has. subst (IsPrefix (first_of l v)) (sym (f.has l has).whole) (f.knows l).first;
+      joined = λ l has. subst (IsPrefix (second_of l v)) (sym (f.has l has).whole) (f.knows l).second;
+      in_line = λ l. prefixes (first_of l v) (second_of l v) (t.log l) (f.knows l).first (f.knows l).second;
+      rises = λ l has. subst Rises (sym (f.has l has).whole) (h.rises l);
+      few = most_drawn (2 ^ 40) v.drawn (λ a. few_of a (of_actor a v.drawn) refl);
+      once = no_twice v.drawn (λ a. rise_of a (of_actor a v.drawn) refl) (λ d e hd he. same_stamp 0 t.draws d e (numbered_rise 0 t.draws h.numbered) (in_draws d hd) (in_draws e he));
+      in_turn = λ a. rise_of a (of_actor a v.drawn) refl;
+      own = λ l m known acts. own_of l m known acts;
+      all = λ least every l m known. own_of l m known (every (actor_number m.actor) (below_among least (actor_number m.actor) (each_has (λ (d : Drawn). actor_number d.mark.actor < t.actors) (drawn_for l m) t.draws h.acting (made_of l m known))));
+    }
+  where
+    -- a mark known is drawn
+    made_of : (l : ℕ) (m : Mark) → Has m (known_of l v) → Has (drawn_for l m) h.tally.draws
+    made_of l m known =
+        each_has (λ (x : Mark). Has (drawn_for l x) h.tally.draws) m (h.tally.log l) (h.drawn l) (has_prefix m (known_of l v) (h.tally.log l) ((h.fits id v at).knows l).known known)
+
+    -- and by this view where it has the actor
+    own_of : (l : ℕ) (m : Mark) → Has m (known_of l v) → Has (actor_number m.actor) v.actors → Has (drawn_for l m) v.drawn
+    own_of l m known acts =
+        let a = actor_number m.actor in
+        let mine : Has (drawn_for l m) (of_actor a h.tally.draws) = has_passed (by_actor a) (drawn_for l m) h.tally.draws (eq-eqb a a refl) (made_of l m known) in
+        has_kept (by_actor a) (drawn_for l m) v.drawn (subst (Has (drawn_for l m)) (sym ((h.fits id v at).acts a acts).whole) mine)
+
+    below_among : 1 ≤ v.among → (a : ℕ) → a < h.tally.actors → a < v.among
+    below_among least a lt = ⊎_elim (λ (none : v.among ≡ 0). absurd (omega (arith, none, least))) (λ (is : v.among ≡ h.tally.actors). omega (arith, is, lt)) (h.fits id v at).among
+
+    -- the actor of a mark drawn is one of the view's
+    acts_of : (d : Drawn) → Has d v.drawn → Has (actor_number d.mark.actor) v.actors
+    acts_of d has = each_has (λ (x : Drawn). Has (actor_number x.mark.actor) v.actors) d v.drawn (h.fits id v at).drew has
+
+    in_draws : (d : Drawn) → Has d v.drawn → Has d h.tally.draws
+    in_draws d has =
+        let a = actor_number d.mark.actor in
+        has_kept (by_actor a) d h.tally.draws (subst (Has d) ((h.fits id v at).acts a (acts_of d has)).whole (has_passed (by_actor a) d v.drawn (eq-eqb a a refl) has))
+
+    -- where an actor has drawn a mark here, all that it drew is here
+    whole_of : (a : ℕ) (d : Drawn) (ds : List Drawn) → of_actor a v.drawn ≡ d ∷ ds → of_actor a h.tally.draws ≡ d ∷ ds
+    whole_of a d ds is =
+        let there : Has d (of_actor a v.drawn) = subst (Has d) (sym is) (inl refl) in
+        let a_is : actor_number d.mark.actor ≡ a = eqb-true (actor_number d.mark.actor) a (passes_test (by_actor a) d v.drawn there) in
+        sym ((h.fits id v at).acts a (subst (λ k. Has k v.actors) a_is (acts_of d (has_kept (by_actor a) d v.drawn there)))).whole ∙ is
+
+    rise_of : (a : ℕ) (ds : List Drawn) → of_actor a v.drawn ≡ ds → Rises (marks_in ds)
+    rise_of a [] is = tt
+    rise_of a (d ∷ ds) is = subst (λ xs. Rises (marks_in xs)) (whole_of a d ds is) (draws_filter (by_actor a) 0 h.tally.draws (numbered_rise 0 h.tally.draws h.numbered))
+
+    few_of : (a : ℕ) (ds : List Drawn) → of_actor a v.drawn ≡ ds → length ds ≤ 2 ^ 40
+    few_of a [] is = omega arith
+    few_of a (d ∷ ds) is = subst (λ (xs : List Drawn). length xs ≤ 2 ^ 40) (whole_of a d ds is) (h.room a)
+
+module _ {S : Type 0} where
+  -- a load tells this of the view
+  pub learns : (slots id : ℕ) (me : Me S View) → Allows Law slots id me 0 (λ n. n) (λ found after. (after ≡ me) × Learnt me.0)
+  learns slots id me s h many at lt =
+      let same : slice_set s.words 0 (slice_index s.words 0) ≡ s.words = subst (λ ws. slice_set ws 0 (slice_index ws 0) ≡ ws) (sym h.word) refl in (
+        me.0,
+        keeps,
+        tt,
+        subst (λ ws. Kept ws (set s.views id me.0)) (sym same) (subst (Kept s.words) (sym (set_again s.views id me.0 at)) h),
+        (refl, learnt s.words s.views id me.0 h at),
+      )
+
+  -- a load counts as seen
+  pub sees : (slots id : ℕ) (me : Me S View) → Allows Law slots id me 0 (λ n. n) (λ found after. (after ≡ (saw found me.0, me.1)) × (me.0.seen ≤ found))
+  sees slots id me s h many at lt =
+      let t = h.tally in
+      let same : slice_set s.words 0 (slice_index s.words 0) ≡ s.words = subst (λ ws. slice_set ws 0 (slice_index ws 0) ≡ ws) (sym h.word) refl in
+      let n : slice_index s.words 0 ≡ length t.draws = ap (λ ws. slice_index ws 0) h.word in
+      let f = h.fits id me.0 at in
+      let most : me.0.seen ≤ slice_index s.words 0 = subst (λ k. me.0.seen ≤ k) (sym n) f.seen in (
+        saw (slice_index s.words 0) me.0,
+        keeps,
+        tt,
+        subst (λ ws. Kept ws (set s.views id (saw (slice_index s.words 0) me.0))) (sym same)
+            (record {
+              tally = t;
+              word = h.word;
+              numbered = h.numbered;
+              room = h.room;
+              acting = h.acting;
+              rises = h.rises;
+              drawn = h.drawn;
+              fits = views_set (Fits t) s.views id (saw (slice_index s.words 0) me.0) (λ j u _ e. h.fits j u e)
+                  (record {
+                    seen = omega (arith, n);
+                    among = f.among;
+                    knows = f.knows;
+                    has = λ l has.
+                        let was = f.has l has in
+                        record { here = was.here; whole = was.whole; most = Each-if (λ (m : Mark). m.stamp ≤ me.0.seen) (λ (m : Mark). m.stamp ≤ slice_index s.words 0) (t.log l) (λ m le. omega (arith, le, most)) was.most };
+                    acts = f.acts;
+                    drew = f.drew;
+                    holds = f.holds;
+                  });
+            }),
+        (refl, most),
+      )

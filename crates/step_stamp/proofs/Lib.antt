@@ -1,0 +1,10 @@
+pub mod ListFacts
+pub mod MarkFacts
+mod ShelfFacts
+mod ViewFacts
+mod Learning
+mod Drawing
+mod Meeting
+mod Entering
+mod OpeningSteps
+mod Closing

@@ -1,0 +1,116 @@
+-- A pass meets a link: a copy of what the pass knows of the link joins the link's seat, and then a copy of the link's list
+-- joins the pass. Both keep the rule, and from what the rule then tells follow the clauses of a meeting.
+use Rattle.std.proofs.Common.{◌≡◌, ℕ, ◌≤◌, max, List, [], ◌∷◌, ◌++◌, refl, sym, ap, ◌∙◌, subst, inl, arith}
+use Rattle.std.proofs.lemmas.List.{append-nil}
+use Rattle.std.proofs.Math.Nat.{le-max_left, max-le}
+use mathlib.Core.List.{IsPrefix}
+use Rattle.atomic_table.specs.Table.{Splits, Joins}
+use Rattle.link_steps.specs.Lists.{Each}
+use Rattle.link_steps.proofs.ListFacts.{Each-if}
+use Rattle.step_stamp.specs.declared.marks.Mark.{Mark}
+use Rattle.step_stamp.specs.declared.views.Shelf.{Shelf}
+use Rattle.step_stamp.specs.declared.views.View.{View}
+use Rattle.step_stamp.specs.Lists.{Has}
+use Rattle.step_stamp.specs.Marks.{Rises, marks_in, longer}
+use Rattle.step_stamp.specs.Rule.{Begins, Learnt}
+use Rattle.step_stamp.specs.Seats.{Meets}
+use Rattle.step_stamp.specs.Views.{shelf, known_of, second_of, shown, entered, taken, nobody}
+use Rattle.step_stamp.proofs.MarkFacts.{longer_both, longer_whole, longer_second, in_their_order}
+use Rattle.step_stamp.proofs.ShelfFacts.{shelf_cases, shelf_here, shelf_else, known_shown}
+use Rattle.step_stamp.proofs.ViewFacts.{Law, splits, joins, copy_fits}
+
+-- stamps that were seen are at most what is seen after a join
+pub most_left : (v w : View) (ms : List Mark) → Each (λ (m : Mark). m.stamp ≤ v.seen) ms → Each (λ (m : Mark). m.stamp ≤ max v.seen w.seen) ms
+most_left v w ms most = Each-if (λ (m : Mark). m.stamp ≤ v.seen) (λ (m : Mark). m.stamp ≤ max v.seen w.seen) ms (λ m le. omega (arith, le, le-max_left v.seen w.seen)) most
+
+module _ {S : Type 0} where
+  pub shows : (id l : ℕ) (v : View) → Splits {S = S} Law id v v (shown l v)
+  shows id l v = splits id v v (shown l v) (λ t f. (f, λ j. copy_fits t id j v [] l (known_of l v) f tt (f.knows l).known))
+
+  -- a copy of a link's seat joins a pass
+  pub takes : (id l : ℕ) (v : View) (other : ℕ) (w : View) → Joins {S = S} Law id v other w (taken l v w) nobody
+  takes id l v other w = joins id v other w (taken l v w)
+      (λ t f g.
+      let list = longer (known_of l v) (known_of l w) in
+      let sh = shelf l list (known_of l v) (known_of l w) in
+      record {
+        seen = max-le f.seen g.seen;
+        among = f.among;
+        knows = λ k. shelf_cases (λ s. Begins (t.log k) s) k sh v.shelves
+            (λ (e : l ≡ k). subst (λ n. Begins (t.log n) sh) e
+            (record { known = longer_both (λ ms. IsPrefix ms (t.log l)) (known_of l v) (known_of l w) (f.knows l).known (g.knows l).known; first = (f.knows l).known; second = (g.knows l).known }))
+            (λ _. f.knows k);
+        has = λ k h.
+            let was = f.has k h in
+            record {
+              here = was.here;
+              whole = shelf_cases (λ s. s.known ≡ t.log k) k sh v.shelves
+                  (λ (e : l ≡ k). longer_whole (t.log k) (known_of l v) (known_of l w) (subst (λ n. known_of n v ≡ t.log k) (sym e) was.whole) (subst (λ n. IsPrefix (known_of l w) (t.log n)) e (g.knows l).known))
+                  (λ _. was.whole);
+              most = most_left v w (t.log k) was.most;
+            };
+        acts = f.acts;
+        drew = f.drew;
+        holds = f.holds;
+      })
+
+  -- a copy with no mark in hand joins a link's seat
+  pub meets : (id l : ℕ) (v : View) (other : ℕ) (w : View) → w.hand ≡ [] → Joins {S = S} Law id v other w (entered l v w) nobody
+  meets id l v other w empty = joins id v other w (entered l v w)
+      (λ t f g.
+      let same : known_of l v ++ marks_in w.hand ≡ known_of l v = ap (λ ds. known_of l v ++ marks_in ds) empty ∙ append-nil (known_of l v) in
+      let sh = shelf l (known_of l v ++ marks_in w.hand) (known_of l v) (known_of l w) in
+      record {
+        seen = max-le f.seen g.seen;
+        among = f.among;
+        knows = λ k. shelf_cases (λ s. Begins (t.log k) s) k sh v.shelves
+            (λ (e : l ≡ k). subst (λ n. Begins (t.log n) sh) e
+            (record { known = subst (λ ms. IsPrefix ms (t.log l)) (sym same) (f.knows l).known; first = (f.knows l).known; second = (g.knows l).known }))
+            (λ _. f.knows k);
+        has = λ k h.
+            let was = f.has k h in
+            record {
+              here = was.here;
+              whole = shelf_cases (λ s. s.known ≡ t.log k) k sh v.shelves
+                  (λ (e : l ≡ k). same ∙ ap (λ n. known_of n v) e ∙ was.whole)
+                  (λ _. was.whole);
+              most = most_left v w (t.log k) was.most;
+            };
+        acts = f.acts;
+        drew = f.drew;
+        holds = f.holds;
+      })
+
+-- ---- what a meeting tells
+
+pub met_facts : (l : ℕ) (v k : View) → k.links ≡ l ∷ [] → Learnt (entered l k (shown l v)) → Learnt (taken l v (shown l (entered l k (shown l v))))
+    → Meets l v k (taken l v (shown l (entered l k (shown l v)))) (entered l k (shown l v))
+met_facts l v k links of_link of_pass =
+    let k' = entered l k (shown l v) in
+    let p' = taken l v (shown l k') in
+    let here : Has l k.links = subst (Has l) (sym links) (inl refl) in
+    let shelf_k = shelf_here l (known_of l k ++ []) (known_of l k) (known_of l (shown l v)) k.shelves in
+    let kept : known_of l k' ≡ known_of l k = ap (λ (s : Shelf). s.known) shelf_k ∙ append-nil (known_of l k) in
+    let second : second_of l k' ≡ known_of l v = ap (λ (s : Shelf). s.second) shelf_k ∙ known_shown l v in
+    let begins : IsPrefix (known_of l v) (known_of l k) = subst (λ (x : List Mark × List Mark). IsPrefix x.0 x.1) (λ i. (second i, kept i)) (of_link.joined l here) in
+    let rises : Rises (known_of l k) = subst Rises kept (of_link.rises l here) in
+    let knows : known_of l p' ≡ known_of l k =
+    ap (λ (s : Shelf). s.known) (shelf_here l (longer (known_of l v) (known_of l (shown l k'))) (known_of l v) (known_of l (shown l k')) v.shelves)
+    ∙ ap (longer (known_of l v)) (known_shown l k' ∙ kept)
+    ∙ longer_second (known_of l v) (known_of l k) begins in
+    record {
+      begins = begins;
+      rises = rises;
+      own = λ m has acts. of_pass.own l m (subst (Has m) (sym knows) has) acts;
+      in_turn = λ a acts. in_their_order a l (known_of l k) v.drawn rises (of_pass.in_turn a)
+          (λ m has is. of_pass.own l m (subst (Has m) (sym knows) has) (subst (λ n. Has n v.actors) (sym is) acts));
+      knows = knows;
+      keeps = kept;
+      others = λ j other. ap (λ (s : Shelf). s.known) (shelf_else l j (shelf l (longer (known_of l v) (known_of l (shown l k'))) (known_of l v) (known_of l (shown l k'))) v.shelves refl other);
+      saw = refl;
+      both_saw = refl;
+      drawn = refl;
+      actors = refl;
+      among = refl;
+      link_among = refl;
+    }

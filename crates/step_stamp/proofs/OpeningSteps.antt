@@ -1,0 +1,219 @@
+-- Opening: the rule at the first word and the first seat, the seats of links and passes cut from it one by one, and what
+-- stands of the seats made so far.
+use Rattle.std.proofs.Common.{◌≡◌, ℕ, zero, suc, eqb, ◌+◌, ◌<◌, not, cond, List, [], ◌∷◌, ◌++◌, refl, sym, ap, ◌∙◌, subst, inl, inr, ⊎_elim, arith, ne_eqb}
+use Rattle.std.proofs.lemmas.Bool.{cond_both, eq-eqb, eqb-true, cases_eq}
+use Rattle.std.proofs.lemmas.List.{map-append}
+use mathlib.Core.Option.{some-ne-none}
+use Rattle.atomic_table.specs.Seated.{TableId}
+use Rattle.atomic_table.specs.Table.{Splits}
+use Rattle.net_units.specs.Numbers.{actor_number}
+use Rattle.link_steps.specs.Lists.{Each}
+use Rattle.link_steps.proofs.ListFacts.{Each-append}
+use Rattle.step_stamp.specs.declared.marks.Drawn.{Drawn}
+use Rattle.step_stamp.specs.declared.seats.LinkSeat.{LinkSeat}
+use Rattle.step_stamp.specs.declared.seats.PassSeat.{PassSeat}
+use Rattle.step_stamp.specs.declared.views.Shelf.{Shelf}
+use Rattle.step_stamp.specs.declared.views.View.{View}
+use Rattle.step_stamp.specs.Lists.{Has, below, up_to, without}
+use Rattle.step_stamp.specs.Marks.{of_actor}
+use Rattle.step_stamp.specs.Opening.{IsNewLink, IsNewPass, AreLinks, ArePasses, IsFirst}
+use Rattle.step_stamp.specs.Rule.{Tally, Begins, HasList, HasActor, Fits, Kept}
+use Rattle.step_stamp.specs.Seats.{link_table, pass_table, link_view, pass_view, link_of, actor_of, list_of}
+use Rattle.step_stamp.specs.Views.{shelf, shelf_of, known_of, first_view, new_link, less_link, new_pass, less_actor}
+use Rattle.step_stamp.proofs.ListFacts.{has_kept, has_passed, begins_nothing}
+use Rattle.step_stamp.proofs.ShelfFacts.{shelf_cases, shelf_here, no_known, no_shelf}
+use Rattle.step_stamp.proofs.ViewFacts.{Law, views_end, hands_on}
+
+-- ---- numbers below n, and without one
+
+below_has : (k n : ℕ) → k < n → Has k (below n)
+unfolding below
+below_has k zero lt = absurd (omega arith)
+below_has k (suc n) lt = ⊎_elim (λ (e : k ≡ n). inl (sym e)) (λ other. inr (below_has k n (omega (arith, other)))) (cases_eq k n)
+
+below_small : (k n : ℕ) → Has k (below n) → k < n
+unfolding below
+below_small k zero has = absurd has
+below_small k (suc n) has = ⊎_elim (λ (e : n ≡ k). omega (arith, e)) (λ t. let rest = below_small k n t in omega (arith, rest)) has
+
+apart_from : (n k : ℕ) (ns : List ℕ) → Has k (without n ns) → k ≡ n → ⊥
+apart_from n k [] has e = has
+apart_from n k (x ∷ ns) has e =
+    cond_both (not (eqb x n)) (x ∷ without n ns) (without n ns) (λ l. Has k l → ⊥)
+    (λ on h. ⊎_elim (λ (same : x ≡ k). absurd (cc (on, ap not (eq-eqb x n (same ∙ e))))) (λ t. apart_from n k ns t e) h)
+    (λ _ h. apart_from n k ns h e) has
+
+has_others : (n k : ℕ) (ns : List ℕ) → (k ≡ n → ⊥) → Has k ns → Has k (without n ns)
+has_others n k ns other has = has_passed (λ x. not (eqb x n)) k ns (ap not (ne_eqb k n other)) has
+
+-- a number is moved for one place alone
+moved_here : (l new was : ℕ) → cond (eqb l l) new was ≡ new
+moved_here l new was = ap (λ b. cond b new was) (eq-eqb l l refl)
+
+moved_else : (k l new was : ℕ) → (k ≡ l → ⊥) → cond (eqb k l) new was ≡ was
+moved_else k l new was other = cond_both (eqb k l) new was (λ n. n ≡ was) (λ on. absurd (other (eqb-true k l on))) (λ _. refl)
+
+-- ---- the rule at the opening
+
+pub begins : (links actors : ℕ) → Kept (0 ∷ []) (first_view links actors ∷ [])
+begins links actors =
+    let t : Tally = record { draws = []; log = λ l. []; seat = λ l. 0; owner = λ a. 0; actors = actors } in
+    record {
+      tally = t;
+      word = refl;
+      numbered = tt;
+      room = λ a. omega arith;
+      acting = tt;
+      rises = λ l. tt;
+      drawn = λ l. tt;
+      fits = views_end (Fits t) [] (first_view links actors) 0 refl (λ j u e. absurd (some-ne-none u (sym e)))
+          (record {
+            seen = omega arith;
+            among = inr refl;
+            knows = λ l. no_shelf [] l;
+            has = λ l has. record { here = refl; whole = no_known l; most = tt };
+            acts = λ a has. record { here = refl; whole = refl; small = below_small a actors has };
+            drew = tt;
+            holds = tt;
+          });
+    }
+
+module _ {S : Type 0} where
+  pub opens_link : (id l : ℕ) (v : View) → Has l v.links → Splits {S = S} Law id v (less_link l v) (new_link l v)
+  opens_link id l v mine = hands_on id v (less_link l v) (new_link l v) (λ seat new k. cond (eqb k l) new (seat k)) (λ owner new. owner)
+      (λ t new f.
+      let was = f.has l mine in
+      let now : Tally = record t { seat = λ k. cond (eqb k l) new (t.seat k) } in
+      let taken_over : HasList now new l (new_link l v) = record { here = moved_here l new (t.seat l); whole = ap (λ (s : Shelf). s.known) (shelf_here l (known_of l v) [] [] []) ∙ was.whole; most = was.most } in (
+        record {
+          seen = f.seen;
+          among = f.among;
+          knows = f.knows;
+          has = λ k has.
+              let old = f.has k (has_kept (λ x. not (eqb x l)) k v.links has) in
+              record { here = moved_else k l new (t.seat k) (λ e. apart_from l k v.links has e) ∙ old.here; whole = old.whole; most = old.most };
+          acts = λ a has. (let old = f.acts a has in record { here = old.here; whole = old.whole; small = old.small });
+          drew = f.drew;
+          holds = f.holds;
+        },
+        record {
+          seen = f.seen;
+          among = f.among;
+          knows = λ k. shelf_cases (λ s. Begins (t.log k) s) k (shelf l (known_of l v) [] []) []
+              (λ (e : l ≡ k). subst (λ n. Begins (t.log n) (shelf l (known_of l v) [] [])) e (record { known = (f.knows l).known; first = begins_nothing (t.log l); second = begins_nothing (t.log l) }))
+              (λ _. no_shelf (t.log k) k);
+          has = λ k has. ⊎_elim (λ (e : l ≡ k). subst (λ n. HasList now new n (new_link l v)) e taken_over) (λ no. absurd no) has;
+          acts = λ a h. absurd h;
+          drew = tt;
+          holds = tt;
+        },
+        λ j u apart g. record {
+          seen = g.seen;
+          among = g.among;
+          knows = g.knows;
+          has = λ k has.
+              let old = g.has k has in
+              record { here = moved_else k l new (t.seat k) (λ e. absurd (apart (sym old.here ∙ ap t.seat e ∙ was.here))) ∙ old.here; whole = old.whole; most = old.most };
+          acts = λ a has. (let old = g.acts a has in record { here = old.here; whole = old.whole; small = old.small });
+          drew = g.drew;
+          holds = g.holds;
+        },
+      ))
+
+  pub opens_pass : (id a : ℕ) (v : View) → Has a v.actors → v.drawn ≡ [] → Splits {S = S} Law id v (less_actor a v) (new_pass a v)
+  opens_pass id a v mine nothing = hands_on id v (less_actor a v) (new_pass a v) (λ seat new. seat) (λ owner new k. cond (eqb k a) new (owner k))
+      (λ t new f.
+      let was = f.acts a mine in
+      let now : Tally = record t { owner = λ k. cond (eqb k a) new (t.owner k) } in
+      let taken_over : HasActor now new a [] = record { here = moved_here a new (t.owner a); whole = sym (ap (of_actor a) nothing) ∙ was.whole; small = was.small } in (
+        record {
+          seen = f.seen;
+          among = f.among;
+          knows = f.knows;
+          has = λ l has. (let old = f.has l has in record { here = old.here; whole = old.whole; most = old.most });
+          acts = λ k has.
+              let old = f.acts k (has_kept (λ x. not (eqb x a)) k v.actors has) in
+              record { here = moved_else k a new (t.owner k) (λ e. apart_from a k v.actors has e) ∙ old.here; whole = old.whole; small = old.small };
+          drew = subst (Each (λ (d : Drawn). Has (actor_number d.mark.actor) (less_actor a v).actors)) (sym nothing) tt;
+          holds = f.holds;
+        },
+        record {
+          seen = f.seen;
+          among = f.among;
+          knows = λ k. no_shelf (t.log k) k;
+          has = λ k h. absurd h;
+          acts = λ k has. ⊎_elim (λ (e : a ≡ k). subst (λ n. HasActor now new n []) e taken_over) (λ no. absurd no) has;
+          drew = tt;
+          holds = tt;
+        },
+        λ j u apart g. record {
+          seen = g.seen;
+          among = g.among;
+          knows = g.knows;
+          has = λ l has. (let old = g.has l has in record { here = old.here; whole = old.whole; most = old.most });
+          acts = λ k has.
+              let old = g.acts k has in
+              record { here = moved_else k a new (t.owner k) (λ e. absurd (apart (sym old.here ∙ ap t.owner e ∙ was.here))) ∙ old.here; whole = old.whole; small = old.small };
+          drew = g.drew;
+          holds = g.holds;
+        },
+      ))
+
+-- ---- what the first seat still has, and the seats made so far
+
+pub first_is : (links actors : ℕ) (v : View) → v ≡ first_view links actors → IsFirst links actors 0 0 v
+first_is links actors v is =
+    subst (IsFirst links actors 0 0) (sym is)
+    (record { links_left = λ k le lt. below_has k links lt; actors_left = λ k le lt. below_has k actors lt; among = refl; seen = refl; drawn = refl; hand = refl; shelves = refl })
+
+pub first_less_link : (links actors n m : ℕ) (v : View) → IsFirst links actors n m v → IsFirst links actors (n + 1) m (less_link n v)
+first_less_link links actors n m v f =
+    record {
+      links_left = λ k le lt. has_others n k v.links (λ e. omega (arith, e, le)) (f.links_left k (omega (arith, le)) lt);
+      actors_left = f.actors_left;
+      among = f.among;
+      seen = f.seen;
+      drawn = f.drawn;
+      hand = f.hand;
+      shelves = f.shelves;
+    }
+
+pub first_less_actor : (links actors n m : ℕ) (v : View) → IsFirst links actors n m v → IsFirst links actors n (m + 1) (less_actor m v)
+first_less_actor links actors n m v f =
+    record {
+      links_left = f.links_left;
+      actors_left = λ k le lt. has_others m k v.actors (λ e. omega (arith, e, le)) (f.actors_left k (omega (arith, le)) lt);
+      among = f.among;
+      seen = f.seen;
+      drawn = f.drawn;
+      hand = f.hand;
+      shelves = f.shelves;
+    }
+
+pub no_links : (t : TableId) (n : ℕ) (xs : List LinkSeat) → xs ≡ [] → AreLinks t n 0 xs
+unfolding up_to
+no_links t n xs is = subst (AreLinks t n 0) (sym is) (record { numbers = refl; new = tt })
+
+pub no_passes : (t : TableId) (n : ℕ) (xs : List PassSeat) → xs ≡ [] → ArePasses t n 0 xs
+unfolding up_to
+no_passes t n xs is = subst (ArePasses t n 0) (sym is) (record { numbers = refl; new = tt })
+
+pub links_more : (t : TableId) (n links actors m : ℕ) (xs ys : List LinkSeat) (s : LinkSeat) (v : View) → AreLinks t actors n xs → ys ≡ xs ++ s ∷ [] → link_of s ≡ n → link_table s ≡ t → link_view s ≡ new_link n v → IsFirst links actors n m v
+    → AreLinks t actors (n + 1) ys
+unfolding up_to
+links_more t n links actors m xs ys s v are is number table view f =
+    let one : n + 1 ≡ suc n = omega arith in
+    let known : list_of s ≡ [] =
+    ap (λ k. known_of k (link_view s)) number ∙ ap (known_of n) view ∙ ap (λ (sh : Shelf). sh.known) (shelf_here n (known_of n v) [] [] []) ∙ ap (λ ss. (shelf_of n ss).known) f.shelves ∙ no_known n in
+    let new : IsNewLink t actors s = record { from_table = table; unseen = ap (λ (x : View). x.seen) view ∙ f.seen; empty = known; among = ap (λ (x : View). x.among) view ∙ f.among } in
+    subst (λ (x : ℕ × List LinkSeat). AreLinks t actors x.0 x.1) (λ i. (sym one i, sym is i))
+    (record { numbers = map-append link_of xs (s ∷ []) ∙ (λ i. are.numbers i ++ number i ∷ []); new = Each-append (IsNewLink t actors) xs (s ∷ []) are.new (new, tt) })
+
+pub passes_more : (t : TableId) (n links actors m : ℕ) (xs ys : List PassSeat) (s : PassSeat) (v : View) → ArePasses t actors n xs → ys ≡ xs ++ s ∷ [] → actor_of s ≡ n → pass_table s ≡ t → pass_view s ≡ new_pass n v → IsFirst links actors m n v
+    → ArePasses t actors (n + 1) ys
+unfolding up_to
+passes_more t n links actors m xs ys s v are is number table view f =
+    let one : n + 1 ≡ suc n = omega arith in
+    let new : IsNewPass t actors s = record { from_table = table; view_is = view ∙ (λ i. record { seen = f.seen i; among = f.among i; links = []; actors = sym number i ∷ []; drawn = []; hand = []; shelves = [] }) } in
+    subst (λ (x : ℕ × List PassSeat). ArePasses t actors x.0 x.1) (λ i. (sym one i, sym is i))
+    (record { numbers = map-append actor_of xs (s ∷ []) ∙ (λ i. are.numbers i ++ number i ∷ []); new = Each-append (IsNewPass t actors) xs (s ∷ []) are.new (new, tt) })

@@ -1,0 +1,180 @@
+-- The rule through a change of views. What is owed is that the views changed fit as the ones before them did: where a view
+-- is cut in two or two are put together and all lists stay; where one link or one actor goes to a new view; and where all
+-- that a view has goes to another for good.
+use Rattle.std.proofs.Common.{◌≡◌, ◌≢◌, ℕ, zero, suc, eqb, cond, List, [], ◌∷◌, ◌++◌, length, set, refl, sym, ap, ◌∙◌, subst, inl, ⊎_elim, arith}
+use Rattle.std.proofs.lemmas.Bool.{cond_both, eq-eqb, eqb-true}
+use mathlib.Core.Option.{some, some-ne-none, some-injective}
+use mathlib.Core.List.{IsPrefix}
+use lib.ListN.{get_elem?}
+use Rattle.atomic_table.specs.Table.{State, Splits, Joins}
+use Rattle.atomic_table.proofs.Lists.{at_set, at_snoc}
+use Rattle.link_steps.specs.Lists.{Each}
+use Rattle.step_stamp.specs.declared.marks.Drawn.{Drawn}
+use Rattle.step_stamp.specs.declared.marks.Mark.{Mark}
+use Rattle.step_stamp.specs.declared.views.View.{View}
+use Rattle.step_stamp.specs.Lists.{Has}
+use Rattle.step_stamp.specs.Rule.{Tally, Begins, Fits, Kept}
+use Rattle.step_stamp.specs.Views.{shelf, nobody, copy}
+use Rattle.step_stamp.proofs.ListFacts.{begins_nothing}
+use Rattle.step_stamp.proofs.ShelfFacts.{shelf_cases, no_shelf}
+
+-- ---- a fact of each view
+
+-- after a change of one
+pub views_set : (F : ℕ → View → Type 0) (views : List View) (id : ℕ) (w : View) → ((j : ℕ) (u : View) → (j ≡ id → ⊥) → get_elem? views j ≡ some u → F j u) → F id w
+    → (j : ℕ) (u : View) → get_elem? (set views id w) j ≡ some u → F j u
+views_set F views id w others mine j u e =
+    ⊎_elim
+    (λ (x : (j ≡ id) × (w ≡ u)). subst (λ (y : ℕ × View). F y.0 y.1) (λ i. (sym x.0 i, x.1 i)) mine)
+    (λ (x : (j ≢ id) × (get_elem? views j ≡ some u)). others j u x.0 x.1)
+    (at_set views id j w u e)
+
+-- with a new one, wherever it stands, and at the end
+views_more : (F : ℕ → View → Type 0) (views : List View) (w : View) → ((j : ℕ) (u : View) → get_elem? views j ≡ some u → F j u) → ((j : ℕ) → F j w)
+    → (j : ℕ) (u : View) → get_elem? (views ++ w ∷ []) j ≡ some u → F j u
+views_more F views w others new j u e = ⊎_elim (λ was. others j u was) (λ (same : w ≡ u). subst (F j) same (new j)) (at_snoc views w u j e)
+
+pub views_end : (F : ℕ → View → Type 0) (views : List View) (w : View) (n : ℕ) → length views ≡ n → ((j : ℕ) (u : View) → get_elem? views j ≡ some u → F j u) → F n w
+    → (j : ℕ) (u : View) → get_elem? (views ++ w ∷ []) j ≡ some u → F j u
+views_end F [] w n long others mine zero u e = subst (λ (x : ℕ × View). F x.0 x.1) (λ i. (sym long i, some-injective w u e i)) mine
+views_end F [] w n long others mine (suc j) u e = absurd (some-ne-none u (sym e))
+views_end F (x ∷ views) w n long others mine zero u e = others zero u e
+views_end F (x ∷ views) w n long others mine (suc j) u e =
+    views_end (λ k. F (suc k)) views w (length views) refl (λ k y at. others (suc k) y at) (subst (λ k. F k w) (sym long) mine) j u e
+
+length-set : (views : List View) (id : ℕ) (w : View) → length (set views id w) ≡ length views
+length-set [] id w = refl
+length-set (x ∷ views) zero w = refl
+length-set (x ∷ views) (suc id) w = ap suc (length-set views id w)
+
+-- of two views apart, what the second one has once the first has changed
+pub other_view : (F : ℕ → View → Type 0) (views : List View) (id other : ℕ) (both w : View) → (other ≡ id → ⊥) → ((j : ℕ) (u : View) → get_elem? views j ≡ some u → F j u) → get_elem? (set views id both) other ≡ some w → F other w
+other_view F views id other both w apart all there =
+    ⊎_elim (λ (t : (other ≡ id) × (both ≡ w)). absurd (apart t.0)) (λ (t : (other ≢ id) × (get_elem? views other ≡ some w)). all other w t.1) (at_set views id other both w there)
+
+-- ---- views that fit anywhere
+
+-- one that knows nothing
+pub nobody_fits : (t : Tally) (j : ℕ) → Fits t j nobody
+nobody_fits t j = record { seen = omega arith; among = inl refl; knows = λ l. no_shelf (t.log l) l; has = λ l h. absurd h; acts = λ a h. absurd h; drew = tt; holds = tt }
+
+-- a copy with a part of what a view knows
+pub copy_fits : (t : Tally) (id j : ℕ) (v : View) (hand : List Drawn) (l : ℕ) (known : List Mark) → Fits t id v → Each (λ (d : Drawn). Has d t.draws) hand → IsPrefix known (t.log l)
+    → Fits t j (copy v hand (shelf l known [] []))
+copy_fits t id j v hand l known f holds begins = record {
+  seen = f.seen;
+  among = f.among;
+  knows = λ k. shelf_cases (λ s. Begins (t.log k) s) k (shelf l known [] []) []
+      (λ (e : l ≡ k). record { known = subst (λ n. IsPrefix known (t.log n)) e begins; first = begins_nothing (t.log k); second = begins_nothing (t.log k) })
+      (λ _. no_shelf (t.log k) k);
+  has = λ k h. absurd h;
+  acts = λ a h. absurd h;
+  drew = tt;
+  holds = holds;
+}
+
+-- ---- who has something of another has it still; what the other had is moved
+
+pub stays : (other id at k : ℕ) → at ≡ k → (k ≡ other → ⊥) → cond (eqb at other) id at ≡ k
+stays other id at k is elsewhere = cond_both (eqb at other) id at (λ n. n ≡ k) (λ on. absurd (elsewhere (sym is ∙ eqb-true at other on))) (λ _. is)
+
+pub moves : (other id at : ℕ) → at ≡ other → cond (eqb at other) id at ≡ id
+moves other id at is = ap (λ b. cond b id at) (eq-eqb at other is)
+
+module _ {S : Type 0} where
+  abbrev pub Law : State S View → Type 0
+  Law s = Kept s.words s.views
+
+  -- a view is cut in two, and all lists stay
+  pub splits : (id : ℕ) (v left right : View) → ((t : Tally) → Fits t id v → Fits t id left × ((j : ℕ) → Fits t j right)) → Splits Law id v left right
+  splits id v left right how s h at =
+      let t = h.tally in
+      let parts = how t (h.fits id v at) in
+      record {
+        tally = t;
+        word = h.word;
+        numbered = h.numbered;
+        room = h.room;
+        acting = h.acting;
+        rises = h.rises;
+        drawn = h.drawn;
+        fits = views_more (Fits t) (set s.views id left) right (views_set (Fits t) s.views id left (λ j u _ e. h.fits j u e) parts.0) parts.1;
+      }
+
+  -- two views are put together, and all lists stay
+  pub joins : (id : ℕ) (v : View) (other : ℕ) (w both : View) → ((t : Tally) → Fits t id v → Fits t other w → Fits t id both) → Joins Law id v other w both nobody
+  joins id v other w both how s h at apart there =
+      let t = h.tally in
+      let theirs = other_view (Fits t) s.views id other both w apart h.fits there in
+      record {
+        tally = t;
+        word = h.word;
+        numbered = h.numbered;
+        room = h.room;
+        acting = h.acting;
+        rises = h.rises;
+        drawn = h.drawn;
+        fits = views_set (Fits t) (set s.views id both) other nobody
+            (λ j u _ e. views_set (Fits t) s.views id both (λ i x _ e'. h.fits i x e') (how t (h.fits id v at) theirs) j u e)
+            (nobody_fits t other);
+      }
+
+  -- a view is cut in two, and what it had of one link or one actor goes to the new one
+  pub hands_on : (id : ℕ) (v left right : View) (seat_now owner_now : (ℕ → ℕ) → ℕ → ℕ → ℕ)
+      → ((t : Tally) (new : ℕ) → Fits t id v
+      → Fits (record t { seat = seat_now t.seat new; owner = owner_now t.owner new }) id left
+      × Fits (record t { seat = seat_now t.seat new; owner = owner_now t.owner new }) new right
+      × ((j : ℕ) (u : View) → (j ≡ id → ⊥) → Fits t j u → Fits (record t { seat = seat_now t.seat new; owner = owner_now t.owner new }) j u))
+      → Splits Law id v left right
+  hands_on id v left right seat_now owner_now how s h at =
+      let t = h.tally in
+      let new = length s.views in
+      let now : Tally = record t { seat = seat_now t.seat new; owner = owner_now t.owner new } in
+      let parts = how t new (h.fits id v at) in
+      record {
+        tally = now;
+        word = h.word;
+        numbered = h.numbered;
+        room = h.room;
+        acting = h.acting;
+        rises = h.rises;
+        drawn = h.drawn;
+        fits = views_end (Fits now) (set s.views id left) right new (length-set s.views id left) (views_set (Fits now) s.views id left (λ j u apart e. parts.2 j u apart (h.fits j u e)) parts.0) parts.1;
+      }
+
+  -- two views are put together for good: what the other had is this one's
+  pub joins_all : (id : ℕ) (v : View) (other : ℕ) (w both : View)
+      → ((t : Tally) → (other ≡ id → ⊥) → Fits t id v → Fits t other w
+      → Fits (record t { seat = λ k. cond (eqb (t.seat k) other) id (t.seat k); owner = λ k. cond (eqb (t.owner k) other) id (t.owner k) }) id both)
+      → Joins Law id v other w both nobody
+  joins_all id v other w both how s h at apart there =
+      let t = h.tally in
+      let theirs = other_view (Fits t) s.views id other both w apart h.fits there in
+      let now : Tally = record t { seat = λ k. cond (eqb (t.seat k) other) id (t.seat k); owner = λ k. cond (eqb (t.owner k) other) id (t.owner k) } in
+      record {
+        tally = now;
+        word = h.word;
+        numbered = h.numbered;
+        room = h.room;
+        acting = h.acting;
+        rises = h.rises;
+        drawn = h.drawn;
+        fits = λ j u e. ⊎_elim
+            (λ (x : (j ≡ other) × (nobody ≡ u)). subst (Fits now j) x.1 (nobody_fits now j))
+            (λ (x : (j ≢ other) × (get_elem? (set s.views id both) j ≡ some u)).
+            views_set (λ k y. (k ≡ other → ⊥) → Fits now k y) s.views id both
+            (λ k y _ e' elsewhere.
+            let g = h.fits k y e' in
+            record {
+              seen = g.seen;
+              among = g.among;
+              knows = g.knows;
+              has = λ l has. let old = g.has l has in record { here = stays other id (t.seat l) k old.here elsewhere; whole = old.whole; most = old.most };
+              acts = λ a has. let old = g.acts a has in record { here = stays other id (t.owner a) k old.here elsewhere; whole = old.whole; small = old.small };
+              drew = g.drew;
+              holds = g.holds;
+            })
+            (λ _. how t apart (h.fits id v at) theirs)
+            j u x.1 x.0)
+            (at_set (set s.views id both) other j nobody u e);
+      }

@@ -1,0 +1,22 @@
+use Rattle.std.proofs.Common.{◌≡◌, sym, ap, ◌∙◌, subst, arith}
+use Rattle.step_stamp.specs.declared.views.View.{View}
+use Rattle.step_stamp.specs.Rule.{Learnt}
+use Rattle.step_stamp.specs.Seats.{Gathered}
+use Rattle.step_stamp.specs.Views.{gathered}
+use Rattle.step_stamp.proofs.Closing.{gathers, gathered_facts}
+use Rattle.step_stamp.proofs.Learning.{learns}
+use Rattle.step_stamp.proofs.seats.PassSeat.gather.Goals as goal
+
+pub join_seat-requires : goal.join_seat-requires
+join_seat-requires c = (c.requires.this, c.requires.that, c.args.other.free, omega (arith, c.args.stamps.now.words), gathers _ _ _ _)
+
+pub load-requires : goal.load-requires
+load-requires c = (c.join_seat.ensures.0 ∙ c.requires.this, omega (arith, c.args.stamps.now.words), learns _ _ _)
+
+pub returns-clause-joined : goal.returns-clause-joined
+returns-clause-joined c =
+    let v : View = c.args.self.now.seat.me.0 in
+    let w : View = c.args.other.seat.me.0 in
+    let joined : c.join_seat.new.seat.me.0 ≡ gathered v w = ap (λ m. m.0) c.join_seat.ensures.2 in
+    let now : c.load.new.seat.me.0 ≡ gathered v w = ap (λ m. m.0) c.load.ensures.2.0 ∙ joined in
+    subst (λ (x : View). Gathered v w x) (sym now) (gathered_facts v w (subst Learnt joined c.load.ensures.2.1))

@@ -1,0 +1,25 @@
+use Rattle.std.proofs.Common.{◌≡◌, [], ◌∷◌, sym, ap, ◌∙◌, subst, arith}
+use Rattle.step_stamp.specs.declared.views.View.{View}
+use Rattle.step_stamp.specs.Rule.{Learnt}
+use Rattle.step_stamp.specs.Seats.{Settled}
+use Rattle.step_stamp.specs.Views.{settled}
+use Rattle.step_stamp.proofs.Closing.{settles, settled_facts}
+use Rattle.step_stamp.proofs.Learning.{learns}
+use Rattle.step_stamp.proofs.seats.PassSeat.settle_at.Goals as goal
+
+pub join_seat-requires : goal.join_seat-requires
+join_seat-requires g c = (c.requires.this, c.requires.that, c.args.link.free, omega (arith, c.args.stamps.now.words), settles _ g.C.Chosen.number _ _ _ (c.args.link.links ∙ ap (λ l. l ∷ []) c.requires.chosen))
+
+pub load-requires : goal.load-requires
+load-requires g c = (c.join_seat.ensures.0 ∙ c.requires.this, omega (arith, c.args.stamps.now.words), learns _ _ _)
+
+pub returns-clause-joined : goal.returns-clause-joined
+returns-clause-joined g c =
+    let L = g.C.Chosen.number in
+    let v : View = c.args.self.now.seat.me.0 in
+    let w : View = c.args.link.seat.me.0 in
+    let joined : c.join_seat.new.seat.me.0 ≡ settled L v w = ap (λ m. m.0) c.join_seat.ensures.2 in
+    let now : c.load.new.seat.me.0 ≡ settled L v w = ap (λ m. m.0) c.load.ensures.2.0 ∙ joined in
+    let facts = settled_facts L v w (c.args.link.links ∙ ap (λ l. l ∷ []) c.requires.chosen) c.args.self.now.among (subst Learnt joined c.load.ensures.2.1) in
+    let here : Settled L v w c.load.new.seat.me.0 = subst (λ (x : View). Settled L v w x) (sym now) facts in
+    subst (λ l. Settled l v w c.load.new.seat.me.0) (sym c.requires.chosen) here

@@ -1,0 +1,6 @@
+pub mod Lists
+pub mod Marks
+pub mod Views
+pub mod Rule
+pub mod Seats
+pub mod Opening

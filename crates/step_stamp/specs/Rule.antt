@@ -1,0 +1,82 @@
+-- The word holds how many stamps were drawn. Behind it stand all draws in their order, the list of marks entered at each
+-- link, which view has that list, and which view each actor is in. The rule says how the word and every view agree with
+-- these: the draws are numbered from 1 to the word; each link's list rises and holds marks drawn for it alone; what any
+-- view knows of a link begins that link's list; the view that has the list knows all of it and has seen its stamps; a
+-- view that has an actor has all that the actor drew; no actor draws more than 2^40 marks. It holds between any two steps.
+use Rattle.std.specs.Prelude.{◌≡◌, ℕ, ◌*◌, ◌^◌, ◌<◌, ◌≤◌, ◌⊎◌, List, [], ◌∷◌, length}
+use mathlib.Core.Option.{some}
+use mathlib.Core.List.{IsPrefix}
+use lib.ListN.{get_elem?}
+use Rattle.net_units.specs.Numbers.{actor_number}
+use Rattle.link_steps.specs.Lists.{Each}
+use Rattle.step_stamp.specs.declared.marks.Drawn.{Drawn}
+use Rattle.step_stamp.specs.declared.marks.Mark.{Mark}
+use Rattle.step_stamp.specs.declared.views.Shelf.{Shelf}
+use Rattle.step_stamp.specs.declared.views.View.{View}
+use Rattle.step_stamp.specs.Lists.{Has}
+use Rattle.step_stamp.specs.Marks.{Rises, Numbered, NoTwice, drawn_for, marks_in, of_actor}
+use Rattle.step_stamp.specs.Views.{shelf_of, known_of, first_of, second_of}
+
+-- what stands behind the word: all draws in their order, the list of each link and the number of the view that has it, the
+-- number of the view of each actor, and how many actors there are
+pub record Tally : Type 0 where
+  pub draws : List Drawn
+  pub log : ℕ → List Mark
+  pub seat : ℕ → ℕ
+  pub owner : ℕ → ℕ
+  pub actors : ℕ
+
+-- all that stands on a shelf begins the link's list
+pub record Begins (list : List Mark) (s : Shelf) : Type 0 where
+  pub known : IsPrefix s.known list
+  pub first : IsPrefix s.first list
+  pub second : IsPrefix s.second list
+
+-- view `by` has the list of link l, knows all of it, and has seen its stamps
+pub record HasList (t : Tally) (by l : ℕ) (v : View) : Type 0 where
+  pub here : t.seat l ≡ by
+  pub whole : known_of l v ≡ t.log l
+  pub most : Each (λ (m : Mark). m.stamp ≤ v.seen) (t.log l)
+
+-- view `by` has actor a, and what it has drawn of that actor is all that the actor drew
+pub record HasActor (t : Tally) (by a : ℕ) (drawn : List Drawn) : Type 0 where
+  pub here : t.owner a ≡ by
+  pub whole : of_actor a drawn ≡ of_actor a t.draws
+  pub small : a < t.actors
+
+-- what the rule says of view `by`
+pub record Fits (t : Tally) (by : ℕ) (v : View) : Type 0 where
+  pub seen : v.seen ≤ length t.draws
+  pub among : (v.among ≡ 0) ⊎ (v.among ≡ t.actors)
+  pub knows : (l : ℕ) → Begins (t.log l) (shelf_of l v.shelves)
+  pub has : (l : ℕ) → Has l v.links → HasList t by l v
+  pub acts : (a : ℕ) → Has a v.actors → HasActor t by a v.drawn
+  pub drew : Each (λ (d : Drawn). Has (actor_number d.mark.actor) v.actors) v.drawn
+  pub holds : Each (λ (d : Drawn). Has d t.draws) v.hand
+
+-- the rule on the word and all views
+pub record Kept (words : List ℕ) (views : List View) : Type 0 where
+  pub tally : Tally
+  pub word : words ≡ length tally.draws ∷ []
+  pub numbered : Numbered 0 tally.draws
+  pub room : (a : ℕ) → length (of_actor a tally.draws) ≤ 2 ^ 40
+  pub acting : Each (λ (d : Drawn). actor_number d.mark.actor < tally.actors) tally.draws
+  pub rises : (l : ℕ) → Rises (tally.log l)
+  pub drawn : (l : ℕ) → Each (λ (m : Mark). Has (drawn_for l m) tally.draws) (tally.log l)
+  pub fits : (by : ℕ) (v : View) → get_elem? views by ≡ some v → Fits tally by v
+
+-- ---- what the rule tells of a view, whatever the table is
+
+-- what was joined into a list that it has begins that list, and its stamps rise; its drawn marks are few, none has the
+-- stamp of another, and each actor's stamps rise; a mark known of an actor of its own is one that it has drawn for that
+-- link, and where it has all actors, so is each mark known
+pub record Learnt (v : View) : Type 0 where
+  pub begun : (l : ℕ) → Has l v.links → IsPrefix (first_of l v) (known_of l v)
+  pub joined : (l : ℕ) → Has l v.links → IsPrefix (second_of l v) (known_of l v)
+  pub in_line : (l : ℕ) → IsPrefix (first_of l v) (second_of l v) ⊎ IsPrefix (second_of l v) (first_of l v)
+  pub rises : (l : ℕ) → Has l v.links → Rises (known_of l v)
+  pub few : length v.drawn ≤ 65 * 2 ^ 40
+  pub once : NoTwice v.drawn
+  pub in_turn : (a : ℕ) → Rises (marks_in (of_actor a v.drawn))
+  pub own : (l : ℕ) (m : Mark) → Has m (known_of l v) → Has (actor_number m.actor) v.actors → Has (drawn_for l m) v.drawn
+  pub all : 1 ≤ v.among → ((a : ℕ) → a < v.among → Has a v.actors) → (l : ℕ) (m : Mark) → Has m (known_of l v) → Has (drawn_for l m) v.drawn
