@@ -1,0 +1,74 @@
+-- Journals: one entry more, how many ticks they have at most, and that the marks of a legal journal tell the whole of it.
+use Rattle.std.proofs.Common.{◌≡◌, ℕ, suc, ◌≤◌, List, [], ◌∷◌, ◌++◌, map, length, refl, ap, ◌∙◌, subst, arith}
+use Rattle.std.proofs.lemmas.List.{map-append, reverse-append, length-reverse, length-map}
+use Rattle.std.specs.Prelude.{reverse}
+use Rattle.link_steps.specs.Journals.{GoesOn}
+use Rattle.link_steps.specs.Legal.{IsLegal}
+use Rattle.link_steps.specs.Replies.{reply_to}
+use Rattle.link_steps.specs.Scan.{clock_of, clock_with}
+use Rattle.link_steps.specs.Split.{Link}
+use Rattle.link_steps.specs.declared.asks.Ask.{Ask}
+use Rattle.link_steps.specs.declared.asks.Ask.TheVariants.{Reserve, Relax, Deny, Submit, Release, Arrive, Tick, Pour}
+use Rattle.link_steps.specs.declared.replies.Entry.{Entry as Done}
+use Rattle.link_steps.specs.declared.replies.Reply.{Reply}
+use Rattle.link_steps.proofs.JournalFacts.{journals-are-histories}
+use Rattle.step_stamp.specs.declared.marks.Mark.{Mark}
+use Rattle.link_ledger.specs.Journals.{mark_in, done_in, marks_in, history_in, entry_of, done_of, told_after, journal_of}
+use Rattle.link_ledger.specs.declared.entries.Entry.{Entry}
+
+-- ---- one entry more
+
+pub history-more : (entries : List Entry) (e : Entry) → history_in (entries ++ e ∷ []) ≡ done_in e ∷ history_in entries
+history-more entries e = ap reverse (map-append done_in entries (e ∷ [])) ∙ reverse-append (map done_in entries) (done_in e ∷ [])
+
+pub marks-more : (entries : List Entry) (e : Entry) → marks_in (entries ++ e ∷ []) ≡ marks_in entries ++ mark_in e ∷ []
+marks-more entries e = map-append mark_in entries (e ∷ [])
+
+-- ---- the clock of a history
+
+clock_with-most : (ask : Ask) (t : ℕ) → clock_with ask t ≤ suc t
+clock_with-most (Reserve a b c d e f g) t = omega arith
+clock_with-most (Relax a b c) t = omega arith
+clock_with-most (Deny a) t = omega arith
+clock_with-most (Submit a b c d) t = omega arith
+clock_with-most (Release a b) t = omega arith
+clock_with-most (Arrive a) t = omega arith
+clock_with-most Tick t = omega arith
+clock_with-most (Pour a b c) t = omega arith
+
+clock-most : (h : List Done) → clock_of h ≤ length h
+unfolding clock_of
+clock-most [] = omega arith
+clock-most (e ∷ past) = let rest = clock-most past in let here = clock_with-most e.ask (clock_of past) in omega (arith, rest, here)
+
+-- it is at most the number of the entries
+pub journal-clock-most : (entries : List Entry) → clock_of (history_in entries) ≤ length entries
+journal-clock-most entries =
+    let most = clock-most (history_in entries) in
+    let turned = length-reverse (map done_in entries) in
+    let mapped = length-map entries done_in in
+    omega (arith, most, turned, mapped)
+
+-- ---- what marks tell
+
+-- marks tell the journal of legal entries, behind any history
+told : (link : Link) (past : List Done) (entries : List Entry) → GoesOn link past (map done_in entries) → told_after link past (marks_in entries) ≡ entries
+unfolding told_after GoesOn
+told link past [] on = refl
+told link past (e ∷ entries) on =
+    let answered : e.reply ≡ reply_to link past e.ask = on.0.answered in
+    let rest = told link (done_in e ∷ past) entries on.1 in
+    subst (λ (reply : Reply). entry_of (mark_in e) reply ∷ told_after link (done_of (mark_in e) reply ∷ past) (marks_in entries) ≡ e ∷ entries) answered (ap (λ es. e ∷ es) rest)
+
+pub journal-told : (link : Link) (entries : List Entry) → IsLegal link (history_in entries) → journal_of link (marks_in entries) ≡ entries
+journal-told link entries legal = told link [] entries ((journals-are-histories link (map done_in entries)).1 legal)
+
+-- what marks tell in two parts
+unfoldable pub past_after : Link → List Done → List Mark → List Done
+past_after link past [] = past
+past_after link past (m ∷ ms) = past_after link (done_of m (reply_to link past m.ask) ∷ past) ms
+
+pub told-append : (link : Link) (past : List Done) (xs ys : List Mark) → told_after link past (xs ++ ys) ≡ told_after link past xs ++ told_after link (past_after link past xs) ys
+unfolding past_after told_after
+told-append link past [] ys = refl
+told-append link past (x ∷ xs) ys = ap (λ es. entry_of x (reply_to link past x.ask) ∷ es) (told-append link (done_of x (reply_to link past x.ask) ∷ past) xs ys)

@@ -1,0 +1,4 @@
+mod JournalFacts
+mod OrderFacts
+mod OwnFacts
+mod StepFacts

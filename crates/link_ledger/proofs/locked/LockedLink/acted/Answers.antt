@@ -1,0 +1,28 @@
+use Rattle.std.proofs.Common.{◌≡◌, sym, ap, ◌∙◌, subst, IfOk}
+use Rattle.std.specs.Prelude.{Result, Ok, Err}
+use Rattle.net_units.specs.Numbers.{link_number}
+use Rattle.step_stamp.specs.Seats.{pass_view}
+use Rattle.link_ledger.specs.Order.{HeldLink}
+use Rattle.link_ledger.specs.Own.{Acted}
+use Rattle.link_ledger.specs.Tokens.{IsLink}
+use Rattle.link_ledger.proofs.locked.LockedLink.acted.Goals as goal
+
+if_ok : {T E : Type 0} (P Q : T → Type 0) (r : Result T E) → ((x : T) → P x → Q x) → IfOk r P → IfOk r Q
+if_ok P Q (Ok x) follows holds = follows x holds
+if_ok P Q (Err e) follows holds = holds
+
+pub returns-clause-acted : goal.returns-clause-acted
+returns-clause-acted g c =
+    let held : HeldLink = c.deref_mut.result.now in
+    let same : held ≡ c.deref.result.now = c.deref_mut.ensures.value ∙ sym c.deref.ensures in
+    let number : held.number ≡ link_number c.args.self.now.link =
+    ap (λ (h : HeldLink). h.number) same ∙ sym c.number.ensures.number ∙ sym c.get.ensures.value ∙ c.if-get.false ∙ c.get-2.ensures.value in
+    let rules : IsLink g.H.Home.links held.number held.rules = subst (λ (h : HeldLink). IsLink g.H.Home.links h.number h.rules) (sym same) c.number.ensures.rules in
+    if_ok _ _ c.act.result
+    (λ e acted. record {
+      link = held.rules;
+      is_link = subst (λ n. IsLink g.H.Home.links n held.rules) number rules;
+      entries = held.entries;
+      acted = subst (λ n. Acted held.rules n c.args.seat.now.actor c.args.ask.now (pass_view c.args.seat.now) (pass_view c.act.new.pass) held.entries e) number acted;
+    })
+    c.act.ensures.acted
