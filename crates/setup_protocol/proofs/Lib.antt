@@ -1,6 +1,6 @@
-mod AskFacts
-mod LawFacts
-mod ProgressFacts
-mod RouteFacts
+pub mod AskFacts
+pub mod LawFacts
+pub mod ProgressFacts
+pub mod RouteFacts
 mod WayBackFacts
 mod FitFacts

@@ -1,0 +1,174 @@
+-- The network of every plan fits.
+use Rattle.std.proofs.Common.{◌≡◌, ◌≢◌, ℕ, zero, suc, ◌+◌, ◌<◌, ◌≤◌, Bool, true, false, Option, Some, None, List, [], ◌∷◌, length, map, refl, sym, ap, ◌∙◌, subst, inl, inr, option_map, IsTrue, arith}
+use Rattle.std.proofs.lemmas.Bool.{cases_Bool, leb-true, ltb-true}
+use Rattle.std.proofs.lemmas.List.{length-map}
+use Rattle.std.proofs.lemmas.Option.{slice_get-map, slice_get_cases, same_Some}
+use Rattle.std.specs.List.{list_all, slice_get}
+use Rattle.std.specs.Prelude.{nat_le, nat_lt, ◌&&◌}
+use Rattle.net_units.specs.LevelBounds.{are_bounds}
+use Rattle.net_units.specs.Numbers.{link_number, channel_number}
+use Rattle.net_units.specs.declared.numbers.ChanNo.{ChanNo}
+use Rattle.net_units.specs.declared.numbers.LinkNo.{LinkNo}
+use Rattle.hop_reservation.specs.declared.route.Hop.{Hop}
+use Rattle.link_steps.proofs.LegalAdmissible.{whole-fits}
+use Rattle.link_steps.proofs.ListFacts.{Each-both, Each-if, Each-map}
+use Rattle.link_steps.specs.Lists.{Each}
+use Rattle.link_steps.specs.Split.{Link, SplitFits}
+use Rattle.relaxation.specs.Laws.{HaveBounds}
+use Rattle.setup_protocol.specs.declared.request.Request.{Request}
+use Rattle.call_script.specs.Fits.{IsHopOf, RequestFits, TaskFits, NetworkFits}
+use Rattle.call_script.specs.Parts.{PlanParts, FollowsLink}
+use Rattle.call_script.specs.Plans.{HasTerms, IsPlan}
+use Rattle.call_script.specs.Rules.{have_links, has_link, route_is_there, pour_is_there, are_opened, are_there, request_in_range, op_in_range, rounds_in_range, are_in_range, are_few, takes_best_effort, pour_is_taken, pours_are_taken}
+use Rattle.call_script.specs.Tasks.{Network, request_of, link_of, task_of, with_task, tasks_of, script_of, network_of}
+use Rattle.call_script.specs.declared.entries.CallerEntry.{CallerEntry}
+use Rattle.call_script.specs.declared.entries.LinkEntry.{LinkEntry}
+use Rattle.call_script.specs.declared.entries.RequestEntry.{RequestEntry}
+use Rattle.call_script.specs.declared.operations.Op.{Op}
+use Rattle.call_script.specs.declared.operations.Op.TheVariants.{Open, Send, Close, Pour}
+use Rattle.call_script.specs.declared.tasks.Task.{Task}
+use Rattle.call_script.proofs.RuleFacts.{both, each-of, packets-fit, KeepsRules, keeps-rules}
+
+-- ---- by index
+
+-- what each element has, the one at an index has
+pub each-at : {X : Type 0} (P : X → Type 0) (xs : List X) (i : ℕ) (x : X) → Each P xs → slice_get xs i ≡ Some x → P x
+each-at P [] i x each found = cc
+each-at P (y ∷ ys) zero x each found = subst P (same_Some y x found) each.0
+each-at P (y ∷ ys) (suc i) x each found = each-at P ys i x each.1 found
+
+-- what holds at every index, each element has
+pub each-by : {X : Type 0} (P : X → Type 0) (xs : List X) → ((i : ℕ) (x : X) → slice_get xs i ≡ Some x → P x) → Each P xs
+each-by P [] all = tt
+each-by P (y ∷ ys) all = (all 0 y refl, each-by P ys (λ i x found. all (suc i) x found))
+
+-- an element of a mapped list comes from one of the list
+pub record ComesFrom {X Y : Type 0} (f : X → Y) (xs : List X) (i : ℕ) (y : Y) : Type 0 where
+  pub from : X
+  pub found : slice_get xs i ≡ Some from
+  pub is : f from ≡ y
+
+pub comes-from : {X Y : Type 0} (f : X → Y) (xs : List X) (i : ℕ) (y : Y) → slice_get (map f xs) i ≡ Some y → ComesFrom f xs i y
+comes-from f [] i y found = cc
+comes-from f (x ∷ xs) zero y found = record { from = x; found = refl; is = same_Some (f x) y found }
+comes-from f (x ∷ xs) (suc i) y found = (let rest = comes-from f xs i y found in record { from = rest.from; found = rest.found; is = rest.is })
+
+-- ---- requests
+
+hop-there : (links : List LinkEntry) (hop : Hop) → has_link links hop.link ≡ true → FollowsLink links hop → IsHopOf (map link_of links) hop
+hop-there links hop there follows =
+    elim (slice_get_cases links (link_number hop.link)).1 [
+      | inl at ↦ record {
+        link = link_of at.0;
+        linked = slice_get-map link_of links (link_number hop.link) ∙ ap (option_map link_of) at.2;
+        bounds = follows.bounds at.0 at.2;
+        prop = follows.prop at.0 at.2;
+      }
+      | inr past ↦ (let within : link_number hop.link < length links = ltb-true (link_number hop.link) (length links) there in absurd (omega (arith, past.0)))
+    ]
+
+hops-there : (links : List LinkEntry) (route : List Hop) → list_all (λ (hop : Hop). has_link links hop.link) route ≡ true → Each (FollowsLink links) route → Each (IsHopOf (map link_of links)) route
+hops-there links [] there follows = tt
+hops-there links (hop ∷ route) there follows =
+    let split = both (has_link links hop.link) (list_all (λ (h : Hop). has_link links h.link) route) there in
+    (hop-there links hop split.0 follows.0, hops-there links route split.1 follows.1)
+
+-- a hop has the bounds of its link, which are a link's bounds
+hops-bounds : (links : List LinkEntry) (route : List Hop) → list_all (λ (hop : Hop). has_link links hop.link) route ≡ true → Each (FollowsLink links) route → HaveBounds route
+unfolding HaveBounds
+hops-bounds links [] there follows = tt
+hops-bounds links (hop ∷ route) there follows =
+    let split = both (has_link links hop.link) (list_all (λ (h : Hop). has_link links h.link) route) there in
+    elim (slice_get_cases links (link_number hop.link)).1 [
+      | inl at ↦ (subst (λ bs. IsTrue (are_bounds bs)) (sym (follows.0.bounds at.0 at.2)) at.0.shape.bounds_rise, hops-bounds links route split.1 follows.1)
+      | inr past ↦ (let within : link_number hop.link < length links = ltb-true (link_number hop.link) (length links) split.0 in absurd (omega (arith, past.0)))
+    ]
+
+pub request-fits : (parts : PlanParts) (n : ℕ) (entry : RequestEntry) → IsPlan parts → slice_get parts.requests n ≡ Some entry → RequestFits (map link_of parts.links) entry.request
+unfolding are_there
+request-fits parts n entry plan found =
+    let rules = keeps-rules parts plan.kept in
+    let first = both (list_all (route_is_there parts.links) parts.requests && list_all (λ (caller : CallerEntry). list_all (pour_is_there parts.links) caller.ops) parts.callers) (are_opened parts.callers) rules.there in
+    let routes = both (list_all (route_is_there parts.links) parts.requests) (list_all (λ (caller : CallerEntry). list_all (pour_is_there parts.links) caller.ops) parts.callers) first.0 in
+    let there = each-at (λ e. route_is_there parts.links e ≡ true) parts.requests n entry (each-of (route_is_there parts.links) parts.requests routes.0) found in
+    let follows = plan.planned.hops n entry found in
+    let terms = each-at HasTerms parts.requests n entry plan.terms found in
+    record { contract = terms.contract; bounds = hops-bounds parts.links entry.request.route there follows; route = terms.route; hops = hops-there parts.links entry.request.route there follows }
+
+-- ---- tasks
+
+-- what a task fits, where there is one
+TaskFitsIf : List Link → Option Task → Type 0
+TaskFitsIf links None = Unit {0}
+TaskFitsIf links (Some task) = TaskFits links task
+
+with-fits : (links : List Link) (task : Option Task) (tasks : List Task) → TaskFitsIf links task → Each (TaskFits links) tasks → Each (TaskFits links) (with_task task tasks)
+unfolding TaskFitsIf
+with-fits links None tasks fits each = each
+with-fits links (Some task) tasks fits each = (fits, each)
+
+-- of the request at an index
+of-request : (parts : PlanParts) (own : Request → Task) (n : ℕ) → IsPlan parts → ((request : Request) → RequestFits (map link_of parts.links) request → TaskFits (map link_of parts.links) (own request))
+    → (found : Option Request) → slice_get (map request_of parts.requests) n ≡ found → TaskFitsIf (map link_of parts.links) (option_map own found)
+unfolding TaskFitsIf
+of-request parts own n plan fits None is = tt
+of-request parts own n plan fits (Some request) is =
+    let at = comes-from request_of parts.requests n request is in
+    fits request (subst (RequestFits (map link_of parts.links)) at.is (request-fits parts n at.from plan at.found))
+
+pour-fits : (links : List LinkEntry) (link : LinkNo) (count gap size : ℕ) → takes_best_effort (slice_get links (link_number link)) ≡ true → op_in_range (Pour link count gap size) ≡ true → TaskFitsIf (map link_of links) (task_of [] (Pour link count gap size))
+unfolding TaskFitsIf
+pour-fits links link count gap size taken range = by (slice_get links (link_number link)) refl taken where
+  by : (found : Option LinkEntry) → slice_get links (link_number link) ≡ found → takes_best_effort found ≡ true → TaskFitsIf (map link_of links) (task_of [] (Pour link count gap size))
+  by None is none = cc
+  by (Some entry) is some = record { link = link_of entry; linked = slice_get-map link_of links (link_number link) ∙ ap (option_map link_of) is; best = leb-true 1 entry.shape.best some; pour = packets-fit count gap size range }
+
+op-fits : (parts : PlanParts) (op : Op) → IsPlan parts → op_in_range op ≡ true → pour_is_taken parts.links op ≡ true → TaskFitsIf (map link_of parts.links) (task_of (map request_of parts.requests) op)
+op-fits parts (Open chan) plan range taken = of-request parts _ (channel_number chan) plan (λ request fits. fits) (slice_get (map request_of parts.requests) (channel_number chan)) refl
+op-fits parts (Send chan count gap size) plan range taken =
+    of-request parts _ (channel_number chan) plan (λ request fits. record { of_request = fits; send = packets-fit count gap size range }) (slice_get (map request_of parts.requests) (channel_number chan)) refl
+op-fits parts (Close chan) plan range taken = of-request parts _ (channel_number chan) plan (λ request fits. fits) (slice_get (map request_of parts.requests) (channel_number chan)) refl
+op-fits parts (Pour link count gap size) plan range taken = pour-fits parts.links link count gap size taken range
+
+ops-fit : (parts : PlanParts) (ops : List Op) → IsPlan parts → list_all op_in_range ops ≡ true → list_all (pour_is_taken parts.links) ops ≡ true → Each (TaskFits (map link_of parts.links)) (tasks_of (map request_of parts.requests) ops)
+unfolding tasks_of
+ops-fit parts [] plan range taken = tt
+ops-fit parts (op ∷ ops) plan range taken =
+    let ranges = both (op_in_range op) (list_all op_in_range ops) range in
+    let takes = both (pour_is_taken parts.links op) (list_all (pour_is_taken parts.links) ops) taken in
+    with-fits (map link_of parts.links) (task_of (map request_of parts.requests) op) (tasks_of (map request_of parts.requests) ops) (op-fits parts op plan ranges.0 takes.0) (ops-fit parts ops plan ranges.1 takes.1)
+
+callers-fit : (parts : PlanParts) (callers : List CallerEntry) → IsPlan parts → list_all (λ (caller : CallerEntry). list_all op_in_range caller.ops) callers ≡ true → list_all (λ (caller : CallerEntry). list_all (pour_is_taken parts.links) caller.ops) callers ≡ true
+    → Each (Each (TaskFits (map link_of parts.links))) (map (script_of (map request_of parts.requests)) callers)
+callers-fit parts [] plan range taken = tt
+callers-fit parts (caller ∷ callers) plan range taken =
+    let ranges = both (list_all op_in_range caller.ops) (list_all (λ (c : CallerEntry). list_all op_in_range c.ops) callers) range in
+    let takes = both (list_all (pour_is_taken parts.links) caller.ops) (list_all (λ (c : CallerEntry). list_all (pour_is_taken parts.links) c.ops) callers) taken in
+    (ops-fit parts caller.ops plan ranges.0 takes.0, callers-fit parts callers plan ranges.1 takes.1)
+
+-- ---- the network
+
+links-fit : (links : List LinkEntry) → Each SplitFits (map link_of links)
+links-fit [] = tt
+links-fit (entry ∷ links) = (whole-fits entry.shape, links-fit links)
+
+pub plan-fits : (parts : PlanParts) → IsPlan parts → NetworkFits (network_of parts)
+unfolding network_of have_links are_few are_in_range pours_are_taken
+plan-fits parts plan =
+    let rules = keeps-rules parts plan.kept in
+    let counts = both (nat_le (length parts.links) 32 && nat_le (length parts.callers) 64) (nat_le (length parts.requests) 1024) rules.few in
+    let links = both (nat_le (length parts.links) 32) (nat_le (length parts.callers) 64) counts.0 in
+    let ranges = both (list_all request_in_range parts.requests && list_all (λ (caller : CallerEntry). list_all op_in_range caller.ops) parts.callers) (rounds_in_range parts.rounds parts.tail) rules.range in
+    let ops = both (list_all request_in_range parts.requests) (list_all (λ (caller : CallerEntry). list_all op_in_range caller.ops) parts.callers) ranges.0 in
+    let rounds = both (nat_le parts.rounds 524288) (nat_le parts.tail 524288) ranges.1 in
+    let least : 1 ≤ length parts.links = leb-true 1 (length parts.links) rules.links in
+    let most : length parts.links ≤ 32 = leb-true (length parts.links) 32 links.0 in
+    let r : parts.rounds ≤ 524288 = leb-true parts.rounds 524288 rounds.0 in
+    let t : parts.tail ≤ 524288 = leb-true parts.tail 524288 rounds.1 in
+    record {
+      some = omega (arith, length-map parts.links link_of);
+      few = omega (arith, length-map parts.links link_of);
+      splits = links-fit parts.links;
+      tasks = callers-fit parts parts.callers plan ops.1 rules.pours;
+      rounds = omega arith;
+    }

@@ -1,0 +1,9 @@
+pub mod Walks
+pub mod WorkFacts
+pub mod ActorFacts
+pub mod TakeFacts
+pub mod RuleFacts
+pub mod FitFacts
+pub mod OpeningFacts
+pub mod OwnerFacts
+pub mod OneLinkFacts

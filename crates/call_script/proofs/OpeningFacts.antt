@@ -1,0 +1,150 @@
+-- What the callers of a plan open: each request once, by its caller, in the order of the requests. So a caller's openings have
+-- numbers one after the other, and a channel that is opened has a request of the caller that opens it.
+use Rattle.std.proofs.Common.{◌≡◌, ◌≢◌, ℕ, zero, suc, ◌+◌, ◌<◌, ◌⊎◌, Bool, true, false, Option, Some, None, List, [], ◌∷◌, ◌++◌, length, map, refl, sym, ap, ◌∙◌, subst, inl, inr, nat_eq, arith}
+use Rattle.std.proofs.lemmas.Bool.{cases_Bool, eqb-true}
+use Rattle.std.proofs.lemmas.Option.{same_Some}
+use Rattle.std.specs.List.{list_any, slice_get}
+use Rattle.std.specs.Prelude.{◌||◌}
+use Rattle.net_units.specs.Numbers.{actor_number, channel_number}
+use Rattle.link_steps.proofs.ListFacts.{Among}
+use Rattle.call_script.specs.Parts.{PlanParts, Opening, opened_by, openings_in, openings_of, opening_of, ArePlanned}
+use Rattle.call_script.specs.Rules.{opens}
+use Rattle.call_script.specs.declared.entries.CallerEntry.{CallerEntry}
+use Rattle.call_script.specs.declared.entries.RequestEntry.{RequestEntry}
+use Rattle.call_script.specs.declared.operations.Op.{Op}
+use Rattle.call_script.specs.declared.operations.Op.TheVariants.{Open, Send, Close, Pour}
+
+-- ---- members
+
+among-left : {X : Type 0} (x : X) (xs ys : List X) → Among x xs → Among x (xs ++ ys)
+among-left x [] ys among = absurd among
+among-left x (y ∷ xs) ys (inl same) = inl same
+among-left x (y ∷ xs) ys (inr rest) = inr (among-left x xs ys rest)
+
+among-right : {X : Type 0} (x : X) (xs ys : List X) → Among x ys → Among x (xs ++ ys)
+among-right x [] ys among = among
+among-right x (y ∷ xs) ys among = inr (among-right x xs ys among)
+
+-- ---- openings with numbers one after the other
+
+abbrev pub AreNumbered : ℕ → List Opening → Type 0
+AreNumbered m [] = Unit {0}
+AreNumbered m (opening ∷ openings) = (opening.chan ≡ m) × AreNumbered (suc m) openings
+
+numbered-map : (m : ℕ) (requests : List RequestEntry) → ((n : ℕ) (entry : RequestEntry) → slice_get requests n ≡ Some entry → channel_number entry.request.chan ≡ m + n) → AreNumbered m (map opening_of requests)
+numbered-map m [] own = tt
+numbered-map m (entry ∷ requests) own =
+    let here : channel_number entry.request.chan ≡ m = own 0 entry refl ∙ omega arith in
+    (here, numbered-map (suc m) requests (λ n e found. own (suc n) e found ∙ omega arith))
+
+numbered-left : (m : ℕ) (xs ys : List Opening) → AreNumbered m (xs ++ ys) → AreNumbered m xs
+numbered-left m [] ys are = tt
+numbered-left m (x ∷ xs) ys are = (are.0, numbered-left (suc m) xs ys are.1)
+
+-- what stands after a list that is numbered begins with some number
+numbered-right : (m : ℕ) (xs ys : List Opening) → AreNumbered m (xs ++ ys) → (from : ℕ) × AreNumbered from ys
+numbered-right m [] ys are = (m, are)
+numbered-right m (x ∷ xs) ys are = numbered-right (suc m) xs ys are.1
+
+callers-numbered : (m first : ℕ) (callers : List CallerEntry) (n at : ℕ) (caller : CallerEntry) → slice_get callers n ≡ Some caller → first + n ≡ at → AreNumbered m (openings_of first callers) → (from : ℕ) × AreNumbered from (openings_in at caller.ops)
+unfolding openings_of
+callers-numbered m first [] n at caller found same are = cc
+callers-numbered m first (c ∷ callers) zero at caller found same are =
+    let here : first ≡ at = omega (arith, same) in
+    (m, subst (λ ops. AreNumbered m (openings_in at ops)) (ap (λ (e : CallerEntry). e.ops) (same_Some c caller found)) (subst (λ k. AreNumbered m (openings_in k c.ops)) here (numbered-left m (openings_in first c.ops) (openings_of (suc first) callers) are)))
+callers-numbered m first (c ∷ callers) (suc n) at caller found same are =
+    let rest = numbered-right m (openings_in first c.ops) (openings_of (suc first) callers) are in
+    callers-numbered rest.0 (suc first) callers n at caller found (omega (arith, same)) rest.1
+
+-- those of a caller of a plan
+pub caller-numbered : (parts : PlanParts) (n : ℕ) (caller : CallerEntry) → ArePlanned parts → slice_get parts.callers n ≡ Some caller → (from : ℕ) × AreNumbered from (openings_in n caller.ops)
+caller-numbered parts n caller planned found =
+    callers-numbered 0 0 parts.callers n n caller found (omega arith)
+    (subst (AreNumbered 0) (sym planned.openings) (numbered-map 0 parts.requests (λ k entry at. planned.requests k entry at ∙ omega arith)))
+
+-- ---- what is opened has a request
+
+opens-among : (n c : ℕ) (ops : List Op) → list_any (opens c) ops ≡ true → Among (record { caller = n; chan = c }) (openings_in n ops)
+unfolding openings_in
+opens-among n c [] any = cc
+opens-among n c (Open chan ∷ ops) any =
+    elim (cases_Bool (nat_eq (channel_number chan) c)) [
+      | inl same ↦ inl (ap (λ (k : ℕ). record { caller = n; chan = k }) (sym (eqb-true (channel_number chan) c same)))
+      | inr other ↦ inr (opens-among n c ops (rw other at any))
+    ]
+opens-among n c (Send chan count gap size ∷ ops) any = opens-among n c ops any
+opens-among n c (Close chan ∷ ops) any = opens-among n c ops any
+opens-among n c (Pour link count gap size ∷ ops) any = opens-among n c ops any
+
+caller-among : (first : ℕ) (callers : List CallerEntry) (n at : ℕ) (caller : CallerEntry) (opening : Opening) → slice_get callers n ≡ Some caller → first + n ≡ at → Among opening (openings_in at caller.ops) → Among opening (openings_of first callers)
+unfolding openings_of
+caller-among first [] n at caller opening found same among = cc
+caller-among first (c ∷ callers) zero at caller opening found same among =
+    let here : at ≡ first = omega (arith, same) in
+    among-left opening (openings_in first c.ops) (openings_of (suc first) callers)
+    (subst (λ k. Among opening (openings_in k c.ops)) here (subst (λ ops. Among opening (openings_in at ops)) (ap (λ (e : CallerEntry). e.ops) (sym (same_Some c caller found))) among))
+caller-among first (c ∷ callers) (suc n) at caller opening found same among =
+    among-right opening (openings_in first c.ops) (openings_of (suc first) callers) (caller-among (suc first) callers n at caller opening found (omega (arith, same)) among)
+
+-- a request that is to be opened so
+record HasOpening (requests : List RequestEntry) (opening : Opening) : Type 0 where
+  n : ℕ
+  entry : RequestEntry
+  found : slice_get requests n ≡ Some entry
+  is : opening_of entry ≡ opening
+
+opening-at : (requests : List RequestEntry) (opening : Opening) → Among opening (map opening_of requests) → HasOpening requests opening
+opening-at [] opening among = absurd among
+opening-at (entry ∷ requests) opening (inl same) = record { n = 0; entry = entry; found = refl; is = sym same }
+opening-at (entry ∷ requests) opening (inr among) = (let rest = opening-at requests opening among in record { n = suc rest.n; entry = rest.entry; found = rest.found; is = rest.is })
+
+-- the request of this channel, which the caller of this number opens
+pub record IsOpenedBy (parts : PlanParts) (n c : ℕ) : Type 0 where
+  pub entry : RequestEntry
+  pub found : slice_get parts.requests c ≡ Some entry
+  pub by : actor_number entry.caller ≡ n
+
+pub opened-has : (parts : PlanParts) (n c : ℕ) (caller : CallerEntry) → ArePlanned parts → slice_get parts.callers n ≡ Some caller → list_any (opens c) caller.ops ≡ true → IsOpenedBy parts n c
+opened-has parts n c caller planned found any =
+    let among = caller-among 0 parts.callers n n caller (record { caller = n; chan = c }) found (omega arith) (opens-among n c caller.ops any) in
+    let at = opening-at parts.requests (record { caller = n; chan = c }) (subst (Among (record { caller = n; chan = c })) planned.openings among) in
+    let number : at.n ≡ c = sym (planned.requests at.n at.entry at.found) ∙ ap (λ (o : Opening). o.chan) at.is in
+    record { entry = at.entry; found = ap (slice_get parts.requests) (sym number) ∙ at.found; by = ap (λ (o : Opening). o.caller) at.is }
+
+-- ---- the caller of a request is there
+
+own-caller : (n : ℕ) (ops : List Op) (opening : Opening) → Among opening (openings_in n ops) → opening.caller ≡ n
+unfolding openings_in
+own-caller n [] opening among = absurd among
+own-caller n (Open chan ∷ ops) opening (inl same) = ap (λ (o : Opening). o.caller) same
+own-caller n (Open chan ∷ ops) opening (inr among) = own-caller n ops opening among
+own-caller n (Send chan count gap size ∷ ops) opening among = own-caller n ops opening among
+own-caller n (Close chan ∷ ops) opening among = own-caller n ops opening among
+own-caller n (Pour link count gap size ∷ ops) opening among = own-caller n ops opening among
+
+-- an opening among two lists is among the first or the second
+parted : {X : Type 0} (x : X) (xs ys : List X) → Among x (xs ++ ys) → Among x xs ⊎ Among x ys
+parted x [] ys among = inr among
+parted x (y ∷ xs) ys (inl same) = inl (inl same)
+parted x (y ∷ xs) ys (inr rest) = later (parted x xs ys rest) where
+  later : Among x xs ⊎ Among x ys → Among x (y ∷ xs) ⊎ Among x ys
+  later (inl own) = inl (inr own)
+  later (inr other) = inr other
+
+openings-inside : (first : ℕ) (callers : List CallerEntry) (opening : Opening) → Among opening (openings_of first callers) → opening.caller < first + length callers
+unfolding openings_of
+openings-inside first [] opening among = absurd among
+openings-inside first (c ∷ callers) opening among = by (parted opening (openings_in first c.ops) (openings_of (suc first) callers) among) (openings-inside (suc first) callers opening) where
+  by : Among opening (openings_in first c.ops) ⊎ Among opening (openings_of (suc first) callers) → (Among opening (openings_of (suc first) callers) → opening.caller < suc first + length callers) → opening.caller < first + length (c ∷ callers)
+  by (inl own) later = (let same : opening.caller ≡ first = own-caller first c.ops opening own in omega arith)
+  by (inr rest) later = (let below : opening.caller < suc first + length callers = later rest in omega arith)
+
+pub owner-inside : (parts : PlanParts) (c : ℕ) (entry : RequestEntry) → ArePlanned parts → slice_get parts.requests c ≡ Some entry → actor_number entry.caller < length parts.callers
+owner-inside parts c entry planned found =
+    let among : Among (opening_of entry) (openings_of 0 parts.callers) = subst (Among (opening_of entry)) (sym planned.openings) (mapped parts.requests c found) in
+    let below : actor_number entry.caller < 0 + length parts.callers = openings-inside 0 parts.callers (opening_of entry) among in
+    omega arith where
+      mapped : (requests : List RequestEntry) (n : ℕ) → slice_get requests n ≡ Some entry → Among (opening_of entry) (map opening_of requests)
+      mapped [] n none = cc
+      mapped (e ∷ requests) zero at = inl (ap opening_of (sym (same_Some e entry at)))
+      mapped (e ∷ requests) (suc n) at = inr (mapped requests n at)

@@ -1,0 +1,68 @@
+-- A plan that breaks no rule keeps each: what the tests say of its parts.
+use Rattle.std.proofs.Common.{◌≡◌, ℕ, ◌≤◌, Bool, true, false, not, Option, Some, None, List, [], ◌∷◌, ◌++◌, refl, inl, inr}
+use Rattle.std.proofs.lemmas.Bool.{cases_Bool, leb-true}
+use Rattle.std.specs.List.{list_all, slice_get}
+use Rattle.std.specs.Prelude.{nat_le, ◌&&◌}
+use Rattle.link_steps.specs.Legal.{SubmitFits}
+use Rattle.link_steps.specs.Lists.{Each}
+use Rattle.call_script.specs.Parts.{PlanParts}
+use Rattle.call_script.specs.Rules.{each_after, is_from, unless, packets_in_range, have_version, have_links, have_names, are_there, are_in_range, are_few, are_joined, are_unclosed, are_within_load, pours_are_taken, use_rule_broken, range_rule_broken, rule_broken}
+
+-- ---- tests
+
+pub both : (a b : Bool) → (a && b) ≡ true → (a ≡ true) × (b ≡ true)
+both true b holds = (refl, holds)
+both false b holds = cc
+
+pub not-true : (a : Bool) → not a ≡ true → a ≡ false
+not-true true fails = cc
+not-true false fails = refl
+
+pub each-of : {X : Type 0} (test : X → Bool) (xs : List X) → list_all test xs ≡ true → Each (λ x. test x ≡ true) xs
+each-of test [] all = tt
+each-of test (x ∷ xs) all = (let split = both (test x) (list_all test xs) all in (split.0, each-of test xs split.1))
+
+pub from-low : (low high x : ℕ) → is_from low high x ≡ true → (low ≤ x) × (x ≤ high)
+from-low low high x inside = (let split = both (nat_le low x) (nat_le x high) inside in (leb-true low x split.0, leb-true x high split.1))
+
+pub packets-fit : (count gap size : ℕ) → packets_in_range count gap size ≡ true → SubmitFits count gap size
+packets-fit count gap size inside =
+    let first = both (is_from 1 262144 count && is_from 1 1048576 gap) (is_from 1 65536 size) inside in
+    let second = both (is_from 1 262144 count) (is_from 1 1048576 gap) first.0 in
+    let counts = from-low 1 262144 count second.0 in
+    let gaps = from-low 1 1048576 gap second.1 in
+    let sizes = from-low 1 65536 size first.1 in
+    record { count_least = counts.0; count_most = counts.1; gap_least = gaps.0; gap_most = gaps.1; size_least = sizes.0; size_most = sizes.1 }
+
+-- ---- the rules
+
+pub record KeepsRules (parts : PlanParts) : Type 0 where
+  pub version : have_version parts ≡ true
+  pub links : have_links parts ≡ true
+  pub names : have_names parts ≡ true
+  pub there : are_there parts ≡ true
+  pub range : are_in_range parts ≡ true
+  pub few : are_few parts ≡ true
+  pub joined : are_joined parts ≡ true
+  pub unclosed : are_unclosed parts ≡ true
+  pub load : are_within_load parts ≡ true
+  pub pours : pours_are_taken parts ≡ true
+
+kept-rule : (kept : Bool) (rule : ℕ) (other : Option ℕ) → unless kept rule other ≡ None → (kept ≡ true) × (other ≡ None)
+kept-rule true rule other none = (refl, none)
+kept-rule false rule other none = cc
+
+pub keeps-rules : (parts : PlanParts) → rule_broken parts ≡ None → KeepsRules parts
+unfolding rule_broken range_rule_broken use_rule_broken
+keeps-rules parts none =
+    let r1 = kept-rule (have_version parts) 1 _ none in
+    let r2 = kept-rule (have_links parts) 2 _ r1.1 in
+    let r6 = kept-rule (have_names parts) 6 _ r2.1 in
+    let r7 = kept-rule (are_there parts) 7 _ r6.1 in
+    let r8 = kept-rule (are_in_range parts) 8 _ r7.1 in
+    let r9 = kept-rule (are_few parts) 9 _ r8.1 in
+    let r12 = kept-rule (are_joined parts) 12 _ r9.1 in
+    let r13 = kept-rule (are_unclosed parts) 13 _ r12.1 in
+    let r14 = kept-rule (are_within_load parts) 14 _ r13.1 in
+    let r19 = kept-rule (pours_are_taken parts) 19 _ r14.1 in
+    record { version = r1.0; links = r2.0; names = r6.0; there = r7.0; range = r8.0; few = r9.0; joined = r12.0; unclosed = r13.0; load = r14.0; pours = r19.0 }

@@ -1,0 +1,54 @@
+-- A network whose parts fit: it has 1 to 32 links, whose splits fit them; its requests go over its links, each hop with the
+-- bounds and the propagation of its link; the numbers of its sends and pours are within their limits, and its pours are
+-- at links that take best-effort packets.
+use Rattle.std.specs.Prelude.{◌≡◌, ℕ, ◌≤◌, Some, List, length}
+use Rattle.std.specs.List.{slice_get}
+use Rattle.net_units.specs.Numbers.{link_number}
+use Rattle.net_units.specs.declared.numbers.LinkNo.{LinkNo}
+use Rattle.hop_reservation.specs.Routes.{IsRoute}
+use Rattle.hop_reservation.specs.declared.route.Hop.{Hop}
+use Rattle.link_steps.specs.Legal.{SubmitFits}
+use Rattle.link_steps.specs.Lists.{Each}
+use Rattle.link_steps.specs.Split.{Link, SplitFits}
+use Rattle.relaxation.specs.Laws.{HaveBounds}
+use Rattle.setup_protocol.specs.declared.request.Request.{Request}
+use Rattle.traffic_contract.specs.Contract.{IsContract}
+use Rattle.call_script.specs.Tasks.{Network}
+use Rattle.call_script.specs.declared.tasks.Task.{Task}
+use Rattle.call_script.specs.declared.tasks.Task.TheVariants.{Opens, Sends, Closes, Pours}
+
+-- a hop over one of the links
+pub record IsHopOf (links : List Link) (hop : Hop) : Type 0 where
+  pub link : Link
+  pub linked : slice_get links (link_number hop.link) ≡ Some link
+  pub bounds : hop.bounds ≡ link.shape.bounds
+  pub prop : hop.prop ≡ link.shape.prop
+
+pub record RequestFits (links : List Link) (request : Request) : Type 0 where
+  pub contract : IsContract request.contract
+  pub bounds : HaveBounds request.route
+  pub route : IsRoute request.route
+  pub hops : Each (IsHopOf links) request.route
+
+pub record SendFits (links : List Link) (request : Request) (count gap size : ℕ) : Type 0 where
+  pub of_request : RequestFits links request
+  pub send : SubmitFits count gap size
+
+pub record PourFits (links : List Link) (at : LinkNo) (count gap size : ℕ) : Type 0 where
+  pub link : Link
+  pub linked : slice_get links (link_number at) ≡ Some link
+  pub best : 1 ≤ link.shape.best
+  pub pour : SubmitFits count gap size
+
+abbrev pub TaskFits : List Link → Task → Type 0
+TaskFits links (Opens request) = RequestFits links request
+TaskFits links (Sends request count gap size) = SendFits links request count gap size
+TaskFits links (Closes request) = RequestFits links request
+TaskFits links (Pours link count gap size) = PourFits links link count gap size
+
+pub record NetworkFits (network : Network) : Type 0 where
+  pub some : 1 ≤ length network.links
+  pub few : length network.links ≤ 32
+  pub splits : Each SplitFits network.links
+  pub tasks : Each (Each (TaskFits network.links)) network.scripts
+  pub rounds : network.rounds ≤ 1048576

@@ -1,0 +1,13 @@
+pub mod Limits
+pub mod Versions
+pub mod Parts
+pub mod Draft
+pub mod Rules
+pub mod Tasks
+pub mod Scripts
+pub mod Fits
+pub mod Owners
+pub mod Plans
+pub mod Work
+pub mod Standing
+pub mod OneLink

@@ -1,0 +1,59 @@
+-- Whose a channel is. One caller opens a request, sends on it and then may close it; after that it names it no more. No other
+-- caller names its channel.
+use Rattle.std.specs.Prelude.{◌≡◌, ◌≢◌, ℕ, ◌<◌, ◌⊎◌, Some, List, [], ◌∷◌, length}
+use Rattle.std.specs.List.{slice_get}
+use Rattle.net_units.specs.Numbers.{channel_number}
+use Rattle.link_steps.specs.Lists.{Each}
+use Rattle.setup_protocol.specs.declared.request.Request.{Request}
+use Rattle.call_script.specs.Fits.{RequestFits}
+use Rattle.call_script.specs.Tasks.{Network}
+use Rattle.call_script.specs.declared.tasks.Task.{Task}
+use Rattle.call_script.specs.declared.tasks.Task.TheVariants.{Opens, Sends, Closes, Pours}
+
+-- the task names another channel, or none
+abbrev pub TaskOff : ℕ → Task → Type 0
+TaskOff c (Opens request) = channel_number request.chan ≢ c
+TaskOff c (Sends request count gap size) = channel_number request.chan ≢ c
+TaskOff c (Closes request) = channel_number request.chan ≢ c
+TaskOff c (Pours link count gap size) = Unit {0}
+
+-- a send on the request
+pub record IsSend (request : Request) (task : Task) : Type 0 where
+  pub count : ℕ
+  pub gap : ℕ
+  pub size : ℕ
+  pub is : task ≡ Sends request count gap size
+
+-- after its opening a request is sent on, and closed at last
+abbrev pub SendsOnce : Request → List Task → Type 0
+SendsOnce request [] = Unit {0}
+SendsOnce request (task ∷ tasks) =
+    (TaskOff (channel_number request.chan) task × SendsOnce request tasks)
+    ⊎ ((IsSend request task × SendsOnce request tasks)
+    ⊎ ((task ≡ Closes request) × Each (TaskOff (channel_number request.chan)) tasks))
+
+abbrev pub FullScript : Request → List Task → Type 0
+FullScript request [] = Unit {0}
+FullScript request (task ∷ tasks) = (TaskOff (channel_number request.chan) task × FullScript request tasks) ⊎ ((task ≡ Opens request) × SendsOnce request tasks)
+
+-- the caller of this number opens the request, sends on it and closes it; no other caller names its channel
+pub record OwnedFully (network : Network) (request : Request) (owner : ℕ) : Type 0 where
+  pub inside : owner < length network.scripts
+  pub own : (tasks : List Task) → slice_get network.scripts owner ≡ Some tasks → FullScript request tasks
+  pub others : (actor : ℕ) (tasks : List Task) → actor ≢ owner → slice_get network.scripts actor ≡ Some tasks → Each (TaskOff (channel_number request.chan)) tasks
+
+-- the channel of this number has an owner
+pub record IsOwned (network : Network) (c : ℕ) : Type 0 where
+  pub request : Request
+  pub owner : ℕ
+  pub sound : RequestFits network.links request
+  pub full : OwnedFully network request owner
+  pub chan : channel_number request.chan ≡ c
+
+-- no script names it
+abbrev pub IsUnnamed : Network → ℕ → Type 0
+IsUnnamed network c = (actor : ℕ) (tasks : List Task) → slice_get network.scripts actor ≡ Some tasks → Each (TaskOff c) tasks
+
+-- each channel has one owner, or no script names it
+abbrev pub AllOwned : Network → Type 0
+AllOwned network = (c : ℕ) → IsOwned network c ⊎ IsUnnamed network c

@@ -1,0 +1,55 @@
+-- What a run goes over: the links as the rules see them, the requests, each caller's tasks in their order, and the rounds
+-- of the plane, those after the callers included. A task is an operation with the request of its channel. (An operation
+-- whose request isn't there would be no task; a plan has none.)
+use Rattle.std.specs.Prelude.{ℕ, ◌+◌, Option, Some, None, List, [], ◌∷◌, map, option_map}
+use Rattle.std.specs.List.{slice_get}
+use Rattle.net_units.specs.Numbers.{channel_number}
+use Rattle.link_steps.specs.Split.{Link, whole}
+use Rattle.setup_protocol.specs.declared.request.Request.{Request}
+use Rattle.call_script.specs.Parts.{PlanParts}
+use Rattle.call_script.specs.declared.entries.LinkEntry.{LinkEntry}
+use Rattle.call_script.specs.declared.entries.RequestEntry.{RequestEntry}
+use Rattle.call_script.specs.declared.entries.CallerEntry.{CallerEntry}
+use Rattle.call_script.specs.declared.operations.Op.{Op}
+use Rattle.call_script.specs.declared.operations.Op.TheVariants.{Open, Send, Close, Pour}
+use Rattle.call_script.specs.declared.tasks.Task.{Task}
+use Rattle.call_script.specs.declared.tasks.Task.TheVariants.{Opens, Sends, Closes, Pours}
+
+pub record Network : Type 0 where
+  pub links : List Link
+  pub requests : List Request
+  pub scripts : List (List Task)
+  pub rounds : ℕ
+
+abbrev pub request_of : RequestEntry → Request
+request_of entry = entry.request
+
+-- the task of an operation
+abbrev pub task_of : List Request → Op → Option Task
+task_of requests (Open chan) = option_map (λ request. Opens request) (slice_get requests (channel_number chan))
+task_of requests (Send chan count gap size) = option_map (λ request. Sends request count gap size) (slice_get requests (channel_number chan))
+task_of requests (Close chan) = option_map (λ request. Closes request) (slice_get requests (channel_number chan))
+task_of requests (Pour link count gap size) = Some (Pours link count gap size)
+
+abbrev pub with_task : Option Task → List Task → List Task
+with_task None tasks = tasks
+with_task (Some task) tasks = task ∷ tasks
+
+unfoldable pub tasks_of : List Request → List Op → List Task
+tasks_of requests [] = []
+tasks_of requests (op ∷ ops) = with_task (task_of requests op) (tasks_of requests ops)
+
+abbrev pub link_of : LinkEntry → Link
+link_of entry = whole entry.shape
+
+abbrev pub script_of : List Request → CallerEntry → List Task
+script_of requests caller = tasks_of requests caller.ops
+
+-- what a plan's run goes over
+unfoldable pub network_of : PlanParts → Network
+network_of parts = record {
+  links = map link_of parts.links;
+  requests = map request_of parts.requests;
+  scripts = map (script_of (map request_of parts.requests)) parts.callers;
+  rounds = parts.rounds + parts.tail;
+}

@@ -1,0 +1,27 @@
+-- The scenario's language has versions. In the first one a link compares the load of a level in the window as long as the
+-- level's bound; from the second one on in some window up to the bound. From the third one on a link may take best-effort
+-- packets, and a caller may pour them.
+use Rattle.std.specs.Prelude.{Bool, true, false}
+use Rattle.traffic_contract.specs.declared.admission.Test.{Test}
+use Rattle.traffic_contract.specs.declared.admission.Test.TheVariants.{Whole, Least}
+use Rattle.call_script.specs.declared.version.Version.{Version}
+use Rattle.call_script.specs.declared.version.Version.TheVariants.{One, Two, Three}
+
+-- the test of the links
+abbrev pub test_of : Version → Test
+test_of One = Whole
+test_of Two = Least
+test_of Three = Least
+
+-- whether a plan may have best-effort packets
+abbrev pub has_best_effort : Version → Bool
+has_best_effort One = false
+has_best_effort Two = false
+has_best_effort Three = true
+
+-- whether two tests are the same
+abbrev pub is_test : Test → Test → Bool
+is_test Whole Whole = true
+is_test Whole Least = false
+is_test Least Whole = false
+is_test Least Least = true

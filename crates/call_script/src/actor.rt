@@ -1,0 +1,252 @@
+//! A caller on its way through its script.
+ghost use Rattle.std.specs.Prelude.{◌≡◌, ◌↔◌, ◌+◌, ◌-◌, ◌<◌, ◌≤◌, ℕ, [], ◌∷◌, None, Some, true, List, IsTrue, IsOk, IsNone, IsSome, IfOk, IfErr, IfSome, IfNone, OnOk, OnErr, MatchOption, length, map, drop, option_map, vec_len, vec_capacity};
+ghost use Rattle.std.specs.List.{slice_get};
+ghost use Rattle.net_units.specs.Numbers.{actor_number, channel_number};
+ghost use Rattle.hop_reservation.specs.Routes.{IsRoute};
+ghost use Rattle.link_steps.specs.Lists.{Each};
+ghost use Rattle.link_steps.specs.declared.replies.Reply.{Reply as Replied};
+ghost use Rattle.setup_protocol.specs.State.{outcome_of};
+ghost use Rattle.call_script.specs.Parts.{PlanParts};
+ghost use Rattle.call_script.specs.Plans.{HasTerms};
+ghost use Rattle.call_script.specs.Scripts.{ask_at, begun, expects, from_step, is_established, outcome_in, takes_step};
+ghost use Rattle.call_script.specs.Tasks.{request_of, task_of, tasks_of};
+ghost use Rattle.call_script.specs.Work.{WorkStands, HasRoute, is_under_way, accepts_in, opened_in};
+
+use crate::entries::RequestEntry;
+use crate::operations::Op;
+use crate::plan::Plan;
+use crate::tasks::Task;
+use crate::work::{Known, Turn, Work};
+use link_steps::{Ask, Reply, Unexpected};
+use net_units::{ActorNo, ChanNo, LinkNo, OutOfMemory};
+use setup_protocol::{Request, Verdict};
+use std::alloc::Global;
+
+/// A caller on its way through its script, which each call is given with the plan.
+///
+/// It stands for the replies that it has taken.
+#[derive(Drop)]
+pub struct Actor {
+    pub(crate) caller: ActorNo,
+    // The operation after the one under way.
+    pub(crate) next: usize,
+    pub(crate) work: Work,
+    // What the requests opened so far came to, in their order.
+    pub(crate) known: Vec<Known>,
+}
+
+impl Actor {
+    ghost use Rattle.call_script.specs.Standing.{Stands, StandsAt, owed_by, if_step, standing_in};
+
+    /// A caller of the plan that has asked nothing yet. It takes all memory that it needs; an `Err` comes only for want of
+    /// it.
+    pub fn new(alloc: Global, plan: &Plan, caller: ActorNo) -> Result<Actor, OutOfMemory>
+        requires { actor_number caller < length plan.now.callers }
+        ensures caller { IfOk result (λ actor. actor.caller ≡ caller) }
+        ensures stands { IfOk result (λ actor. Stands plan.now actor []) }
+    {
+        let ops = ops_of(plan, caller);
+        let mut known = Vec::new(alloc);
+        known.reserve(ops.len())?;
+        let mut actor = Actor {
+            caller,
+            next: 0,
+            work: Work::Idle,
+            known,
+        };
+        actor.begin(plan.requests(), ops);
+        Ok(actor)
+    }
+
+    /// The next ask, and the link that it goes to; None exactly at the end of the script. The plan is the one that it was
+    /// made for.
+    pub fn next_ask(&self, _plan: &Plan) -> Option<(LinkNo, Ask)>
+        requires { (replies : List Replied) × Stands _plan.now self.now replies }
+        ensures asked { (replies : List Replied) → Stands _plan.now self.now replies → result ≡ ask_at (standing_in _plan.now (actor_number self.now.caller) replies) }
+        ensures done { IsSome result ↔ IsTrue (is_under_way self.now.work) }
+    {
+        self.work.next_ask()
+    }
+
+    /// What the request of this channel has come to by the replies taken: None while its setup has an ask left, and where
+    /// this caller doesn't open it.
+    pub fn verdict(&self, chan: ChanNo) -> Option<Verdict>
+        ensures known { option_map outcome_of result ≡ outcome_in chan (opened_in self.now.known.items) }
+        ensures verdict { (parts : PlanParts) (replies : List Replied) → Stands parts self.now replies → option_map outcome_of result ≡ outcome_in chan (standing_in parts (actor_number self.now.caller) replies).outcomes }
+    {
+        let mut found = None;
+        for known in &self.known {
+            if known.chan.get() == chan.get() {
+                found = Some(known.verdict);
+            }
+        }
+        found
+    }
+
+    /// Takes the reply to the next ask. One that isn't a reply to it changes nothing. An ask has to be left. It takes no
+    /// memory.
+    pub fn take(&mut self, plan: &Plan, reply: Reply) -> Result<(), Unexpected>
+        requires stands { (replies : List Replied) × Stands plan.now self.old replies }
+        requires left { IsTrue (is_under_way self.old.work) }
+        ensures caller { self.new.caller ≡ self.old.caller }
+        ensures expected { (replies : List Replied) → Stands plan.now self.old replies → IsOk result ↔ IsTrue (expects (standing_in plan.now (actor_number self.old.caller) replies) reply) }
+        ensures taken { OnOk result ((replies : List Replied) → Stands plan.now self.old replies → Stands plan.now self.new (reply ∷ replies)) }
+        ensures unexpected { IfErr result (λ odd. (odd.reply ≡ reply) × ((replies : List Replied) → Stands plan.now self.old replies → option_map (λ to. to.1) (ask_at (standing_in plan.now (actor_number self.old.caller) replies)) ≡ Some odd.ask)) }
+        ensures unchanged { OnErr result (self.new ≡ self.old) }
+    {
+        let ops = ops_of(plan, self.caller);
+        match self.work.take(reply) {
+            Err(odd) => Err(odd),
+            Ok(Turn::On) => Ok(()),
+            Ok(Turn::Over) => {
+                self.begin(plan.requests(), ops);
+                Ok(())
+            }
+            Ok(Turn::Settled(known)) => {
+                self.known.push_reserved(known);
+                self.begin(plan.requests(), ops);
+                Ok(())
+            }
+        }
+    }
+
+    // Begins the first task, from the next operation on, that takes a step.
+    fn begin(&mut self, requests: &[RequestEntry], ops: &[Op])
+        requires terms { Each HasTerms requests.now }
+        requires within { self.old.next ≤ length ops.now }
+        requires room { length ops.now - self.old.next ≤ vec_capacity self.old.known - vec_len self.old.known }
+        ensures caller { self.new.caller ≡ self.old.caller }
+        ensures stands { StandsAt (map request_of requests.now) ops.now self.new (begun (opened_in self.old.known.items) (tasks_of (map request_of requests.now) (drop self.old.next ops.now))) }
+    {
+        match self.first_step(requests, ops) {
+            Some(step) => {
+                self.next = step.index + 1;
+                self.work = Work::new(&step.task);
+            }
+            None => {
+                self.next = ops.len();
+                self.work = Work::Idle;
+            }
+        }
+    }
+
+    // The first task, from the next operation on, that takes a step.
+    fn first_step(&self, requests: &[RequestEntry], ops: &[Op]) -> Option<Step>
+        requires terms { Each HasTerms requests.now }
+        requires within { self.now.next ≤ length ops.now }
+        ensures within { IfSome result (λ step. (self.now.next ≤ step.index) × (step.index < length ops.now)) }
+        ensures route { IfSome result (λ step. HasRoute step.task) }
+        ensures some { IfSome result (λ step. from_step (opened_in self.now.known.items) (tasks_of (map request_of requests.now) (drop self.now.next ops.now)) ≡ step.task ∷ tasks_of (map request_of requests.now) (drop (step.index + 1) ops.now)) }
+        ensures none { IfNone result (from_step (opened_in self.now.known.items) (tasks_of (map request_of requests.now) (drop self.now.next ops.now)) ≡ []) }
+    {
+        for index in self.next..ops.len() {
+            if let Some(task) = self.step_of(requests, &ops[index]) {
+                return Some(Step { index, task });
+            }
+        }
+        None
+    }
+
+    // The task of an operation, if it takes a step.
+    fn step_of(&self, requests: &[RequestEntry], op: &Op) -> Option<Task>
+        requires { Each HasTerms requests.now }
+        ensures task { result ≡ if_step (opened_in self.now.known.items) (task_of (map request_of requests.now) op.now) }
+        ensures route { IfSome result HasRoute }
+    {
+        match task_of(requests, op) {
+            Some(task) if self.takes_step(&task) => Some(task),
+            _ => None,
+        }
+    }
+
+    // Whether a task takes a step.
+    fn takes_step(&self, task: &Task) -> bool
+        ensures { result ≡ takes_step (opened_in self.now.known.items) task.now }
+    {
+        match task {
+            Task::Opens(_) => true,
+            Task::Sends { request, .. } => self.is_established(request.chan),
+            Task::Closes(request) => self.is_established(request.chan),
+            Task::Pours { .. } => true,
+        }
+    }
+
+    // Whether the request of this channel was accepted.
+    fn is_established(&self, chan: ChanNo) -> bool
+        ensures { result ≡ is_established chan (opened_in self.now.known.items) }
+    {
+        accepts(self.verdict(chan))
+    }
+}
+
+// Whether a request has come to an established channel.
+fn accepts(found: Option<Verdict>) -> bool
+    ensures { result ≡ accepts_in (option_map outcome_of found) }
+{
+    match found {
+        Some(Verdict::Accepted { .. }) => true,
+        Some(Verdict::Denied(_)) => false,
+        None => false,
+    }
+}
+
+// A task that takes a step, and the place of its operation.
+#[derive(Clone, Copy)]
+struct Step {
+    index: usize,
+    task: Task,
+}
+
+// The operations of a caller.
+fn ops_of(plan: &Plan, caller: ActorNo) -> &[Op]
+    requires { actor_number caller < length plan.now.callers }
+    ensures { option_map (λ entry. entry.ops) (slice_get plan.now.callers (actor_number caller)) ≡ Some result.now }
+{
+    plan.callers()[usize::from(caller.get())].ops.as_slice()
+}
+
+// An operation with the request of its channel.
+fn task_of(requests: &[RequestEntry], op: &Op) -> Option<Task>
+    requires { Each HasTerms requests.now }
+    ensures task { result ≡ task_of (map request_of requests.now) op.now }
+    ensures route { IfSome result HasRoute }
+{
+    match op {
+        Op::Open(chan) => Some(Task::Opens(request_of(requests, *chan)?)),
+        Op::Send {
+            chan,
+            count,
+            gap,
+            size,
+        } => Some(Task::Sends {
+            request: request_of(requests, *chan)?,
+            count: *count,
+            gap: *gap,
+            size: *size,
+        }),
+        Op::Close(chan) => Some(Task::Closes(request_of(requests, *chan)?)),
+        Op::Pour {
+            link,
+            count,
+            gap,
+            size,
+        } => Some(Task::Pours {
+            link: *link,
+            count: *count,
+            gap: *gap,
+            size: *size,
+        }),
+    }
+}
+
+// The request of a channel.
+fn request_of(requests: &[RequestEntry], chan: ChanNo) -> Option<Request>
+    requires { Each HasTerms requests.now }
+    ensures request { result ≡ slice_get (map request_of requests.now) (channel_number chan) }
+    ensures route { IfSome result (λ request. IsRoute request.route) }
+{
+    match requests.get(chan.get() as usize) {
+        Some(entry) => Some(entry.request),
+        None => None,
+    }
+}

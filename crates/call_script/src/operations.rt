@@ -1,0 +1,69 @@
+//! What a caller does.
+ghost use Rattle.std.specs.Prelude.{◌≡◌};
+
+use net_units::{ChanNo, LinkNo};
+use std::marker::Model;
+
+/// An operation of a caller.
+#[derive(Clone, Copy, Debug, PartialEq, Eq)]
+pub enum Op {
+    /// Open a channel: its request is set up.
+    Open(ChanNo),
+    /// Send `count` packets of `size` units on an established channel, the first at once and then one each `gap` ticks.
+    /// The count is from 1 to 262,144, the gap from 1 to 1,048,576 ticks, and the size from 1 to 65,536 units.
+    Send {
+        chan: ChanNo,
+        count: u64,
+        gap: u64,
+        size: u32,
+    },
+    /// Close an established channel.
+    Close(ChanNo),
+    /// Send best-effort packets over a link, with the ranges of a send.
+    Pour {
+        link: LinkNo,
+        count: u64,
+        gap: u64,
+        size: u32,
+    },
+}
+
+/// The operations of a caller, in their order.
+///
+/// A contract sees the list of them.
+#[derive(Drop)]
+pub struct Ops {
+    ops: Vec<Op>,
+}
+
+impl Model for Ops {
+    ghost use Rattle.std.specs.Prelude.{List};
+    ghost use Rattle.call_script.specs.declared.operations.Op.{Op};
+
+    ghost Value = { List Op };
+
+    ghost view = { λ o. o.ops.items };
+}
+
+impl Ops {
+    /// These operations.
+    pub fn new(items: Vec<Op>) -> Ops
+        ensures { result ≡ items.items }
+    {
+        Ops { ops: items }
+    }
+
+    /// The operations.
+    pub fn as_slice(&self) -> &[Op]
+        ensures { result.now ≡ self.now }
+    {
+        self.ops.as_slice()
+    }
+
+    /// The operations, without taking memory.
+    pub fn into_vec(self) -> Vec<Op>
+        ensures { result.items ≡ self }
+    {
+        self.ops
+    }
+}

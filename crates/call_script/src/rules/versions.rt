@@ -1,0 +1,43 @@
+//! Links and operations of a version.
+ghost use Rattle.std.specs.Prelude.{◌≡◌};
+ghost use Rattle.std.specs.List.{list_all};
+ghost use Rattle.call_script.specs.Rules.{all_ops, link_has_version, op_has_version};
+
+use crate::entries::{CallerEntry, LinkEntry};
+use crate::operations::Op;
+use crate::version::Version;
+
+pub(crate) fn links_have_version(version: Version, links: &[LinkEntry]) -> bool
+    ensures { result ≡ list_all (link_has_version version) links.now }
+{
+    links.iter().all(|entry| link_has_version(version, entry))
+}
+
+fn link_has_version(version: Version, entry: &LinkEntry) -> bool
+    ensures { result ≡ link_has_version version entry.now }
+{
+    version.test() == entry.shape.test && (version.has_best_effort() || entry.shape.best == 0)
+}
+
+pub(crate) fn callers_have_version(version: Version, callers: &[CallerEntry]) -> bool
+    ensures { result ≡ all_ops (op_has_version version) callers.now }
+{
+    callers
+        .iter()
+        .all(|caller| ops_have_version(version, caller.ops.as_slice()))
+}
+
+fn ops_have_version(version: Version, ops: &[Op]) -> bool
+    ensures { result ≡ list_all (op_has_version version) ops.now }
+{
+    ops.iter().all(|op| op_has_version(version, op))
+}
+
+fn op_has_version(version: Version, op: &Op) -> bool
+    ensures { result ≡ op_has_version version op.now }
+{
+    match op {
+        Op::Pour { .. } => version.has_best_effort(),
+        Op::Open(_) | Op::Send { .. } | Op::Close(_) => true,
+    }
+}

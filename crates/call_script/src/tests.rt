@@ -1,0 +1,191 @@
+//! Plans and a caller over one link, worked by hand. The link has levels of 10, 20 and 40 ticks and a propagation of 2.
+ghost use Rattle.std.specs.Prelude.{◌≡◌, [], ◌∷◌, IfOk, OnOk, List, length};
+ghost use Rattle.net_units.specs.Numbers.{link_number, channel_number};
+ghost use Rattle.link_steps.specs.declared.replies.Reply.{Reply as Replied};
+ghost use Rattle.call_script.specs.OneLink.{IsThatLink, IsThatRequest, IsThatScript};
+ghost use Rattle.call_script.specs.Standing.{Stands};
+
+use super::*;
+use hop_reservation::{Hop, Route};
+use link_steps::{Ask, LinkShape, Reply};
+use net_units::{ActorNo, Bounds, ChanNo, Kind, Level, LinkNo, Name};
+use setup_protocol::{Control, Request, Verdict};
+use std::alloc::Global;
+use std::process::Abort;
+use std::test::Fail;
+use traffic_contract::{Contract, Test};
+
+fn name(text: &str) -> Result<Name, Fail> {
+    Ok(Name::new(text.as_bytes()).ok_or("name")?)
+}
+
+fn bounds() -> Result<Bounds, Fail>
+    ensures { IfOk result (λ made. made ≡ 10 ∷ 20 ∷ 40 ∷ []) }
+{
+    Ok(Bounds::new(&[10, 20, 40]).ok_or("bounds")?)
+}
+
+fn link_no() -> Result<LinkNo, Fail>
+    ensures { IfOk result (λ link. link_number link ≡ 0) }
+{
+    Ok(LinkNo::new(0).ok_or("link")?)
+}
+
+fn link(test: Test, best: u32) -> Result<LinkEntry, Fail>
+    ensures { IfOk result IsThatLink }
+{
+    Ok(LinkEntry {
+        name: name("A")?,
+        from: name("n1")?,
+        to: name("n2")?,
+        shape: LinkShape::new(link_no()?, 1, 4, 2, 100, bounds()?, test, best)?,
+    })
+}
+
+fn request() -> Result<RequestEntry, Fail>
+    ensures { IfOk result IsThatRequest }
+{
+    let hop = Hop {
+        link: link_no()?,
+        bounds: bounds()?,
+        prop: 2,
+    };
+    Ok(RequestEntry {
+        name: name("r1")?,
+        caller: ActorNo::new(0).ok_or("caller")?,
+        request: Request {
+            chan: ChanNo::new(0).ok_or("channel")?,
+            route: Route::new(&[hop])?,
+            contract: Contract::new(5, 10, 20, 2)?,
+            control: Control::Rate,
+            delay: 12,
+        },
+    })
+}
+
+// The caller opens the request, and then it pours or it doesn't.
+#[tactic(auto, unfolding(crate::specs::Parts::openings_in))]
+fn caller(alloc: Global, chan: ChanNo, pours: bool) -> Result<CallerEntry, Fail>
+    requires { channel_number chan ≡ 0 }
+    ensures { IfOk result IsThatScript }
+{
+    let mut ops = Vec::new(alloc);
+    ops.push(Op::Open(chan))?;
+    if pours {
+        ops.push(Op::Pour {
+            link: link_no()?,
+            count: 1,
+            gap: 1,
+            size: 4,
+        })?;
+    }
+    Ok(CallerEntry {
+        name: name("k1")?,
+        ops: Ops::new(ops),
+    })
+}
+
+// A plan of that link, that request and that caller.
+fn plan(
+    alloc: Global,
+    version: Version,
+    link: LinkEntry,
+    pours: bool,
+    rounds: u64,
+) -> Result<Result<Plan, BadPlan>, Fail>
+    requires { IsThatLink link }
+    ensures { IfOk result (λ made. IfOk made (λ plan. length plan.callers ≡ 1)) }
+{
+    let request = request()?;
+    let caller = caller(alloc, request.request.chan, pours)?;
+    let mut links = Vec::new(alloc);
+    links.push(link)?;
+    let mut requests = Vec::new(alloc);
+    requests.push(request)?;
+    let mut callers = Vec::new(alloc);
+    callers.push(caller)?;
+    Ok(Plan::new(alloc, version, links, requests, callers, rounds, 0))
+}
+
+#[test]
+fn a_plan_keeps_the_rules_of_its_version(rt: HostRuntime) -> Result<(), Fail> {
+    for (version, test, best, pours, rounds, rule) in [
+        (Version::One, Test::Whole, 0, false, 524_288, None),
+        (Version::One, Test::Whole, 0, false, 524_289, Some(8)),
+        (Version::One, Test::Least, 0, false, 0, Some(1)),
+        (Version::Two, Test::Whole, 0, false, 0, Some(1)),
+        (Version::Two, Test::Least, 1, false, 0, Some(1)),
+        (Version::Two, Test::Least, 0, true, 0, Some(1)),
+        (Version::Three, Test::Least, 0, true, 0, Some(19)),
+        (Version::Three, Test::Least, 1, true, 0, None),
+    ] {
+        let made = plan(rt.alloc(), version, link(test, best)?, pours, rounds)?;
+        let broken = rule.map(|rule| BadPlan::Broken { rule });
+        assert_eq!(rt; made.err(), broken, "{version:?}, {test:?}, best {best}");
+    }
+    Ok(())
+}
+
+// The next ask goes to link 0 and is this one. It gets this reply.
+fn asks(
+    rt: &impl Abort,
+    actor: &mut Actor,
+    plan: &Plan,
+    ask: &Ask,
+    reply: Reply,
+) -> Result<(), Fail>
+    requires { (replies : List Replied) × Stands plan.now actor.old replies }
+    ensures { OnOk result ((replies : List Replied) × Stands plan.now actor.new replies) }
+{
+    match actor.next_ask(plan) {
+        Some((to, next)) => {
+            assert_eq!(rt; (to.get(), next), (0, *ask));
+            match actor.take(plan, reply) {
+                Ok(()) => Ok(()),
+                Err(_) => Err(Fail::from("another reply")),
+            }
+        }
+        None => Err(Fail::from("no ask is left")),
+    }
+}
+
+#[test]
+fn a_caller_opens_its_request(rt: HostRuntime) -> Result<(), Fail> {
+    let alloc = rt.alloc();
+    let RequestEntry {
+        caller,
+        request,
+        ..
+    } = request()?;
+    let plan = plan(alloc, Version::One, link(Test::Whole, 0)?, false, 0)??;
+    let mut actor = Actor::new(alloc, &plan, caller)?;
+    let reserve = Ask::Reserve {
+        chan: request.chan,
+        contract: request.contract,
+        kind: Kind::Rate,
+        delay: 12,
+        up_reach: 0,
+        first: true,
+        next: None,
+    };
+    let offer = Reply::Offer {
+        level: Level::LEAST,
+        reach: Level::LEAST,
+    };
+    asks(&rt, &mut actor, &plan, &reserve, offer)?;
+    assert!(rt; actor.verdict(request.chan).is_none());
+    let relax = Ask::Relax {
+        chan: request.chan,
+        level: Level::LEAST,
+        up_bound: 0,
+    };
+    asks(&rt, &mut actor, &plan, &relax, Reply::Relaxed { clock: 0 })?;
+    assert!(rt; actor.next_ask(&plan).is_none());
+    match actor.verdict(request.chan) {
+        Some(Verdict::Accepted { levels, delay }) => {
+            assert_eq!(rt; (levels.len(), delay), (1, 12));
+        }
+        _ => assert!(rt; false, "the request is accepted"),
+    }
+    Ok(())
+}

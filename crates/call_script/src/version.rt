@@ -1,0 +1,38 @@
+//! The versions of the scenario's language.
+ghost use Rattle.std.specs.Prelude.{◌≡◌};
+ghost use Rattle.call_script.specs.Versions.{test_of, has_best_effort};
+
+use traffic_contract::Test;
+
+/// A version of the scenario's language. It says how the links of a plan test, and which forms a plan may have.
+#[derive(Clone, Copy, Debug, PartialEq, Eq)]
+pub enum Version {
+    /// Links compare the load of a level in the window as long as its bound.
+    One,
+    /// Links compare it in some window up to the bound.
+    Two,
+    /// As version two; links may take best-effort packets, and callers may pour them.
+    Three,
+}
+
+impl Version {
+    /// The test of its links.
+    pub fn test(&self) -> Test
+        ensures { result ≡ test_of self.now }
+    {
+        match self {
+            Version::One => Test::Whole,
+            Version::Two | Version::Three => Test::Least,
+        }
+    }
+
+    /// Whether its plans may have best-effort packets.
+    pub fn has_best_effort(&self) -> bool
+        ensures { result ≡ has_best_effort self.now }
+    {
+        match self {
+            Version::One | Version::Two => false,
+            Version::Three => true,
+        }
+    }
+}

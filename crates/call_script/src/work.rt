@@ -1,0 +1,185 @@
+//! The task of a caller that is under way.
+ghost use Rattle.std.specs.Prelude.{◌≡◌, ◌↔◌, ◌<◌, [], false, true, ◌∷◌, ◌++◌, None, Some, IsTrue, IsOk, IsNone, IfOk, IfErr, OnErr, List, length, option_map};
+ghost use Rattle.std.specs.List.{slice_get};
+ghost use Rattle.link_steps.specs.declared.asks.Ask.{Ask as Asked};
+ghost use Rattle.link_steps.specs.declared.replies.Reply.{Reply as Replied};
+ghost use Rattle.hop_reservation.specs.Routes.{IsRoute};
+ghost use Rattle.setup_protocol.specs.Releases.{Releases};
+ghost use Rattle.setup_protocol.specs.Setup.{asked, asked_of, is_expected, settled_in};
+ghost use Rattle.setup_protocol.specs.Standing.{progress_in};
+ghost use Rattle.setup_protocol.specs.Teardown.{is_closing, next_release};
+ghost use Rattle.setup_protocol.specs.declared.request.Request.{Request as Asking};
+ghost use Rattle.call_script.specs.Scripts.{first_ask, first_expects, answers_submit};
+ghost use Rattle.call_script.specs.Work.{WorkStands, TurnStands, HasRoute, IsOpening, IsClosing, is_under_way};
+ghost use Rattle.call_script.specs.declared.tasks.Task.{Task as Under};
+ghost use Rattle.call_script.specs.declared.tasks.Task.TheVariants.{Opens, Closes};
+ghost use Rattle.call_script.specs.declared.work.Turn.TheVariants as turns;
+ghost use Rattle.call_script.specs.declared.work.Work.TheVariants as works;
+
+use crate::tasks::Task;
+use hop_reservation::Route;
+use link_steps::{Ask, Refusal, Reply, Unexpected};
+use net_units::{ChanNo, LinkNo};
+use setup_protocol::{Setup, Teardown, Verdict};
+
+// What a request has come to.
+#[derive(Clone, Copy)]
+pub(crate) struct Known {
+    pub(crate) chan: ChanNo,
+    pub(crate) verdict: Verdict,
+}
+
+// The task under way.
+#[derive(Drop)]
+pub(crate) enum Work {
+    // A request is set up.
+    Opening { chan: ChanNo, setup: Setup },
+    // One ask: a submit or a pour.
+    Once { to: LinkNo, ask: Ask },
+    // A channel is released.
+    Closing(Teardown),
+    // None: the script is at its end.
+    Idle,
+}
+
+// What a reply makes of the task under way.
+#[derive(Clone, Copy)]
+pub(crate) enum Turn {
+    // It goes on.
+    On,
+    // It is over.
+    Over,
+    // It is over, and its request has come to this.
+    Settled(Known),
+}
+
+impl Work {
+    // The work of a task that begins.
+    pub(crate) fn new(task: &Task) -> Work
+        requires { HasRoute task.now }
+        ensures { (tasks : List Under) → WorkStands result (task.now ∷ tasks) [] }
+    {
+        match task {
+            Task::Opens(request) => Work::Opening {
+                chan: request.chan,
+                setup: Setup::new(request),
+            },
+            Task::Sends {
+                request,
+                count,
+                gap,
+                size,
+            } => {
+                let ask = Ask::Submit {
+                    chan: request.chan,
+                    count: *count,
+                    gap: *gap,
+                    size: *size,
+                };
+                Work::Once {
+                    to: first_link(&request.route),
+                    ask,
+                }
+            }
+            Task::Closes(request) => Work::Closing(Teardown::new(request.chan, request.route)),
+            Task::Pours {
+                link,
+                count,
+                gap,
+                size,
+            } => Work::Once {
+                to: *link,
+                ask: Ask::Pour {
+                    count: *count,
+                    gap: *gap,
+                    size: *size,
+                },
+            },
+        }
+    }
+
+    // What it asks next, and of which link.
+    pub(crate) fn next_ask(&self) -> Option<(LinkNo, Ask)>
+        ensures asked { (tasks : List Under) (replies : List Replied) → WorkStands self.now tasks replies → result ≡ first_ask tasks replies }
+        ensures left { (tasks : List Under) (replies : List Replied) → WorkStands self.now tasks replies → IsNone result ↔ (is_under_way self.now ≡ false) }
+    {
+        match self {
+            Work::Opening { setup, .. } => setup.next_ask(),
+            Work::Once { to, ask } => Some((*to, *ask)),
+            Work::Closing(teardown) => teardown.next_ask(),
+            Work::Idle => None,
+        }
+    }
+
+    // Takes the reply to the next ask. One that isn't a reply to it changes nothing. A task has to be under way.
+    pub(crate) fn take(&mut self, reply: Reply) -> Result<Turn, Unexpected>
+        requires left { is_under_way self.old ≡ true }
+        requires stands { (tasks : List Under) × (replies : List Replied) × WorkStands self.old tasks replies }
+        ensures expected { (tasks : List Under) (replies : List Replied) → WorkStands self.old tasks replies → IsOk result ↔ IsTrue (first_expects tasks replies reply) }
+        ensures taken { IfOk result (λ turn. (tasks : List Under) (replies : List Replied) → WorkStands self.old tasks replies → TurnStands turn self.new tasks (replies ++ reply ∷ [])) }
+        ensures unexpected { IfErr result (λ odd. (odd.reply ≡ reply) × ((tasks : List Under) (replies : List Replied) → WorkStands self.old tasks replies → option_map (λ to. to.1) (first_ask tasks replies) ≡ Some odd.ask)) }
+        ensures unchanged { OnErr result (self.new ≡ self.old) }
+    {
+        match self {
+            Work::Opening { chan, setup } => take_opening(*chan, setup, reply),
+            Work::Once { ask, .. } => take_once(ask, reply),
+            Work::Closing(teardown) => take_closing(teardown, reply),
+            Work::Idle => unreachable!(),
+        }
+    }
+}
+
+// Takes a reply to a setup.
+fn take_opening(chan: ChanNo, setup: &mut Setup, reply: Reply) -> Result<Turn, Unexpected>
+    requires left { settled_in (progress_in setup.old) ≡ None }
+    ensures expected { IsOk result ↔ IsTrue (is_expected setup.old.request (progress_in setup.old) reply) }
+    ensures taken { IfOk result (λ turn. (request : Asking) (tasks : List Under) (replies : List Replied) → IsOpening chan setup.old request replies → TurnStands turn (works.Opening chan setup.new) (Opens request ∷ tasks) (replies ++ reply ∷ [])) }
+    ensures unexpected { IfErr result (λ odd. (odd.reply ≡ reply) × (option_map (λ to. to.1) (asked setup.old.request (progress_in setup.old)) ≡ Some odd.ask)) }
+    ensures unchanged { OnErr result (setup.new ≡ setup.old) }
+{
+    match setup.take(reply) {
+        Err(odd) => Err(odd),
+        Ok(()) => match setup.verdict() {
+            Some(verdict) => Ok(Turn::Settled(Known { chan, verdict })),
+            None => Ok(Turn::On),
+        },
+    }
+}
+
+// Takes the reply to a submit or a pour.
+fn take_once(ask: &Ask, reply: Reply) -> Result<Turn, Unexpected>
+    ensures expected { IsOk result ↔ IsTrue (answers_submit reply) }
+    ensures over { IfOk result (λ turn. turn ≡ turns.Over) }
+    ensures unexpected { IfErr result (λ odd. (odd.reply ≡ reply) × (odd.ask ≡ ask.now)) }
+{
+    match reply {
+        Reply::Planned { .. } => Ok(Turn::Over),
+        Reply::Refused(Refusal::Busy { .. } | Refusal::TooBig { .. }) => Ok(Turn::Over),
+        _ => Err(Unexpected { ask: *ask, reply }),
+    }
+}
+
+// Takes a reply to a teardown.
+fn take_closing(teardown: &mut Teardown, reply: Reply) -> Result<Turn, Unexpected>
+    requires left { teardown.old.made < length teardown.old.route }
+    ensures expected { IsOk result ↔ IsTrue (is_closing reply) }
+    ensures taken { IfOk result (λ turn. (request : Asking) (tasks : List Under) (replies : List Replied) → IsClosing teardown.old request replies → TurnStands turn (works.Closing teardown.new) (Closes request ∷ tasks) (replies ++ reply ∷ [])) }
+    ensures unexpected { IfErr result (λ odd. (odd.reply ≡ reply) × ((replies : List Replied) → Releases teardown.old replies → option_map (λ to. to.1) (next_release teardown.old.chan teardown.old.route replies) ≡ Some odd.ask)) }
+    ensures unchanged { OnErr result (teardown.new ≡ teardown.old) }
+{
+    match teardown.take(reply) {
+        Err(odd) => Err(odd),
+        Ok(()) => match teardown.next_ask() {
+            Some(_) => Ok(Turn::On),
+            None => Ok(Turn::Over),
+        },
+    }
+}
+
+// The link of the first hop.
+fn first_link(route: &Route) -> LinkNo
+    requires { IsRoute route.now }
+    ensures { (ask : Asked) → Some (result, ask) ≡ asked_of (slice_get route.now 0) (λ hop. ask) }
+{
+    route.hop(1).link
+}
