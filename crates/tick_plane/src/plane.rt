@@ -1,0 +1,295 @@
+//! The rounds of arrivals and ticks.
+ghost use Rattle.std.specs.Prelude.{◌≡◌, ◌+◌, ◌-◌, ◌^◌, ◌<◌, ◌≤◌, ◌↔◌, ◌++◌, None, Some, IsTrue, IsOk, IsNone, OnOk, OnErr, IfOk, IfErr, IfNone, IfSome, length, find, remove, option_map, position, slice_get};
+ghost use Rattle.link_steps.specs.Lists.{without_first};
+ghost use Rattle.tick_plane.specs.Planes.{flight_of, is_due, link_at, next_due, tick_made, plane_ask, plane_after, plane_expects, plane_start};
+
+use crate::flight::Flight;
+use link_steps::{Ask, Refusal, Reply, Sent, Unexpected};
+use net_units::{LinkNo, OutOfMemory};
+use std::alloc::Global;
+use std::marker::Model;
+
+/// The plane of a network of 1 to 32 links, with its number of rounds.
+///
+/// A contract sees these two numbers; at which round, link and flights it is, as `at`; and for how many more flights there
+/// is room, as `spare`.
+#[derive(Drop)]
+pub struct Plane {
+    links: u32,
+    rounds: u64,
+    // The round, the links that have made its tick, and the packets on their way, in the order of their departures.
+    round: u64,
+    ticked: u32,
+    flights: Vec<Flight>,
+    ghost links_most: { links ≤ 32 },
+    ghost in_links: { ticked < links },
+    ghost rounds_most: { rounds < 2 ^ 60 },
+    ghost in_rounds: { round ≤ rounds },
+}
+
+impl Model for Plane {
+    ghost use Rattle.std.specs.Prelude.{◌-◌, vec_len, vec_capacity};
+    ghost use Rattle.tick_plane.specs.Kept.{Kept};
+
+    ghost Value = { Kept };
+
+    ghost view = { λ p. record { links = p.links; rounds = p.rounds; at = record { round = p.round; ticked = p.ticked; flights = p.flights.items }; spare = vec_capacity p.flights - vec_len p.flights } };
+}
+
+impl Plane {
+    /// A plane at the start of its first round, without room for a flight. It has 1 to 32 links and fewer than 2^60 rounds.
+    /// An `Err` comes only for want of memory.
+    pub fn new(alloc: Global, links: u32, rounds: u64) -> Result<Plane, OutOfMemory>
+        requires links_least { 1 ≤ links }
+        requires links_most { links ≤ 32 }
+        requires rounds_most { rounds < 2 ^ 60 }
+        ensures { IfOk result (λ made. made ≡ record { links = links; rounds = rounds; at = plane_start; spare = 0 }) }
+    {
+        Ok(Plane {
+            links,
+            rounds,
+            round: 0,
+            ticked: 0,
+            flights: Vec::new(alloc),
+        })
+    }
+
+    /// Makes room for one flight of each link that hasn't made its tick in this round. Where there is that room already it
+    /// takes no memory. An `Err`, which comes for want of memory alone, changes nothing.
+    pub fn ready(&mut self) -> Result<(), OutOfMemory>
+        ensures room { OnOk result (self.new.links - self.new.at.ticked ≤ self.new.spare) }
+        ensures had_room { self.old.links - self.old.at.ticked ≤ self.old.spare → IsOk result }
+        ensures grows { self.old.spare ≤ self.new.spare }
+        ensures kept { self.new ≡ record self.old { spare = self.new.spare } }
+        ensures err { OnErr result (self.new ≡ self.old) }
+    {
+        self.flights.reserve((self.links - self.ticked) as usize)?;
+        Ok(())
+    }
+
+    /// The next ask, and the link that it goes to. None comes exactly where all rounds are made.
+    pub fn next_ask(&self) -> Option<(LinkNo, Ask)>
+        ensures asked { result ≡ plane_ask self.now.rounds self.now.at }
+        ensures in_links { self.now.at.ticked < self.now.links }
+        ensures done { IsNone result ↔ (self.now.at.round ≡ self.now.rounds) }
+    {
+        if self.round == self.rounds {
+            return None;
+        }
+        match first_due(&self.flights, self.round) {
+            Some(place) => {
+                let flight = self.flights[place];
+                let ask = Ask::Arrive {
+                    packet: flight.packet,
+                };
+                Some((flight.to, ask))
+            }
+            None => Some((link_of(self.ticked), Ask::Tick)),
+        }
+    }
+
+    /// Takes the reply to the next ask. An ask has to be left, and `ready` has to have made room in this round, so it takes
+    /// no memory. A reply that isn't one of the ask's is answered with the ask, and changes nothing: to an arrive a packet
+    /// is taken, or refused as full or as stray; to a tick the tick is made.
+    pub fn take(&mut self, reply: Reply) -> Result<(), Unexpected>
+        requires left { self.old.at.round < self.old.rounds }
+        requires room { self.old.links - self.old.at.ticked ≤ self.old.spare }
+        ensures expected { IsOk result ↔ IsTrue (plane_expects (next_due self.old.at) reply) }
+        ensures taken { OnOk result (self.new.at ≡ plane_after self.old.links reply self.old.at) }
+        ensures links { self.new.links ≡ self.old.links }
+        ensures rounds { self.new.rounds ≡ self.old.rounds }
+        ensures room { 1 ≤ self.new.at.ticked → self.new.links - self.new.at.ticked ≤ self.new.spare }
+        ensures unexpected { IfErr result (λ odd. (odd.reply ≡ reply) × (option_map (λ to. to.1) (plane_ask self.old.rounds self.old.at) ≡ Some odd.ask)) }
+        ensures unchanged { OnErr result (self.new ≡ self.old) }
+    {
+        match (first_due(&self.flights, self.round), reply) {
+            (
+                Some(place),
+                Reply::Taken { .. } | Reply::Refused(Refusal::Full { .. } | Refusal::Stray { .. }),
+            ) => {
+                self.flights.remove(place);
+                Ok(())
+            }
+            (None, Reply::Ticked { sent, .. }) => {
+                self.tick(sent);
+                Ok(())
+            }
+            (Some(place), _) => {
+                let packet = self.flights[place].packet;
+                Err(Unexpected {
+                    ask: Ask::Arrive { packet },
+                    reply,
+                })
+            }
+            (None, _) => Err(Unexpected {
+                ask: Ask::Tick,
+                reply,
+            }),
+        }
+    }
+
+    /// The number of the round, which is how many are made.
+    pub fn round(&self) -> u64
+        ensures { result ≡ self.now.at.round }
+    {
+        self.round
+    }
+
+    /// How many packets are on their way.
+    pub fn flights(&self) -> usize
+        ensures { result ≡ length self.now.at.flights }
+    {
+        self.flights.len()
+    }
+}
+
+impl Plane {
+    // The next link has made its tick, and this packet left it.
+    fn tick(&mut self, sent: Option<Sent>)
+        requires none { next_due self.old.at ≡ None }
+        requires left { self.old.at.round < self.old.rounds }
+        requires room { self.old.links - self.old.at.ticked ≤ self.old.spare }
+        ensures ticked { self.new.at ≡ tick_made self.old.links self.old.at (flight_of sent) }
+        ensures links { self.new.links ≡ self.old.links }
+        ensures rounds { self.new.rounds ≡ self.old.rounds }
+        ensures room { 1 ≤ self.new.at.ticked → self.new.links - self.new.at.ticked ≤ self.new.spare }
+    {
+        let last = self.ticked + 1 == self.links;
+        self.depart(sent);
+        if last {
+            self.round += 1;
+            self.ticked = 0;
+        } else {
+            self.ticked += 1;
+        }
+    }
+
+    // A packet that has left a link is on its way, where there is a next link.
+    fn depart(&mut self, sent: Option<Sent>)
+        requires { 1 ≤ self.old.spare }
+        ensures { self.new ≡ record self.old { at = record self.old.at { flights = self.old.at.flights ++ flight_of sent }; spare = self.old.spare - length (flight_of sent) } }
+    {
+        if let Some(
+            Sent {
+                packet,
+                arrives,
+                next: Some(to),
+                ..
+            },
+        ) = sent
+        {
+            self.flights.push_reserved(Flight {
+                to,
+                round: arrives,
+                packet,
+            });
+        }
+    }
+}
+
+// The place of the first flight of this round.
+fn first_due(flights: &[Flight], round: u64) -> Option<usize>
+    ensures within { IfSome result (λ place. place < length flights.now) }
+    ensures found { IfSome result (λ place. find (is_due round) flights.now ≡ slice_get flights.now place) }
+    ensures left { IfSome result (λ place. without_first (is_due round) flights.now ≡ remove flights.now place) }
+    ensures none { IfNone result (find (is_due round) flights.now ≡ None) }
+{
+    place_due(flights, round)
+}
+
+// The first place of a flight of this round.
+fn place_due(flights: &[Flight], round: u64) -> Option<usize>
+    ensures { result ≡ position (is_due round) flights.now }
+{
+    flights.iter().position(|flight| flight.round == round)
+}
+
+// The link of this number.
+fn link_of(number: u32) -> LinkNo
+    requires { number < 32 }
+    ensures { result ≡ link_at number }
+{
+    match LinkNo::new(number as u8) {
+        Some(link) => link,
+        None => unreachable!(),
+    }
+}
+
+#[cfg(test)]
+mod tests {
+    use super::*;
+    use link_steps::Packet;
+    use net_units::ChanNo;
+    use std::process::Abort;
+    use std::test::Fail;
+
+    // the reply to a tick in which this packet left
+    fn ticked(clock: u64, sent: Option<Sent>) -> Reply {
+        Reply::Ticked {
+            clock,
+            full: 0,
+            sent,
+            best_sent: false,
+            best_lost: false,
+        }
+    }
+
+    // the plane asks this link for this, and gets this reply
+    fn asks(
+        rt: &impl Abort,
+        plane: &mut Plane,
+        link: u8,
+        ask: Ask,
+        reply: Reply,
+    ) -> Result<(), Fail> {
+        plane.ready()?;
+        match plane.next_ask() {
+            Some((to, next)) => {
+                assert_eq!(rt; (to.get(), next), (link, ask));
+                assert_eq!(rt; plane.take(reply), Ok(()));
+                Ok(())
+            }
+            None => Err(Fail::from("no ask is left")),
+        }
+    }
+
+    #[test]
+    fn a_round_of_one_link_is_a_tick(rt: HostRuntime) -> Result<(), Fail> {
+        let mut plane = Plane::new(rt.alloc(), 1, 1)?;
+        asks(&rt, &mut plane, 0, Ask::Tick, ticked(0, None))?;
+        assert_eq!(rt; plane.next_ask(), None);
+        Ok(())
+    }
+
+    // a packet leaves link 0 in the first of three rounds and reaches link 1 in the third
+    #[test]
+    fn a_packet_arrives_before_the_ticks_of_its_round(rt: HostRuntime) -> Result<(), Fail> {
+        let packet = Packet {
+            chan: ChanNo::new(7).ok_or("a channel")?,
+            number: 1,
+            size: 2,
+            due: 12,
+        };
+        let sent = Sent {
+            packet,
+            at: 0,
+            eligible: 0,
+            arrives: 2,
+            next: LinkNo::new(1),
+        };
+        let mut plane = Plane::new(rt.alloc(), 2, 3)?;
+        asks(&rt, &mut plane, 0, Ask::Tick, ticked(0, Some(sent)))?;
+        asks(&rt, &mut plane, 1, Ask::Tick, ticked(0, None))?;
+        asks(&rt, &mut plane, 0, Ask::Tick, ticked(1, None))?;
+        asks(&rt, &mut plane, 1, Ask::Tick, ticked(1, None))?;
+        let taken = Reply::Taken {
+            clock: 2,
+            eligible: 2,
+        };
+        asks(&rt, &mut plane, 1, Ask::Arrive { packet }, taken)?;
+        asks(&rt, &mut plane, 0, Ask::Tick, ticked(2, None))?;
+        asks(&rt, &mut plane, 1, Ask::Tick, ticked(2, None))?;
+        assert_eq!(rt; plane.next_ask(), None);
+        Ok(())
+    }
+}
