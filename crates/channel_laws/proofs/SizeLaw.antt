@@ -1,0 +1,108 @@
+-- In an admissible history each packet of a channel has a size within the contract that the channel's reserves name.
+use Rattle.std.proofs.Common.{◌≡◌, ℕ, suc, ◌+◌, Bool, true, false, List, [], ◌∷◌, length, Option, Some, None, refl, sym, ap, subst, inl, inr, arith}
+use Rattle.std.proofs.lemmas.Bool.{cases_Bool, eqb-true, eqb-false, lt-ltb}
+use Rattle.std.proofs.lemmas.List.Elements.{filter-append}
+use Rattle.std.specs.Prelude.{filter, find, nat_eq}
+use Rattle.link_steps.specs.declared.asks.Ask.{Ask}
+use Rattle.link_steps.specs.declared.asks.Ask.TheVariants.{Reserve, Relax, Deny, Submit, Release, Arrive, Tick, Pour}
+use Rattle.link_steps.specs.declared.asks.Packet.{Packet}
+use Rattle.link_steps.specs.declared.replies.Entry.{Entry}
+use Rattle.link_steps.specs.declared.replies.Reply.{Reply}
+use Rattle.link_steps.specs.declared.replies.Reply.TheVariants as Is
+use Rattle.link_steps.specs.declared.shape.LinkShape.{LinkShape}
+use Rattle.link_steps.specs.Buffer.{has_slot}
+use Rattle.link_steps.specs.Hold.{stays}
+use Rattle.link_steps.specs.Admissible.{MayAnswer, IsAdmissible}
+use Rattle.link_steps.specs.Lists.{Each}
+use Rattle.link_steps.specs.Replies.{arrive_to, reply_at}
+use Rattle.link_steps.specs.Rows.{Row, SourcePacket, is_for}
+use Rattle.link_steps.specs.Scan.{Scan, clock_of, scan_of, is_row_of, arrived_packet, arrived_row, with_arrival, without_expired, with_sources, with_best, after_tick, after}
+use Rattle.link_steps.specs.Service.{Arrival, here_at}
+use Rattle.link_steps.specs.Sources.{source_step, step_of, packet_of, row_after, taken_by, source_packets, rows_after}
+use Rattle.link_steps.proofs.LegalOrder.{legal-order}
+use Rattle.link_steps.proofs.LegalRowFacts.{SizeFits, IsInOrder}
+use Rattle.link_steps.proofs.ListFacts.{Each-append, Each-filter, Each-find, Each-change_first, Each-without_first}
+use Rattle.link_steps.proofs.ReplyFacts.{arrive-tells}
+use Rattle.channel_laws.specs.Channels.{SizeWithin, HopTerms, is_of_channel, channel_packets, channel_of, OffersTerms, AllOfferTerms}
+use Rattle.channel_laws.proofs.ChannelRows.{arrive-number, packets-on, packets-off, tick-packets}
+
+abbrev pub NamesContract : HopTerms → ℕ → Row → Type 0
+NamesContract terms c row = channel_of row ≡ c → row.terms.contract ≡ terms.contract
+
+pub record SizesStand (terms : HopTerms) (c : ℕ) (scan : Scan) : Type 0 where
+  pub rows : Each (NamesContract terms c) scan.rows
+  pub sizes : Each (SizeWithin terms) (channel_packets c scan.packets)
+
+-- a row's source
+step-sizes : (terms : HopTerms) (c t place : ℕ) (shape : LinkShape) (now : ℕ) (row : Row) (slot : Bool) (found : Option SourcePacket) → find (is_for t) row.plan ≡ found → IsInOrder shape now row → NamesContract terms c row
+    → Each (SizeWithin terms) (channel_packets c (packet_of (source_step slot found) t place row)) × NamesContract terms c (row_after (source_step slot found) t place row)
+step-sizes terms c t place shape now row slot None is order names = (tt, names)
+step-sizes terms c t place shape now row false (Some p) is order names = (tt, names)
+step-sizes terms c t place shape now row true (Some p) is order names =
+    elim (cases_Bool (nat_eq (channel_of row) c)) [
+      | inl on ↦
+          (let fits = (Each-find (SizeFits row.terms.contract.smax) (is_for t) row.plan p order.planned is).size_most in
+          let same : row.terms.contract.smax ≡ terms.contract.smax = ap (λ k. k.smax) (names (eqb-true (channel_of row) c on)) in
+          (rw (on, lt-ltb 0 (suc (length row.ticks)) (omega arith)) ((omega (arith, fits, same)), tt), names))
+      | inr off ↦ (rw off tt, names)
+    ]
+
+sources-sizes : (terms : HopTerms) (c t : ℕ) (shape : LinkShape) (now : ℕ) (here : List Arrival) (taken : ℕ) (rows : List Row) → Each (IsInOrder shape now) rows → Each (NamesContract terms c) rows
+    → Each (SizeWithin terms) (channel_packets c (source_packets shape.bounds here t taken rows)) × Each (NamesContract terms c) (rows_after shape.bounds here t taken rows)
+unfolding source_packets rows_after step_of
+sources-sizes terms c t shape now here taken [] order names = (tt, tt)
+sources-sizes terms c t shape now here taken (row ∷ rows) order names =
+    let one = step-sizes terms c t (suc taken) shape now row (has_slot shape.bounds row.terms row.lead here) (find (is_for t) row.plan) refl order.0 names.0 in
+    let rest = sources-sizes terms c t shape now here (taken + taken_by (step_of shape.bounds here t row)) rows order.1 names.1 in (
+      subst (Each (SizeWithin terms)) (sym (filter-append (is_of_channel c) (packet_of (step_of shape.bounds here t row) t (suc taken) row) (source_packets shape.bounds here t (taken + taken_by (step_of shape.bounds here t row)) rows))) (Each-append (SizeWithin terms) _ _ one.0 rest.0),
+      (one.1, rest.1),
+    )
+
+tick-sizes : (shape : LinkShape) (terms : HopTerms) (c t now : ℕ) (scan : Scan) → Each (IsInOrder shape now) scan.rows → SizesStand terms c scan → SizesStand terms c (after_tick shape t scan)
+unfolding after_tick with_best with_sources without_expired
+tick-sizes shape terms c t now scan order stands =
+    let new = sources-sizes terms c t shape now (here_at shape.rate scan.packets t) (length scan.packets) (filter (stays shape.bounds t) scan.rows) (Each-filter (IsInOrder shape now) (stays shape.bounds t) scan.rows order) (Each-filter (NamesContract terms c) (stays shape.bounds t) scan.rows stands.rows) in
+    record {
+      rows = new.1;
+      sizes = subst (Each (SizeWithin terms)) (sym (tick-packets shape c t scan)) (Each-append (SizeWithin terms) _ _ stands.sizes new.0);
+    }
+
+arrival-sizes : (shape : LinkShape) (terms : HopTerms) (c t : ℕ) (packet : Packet) (scan : Scan) (found : Option Row) (clock e : ℕ) → find (is_row_of packet.chan) scan.rows ≡ found → Is.Taken clock e ≡ arrive_to shape t scan.packets packet found → SizesStand terms c scan → SizesStand terms c (with_arrival t packet scan found)
+unfolding with_arrival
+arrival-sizes shape terms c t packet scan None clock e is same stands = stands
+arrival-sizes shape terms c t packet scan (Some row) clock e is same stands =
+    let number = arrive-number shape.bounds t packet row.terms (length row.ticks) _ _ clock e same in
+    let takes = arrive-tells shape.bounds t packet row.terms (length row.ticks) _ _ clock e same in
+    let names = Each-find (NamesContract terms c) (is_row_of packet.chan) scan.rows row stands.rows is in
+    record {
+      rows = Each-change_first (NamesContract terms c) (is_row_of packet.chan) (arrived_row t (suc (length scan.packets)) packet) scan.rows (λ r x. x) stands.rows;
+      sizes = elim (cases_Bool (nat_eq (channel_of row) c)) [
+        | inl on ↦
+            (let own = eqb-true (channel_of row) c on in
+            let contract : row.terms.contract.smax ≡ terms.contract.smax = ap (λ k. k.smax) (names own) in
+            let fits = takes.fits in
+            subst (Each (SizeWithin terms)) (sym (packets-on c scan.packets (arrived_packet t (suc (length scan.packets)) packet row) own (omega (arith, number)))) (Each-append (SizeWithin terms) _ _ stands.sizes ((omega (arith, fits, contract)), tt)))
+        | inr off ↦ subst (Each (SizeWithin terms)) (sym (packets-off c scan.packets (arrived_packet t (suc (length scan.packets)) packet row) (eqb-false (channel_of row) c off))) stands.sizes
+      ];
+    }
+
+after-sizes : (shape : LinkShape) (terms : HopTerms) (c t now : ℕ) (scan : Scan) (ask : Ask) (reply : Reply) → MayAnswer shape t scan ask reply → Each (IsInOrder shape now) scan.rows → OffersTerms terms c ask reply → SizesStand terms c scan → SizesStand terms c (after shape t scan ask reply)
+unfolding after MayAnswer reply_at
+after-sizes shape terms c t now scan (Reserve chan contract kind delay up_reach first next) (Is.Offer level reach) same order names stands = record { rows = Each-append (NamesContract terms c) scan.rows _ stands.rows ((λ own. (names own).contract_is), tt); sizes = stands.sizes }
+after-sizes shape terms c t now scan (Relax chan level up_bound) (Is.Relaxed clock) same order names stands = record { rows = Each-change_first (NamesContract terms c) _ _ scan.rows (λ r x. x) stands.rows; sizes = stands.sizes }
+after-sizes shape terms c t now scan (Deny chan) Is.Denied same order names stands = record { rows = Each-without_first (NamesContract terms c) _ scan.rows stands.rows; sizes = stands.sizes }
+after-sizes shape terms c t now scan (Submit chan count gap size) (Is.Planned clock) same order names stands = record { rows = Each-change_first (NamesContract terms c) _ _ scan.rows (λ r x. x) stands.rows; sizes = stands.sizes }
+after-sizes shape terms c t now scan (Release chan upstream) (Is.Closing count cancelled) same order names stands = record { rows = Each-change_first (NamesContract terms c) _ _ scan.rows (λ r x. x) stands.rows; sizes = stands.sizes }
+after-sizes shape terms c t now scan (Arrive packet) (Is.Taken clock e) same order names stands = arrival-sizes shape terms c t packet scan (find (is_row_of packet.chan) scan.rows) clock e refl same stands
+after-sizes shape terms c t now scan (Pour count gap size) (Is.Planned clock) same order names stands = record { rows = stands.rows; sizes = stands.sizes }
+after-sizes shape terms c t now scan Tick reply same order names stands = tick-sizes shape terms c t now scan order stands
+after-sizes shape terms c t now scan _ _ same order names stands = stands
+
+-- in every admissible history
+pub legal-sizes : (shape : LinkShape) (terms : HopTerms) (c : ℕ) (h : List Entry) → IsAdmissible shape h → AllOfferTerms terms c h → SizesStand terms c (scan_of shape h)
+unfolding IsAdmissible scan_of clock_of
+legal-sizes shape terms c [] legal names = record { rows = tt; sizes = tt }
+legal-sizes shape terms c (e ∷ past) legal names = after-sizes shape terms c (clock_of past) (clock_of past) (scan_of shape past) e.ask e.reply legal.1.answered (legal-order shape past legal.0).held names.0 (legal-sizes shape terms c past legal.0 names.1)
+
+pub legal-within : (shape : LinkShape) (terms : HopTerms) (c : ℕ) (h : List Entry) → IsAdmissible shape h → AllOfferTerms terms c h → Each (SizeWithin terms) (channel_packets c (scan_of shape h).packets)
+legal-within shape terms c h legal names = (legal-sizes shape terms c h legal names).sizes

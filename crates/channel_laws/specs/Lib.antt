@@ -1,0 +1,6 @@
+pub mod Asks
+pub mod Channels
+pub mod Departing
+pub mod Sources
+pub mod Reservations
+pub mod Laws

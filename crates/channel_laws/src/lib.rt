@@ -1,0 +1,8 @@
+//! Laws of one link's channels: what offers tell, whose row a channel's packets are of, what an entry makes of a reservation,
+//! and what leaves in a tick.
+//!
+//! They speak of the histories of `link_steps`, and are what a network over several links counts on, link by link. Each is
+//! the contract of a function that does nothing.
+#![tactic(auto)]
+
+pub mod laws;
