@@ -1,0 +1,5 @@
+use Rattle.interleave_core.proofs.RunLegal.{asked-fits}
+use Rattle.interleave_core.proofs.laws.every_ask_fits.Goals as goal
+
+pub returns : goal.returns
+returns c = asked-fits

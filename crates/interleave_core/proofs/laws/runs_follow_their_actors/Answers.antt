@@ -1,0 +1,5 @@
+use Rattle.interleave_core.proofs.RunOf.{follow-actors}
+use Rattle.interleave_core.proofs.laws.runs_follow_their_actors.Goals as goal
+
+pub returns : goal.returns
+returns c = follow-actors

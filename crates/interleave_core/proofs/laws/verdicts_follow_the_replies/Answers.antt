@@ -1,0 +1,5 @@
+use Rattle.interleave_core.proofs.VerdictHolds.{verdicts-follow}
+use Rattle.interleave_core.proofs.laws.verdicts_follow_the_replies.Goals as goal
+
+pub returns : goal.returns
+returns c = verdicts-follow

@@ -1,0 +1,34 @@
+-- Which replies an ask gets in a run. A setup's asks are never refused but as a reserve is: for its packets, its level or its
+-- buffer. A submit and a pour are planned, or refused while planned packets are left or since theirs are too large. A
+-- release is answered. A packet that arrives is taken, or refused as stray or as finding no slot.
+use Rattle.std.specs.Prelude.{◌≡◌, true}
+use Rattle.link_steps.specs.declared.asks.Ask.{Ask}
+use Rattle.link_steps.specs.declared.asks.Ask.TheVariants.{Reserve, Relax, Deny, Submit, Release, Arrive, Tick, Pour}
+use Rattle.link_steps.specs.declared.replies.Reply.{Reply}
+use Rattle.link_steps.specs.declared.replies.Reply.TheVariants.{Offer, Relaxed, Denied, Ticked, Refused}
+use Rattle.setup_protocol.specs.Setup.{is_reserve_refusal}
+use Rattle.channel_laws.specs.Reservations.{IsSendReply, IsReleased, IsArriveReply}
+
+abbrev pub IsReserveReply : Reply → Type 0
+IsReserveReply (Offer level reach) = Unit {0}
+IsReserveReply (Refused refusal) = is_reserve_refusal refusal ≡ true
+IsReserveReply _ = ⊥
+
+abbrev pub IsRelaxed : Reply → Type 0
+IsRelaxed (Relaxed clock) = Unit {0}
+IsRelaxed _ = ⊥
+
+abbrev pub IsTicked : Reply → Type 0
+IsTicked (Ticked clock full sent best_sent best_lost) = Unit {0}
+IsTicked _ = ⊥
+
+-- the ask gets one of its replies
+abbrev pub IsAnswered : Ask → Reply → Type 0
+IsAnswered (Reserve chan contract kind delay up_reach first next) reply = IsReserveReply reply
+IsAnswered (Relax chan level up_bound) reply = IsRelaxed reply
+IsAnswered (Deny chan) reply = reply ≡ Denied
+IsAnswered (Submit chan count gap size) reply = IsSendReply reply
+IsAnswered (Release chan upstream) reply = IsReleased reply
+IsAnswered (Arrive packet) reply = IsArriveReply reply
+IsAnswered Tick reply = IsTicked reply
+IsAnswered (Pour count gap size) reply = IsSendReply reply

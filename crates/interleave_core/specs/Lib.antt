@@ -1,0 +1,9 @@
+pub mod Runs
+pub mod Hops
+pub mod Paths
+pub mod Flights
+pub mod Kept
+pub mod Parts
+pub mod Answers
+pub mod Verdicts
+pub mod Laws

@@ -1,0 +1,83 @@
+//! Laws of every run, each as the contract of a function that does nothing.
+ghost use Rattle.interleave_core.specs.Laws.{EveryPartIsLegal, EveryAskFits, ClocksFollowThePlane, HeldRowsPassOnEveryLink, EveryHopIsGuaranteed, NoFlightIsLate, EveryAskIsAnswered, EveryReplyIsExpected, VerdictsFollowTheReplies, AcceptedRequestsAreKept, AcceptedChannelsKeepTheirDelays, RunsFollowTheirActors, FittingPartsMakeARun};
+
+/// The part of every run on each link is a legal history of that link. So every law of legal and admissible histories holds
+/// of it.
+pub fn every_part_is_legal()
+    ensures { EveryPartIsLegal }
+{}
+
+/// Each ask of a run meets the conditions on an ask at its link.
+pub fn every_ask_fits()
+    ensures { EveryAskFits }
+{}
+
+/// The clock of a link is the plane's round while the link hasn't made the round's tick, and one more afterwards.
+pub fn clocks_follow_the_plane()
+    ensures { ClocksFollowThePlane }
+{}
+
+/// After every entry of a run the rows that each link holds pass its admission test: in the middle of a setup or of a round
+/// too, and on a split link too.
+pub fn held_rows_pass_on_every_link()
+    ensures { HeldRowsPassOnEveryLink }
+{}
+
+/// The part of every run on each link has the hop guarantee: what has departed did so later than its eligible tick and within
+/// the bound of its level, and what the clock has reached the bound of has departed.
+pub fn every_hop_is_guaranteed()
+    ensures { EveryHopIsGuaranteed }
+{}
+
+/// Each packet on its way between two links is due in the plane's round or in a later one, and none is due while the links
+/// make their ticks. Each left its link later than its eligible tick and within the bound of its level, and keeps its
+/// number and its size.
+pub fn no_flight_is_late()
+    ensures { NoFlightIsLate }
+{}
+
+/// Where each channel has one owner, each ask of a run gets one of its replies. So no reserve finds a reservation of its
+/// channel, no relax, deny or release is refused, and no submit and no pour but while planned packets are left or since
+/// its packets are too large. An arrival may be refused as stray or full.
+pub fn every_ask_is_answered()
+    ensures { EveryAskIsAnswered }
+{}
+
+/// Where each channel has one owner, each reply to a caller is one that its script expects; and each reply to the plane is one
+/// that the plane expects.
+pub fn every_reply_is_expected()
+    ensures { EveryReplyIsExpected }
+{}
+
+/// What a request has come to, as its caller knows it, is the verdict over the replies of the run to the reserves, relaxes and
+/// denies of its channel, and nothing while that verdict is open.
+pub fn verdicts_follow_the_replies()
+    ensures { VerdictsFollowTheReplies }
+{}
+
+/// Where the caller of a request knows it accepted, the delay that it knows is the sum of the level bounds and propagations of
+/// its route, and is within what it asks for. The bound at its last hop is within the jitter that it asks for, if it does.
+pub fn accepted_requests_are_kept()
+    ensures { AcceptedRequestsAreKept }
+{}
+
+/// Where the caller of a request knows it accepted, each packet of its channel is eligible at every hop at most the level
+/// bounds and propagations of the hops before it later than at the first hop, and under delay-jitter control exactly so
+/// much later. A packet that has left a hop did so within that and the hop's own bound. So it is in every run, beside
+/// whatever other callers ask.
+pub fn accepted_channels_keep_their_delays()
+    ensures { AcceptedChannelsKeepTheirDelays }
+{}
+
+/// A run goes on with the next step of any actor, every list of actors gives a run, and each run is that of the list of its
+/// actors.
+pub fn runs_follow_their_actors()
+    ensures { RunsFollowTheirActors }
+{}
+
+/// A list of entries on links of the network is a run where its part on each link is a legal history of that link, and each
+/// actor's entries are what it asks next behind its own replies. So any order of the steps that keeps the order on each
+/// link and of each actor is one of a run.
+pub fn fitting_parts_make_a_run()
+    ensures { FittingPartsMakeARun }
+{}
