@@ -36,6 +36,7 @@ pub mod RunPromises
 pub mod WorkedRuns
 pub mod WorkedLimits
 pub mod WorkedCauses
+pub mod WorkedWords
 pub mod ReportFacts
 pub mod RunFacts
 pub mod EstablishmentFacts

@@ -228,9 +228,9 @@ refuses_the_65th_caller : reading 1000 (header_line ++ link_line ++ flat_map (λ
 unfolding reading judge
 refuses_the_65th_caller = refl
 
--- behind 1,024 requests, one more
+-- behind 1,024 requests, one more, also where its numbers are no contract
 refuses_the_1025th_request : judge (record { headed = true; links = link_a ∷ []; script = operation.Caller (codes "k1") ∷ eight_times (eight_times (eight_times (operation.Open request_1 ∷ operation.Open request_1 ∷ []))); rounds = None; tail = None })
-    (codes "open r2 route A contract 5 10 20 2 delay 12 rate") ≡ Err cause.Many
+    (codes "open r2 route A A contract 5 4 20 2 delay 12 jitter 1") ≡ Err cause.Many
 unfolding judge eight_times
 refuses_the_1025th_request = refl
 

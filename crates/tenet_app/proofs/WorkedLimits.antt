@@ -6,10 +6,9 @@ use Rattle.tenet_app.specs.Grammar.{judge}
 use Rattle.tenet_app.specs.Plans.{Said}
 use Rattle.tenet_app.specs.Playing.{is_play}
 use Rattle.tenet_app.specs.declared.scenario.cause.Cause.{Cause}
-use Rattle.tenet_app.specs.declared.scenario.cause.Cause.TheVariants.{Name, Number, Range, Shape, Many, Contract, Load, Route, Later}
+use Rattle.tenet_app.specs.declared.scenario.cause.Cause.TheVariants.{Name, Number, Known, Unknown, Range, Shape, Many, Contract, Levels, Load, Route, Later}
 use Rattle.tenet_app.specs.declared.scenario.plan.Item.{Item}
 use Rattle.tenet_app.specs.declared.scenario.plan.Link.{Link}
-use Rattle.tenet_app.specs.declared.scenario.plan.Operation.{Operation}
 use Rattle.tenet_app.specs.declared.scenario.plan.Operation.TheVariants.{Caller, Open, Send}
 use Rattle.tenet_app.specs.declared.scenario.plan.Request.{Request}
 use Rattle.tenet_app.specs.declared.status.Status.TheVariants as status
@@ -38,10 +37,10 @@ abbrev pub linked : Said
 linked = record headed { links = link_a ∷ [] }
 
 -- a caller
-abbrev called : Said
+abbrev pub called : Said
 called = record linked { script = Caller (codes "k1") ∷ [] }
 
-abbrev request_1 : Request
+abbrev pub request_1 : Request
 request_1 = record { name = codes "r1"; contract = record { xmin = 5; xave = 10; interval = 20; smax = 2 }; delay = 12 }
 
 -- a request
@@ -80,6 +79,17 @@ limits_of_bounds : causes_of headed (codes "link A n1 n2 rate 1 cap 1 prop 0 buf
     ≡ Some Range ∷ None ∷ None ∷ Some Range ∷ Some Range ∷ Some Shape ∷ None ∷ Some Shape ∷ []
 unfolding causes_of judge cause_in
 limits_of_bounds = refl
+
+-- behind 31 links there is room for one more, and behind 32 for none, which is judged behind the fields and before the
+-- bounds
+abbrev with_links : List ℕ → Said
+with_links others = record headed { links = link_a ∷ map (λ (b : ℕ). link_a) others }
+
+limits_of_links : map (λ (others : List ℕ). causes_of (with_links others) (codes "link ") [] (codes "B n1 n2 rate 1 cap 4 prop 2 buffer 100 levels 10" ∷ codes "B n1 n2 rate 1 cap 4 prop 2 buffer 100 levels 3" ∷ codes "A n1 n2 rate 1 cap 4 prop 2 buffer 100 levels 3" ∷ []))
+    (codes "abcdefghijklmnopqrstuvwxyz1234" ∷ codes "abcdefghijklmnopqrstuvwxyz12345" ∷ [])
+    ≡ (Some Later ∷ Some Levels ∷ Some Known ∷ []) ∷ (Some Many ∷ Some Many ∷ Some Known ∷ []) ∷ []
+unfolding causes_of judge cause_in
+limits_of_links = refl
 
 -- ---- a request
 
@@ -131,6 +141,15 @@ limits_of_a_route : causes_of called (codes "open r1 route") (codes " contract 5
 unfolding causes_of judge cause_in
 limits_of_a_route = refl
 
+-- two links, and a route on which one stands twice, with the other between
+abbrev two_links : List Link
+two_links = link_a ∷ record link_a { name = codes "B" } ∷ []
+
+limits_of_two_links : causes_of (record called { links = two_links }) (codes "open r1 route ") (codes " contract 5 10 20 2 delay 12 rate") (codes "A B" ∷ codes "A B A" ∷ codes "A C A" ∷ [])
+    ≡ None ∷ Some Route ∷ Some Unknown ∷ []
+unfolding causes_of judge cause_in
+limits_of_two_links = refl
+
 -- ---- a send
 
 -- there are 1 to 262,144 packets
@@ -157,6 +176,12 @@ limits_of_a_load : causes_of (record linked { script = Caller (codes "k1") ∷ O
 unfolding causes_of judge cause_in
 limits_of_a_load = refl
 
+-- also where another caller plans those
+limits_of_anothers_load : causes_of (record linked { script = Caller (codes "k1") ∷ Open request_1 ∷ Send (record { request = 0; count = 262143; gap = 1; size = 1 }) ∷ Caller (codes "k2") ∷ Open (record request_1 { name = codes "r2" }) ∷ [] }) (codes "send r2 ") (codes " 1 1") (codes "1" ∷ codes "2" ∷ [])
+    ≡ None ∷ Some Load ∷ []
+unfolding causes_of judge cause_in
+limits_of_anothers_load = refl
+
 -- ---- rounds
 
 -- there are at most 524,288 of them
@@ -176,6 +201,12 @@ limits_of_all_rounds : causes_of (record linked { rounds = Some 524287 }) (codes
     ≡ None ∷ Some Load ∷ []
 unfolding causes_of judge cause_in
 limits_of_all_rounds = refl
+
+-- on all links
+limits_of_all_ticks : causes_of (record linked { links = two_links; rounds = Some 1 }) (codes "tail ") [] (codes "262143" ∷ codes "262144" ∷ [])
+    ≡ None ∷ Some Load ∷ []
+unfolding causes_of judge cause_in
+limits_of_all_ticks = refl
 
 -- ---- names
 
