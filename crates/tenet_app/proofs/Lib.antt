@@ -37,6 +37,7 @@ pub mod WorkedRuns
 pub mod WorkedLimits
 pub mod WorkedCauses
 pub mod WorkedWords
+pub mod WorkedPromises
 pub mod ReportFacts
 pub mod RunFacts
 pub mod EstablishmentFacts

@@ -1,8 +1,9 @@
 -- Worked values, found by computing with the definitions.
-use Rattle.std.proofs.Common.{◌≡◌, ℕ, true, List, [], ◌∷◌, ◌++◌, map, flat_map, Some, None, Err, codes, refl}
+use Rattle.std.proofs.Common.{◌≡◌, ℕ, true, false, List, [], ◌∷◌, ◌++◌, map, flat_map, length, Some, None, Err, codes, refl, sym, ap, ◌∙◌, subst, arith, append-nil}
+use Rattle.byte_ends.specs.WholeLines.{whole_lines}
 use Rattle.tenet_app.specs.Grammar.{judge}
-use Rattle.tenet_app.specs.Plans.{Said}
-use Rattle.tenet_app.specs.Reading.{IsRead, IsBad, IsOver, reading}
+use Rattle.tenet_app.specs.Plans.{Said, nothing_said}
+use Rattle.tenet_app.specs.Reading.{IsRead, IsBad, IsOver, reading, are_let_pass, LetsPass}
 use Rattle.tenet_app.specs.declared.scenario.cause.Cause.TheVariants as cause
 use Rattle.tenet_app.specs.declared.scenario.plan.Link.{Link}
 use Rattle.tenet_app.specs.declared.scenario.plan.Operation.TheVariants as operation
@@ -267,3 +268,38 @@ is_over = refl
 refuses_before_over : reading 2 (codes "x\nl") ≡ IsBad 1 cause.Header
 unfolding reading judge
 refuses_before_over = refl
+
+-- ---- lines that are let pass
+
+-- a header is, a second one isn't
+lets_a_header_pass : are_let_pass (whole_lines 100 (codes "tenet 1\nl")) nothing_said ≡ true
+unfolding judge
+lets_a_header_pass = refl
+
+lets_no_second_header_pass : are_let_pass (whole_lines 100 (codes "tenet 1\ntenet 1\n")) nothing_said ≡ false
+unfolding judge
+lets_no_second_header_pass = refl
+
+-- nor another one, whose line feed is the last byte that may be read; where it may not be, the line isn't whole
+lets_no_other_header_pass : are_let_pass (whole_lines 8 (codes "tenet 2\n")) nothing_said ≡ false
+unfolding judge
+lets_no_other_header_pass = refl
+
+lets_a_line_that_is_not_whole_pass : are_let_pass (whole_lines 7 (codes "tenet 2\n")) nothing_said ≡ true
+unfolding judge
+lets_a_line_that_is_not_whole_pass = refl
+
+-- nor do bytes that hold such a line, or that are more than may be read, let all lines pass
+passes_no_other_header : LetsPass 100 (Some (codes "tenet 2\n")) (Some []) → ⊥
+unfolding judge
+passes_no_other_header pass =
+    let e : pass.bytes ≡ codes "tenet 2\n" = sym (pass.from_source ∙ append-nil pass.bytes) in
+    not-both (subst (λ bytes. are_let_pass (whole_lines 100 bytes) nothing_said ≡ true) e pass.passing)
+    where
+      not-both : false ≡ true → ⊥
+      not-both same = cc
+
+passes_no_third_byte : LetsPass 2 (Some (1 ∷ 2 ∷ 3 ∷ [])) (Some []) → ⊥
+passes_no_third_byte pass =
+    let e : 3 ≡ length pass.bytes = ap length (pass.from_source ∙ append-nil pass.bytes) in
+    omega (arith, e, pass.few)

@@ -1,6 +1,6 @@
 -- What sources have offered, worked by computing: three packets are planned for the ticks 0, 10 and 20, and a release
--- cancels those whose tick isn't made.
-use Rattle.std.proofs.Common.{◌≡◌, ℕ, zero, suc, ◌-◌, false, List, [], ◌∷◌, None, refl, lit<}
+-- cancels those whose tick isn't made. And how many of their sends were refused.
+use Rattle.std.proofs.Common.{◌≡◌, ℕ, zero, suc, ◌-◌, false, List, [], ◌∷◌, map, None, refl, lit<}
 use Rattle.net_units.specs.declared.numbers.ChanNo.{ChanNo}
 use Rattle.link_steps.specs.Rows.{planned_from}
 use Rattle.link_steps.specs.Scan.{clock_of}
@@ -8,7 +8,7 @@ use Rattle.link_steps.specs.declared.asks.Ask.TheVariants.{Submit, Release, Tick
 use Rattle.link_steps.specs.declared.replies.Entry.{Entry}
 use Rattle.link_steps.specs.declared.replies.Refusal.TheVariants.{NoSuch, Busy}
 use Rattle.link_steps.specs.declared.replies.Reply.TheVariants.{Planned, Closing, Ticked, Refused}
-use Rattle.tenet_app.specs.Channels.{planned_in, offered_in}
+use Rattle.tenet_app.specs.Channels.{planned_in, offered_in, refused_in}
 
 abbrev chan1 : ChanNo
 chan1 = record { number = 1; small = lit< tt }
@@ -72,3 +72,8 @@ another_cancels_none = refl
 plans_again : offered_in 1 (ticked 30 (record { ask = Submit chan1 2 5 2; reply = Planned 5 } ∷ ticked 4 (released 2 (ticked 1 submitted)))) ≡ 0 ∷ 5 ∷ 10 ∷ []
 unfolding planned_in planned_from clock_of ticked
 plans_again = refl
+
+-- a refused submit counts for its own channel, and a refused release for none
+refusals : map (λ (number : ℕ). refused_in number (not_released submitted)) (0 ∷ 1 ∷ 2 ∷ []) ≡ 0 ∷ 1 ∷ 0 ∷ []
+unfolding refused_in
+refusals = refl

@@ -1,6 +1,8 @@
 -- Runs worked by hand, found by computing with the definitions: what the requests of a script come to, and what the
 -- history tells of the channels and of the link.
-use Rattle.std.proofs.Common.{◌≡◌, ℕ, Bool, true, false, List, [], ◌∷◌, length, Some, refl, codes, lit≤}
+use Rattle.std.proofs.Common.{◌≡◌, ℕ, Bool, true, false, List, [], ◌∷◌, length, map, Some, None, refl, codes, lit≤}
+use Rattle.net_units.specs.Numbers.{channel_number}
+use Rattle.net_units.specs.declared.Kind.TheVariants.{Rate}
 use Rattle.traffic_contract.specs.Admission.{work_in, work_up_to, load, passes_up_to, passes, admits, first_level, best_level}
 use Rattle.traffic_contract.specs.Contract.{Terms, most_in}
 use Rattle.traffic_contract.specs.Eligible.{first_from, eligible}
@@ -9,6 +11,7 @@ use Rattle.traffic_contract.specs.declared.admission.Test.TheVariants.{Whole}
 use Rattle.link_steps.specs.BestEffort.{best_step, waiting_best}
 use Rattle.link_steps.specs.Buffer.{slots_of, need_of, kept_units, free_units, held_packets}
 use Rattle.link_steps.specs.Hold.{hold_ended}
+use Rattle.link_steps.specs.Levels.{level_of}
 use Rattle.link_steps.specs.Lists.{change_first, without_first}
 use Rattle.link_steps.specs.Regulator.{eligible_next}
 use Rattle.link_steps.specs.Replies.{reserve_reply, relax_reply, deny_reply, submit_reply, release_reply, sent_at, best_sent_at, reply_at, reply_to}
@@ -17,9 +20,11 @@ use Rattle.link_steps.specs.Rows.{planned_from}
 use Rattle.link_steps.specs.Scan.{clock_of, without_expired, with_sources, with_best, best_step_at, after_tick, after, scan_of}
 use Rattle.link_steps.specs.Service.{goes_before, first_in_line, is_waiting, serve_tick, starts_below, here_at}
 use Rattle.link_steps.specs.Sources.{step_of, source_packets, rows_after, lost_in}
+use Rattle.link_steps.specs.declared.asks.Ask.TheVariants.{Reserve, Relax, Deny, Submit, Release, Tick}
+use Rattle.link_steps.specs.declared.replies.Entry.{Entry}
 use Rattle.link_steps.specs.declared.shape.LinkShape.{LinkShape}
 use Rattle.tenet_app.specs.Channels.{planned_in, offered_in, refused_in, delays_in, departures_in, dropped_in}
-use Rattle.tenet_app.specs.Establishment.{Settled, IsAccepted, HasNoLevel, HasNoBuffer, IsTooWide, IsTooLate, way_back, at_destination}
+use Rattle.tenet_app.specs.Establishment.{Settled, IsAccepted, HasNoLevel, HasNoBuffer, IsTooWide, IsTooLate, channel_at, way_back, at_destination}
 use Rattle.tenet_app.specs.Plans.{Said}
 use Rattle.tenet_app.specs.Run.{Run, after_open, opened, sent, closed, after_script, after_ticks, run_of}
 use Rattle.tenet_app.specs.Shapes.{first_link}
@@ -27,7 +32,7 @@ use Rattle.tenet_app.specs.declared.scenario.plan.Operation.{Operation}
 use Rattle.tenet_app.specs.declared.scenario.plan.Operation.TheVariants as operation
 
 -- a link that sends a unit a tick, with so many units of buffer
-abbrev shape_a : LinkShape
+abbrev pub shape_a : LinkShape
 shape_a = record {
   link = first_link;
   rate = 1;
@@ -197,3 +202,15 @@ closed_channel_in_the_test = refl
 denied_close : (run_by shape_a (plan_of (asks 2 11 ∷ closes 0 ∷ []) 0)).history ≡ (run_by shape_a (plan_of (asks 2 11 ∷ []) 0)).history
 unfolding run_by
 denied_close = refl
+
+-- what a run asks the link, newest first: one offer is relaxed to level 2 and one is denied, and the link is the first and
+-- only hop
+asked_in_a_run : map (λ (e : Entry). e.ask) (run_by shape_a (plan_of (asks 2 22 ∷ sends 0 3 10 2 ∷ asks 2 11 ∷ closes 0 ∷ []) 1)).history
+    ≡ Tick ∷ Release (channel_at 0) None ∷ Deny (channel_at 1) ∷ Reserve (channel_at 1) (paced 2) Rate 11 0 true None
+    ∷ Submit (channel_at 0) 3 10 2 ∷ Relax (channel_at 0) (level_of 2) 0 ∷ Reserve (channel_at 0) (paced 2) Rate 22 0 true None ∷ []
+unfolding run_by
+asked_in_a_run = refl
+
+-- a channel's number is the place of its request
+channel_numbers : map (λ (place : ℕ). channel_number (channel_at place)) (0 ∷ 1 ∷ 1023 ∷ []) ≡ 0 ∷ 1 ∷ 1023 ∷ []
+channel_numbers = refl
