@@ -26,6 +26,7 @@ use Rattle.link_steps.specs.declared.shape.LinkShape.{LinkShape}
 use Rattle.tenet_app.specs.Channels.{planned_in, offered_in, refused_in, delays_in, departures_in, dropped_in}
 use Rattle.tenet_app.specs.Establishment.{Settled, IsAccepted, HasNoLevel, HasNoBuffer, IsTooWide, IsTooLate, channel_at, way_back, at_destination}
 use Rattle.tenet_app.specs.Plans.{Said}
+use Rattle.tenet_app.specs.Promises.{taken_in}
 use Rattle.tenet_app.specs.Run.{Run, after_open, opened, sent, closed, after_script, after_ticks, run_of}
 use Rattle.tenet_app.specs.Shapes.{first_link}
 use Rattle.tenet_app.specs.declared.scenario.plan.Operation.{Operation}
@@ -214,3 +215,13 @@ asked_in_a_run = refl
 -- a channel's number is the place of its request
 channel_numbers : map (λ (place : ℕ). channel_number (channel_at place)) (0 ∷ 1 ∷ 1023 ∷ []) ≡ 0 ∷ 1 ∷ 1023 ∷ []
 channel_numbers = refl
+
+-- the ticks at which the link takes the packets of the first channel, computed with the rules
+taken_by : LinkShape → Run → List ℕ
+unfolding clock_of scan_of after with_best best_step_at best_step waiting_best after_tick change_first without_first without_expired with_sources hold_ended here_at starts_below serve_tick is_waiting first_in_line goes_before held_packets slots_of planned_from eligible_next step_of source_packets rows_after lost_in most_in first_from eligible may_follow
+taken_by shape run = taken_in shape 0 run.history
+
+-- those at which they arrive, and not those at which they are eligible: 0, 5 and 20
+taken_too_fast : taken_by shape_a (run_by shape_a (plan_of (asks 2 12 ∷ sends 0 4 2 2 ∷ []) 8)) ≡ 0 ∷ 2 ∷ 4 ∷ []
+unfolding run_by taken_by
+taken_too_fast = refl
