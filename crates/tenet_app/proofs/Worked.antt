@@ -295,9 +295,9 @@ unfolding judge
 passes_no_other_header pass =
     let e : pass.bytes ≡ codes "tenet 2\n" = sym (pass.from_source ∙ append-nil pass.bytes) in
     not-both (subst (λ bytes. are_let_pass (whole_lines 100 bytes) nothing_said ≡ true) e pass.passing)
-    where
-      not-both : false ≡ true → ⊥
-      not-both same = cc
+  where
+    not-both : false ≡ true → ⊥
+    not-both same = cc
 
 passes_no_third_byte : LetsPass 2 (Some (1 ∷ 2 ∷ 3 ∷ [])) (Some []) → ⊥
 passes_no_third_byte pass =

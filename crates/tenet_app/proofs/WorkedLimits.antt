@@ -1,9 +1,9 @@
 -- Each number of a scenario at its limits and one beyond them, found by computing with the definitions; the statuses with
 -- which the program exits; and the words that it accepts.
-use Rattle.std.proofs.Common.{◌≡◌, ℕ, true, false, List, [], ◌∷◌, ◌++◌, map, Option, Some, None, Result, Ok, Err, codes, refl}
+use Rattle.std.proofs.Common.{◌≡◌, ℕ, true, false, List, [], ◌∷◌, ◌++◌, map, Option, Some, None, Result, Ok, Err, codes, refl, arith}
 use Rattle.tenet_app.specs.Codes.{code_of}
 use Rattle.tenet_app.specs.Grammar.{judge}
-use Rattle.tenet_app.specs.Plans.{Said}
+use Rattle.tenet_app.specs.Plans.{Said, AreRounds}
 use Rattle.tenet_app.specs.Playing.{is_play}
 use Rattle.tenet_app.specs.declared.scenario.cause.Cause.{Cause}
 use Rattle.tenet_app.specs.declared.scenario.cause.Cause.TheVariants.{Name, Number, Known, Unknown, Range, Shape, Many, Contract, Levels, Load, Route, Later}
@@ -207,6 +207,9 @@ limits_of_all_ticks : causes_of (record linked { links = two_links; rounds = Som
     ≡ None ∷ Some Load ∷ []
 unfolding causes_of judge cause_in
 limits_of_all_ticks = refl
+
+no_plan_of_more_ticks : AreRounds 2 262144 1 → ⊥
+no_plan_of_more_ticks rounds = omega (arith, rounds.load)
 
 -- ---- names
 

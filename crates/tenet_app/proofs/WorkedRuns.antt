@@ -1,7 +1,7 @@
 -- Runs worked by hand, found by computing with the definitions: what the requests of a script come to, and what the
 -- history tells of the channels and of the link.
 use Rattle.std.proofs.Common.{◌≡◌, ℕ, Bool, true, false, List, [], ◌∷◌, length, map, Some, None, refl, codes, lit≤}
-use Rattle.net_units.specs.Numbers.{channel_number}
+use Rattle.net_units.specs.Numbers.{channel_number, link_number}
 use Rattle.net_units.specs.declared.Kind.TheVariants.{Rate}
 use Rattle.traffic_contract.specs.Admission.{work_in, work_up_to, load, passes_up_to, passes, admits, first_level, best_level}
 use Rattle.traffic_contract.specs.Contract.{Terms, most_in}
@@ -212,9 +212,12 @@ asked_in_a_run : map (λ (e : Entry). e.ask) (run_by shape_a (plan_of (asks 2 22
 unfolding run_by
 asked_in_a_run = refl
 
--- a channel's number is the place of its request
+-- a channel's number is the place of its request, and the link's is 0
 channel_numbers : map (λ (place : ℕ). channel_number (channel_at place)) (0 ∷ 1 ∷ 1023 ∷ []) ≡ 0 ∷ 1 ∷ 1023 ∷ []
 channel_numbers = refl
+
+link_numbers : link_number first_link ≡ 0
+link_numbers = refl
 
 -- the ticks at which the link takes the packets of the first channel, computed with the rules
 taken_by : LinkShape → Run → List ℕ
