@@ -38,6 +38,7 @@ pub mod WorkedLimits
 pub mod WorkedCauses
 pub mod WorkedWords
 pub mod WorkedPromises
+pub mod WorkedContracts
 pub mod ReportFacts
 pub mod RunFacts
 pub mod EstablishmentFacts
