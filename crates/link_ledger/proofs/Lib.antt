@@ -2,3 +2,4 @@ mod JournalFacts
 mod OrderFacts
 mod OwnFacts
 mod StepFacts
+mod AnswerFacts

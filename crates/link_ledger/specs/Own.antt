@@ -1,7 +1,7 @@
 -- A pass keeps an entry of its own for each step that it has made. All that its seat has drawn are the marks of these
 -- entries, and what the seat knows of a link has of its actor exactly these, in their order, each at its place. So the
 -- marks that it knows, whose replies follow from the rules, tell it the whole journal up to there.
-use Rattle.std.specs.Prelude.{◌≡◌, ℕ, ◌+◌, ◌-◌, ◌<◌, ◌≤◌, ◌==◌, Some, List, [], ◌∷◌, ◌++◌, length, map, filter, slice_get}
+use Rattle.std.specs.Prelude.{◌≡◌, ℕ, ◌+◌, ◌-◌, ◌<◌, ◌≤◌, ◌==◌, ◌⊎◌, Some, List, [], ◌∷◌, ◌++◌, length, map, filter, slice_get}
 use mathlib.Core.List.{IsPrefix}
 use Rattle.net_units.specs.Numbers.{actor_number, link_number}
 use Rattle.net_units.specs.declared.numbers.ActorNo.{ActorNo}
@@ -10,6 +10,7 @@ use Rattle.link_steps.specs.Lists.{Each}
 use Rattle.link_steps.specs.Replies.{reply_to}
 use Rattle.link_steps.specs.Split.{Link}
 use Rattle.link_steps.specs.declared.asks.Ask.{Ask}
+use Rattle.link_steps.specs.declared.replies.Reply.{Reply}
 use Rattle.step_stamp.specs.Lists.{Has}
 use Rattle.step_stamp.specs.Marks.{Rises, drawn_for, marks_of}
 use Rattle.step_stamp.specs.Views.{known_of}
@@ -49,6 +50,14 @@ pub record IsExact (actor : ActorNo) (v : View) (own : List OwnEntry) : Type 0 w
 abbrev pub Owns : Link → ℕ → ActorNo → View → List OwnEntry → Type 0
 Owns link l actor v own = entries_of (actor_number actor) (journal_of link (known_of l v)) ≡ map (own_entry actor) (own_at l own)
 
+-- the reply of an own entry is the one of the rules after the asks that are known before its mark, wherever that stands
+abbrev pub IsAnswered : Link → List Mark → ActorNo → OwnEntry → Type 0
+IsAnswered link known actor e = (before after : List Mark) → known ≡ before ++ own_mark actor e ∷ after → e.reply ≡ reply_to link (history_in (journal_of link before)) e.ask
+
+-- each own entry of the link is answered so
+abbrev pub AreAnswered : Link → ℕ → ActorNo → View → List OwnEntry → Type 0
+AreAnswered link l actor v own = Each (IsAnswered link (known_of l v) actor) (own_at l own)
+
 -- one step under the lock, as the seat of the pass tells it: the journal before it, which the pass knew a beginning of, and the
 -- entry made, which is the journal's next one
 pub record Acted (link : Link) (l : ℕ) (actor : ActorNo) (ask : Ask) (pass pass' : View) (entries : List Entry) (e : OwnEntry) : Type 0 where
@@ -67,6 +76,10 @@ pub record Acted (link : Link) (l : ℕ) (actor : ActorNo) (ask : Ask) (pass pas
   pub ask_is : e.ask ≡ ask
   pub place : e.place ≡ length entries + 1
   pub reply : e.reply ≡ reply_to link (history_in entries) ask
+
+-- the journal after a step that wanted memory: as it was, or with one entry of this actor and ask at its end
+abbrev pub EnteredOneAtMost : ActorNo → Ask → List Entry → List Entry → Type 0
+EnteredOneAtMost actor ask entries entries' = (entries' ≡ entries) ⊎ ((stamp : ℕ) × (reply : Reply) × (entries' ≡ entries ++ record { stamp = stamp; actor = actor; ask = ask; reply = reply } ∷ []))
 
 -- a step that wanted memory: it has drawn one stamp at most
 pub record DrewOneAtMost (pass pass' : View) : Type 0 where

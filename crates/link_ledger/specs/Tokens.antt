@@ -13,7 +13,7 @@ use Rattle.step_stamp.specs.Views.{nobody}
 use Rattle.step_stamp.specs.declared.seats.PassSeat.{PassSeat}
 use Rattle.step_stamp.specs.declared.views.View.{View}
 use Rattle.link_ledger.specs.Journals.{entries_of}
-use Rattle.link_ledger.specs.Own.{IsExact, Owns, Acted, own_entry, own_at}
+use Rattle.link_ledger.specs.Own.{IsExact, Owns, AreAnswered, Acted, own_entry, own_at}
 use Rattle.link_ledger.specs.Owners.{no_table}
 use Rattle.link_ledger.specs.declared.entries.Entry.{Entry}
 use Rattle.link_ledger.specs.declared.entries.OwnEntry.{OwnEntry}
@@ -52,6 +52,10 @@ shape_at links l = option_map (λ (link : Link). link.shape) (slice_get links l)
 -- the pass owns its entries at this link
 abbrev pub OwnsAt : List Link → ℕ → Token → Type 0
 OwnsAt links l pass = (link : Link) → IsLink links l link → Owns link l pass.actor pass.view pass.own
+
+-- each of its entries at this link has the reply of the rules after the asks that its seat knows before it
+abbrev pub AnsweredAt : List Link → ℕ → Token → Type 0
+AnsweredAt links l pass = (link : Link) → IsLink links l link → AreAnswered link l pass.actor pass.view pass.own
 
 -- a step at a link, as the seat of the pass tells it, behind some journal of the link
 pub record ActedAt (links : List Link) (l : ℕ) (actor : ActorNo) (ask : Ask) (pass pass' : View) (e : OwnEntry) : Type 0 where

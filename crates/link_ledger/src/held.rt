@@ -4,7 +4,7 @@ ghost use Rattle.net_units.specs.Numbers.{link_number};
 ghost use Rattle.link_steps.specs.Legal.{AskFits};
 ghost use Rattle.step_stamp.specs.Seats.{table_of, pass_table, pass_view};
 ghost use Rattle.link_ledger.specs.Owners.{OwnsAsk, NextBelow};
-ghost use Rattle.link_ledger.specs.Own.{Acted, DrewOneAtMost, own_entry};
+ghost use Rattle.link_ledger.specs.Own.{Acted, DrewOneAtMost, EnteredOneAtMost, own_entry};
 ghost use Rattle.link_ledger.specs.Tokens.{IsLink};
 
 use crate::entries::{Entry, OwnEntry};
@@ -84,7 +84,7 @@ impl<L: LinkStep, H: Home> Held<L, H> {
     }
 
     /// Makes one step for this pass, and appends its entry to the journal. After want of memory the journal is unchanged or
-    /// has the entry.
+    /// has the entry at its end (`journal`), and the link stands for it in both cases, as the invariant says.
     pub fn act(
         &mut self,
         stamps: &Stamps,
@@ -101,6 +101,7 @@ impl<L: LinkStep, H: Home> Held<L, H> {
         ensures entered { IfOk result (λ e. self.new.entries ≡ self.old.entries ++ own_entry pass.old.actor e ∷ []) }
         ensures same { (pass_table pass.new ≡ pass_table pass.old) × (pass.new.actor ≡ pass.old.actor) }
         ensures memory { OnErr result (DrewOneAtMost (pass_view pass.old) (pass_view pass.new)) }
+        ensures journal { OnErr result (EnteredOneAtMost pass.old.actor ask.now self.old.entries self.new.entries) }
     {
         self.entries.reserve(1)?;
         pass.meet(stamps, &mut self.seat)?;

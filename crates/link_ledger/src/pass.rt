@@ -34,7 +34,7 @@ impl Pass {
     ghost use Rattle.step_stamp.specs.Seats.{table_of, pass_table, pass_view, knows_of, actor_of};
     ghost use Rattle.step_stamp.specs.Views.{saw};
     ghost use Rattle.link_steps.specs.Split.{Link};
-    ghost use Rattle.link_ledger.specs.Tokens.{OwnsAt};
+    ghost use Rattle.link_ledger.specs.Tokens.{OwnsAt, AnsweredAt};
 
     /// A pass with this seat, which has drawn nothing (`drawn`) and so knows no mark of its actor (`known`). It owns its
     /// entries, of which there are none, at every link (`owns`).
@@ -97,6 +97,17 @@ impl Pass {
             Some(seat) => seat.seen(stamps),
             None => unreachable!(),
         }
+    }
+
+    /// A law, and no work: while the pass has its seat and isn't spent, it owns its entries at each link where each of them
+    /// has the reply that the rules give after the asks that its seat knows before it. `LockedLink::step` asks for that.
+    pub fn owns_answered(&self)
+        requires seat { self.now.has_seat ≡ true }
+        requires unspent { self.now.spent ≡ false }
+        ensures { (links : List Link) (l : ℕ) → AnsweredAt links l self.now → OwnsAt links l self.now }
+    {
+        // The field is read for its invariant alone.
+        let _spent = self.spent;
     }
 
     /// Takes the seat out, and keeps the own entries: None exactly where it was given up before.
