@@ -17,6 +17,3 @@ pub use entries::{Entry, Journal, OwnEntry};
 pub use home::Home;
 pub use locked::{LockedLink, StepFault};
 pub use pass::Pass;
-
-#[cfg(test)]
-mod tests;
