@@ -23,3 +23,8 @@ pub mod PathDelays
 pub mod AcceptedPath
 pub mod KeptRequest
 pub mod PartsRun
+pub mod FlightQueue
+pub mod QueueTicks
+pub mod BufferLaw
+pub mod LegLaw
+pub mod ReadyLaw
