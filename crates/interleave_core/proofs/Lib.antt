@@ -28,3 +28,7 @@ pub mod QueueTicks
 pub mod BufferLaw
 pub mod LegLaw
 pub mod ReadyLaw
+pub mod FarHolds
+pub mod ChainLaw
+pub mod LevelsHold
+pub mod ReadyRun

@@ -5,5 +5,6 @@ pub mod Flights
 pub mod Kept
 pub mod Parts
 pub mod Answers
+pub mod Guarantee
 pub mod Verdicts
 pub mod Laws
