@@ -32,3 +32,6 @@ pub mod FarHolds
 pub mod ChainLaw
 pub mod LevelsHold
 pub mod ReadyRun
+pub mod DepartLaw
+pub mod AcceptedOnly
+pub mod GuaranteeLaw

@@ -17,6 +17,7 @@ use Rattle.call_script.specs.Tasks.{Network}
 use Rattle.call_script.specs.declared.tasks.Task.{Task}
 use Rattle.interleave_core.specs.Answers.{IsAnswered}
 use Rattle.interleave_core.specs.Flights.{IsPunctual, FlightsStand}
+use Rattle.interleave_core.specs.Guarantee.{Guaranteed}
 use Rattle.interleave_core.specs.Kept.{VerdictSums}
 use Rattle.interleave_core.specs.Parts.{IsAsked, own_of, IsLinked}
 use Rattle.interleave_core.specs.Paths.{PathKept}
@@ -90,6 +91,12 @@ AcceptedRequestsAreKept = (network : Network) (request : Request) (owner : ℕ) 
 abbrev pub AcceptedChannelsKeepTheirDelays : Type 0
 AcceptedChannelsKeepTheirDelays = (network : Network) (request : Request) (owner : ℕ) (run : List Done) (tasks : List Task) (levels : List ℕ) (delay : ℕ) → NetworkFits network → RequestFits network.links request → OwnedFully network request owner → IsRun network run → slice_get network.scripts owner ≡ Some tasks
     → outcome_in request.chan (standing tasks (replies_to owner run)).outcomes ≡ Some (Accepts levels delay) → PathKept network request levels run
+
+-- ---- the whole guarantee
+
+-- every run is guaranteed, at its beginning and after each of its entries
+abbrev pub EveryRunIsGuaranteed : Type 0
+EveryRunIsGuaranteed = (network : Network) (run : List Done) → NetworkFits network → AllOwned network → IsRun network run → AfterEachEntry (Guaranteed network) run
 
 -- ---- the run of a list of actors
 

@@ -1,5 +1,5 @@
 //! Laws of every run, each as the contract of a function that does nothing.
-ghost use Rattle.interleave_core.specs.Laws.{EveryPartIsLegal, EveryAskFits, ClocksFollowThePlane, HeldRowsPassOnEveryLink, EveryHopIsGuaranteed, NoFlightIsLate, EveryAskIsAnswered, EveryReplyIsExpected, VerdictsFollowTheReplies, AcceptedRequestsAreKept, AcceptedChannelsKeepTheirDelays, RunsFollowTheirActors, FittingPartsMakeARun};
+ghost use Rattle.interleave_core.specs.Laws.{EveryPartIsLegal, EveryAskFits, ClocksFollowThePlane, HeldRowsPassOnEveryLink, EveryHopIsGuaranteed, NoFlightIsLate, EveryAskIsAnswered, EveryReplyIsExpected, VerdictsFollowTheReplies, AcceptedRequestsAreKept, AcceptedChannelsKeepTheirDelays, EveryRunIsGuaranteed, RunsFollowTheirActors, FittingPartsMakeARun};
 
 /// The part of every run on each link is a legal history of that link. So every law of legal and admissible histories holds
 /// of it.
@@ -38,7 +38,8 @@ pub fn no_flight_is_late()
 
 /// Where each channel has one owner, each ask of a run gets one of its replies. So no reserve finds a reservation of its
 /// channel, no relax, deny or release is refused, and no submit and no pour but while planned packets are left or since
-/// its packets are too large. An arrival may be refused as stray or full.
+/// its packets are too large. That arrivals are taken is said by
+/// `every_run_is_guaranteed`.
 pub fn every_ask_is_answered()
     ensures { EveryAskIsAnswered }
 {}
@@ -67,6 +68,27 @@ pub fn accepted_requests_are_kept()
 /// whatever other callers ask.
 pub fn accepted_channels_keep_their_delays()
     ensures { AcceptedChannelsKeepTheirDelays }
+{}
+
+/// The whole guarantee. Where each channel has one owner, all of this holds at the beginning of every run and after each of its
+/// entries, in the middle of a setup or of a round too:
+///
+/// - On each link the held rows pass the admission test, what has departed did so within the bound of its level, and what the
+///   clock has reached the bound of has departed.
+/// - No source packet was dropped on a row whose source keeps its contract, and past the first hop each packet that arrives is
+///   taken, never refused as stray or full.
+/// - Only accepted channels have packets, and only at the hops of their routes. (Best-effort packets are of none.)
+/// - Each packet of an accepted channel is eligible at every hop, and has left it, within the level bounds and propagations so
+///   far from its eligible tick at the first hop on, and once the hop's clock has reached that bound it has departed. The sum over
+///   the route is within the delay that was asked for. Where the source keeps its contract, that eligible tick is the tick of its
+///   arrival.
+/// - Under delay-jitter control the delays of two packets of such a source differ by less than the bound of the last hop, which
+///   is within the jitter that was asked for.
+///
+/// Nothing is said of the jitter of other channels, of best-effort packets, or that a run goes on. (Banerjea, Ferrari et al.
+/// 1996 for the rules; that they hold over every order of the steps is ours.)
+pub fn every_run_is_guaranteed()
+    ensures { EveryRunIsGuaranteed }
 {}
 
 /// A run goes on with the next step of any actor, every list of actors gives a run, and each run is that of the list of its

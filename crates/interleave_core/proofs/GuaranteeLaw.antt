@@ -1,0 +1,233 @@
+-- Every run of a network whose parts fit, and whose channels each have one owner, is guaranteed after each of its entries.
+use Rattle.std.proofs.Common.{◌≡◌, ℕ, zero, suc, ◌+◌, ◌<◌, ◌≤◌, true, List, [], ◌∷◌, length, map, get_or, Some, None, refl, sym, ap, ◌∙◌, subst, inl, inr, arith}
+use Rattle.std.proofs.lemmas.Bool.{cases_Bool, eqb-true, eqb-false, eq-eqb, ne_eqb, and_from, lt-ltb}
+use Rattle.std.proofs.lemmas.Option.{same_Some, slice_get_within}
+use Rattle.std.specs.List.{slice_get}
+use Rattle.std.specs.Prelude.{nat_eq, nat_lt}
+use Rattle.net_units.specs.LevelBounds.{bound_at}
+use Rattle.net_units.specs.Numbers.{link_number, actor_number, channel_number}
+use Rattle.net_units.specs.declared.Kind.TheVariants.{Jitter}
+use Rattle.net_units.proofs.BoundFacts.{bound_least}
+use Rattle.hop_reservation.specs.Offers.{AreLevels, IsLevelOf}
+use Rattle.hop_reservation.specs.declared.route.Hop.{Hop}
+use Rattle.link_steps.specs.declared.asks.Ask.{Ask}
+use Rattle.link_steps.specs.declared.asks.Ask.TheVariants.{Reserve, Relax, Deny, Submit, Release, Arrive, Tick, Pour}
+use Rattle.link_steps.specs.declared.asks.Packet.{Packet}
+use Rattle.link_steps.specs.declared.replies.Reply.{Reply}
+use Rattle.link_steps.specs.declared.replies.Reply.TheVariants as Is
+use Rattle.link_steps.specs.Split.{Link}
+use Rattle.link_steps.specs.Lists.{Each}
+use Rattle.link_steps.specs.Service.{Arrival, leaves_at}
+use Rattle.link_steps.specs.SourceGuarantee.{arrival_of}
+use Rattle.link_steps.proofs.HopHolds.{guaranteed}
+use Rattle.link_steps.proofs.ListFacts.{Among}
+use Rattle.link_steps.proofs.SourceHistory.{source-guarantee}
+use Rattle.setup_protocol.specs.Laws.{KeepsRequest}
+use Rattle.setup_protocol.specs.Setup.{Accepts}
+use Rattle.setup_protocol.specs.declared.request.Request.{Request}
+use Rattle.run_record.specs.declared.done.Done.{Done}
+use Rattle.channel_laws.specs.Channels.{HopTerms, is_of_channel, tick_of_packet, offers_with, offers_to}
+use Rattle.call_script.specs.Fits.{RequestFits, NetworkFits}
+use Rattle.interleave_core.specs.Hops.{packets_on, terms_at, ChannelAsked}
+use Rattle.call_script.specs.declared.tasks.Task.{Task}
+use Rattle.call_script.specs.Tasks.{Network}
+use Rattle.tick_plane.specs.Planes.{next_due}
+use Rattle.run_record.specs.Runs.{part_of, replies_to}
+use Rattle.interleave_core.specs.Runs.{plane_no, plane_at, IsNext, IsRun}
+use Rattle.call_script.specs.Scripts.{standing, outcome_in}
+use Rattle.interleave_core.proofs.AcceptedPath.{accepted-path}
+use Rattle.channel_laws.proofs.ChannelRows.{legal-free}
+use Rattle.interleave_core.proofs.DepartLaw.{HaveTicks, path-departed}
+use Rattle.channel_laws.proofs.FirstSource.{source-served}
+use Rattle.interleave_core.proofs.HopLaw.{arrive-comes}
+use Rattle.link_steps.proofs.PacketRows.{Among-passes}
+use Rattle.interleave_core.proofs.PathDelays.{passed, close-delays}
+use Rattle.interleave_core.proofs.AcceptedOnly.{taken-accepted}
+use Rattle.interleave_core.proofs.ReadyRun.{arrives-taken}
+use Rattle.call_script.specs.Owners.{OwnedFully, IsOwned, IsUnnamed, AllOwned}
+use Rattle.interleave_core.proofs.RunCloses.{owned-once}
+use Rattle.interleave_core.proofs.RunGoes.{owned-asked, accepted-levels, tasks-off, plane-off-ask, off-standing}
+use Rattle.interleave_core.proofs.RunLegal.{plane-next, caller-next, part-on, part-off, part-admissible}
+use Rattle.channel_laws.specs.Asks.{IsOff}
+use Rattle.interleave_core.proofs.KeptRequest.{verdict-kept}
+use Rattle.interleave_core.specs.Paths.{HopAt, packets_at, hop_ticks}
+use Rattle.interleave_core.specs.Guarantee.{TakesArrive, IsOfAccepted, arrival_ticks, SourceKept, ChannelGuaranteed, Guaranteed}
+use Rattle.interleave_core.specs.Laws.{EveryRunIsGuaranteed}
+use Rattle.interleave_core.proofs.HopsAt.{hop-at}
+use Rattle.interleave_core.proofs.ReadyRun.{counts-first}
+use Rattle.interleave_core.proofs.ChannelsAt.{packet-offered}
+use Rattle.link_steps.proofs.ChangeFacts.{Each-from_among}
+
+-- ---- an accepted channel
+
+level-at : (hops : List Hop) (levels : List ℕ) (i : ℕ) (hop : Hop) → AreLevels hops levels → slice_get hops i ≡ Some hop → i < length levels → IsLevelOf hop (get_or levels i 0)
+unfolding AreLevels
+level-at hops [] i hop are found within = absurd (omega (arith, within))
+level-at [] (level ∷ levels) i hop are found within = absurd are
+level-at (h ∷ hops) (level ∷ levels) zero hop are found within = subst (λ x. IsLevelOf x level) (same_Some h hop found) are.0
+level-at (h ∷ hops) (level ∷ levels) (suc i) hop are found within = level-at hops levels i hop are.1 found (omega (arith, within))
+
+have-ticks : (network : Network) (request : Request) (levels : List ℕ) (delay : ℕ) → KeepsRequest request levels delay → HaveTicks network request levels
+have-ticks network request levels delay keeps i at =
+    let whole = keeps.have_levels.whole in
+    let within = slice_get_within request.route i at.hop at.stands in
+    let level = level-at request.route levels i at.hop keeps.have_levels.are_levels at.stands (omega (arith, whole, within)) in
+    let most = level.most in
+    let same : length at.hop.bounds ≡ length at.link.shape.bounds = ap length at.bounds in
+    bound_least at.link.shape.bounds (get_or levels i 0) at.link.shape.bounds_rise level.least (omega (arith, most, same))
+
+ticks-same : (own : List Arrival) → Each (λ p. p.eligible ≡ p.at) own → map tick_of_packet own ≡ map arrival_of own
+ticks-same [] each = refl
+ticks-same (p ∷ own) each = ap (λ t. t ∷ map tick_of_packet own) each.0 ∙ ap (λ ts. p.at ∷ ts) (ticks-same own each.1)
+
+first-at-once : (network : Network) (request : Request) (first : HopAt network request 0) (run : List Done) → NetworkFits network → IsRun network run → ChannelAsked request run → SourceKept network request first run → hop_ticks network request 0 first run ≡ arrival_ticks network request first run
+first-at-once network request first run fits is asked kept =
+    ticks-same (packets_at network request 0 first run)
+    (source-served first.link.shape (terms_at request 0) (channel_number request.chan) (part_of (link_number first.hop.link) run) (part-admissible network run (link_number first.hop.link) first.link fits is first.linked) (asked.names 0 first.hop first.stands) (asked.once (link_number first.hop.link)) kept).at_once
+
+pub channel-guaranteed : (network : Network) (request : Request) (owner : ℕ) (tasks : List Task) (levels : List ℕ) (delay : ℕ) (first : HopAt network request 0) (run : List Done) → NetworkFits network → RequestFits network.links request → OwnedFully network request owner → IsRun network run → slice_get network.scripts owner ≡ Some tasks → outcome_in request.chan (standing tasks (replies_to owner run)).outcomes ≡ Some (Accepts levels delay) → ChannelGuaranteed network request levels delay first run
+channel-guaranteed network request owner tasks levels delay first run fits sound full is found accepted =
+    let once = owned-once network request owner full in
+    let asked = owned-asked network request owner fits sound once in
+    let have = (accepted-levels network request owner run tasks levels delay fits sound once is found accepted).0 in
+    let sums = (verdict-kept network request owner run fits sound full is).kept tasks found levels delay accepted in
+    record {
+      path = accepted-path network request owner run tasks levels delay fits sound full is found accepted;
+      keeps = sums.keeps;
+      sum = sums.sum;
+      departs = λ i at k taken due. (let gone = path-departed network request owner levels run first i at k fits sound full is have (have-ticks network request levels delay sums.keeps) taken due in record { there = gone.0; departed = gone.1 });
+      at_once = first-at-once network request first run fits is (asked run is);
+      close = λ jitter kept i at one other left left-other.
+          (let p = passed network request levels run fits sound asked is have first i at one left.among left.left left.own in
+          let q = passed network request levels run fits sound asked is have first i at other left-other.among left-other.left left-other.own in
+          let same = first-at-once network request first run fits is (asked run is) kept in
+          let inside : i < length levels = (let n = have.count in let w = slice_get_within request.route i at.hop at.stands in omega (arith, n, w)) in
+          record {
+            index = p.index;
+            place = q.index;
+            number = p.number;
+            number_other = q.number;
+            within = subst (λ ticks. p.index < length ticks) same p.within;
+            within_other = subst (λ ticks. q.index < length ticks) same q.within;
+            close = subst (λ ticks. leaves_at at.link.shape.rate one + at.link.shape.prop + get_or ticks q.index 0 < leaves_at at.link.shape.rate other + at.link.shape.prop + get_or ticks p.index 0 + bound_at at.link.shape.bounds (get_or levels i 0)) same (close-delays network request levels run first i at one other inside jitter p q);
+          });
+    }
+
+-- ---- a channel that no script names
+
+off-offers : (c n : ℕ) (ask : Ask) (reply : Reply) → IsOff c ask → offers_with c n ask reply ≡ n
+off-offers c n (Reserve chan contract kind delay up_reach first next) (Is.Offer level reach) off = rw (ne_eqb (channel_number chan) c off) refl
+off-offers c n _ _ off = refl
+
+unnamed-off : (network : Network) (c : ℕ) (done : Done) (past : List Done) → IsUnnamed network c → (next : IsNext network past done) → IsOff c done.ask
+unnamed-off network c done past unnamed next =
+    elim (cases_Bool (nat_eq (actor_number done.actor) (plane_no network))) [
+      | inl plane ↦ (let asks = plane-next network past done next (eqb-true (actor_number done.actor) (plane_no network) plane) in plane-off-ask c (next_due (plane_at network past)) (plane_at network past).ticked done.link done.ask asks.asks)
+      | inr caller ↦
+          (let asks = caller-next network past done next (eqb-false (actor_number done.actor) (plane_no network) caller) in
+          let others = off-standing c asks.tasks (replies_to (actor_number done.actor) past) (unnamed (actor_number done.actor) asks.tasks asks.found) in
+          tasks-off c _ _ done.link done.ask others asks.asks)
+    ]
+
+unnamed-none : (network : Network) (c n : ℕ) (run : List Done) → IsUnnamed network c → IsRun network run → offers_to c (part_of n run) ≡ 0
+unfolding IsRun part_of offers_to
+unnamed-none network c n [] unnamed is = refl
+unnamed-none network c n (done ∷ past) unnamed is =
+    let rest = unnamed-none network c n past unnamed is.0 in
+    elim (cases_Bool (nat_eq (link_number done.link) n)) [
+      | inl on ↦ ap (offers_to c) (part-on n done past (eqb-true (link_number done.link) n on)) ∙ off-offers c (offers_to c (part_of n past)) done.ask done.reply (unnamed-off network c done past unnamed is.1) ∙ rest
+      | inr off ↦ ap (offers_to c) (part-off n done past (eqb-false (link_number done.link) n off)) ∙ rest
+    ]
+
+-- no numbered packet is of it
+unnamed-packet : (network : Network) (n : ℕ) (link : Link) (p : Arrival) (run : List Done) → NetworkFits network → IsRun network run → slice_get network.links n ≡ Some link → Among p (packets_on link n run) → is_of_channel (channel_number p.chan) p ≡ true → IsUnnamed network (channel_number p.chan) → ⊥
+unnamed-packet network n link p run fits is linked among own unnamed =
+    let free = legal-free link.shape any-terms (channel_number p.chan) (part_of n run) (part-admissible network run n link fits is linked) (unnamed-none network (channel_number p.chan) n run unnamed is) in
+    subst (Among p) free.packets (Among-passes (is_of_channel (channel_number p.chan)) p (packets_on link n run) own among) where
+      any-terms : HopTerms
+      any-terms = record { contract = record { xmin = 0; xave = 0; interval = 0; smax = 0 }; kind = Jitter; first = true; next = None }
+
+-- a numbered packet is of its channel
+own-channel : (p : Arrival) → 1 ≤ p.number → is_of_channel (channel_number p.chan) p ≡ true
+own-channel p numbered = and_from (nat_eq (channel_number p.chan) (channel_number p.chan)) (nat_lt 0 p.number) (eq-eqb (channel_number p.chan) (channel_number p.chan) refl) (lt-ltb 0 p.number numbered)
+
+unnamed-arrive : (network : Network) (done : Done) (past : List Done) (packet : Packet) → NetworkFits network → IsRun network past → (next : IsNext network past done) → done.ask ≡ Arrive packet → IsUnnamed network (channel_number packet.chan) → ⊥
+unnamed-arrive network done past packet fits run next arrives unnamed =
+    let comes = arrive-comes network past done packet fits run next arrives in
+    let from = comes.from in
+    let chan : channel_number packet.chan ≡ channel_number from.taken.chan = ap (λ p. channel_number p.chan) (sym comes.same) ∙ ap channel_number from.chan in
+    unnamed-packet network from.n from.link from.taken past fits run from.linked from.among (own-channel from.taken from.numbered) (subst (IsUnnamed network) chan unnamed)
+
+-- ---- only accepted channels have packets
+
+some-there : (p : Arrival) (ps : List Arrival) → Among p ps → 1 ≤ length ps
+some-there p [] among = absurd among
+some-there p (q ∷ ps) among = omega arith
+
+owned-packet : (network : Network) (run : List Done) (n : ℕ) (link : Link) (p : Arrival) → NetworkFits network → IsRun network run → slice_get network.links n ≡ Some link → Among p (packets_on link n run) → is_of_channel (channel_number p.chan) p ≡ true → IsOwned network (channel_number p.chan) → IsOfAccepted network run n p
+owned-packet network run n link p fits is linked among own owned =
+    let request : Request = owned.request in
+    let asked = owned-asked network owned.request owned.owner fits owned.sound (owned-once network owned.request owned.owner owned.full) in
+    let mine : is_of_channel (channel_number owned.request.chan) p ≡ true = subst (λ c. is_of_channel c p ≡ true) (sym owned.chan) own in
+    let row = packet-offered network owned.request run n link p fits is (asked run is) owned.sound linked mine among in
+    let hop = hop-at network owned.request row.route.index owned.sound (slice_get_within owned.request.route row.route.index row.route.hop row.route.stands) in
+    let first = hop-at network owned.request 0 owned.sound owned.sound.route.least in
+    let on : link_number hop.hop.link ≡ n = ap (λ h. link_number h.link) (same_Some hop.hop row.route.hop (sym hop.stands ∙ row.route.stands)) ∙ row.route.number in
+    let same : hop.link ≡ link = same_Some hop.link link (sym hop.linked ∙ ap (slice_get network.links) on ∙ linked) in
+    let there : Among p (packets_on hop.link (link_number hop.hop.link) run) = subst (λ l. Among p (packets_on l (link_number hop.hop.link) run)) (sym same) (subst (λ m. Among p (packets_on link m run)) (sym on) among) in
+    let some = some-there p (packets_at network owned.request row.route.index hop run) (Among-passes (is_of_channel (channel_number owned.request.chan)) p (packets_on hop.link (link_number hop.hop.link) run) mine there) in
+    let fewer = counts-first network owned.request first row.route.index hop run fits owned.sound asked is in
+    record {
+      request = owned.request;
+      owner = owned.owner;
+      sound = owned.sound;
+      full = owned.full;
+      chan = owned.chan;
+      index = row.route.index;
+      hop = hop;
+      on = on;
+      accepted = taken-accepted network owned.request owned.owner first run fits owned.sound owned.full is (omega (arith, some, fewer));
+    }
+
+packet-accepted : (network : Network) (run : List Done) (n : ℕ) (link : Link) (p : Arrival) → NetworkFits network → AllOwned network → IsRun network run → slice_get network.links n ≡ Some link → Among p (packets_on link n run) → 1 ≤ p.number → IsOfAccepted network run n p
+packet-accepted network run n link p fits owned is linked among numbered =
+    elim (owned (channel_number p.chan)) [
+      | inl own ↦ owned-packet network run n link p fits is linked among (own-channel p numbered) own
+      | inr unnamed ↦ absurd (unnamed-packet network n link p run fits is linked among (own-channel p numbered) unnamed)
+    ]
+
+-- ---- every run
+
+arrive-taken : (network : Network) (done : Done) (past : List Done) (ask : Ask) → NetworkFits network → AllOwned network → IsRun network past → (next : IsNext network past done) → done.ask ≡ ask → TakesArrive ask done.reply
+arrive-taken network done past (Arrive packet) fits owned run next is =
+    elim (owned (channel_number packet.chan)) [
+      | inl own ↦ arrives-taken network own.request own.owner done past packet fits own.sound own.full run next is (sym own.chan)
+      | inr unnamed ↦ absurd (unnamed-arrive network done past packet fits run next is unnamed)
+    ]
+arrive-taken network done past (Reserve chan contract kind delay up_reach first next') fits owned run next is = tt
+arrive-taken network done past (Relax chan level up_bound) fits owned run next is = tt
+arrive-taken network done past (Deny chan) fits owned run next is = tt
+arrive-taken network done past (Submit chan count gap size) fits owned run next is = tt
+arrive-taken network done past (Release chan upstream) fits owned run next is = tt
+arrive-taken network done past (Pour count gap size) fits owned run next is = tt
+arrive-taken network done past Tick fits owned run next is = tt
+
+pub all-arrives : (network : Network) (run : List Done) → NetworkFits network → AllOwned network → IsRun network run → Each (λ done. TakesArrive done.ask done.reply) run
+unfolding IsRun
+all-arrives network [] fits owned is = tt
+all-arrives network (done ∷ past) fits owned is = (arrive-taken network done past done.ask fits owned is.0 is.1 refl, all-arrives network past fits owned is.0)
+
+pub run-guaranteed : (network : Network) (run : List Done) → NetworkFits network → AllOwned network → IsRun network run → Guaranteed network run
+run-guaranteed network run fits owned is = record {
+  hops = λ n link linked. guaranteed link.shape (part_of n run) (part-admissible network run n link fits is linked);
+  sources = λ n link linked. source-guarantee link.shape (part_of n run) (part-admissible network run n link fits is linked);
+  arrives = all-arrives network run fits owned is;
+  packets = λ n link linked. Each-from_among (λ p. 1 ≤ p.number → IsOfAccepted network run n p) (packets_on link n run) (λ p among numbered. packet-accepted network run n link p fits owned is linked among numbered);
+  channels = λ request owner tasks levels delay first sound full found accepted. channel-guaranteed network request owner tasks levels delay first run fits sound full is found accepted;
+}
+
+-- after each entry
+pub guaranteed-throughout : EveryRunIsGuaranteed
+unfolding IsRun
+guaranteed-throughout network [] fits owned is = run-guaranteed network [] fits owned is
+guaranteed-throughout network (done ∷ past) fits owned is = (guaranteed-throughout network past fits owned is.0, run-guaranteed network (done ∷ past) fits owned is)
