@@ -34,4 +34,5 @@ pub mod LevelsHold
 pub mod ReadyRun
 pub mod DepartLaw
 pub mod AcceptedOnly
+pub mod SentRows
 pub mod GuaranteeLaw

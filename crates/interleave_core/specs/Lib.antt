@@ -5,6 +5,7 @@ pub mod Flights
 pub mod Kept
 pub mod Parts
 pub mod Answers
+pub mod Sent
 pub mod Guarantee
 pub mod Verdicts
 pub mod Laws

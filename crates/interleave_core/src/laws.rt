@@ -1,5 +1,6 @@
 //! Laws of every run, each as the contract of a function that does nothing.
 ghost use Rattle.interleave_core.specs.Laws.{EveryPartIsLegal, EveryAskFits, ClocksFollowThePlane, HeldRowsPassOnEveryLink, EveryHopIsGuaranteed, NoFlightIsLate, EveryAskIsAnswered, EveryReplyIsExpected, VerdictsFollowTheReplies, AcceptedRequestsAreKept, AcceptedChannelsKeepTheirDelays, EveryRunIsGuaranteed, RunsFollowTheirActors, FittingPartsMakeARun};
+ghost use Rattle.interleave_core.specs.Sent.{TicksTellWhatHasLeft};
 
 /// The part of every run on each link is a legal history of that link. So every law of legal and admissible histories holds
 /// of it.
@@ -89,6 +90,12 @@ pub fn accepted_channels_keep_their_delays()
 /// 1996 for the rules; that they hold over every order of the steps is ours.)
 pub fn every_run_is_guaranteed()
     ensures { EveryRunIsGuaranteed }
+{}
+
+/// Each packet that a tick of a run tells as sent has left its link: the link's history has its start, which ended by the
+/// link's clock, and what the tick tells are this packet's departure, its next link, and when it is due there.
+pub fn ticks_tell_what_has_left()
+    ensures { TicksTellWhatHasLeft }
 {}
 
 /// A run goes on with the next step of any actor, every list of actors gives a run, and each run is that of the list of its
