@@ -1,5 +1,5 @@
 -- The work of a task: at its beginning, and with one reply more.
-use Rattle.std.proofs.Common.{◌≡◌, ℕ, suc, ◌-◌, ◌<◌, ◌≤◌, Option, Some, None, List, [], ◌∷◌, ◌++◌, length, refl, sym, ap, ◌∙◌, subst, inl, inr, option_map, arith}
+use Rattle.std.proofs.Common.{◌≡◌, ℕ, suc, true, ◌-◌, ◌<◌, ◌≤◌, Option, Some, None, IsSome, List, [], ◌∷◌, ◌++◌, length, refl, sym, ap, ◌∙◌, subst, inl, inr, option_map, arith}
 use Rattle.std.proofs.lemmas.Bool.{cases_lt}
 use Rattle.std.proofs.lemmas.Option.{slice_get_cases}
 use Rattle.std.specs.List.{slice_get}
@@ -19,9 +19,11 @@ use Rattle.setup_protocol.specs.declared.setup.Setup.{Setup}
 use Rattle.setup_protocol.specs.declared.setup.State.{State}
 use Rattle.setup_protocol.specs.declared.setup.State.TheVariants as state
 use Rattle.setup_protocol.specs.declared.teardown.Teardown.{Teardown}
-use Rattle.call_script.specs.Work.{IsOpening, IsClosing, GoesOn}
+use Rattle.call_script.specs.Scripts.{first_ask}
+use Rattle.call_script.specs.Work.{WorkStands, IsOpening, IsClosing, GoesOn, is_under_way}
 use Rattle.call_script.specs.declared.tasks.Task.{Task}
 use Rattle.call_script.specs.declared.tasks.Task.TheVariants.{Opens, Closes}
+use Rattle.call_script.specs.declared.work.Work.{Work}
 use Rattle.call_script.specs.declared.work.Work.TheVariants as work
 
 -- a setup that begins has an ask left
@@ -48,6 +50,14 @@ unsettled-asks request offers reach state.Reserving is left = asks-hop request.r
 unsettled-asks request offers reach (state.Undoing n deny) is left = asks-hop request.route (n - 1) _ (omega (arith, is.0.least, is.0.most))
 unsettled-asks request offers reach (state.Relaxing n levels) is left = asks-hop request.route (n - 1) _ (omega (arith, is.0.least, is.0.most))
 unsettled-asks request offers reach (state.Settled verdict) is left = cc
+
+-- a task is under way where an ask is left
+pub under-way : (at : Work) (tasks : List Task) (replies : List Reply) → WorkStands at tasks replies → IsSome (first_ask tasks replies) → is_under_way at ≡ true
+under-way (work.Opening chan setup) tasks replies stands left = refl
+under-way (work.Once to ask) tasks replies stands left = refl
+under-way (work.Closing teardown) tasks replies stands left = refl
+under-way work.Idle [] replies stands left = cc
+under-way work.Idle (task ∷ tasks) replies stands left = absurd stands
 
 -- ---- one reply more
 

@@ -1,12 +1,12 @@
 -- A caller as it is kept: the task under way, the next operation, and what its requests came to. It stands for the replies
 -- after which the rules say that a caller stands so. It has room for what the requests left to open will come to.
-use Rattle.std.specs.Prelude.{◌≡◌, ◌+◌, ◌-◌, ◌≤◌, ℕ, suc, Bool, if◌then◌else◌, Option, Some, None, List, [], ◌∷◌, length, map, drop, vec_len, vec_capacity}
+use Rattle.std.specs.Prelude.{◌≡◌, ◌+◌, ◌-◌, ◌≤◌, ℕ, suc, Bool, if◌then◌else◌, Option, Some, None, IsSome, List, [], ◌∷◌, length, map, drop, vec_len, vec_capacity}
 use Rattle.std.specs.List.{slice_get}
 use Rattle.net_units.specs.Numbers.{actor_number}
 use Rattle.link_steps.specs.declared.replies.Reply.{Reply}
 use Rattle.setup_protocol.specs.declared.request.Request.{Request}
 use Rattle.call_script.specs.Parts.{PlanParts}
-use Rattle.call_script.specs.Scripts.{Opened, Standing, standing, standing_of, takes_step}
+use Rattle.call_script.specs.Scripts.{Opened, Standing, ask_at, standing, standing_of, takes_step}
 use Rattle.call_script.specs.Tasks.{request_of, script_of, network_of, tasks_of}
 use Rattle.call_script.specs.Work.{WorkStands, opened_in}
 use Rattle.call_script.specs.declared.actor.Actor.{Actor}
@@ -44,6 +44,11 @@ pub record Stands (parts : PlanParts) (actor : Actor) (replies : List Reply) : T
 -- where a caller of a plan stands after its replies, newest first
 abbrev pub standing_in : PlanParts → ℕ → List Reply → Standing
 standing_in parts caller replies = standing_of (slice_get (network_of parts).scripts caller) replies
+
+-- it stands so, and an ask is left
+pub record HasAskLeft (parts : PlanParts) (actor : Actor) (replies : List Reply) : Type 0 where
+  pub stands : Stands parts actor replies
+  pub left : IsSome (ask_at (standing_in parts (actor_number actor.caller) replies))
 
 -- ---- the next task that takes a step
 

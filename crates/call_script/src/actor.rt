@@ -1,5 +1,5 @@
 //! A caller on its way through its script.
-ghost use Rattle.std.specs.Prelude.{◌≡◌, ◌↔◌, ◌+◌, ◌-◌, ◌<◌, ◌≤◌, ℕ, [], ◌∷◌, None, Some, true, List, IsTrue, IsOk, IsNone, IsSome, IfOk, IfErr, IfSome, IfNone, OnOk, OnErr, MatchOption, length, map, drop, option_map, vec_len, vec_capacity};
+ghost use Rattle.std.specs.Prelude.{◌≡◌, ◌↔◌, ◌+◌, ◌-◌, ◌<◌, ◌≤◌, ℕ, [], ◌∷◌, None, Some, true, List, IsTrue, IsOk, IfOk, IfErr, IfSome, IfNone, OnOk, OnErr, length, map, drop, option_map, vec_len, vec_capacity};
 ghost use Rattle.std.specs.List.{slice_get};
 ghost use Rattle.net_units.specs.Numbers.{actor_number, channel_number};
 ghost use Rattle.hop_reservation.specs.Routes.{IsRoute};
@@ -10,7 +10,7 @@ ghost use Rattle.call_script.specs.Parts.{PlanParts};
 ghost use Rattle.call_script.specs.Plans.{HasTerms};
 ghost use Rattle.call_script.specs.Scripts.{ask_at, begun, expects, from_step, is_established, outcome_in, takes_step};
 ghost use Rattle.call_script.specs.Tasks.{request_of, task_of, tasks_of};
-ghost use Rattle.call_script.specs.Work.{WorkStands, HasRoute, is_under_way, accepts_in, opened_in};
+ghost use Rattle.call_script.specs.Work.{WorkStands, HasRoute, accepts_in, opened_in};
 
 use crate::entries::RequestEntry;
 use crate::operations::Op;
@@ -36,7 +36,7 @@ pub struct Actor {
 }
 
 impl Actor {
-    ghost use Rattle.call_script.specs.Standing.{Stands, StandsAt, owed_by, if_step, standing_in};
+    ghost use Rattle.call_script.specs.Standing.{Stands, StandsAt, HasAskLeft, owed_by, if_step, standing_in};
 
     /// A caller of the plan that has asked nothing yet. It takes all memory that it needs; an `Err` comes only for want of
     /// it.
@@ -62,8 +62,7 @@ impl Actor {
     /// made for.
     pub fn next_ask(&self, _plan: &Plan) -> Option<(LinkNo, Ask)>
         requires { (replies : List Replied) × Stands _plan.now self.now replies }
-        ensures asked { (replies : List Replied) → Stands _plan.now self.now replies → result ≡ ask_at (standing_in _plan.now (actor_number self.now.caller) replies) }
-        ensures done { IsSome result ↔ IsTrue (is_under_way self.now.work) }
+        ensures { (replies : List Replied) → Stands _plan.now self.now replies → result ≡ ask_at (standing_in _plan.now (actor_number self.now.caller) replies) }
     {
         self.work.next_ask()
     }
@@ -86,8 +85,7 @@ impl Actor {
     /// Takes the reply to the next ask. One that isn't a reply to it changes nothing. An ask has to be left. It takes no
     /// memory.
     pub fn take(&mut self, plan: &Plan, reply: Reply) -> Result<(), Unexpected>
-        requires stands { (replies : List Replied) × Stands plan.now self.old replies }
-        requires left { IsTrue (is_under_way self.old.work) }
+        requires { (replies : List Replied) × HasAskLeft plan.now self.old replies }
         ensures caller { self.new.caller ≡ self.old.caller }
         ensures expected { (replies : List Replied) → Stands plan.now self.old replies → IsOk result ↔ IsTrue (expects (standing_in plan.now (actor_number self.old.caller) replies) reply) }
         ensures taken { OnOk result ((replies : List Replied) → Stands plan.now self.old replies → Stands plan.now self.new (reply ∷ replies)) }

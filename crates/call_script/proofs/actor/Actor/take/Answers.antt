@@ -1,11 +1,19 @@
 -- The caller with one reply more.
-use Rattle.std.proofs.Common.{◌≡◌, ◌∙◌, ap, sym, refl, subst, option_map}
+use Rattle.std.proofs.Common.{◌≡◌, ◌∙◌, ap, sym, refl, subst, option_map, IsSome}
 use Rattle.call_script.specs.Scripts.{Standing, ask_at, expects, standing}
 use Rattle.call_script.specs.Standing.{requests_of}
 use Rattle.call_script.specs.Tasks.{script_of}
 use Rattle.call_script.proofs.ActorFacts.{stands-in}
 use Rattle.call_script.proofs.TakeFacts.{turned-on, turned-over, turned-settled}
+use Rattle.call_script.proofs.WorkFacts.{under-way}
 use Rattle.call_script.proofs.actor.Actor.take.Goals as goal
+
+-- a task is under way
+pub take-requires-clause-left : goal.take-requires-clause-left
+take-requires-clause-left c =
+    let due = c.requires.1 in
+    let at : Standing = standing (script_of (requests_of c.args.plan.now) due.stands.caller) c.requires.0 in
+    under-way c.args.self.now.work at.tasks at.replies due.stands.at.under_way (subst (λ (s : Standing). IsSome (ask_at s)) (stands-in c.args.plan.now c.args.self.now c.requires.0 due.stands) due.left)
 
 pub returns-in-Err-clause-expected : goal.returns-in-Err-clause-expected
 returns-in-Err-clause-expected c = λ replies stands.
