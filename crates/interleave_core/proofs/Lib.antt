@@ -36,3 +36,4 @@ pub mod DepartLaw
 pub mod AcceptedOnly
 pub mod SentRows
 pub mod GuaranteeLaw
+pub mod LinksAsked

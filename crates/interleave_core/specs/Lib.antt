@@ -9,3 +9,4 @@ pub mod Sent
 pub mod Guarantee
 pub mod Verdicts
 pub mod Laws
+pub mod Linked

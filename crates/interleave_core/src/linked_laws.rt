@@ -1,0 +1,7 @@
+//! The law on where asks go.
+ghost use Rattle.interleave_core.specs.Linked.{EveryAskGoesToALink};
+
+/// What an actor asks next, in any run of a network whose parts fit, is asked of a link of the network.
+pub fn every_ask_goes_to_a_link()
+    ensures { EveryAskGoesToALink }
+{}
