@@ -37,3 +37,5 @@ pub mod AcceptedOnly
 pub mod SentRows
 pub mod GuaranteeLaw
 pub mod LinksAsked
+pub mod Merge
+pub mod WeaveLaw

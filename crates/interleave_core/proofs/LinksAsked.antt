@@ -1,7 +1,7 @@
 -- Every ask of a run goes to a link of the network. A caller asks hops of its routes, and links at which it pours; the plane
 -- ticks links of the network, and lets packets arrive at the next links of rows, which reserves have named.
-use Rattle.std.proofs.Common.{◌≡◌, ◌≢◌, ℕ, zero, suc, ◌+◌, ◌-◌, ◌<◌, ◌≤◌, Bool, true, false, List, [], ◌∷◌, ◌++◌, length, Option, Some, None, refl, sym, ap, ◌∙◌, subst, inl, inr, option_map, arith}
-use Rattle.std.proofs.lemmas.Bool.{cases_Bool, cond_both, eqb-true, eqb-false}
+use Rattle.std.proofs.Common.{◌≡◌, ℕ, suc, ◌+◌, ◌-◌, ◌<◌, true, List, [], ◌∷◌, length, Option, Some, None, refl, sym, ap, ◌∙◌, subst, inl, inr, option_map, arith}
+use Rattle.std.proofs.lemmas.Bool.{cases_Bool, eqb-true, eqb-false}
 use Rattle.std.proofs.lemmas.Option.{same_Some, slice_get_cases}
 use Rattle.std.specs.List.{slice_get}
 use Rattle.std.specs.Prelude.{nat_eq, nat_lt, filter, find, ◌&&◌, not}
@@ -19,7 +19,7 @@ use Rattle.link_steps.specs.declared.shape.LinkShape.{LinkShape}
 use Rattle.link_steps.specs.BestEffort.{best_packet, is_best}
 use Rattle.link_steps.specs.Hold.{stays}
 use Rattle.link_steps.specs.Lists.{Each}
-use Rattle.link_steps.specs.Replies.{sent_if, sent_at, sent_of, tick_reply, reply_at, reply_to}
+use Rattle.link_steps.specs.Replies.{sent_at, sent_of, tick_reply, reply_at, reply_to}
 use Rattle.link_steps.specs.Rows.{Row}
 use Rattle.link_steps.specs.Scan.{Scan, clock_of, is_row_of, is_row_at_hop, names_first_hop, relax_row, plan_row, close_row, arrived_row, with_arrival, without_expired, with_sources, with_best, best_step_at, after_tick, after, scan_of}
 use Rattle.link_steps.specs.Service.{Arrival, Start, here_at, leaves_at, starts_below}
@@ -27,22 +27,21 @@ use Rattle.link_steps.specs.Sources.{SourceStep, Rests, Brings, Loses, step_of, 
 use Rattle.link_steps.specs.Split.{Link}
 use Rattle.link_steps.proofs.ListFacts.{Each-append, Each-filter, Each-find, Each-change_first, Each-without_first}
 use Rattle.link_steps.proofs.ServiceFacts.{starts-fact}
-use Rattle.setup_protocol.specs.Setup.{Progress, Reserving, Undoing, Relaxing, Settled, asked, asked_of, link_in, reserve_of, relax_of, next_ask, progress_of}
+use Rattle.setup_protocol.specs.Setup.{Progress, Reserving, Undoing, Relaxing, Settled, asked, asked_of, link_in, progress_of}
 use Rattle.setup_protocol.specs.declared.request.Request.{Request}
-use Rattle.call_script.specs.Fits.{IsHopOf, RequestFits, TaskFits, NetworkFits}
-use Rattle.call_script.specs.Scripts.{Standing, first_ask, ask_at, script_ask, standing, task_ask}
+use Rattle.call_script.specs.Fits.{IsHopOf, TaskFits, NetworkFits}
+use Rattle.call_script.specs.Scripts.{first_ask, ask_at, script_ask, standing, task_ask}
 use Rattle.call_script.specs.Tasks.{Network}
 use Rattle.call_script.specs.declared.tasks.Task.{Task}
 use Rattle.call_script.specs.declared.tasks.Task.TheVariants.{Opens, Sends, Closes, Pours}
-use Rattle.tick_plane.specs.Planes.{Plane, link_at, is_due, next_due, ask_due, plane_ask, flight_to, flight_of, flight_in, tick_made, plane_with, plane_of}
+use Rattle.tick_plane.specs.Planes.{Plane, link_at, is_due, next_due, ask_due, plane_ask, flight_to, flight_of, flight_in, plane_with, plane_of}
 use Rattle.tick_plane.specs.declared.flight.Flight.{Flight}
-use Rattle.run_record.specs.Runs.{entry_of, replies_to, part_of}
+use Rattle.run_record.specs.Runs.{replies_to, part_of}
 use Rattle.run_record.specs.declared.done.Done.{Done}
 use Rattle.interleave_core.specs.Linked.{IsLinked, EveryAskGoesToALink}
-use Rattle.interleave_core.specs.Runs.{plane_no, plane_at, next_for, IsNext, IsRun}
+use Rattle.interleave_core.specs.Runs.{plane_no, plane_at, IsNext, IsRun}
 use Rattle.channel_laws.proofs.Places.{Each-at}
-use Rattle.interleave_core.proofs.CallerFacts.{StandingFits}
-use Rattle.interleave_core.proofs.RunLegal.{RunStands, AsksOf, PlaneAsks, asked-plane, asked-caller, caller-next, plane-next, plane-off, plane-by, part-on, part-off, made-flights, link_at-number, run-stands}
+use Rattle.interleave_core.proofs.RunLegal.{asked-plane, asked-caller, caller-next, plane-next, plane-off, plane-by, part-on, part-off, made-flights, link_at-number, run-stands}
 
 -- a link that comes next, if there is one, is there
 abbrev NextLinked : List Link → Option LinkNo → Type 0

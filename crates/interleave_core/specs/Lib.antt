@@ -4,6 +4,7 @@ pub mod Paths
 pub mod Flights
 pub mod Kept
 pub mod Parts
+pub mod Weave
 pub mod Answers
 pub mod Sent
 pub mod Guarantee

@@ -1,6 +1,7 @@
 //! Laws of every run, each as the contract of a function that does nothing.
 ghost use Rattle.interleave_core.specs.Laws.{EveryPartIsLegal, EveryAskFits, ClocksFollowThePlane, HeldRowsPassOnEveryLink, EveryHopIsGuaranteed, NoFlightIsLate, EveryAskIsAnswered, EveryReplyIsExpected, VerdictsFollowTheReplies, AcceptedRequestsAreKept, AcceptedChannelsKeepTheirDelays, EveryRunIsGuaranteed, RunsFollowTheirActors, FittingPartsMakeARun};
 ghost use Rattle.interleave_core.specs.Sent.{TicksTellWhatHasLeft};
+ghost use Rattle.interleave_core.specs.Weave.{JournalsWeaveToARun};
 
 /// The part of every run on each link is a legal history of that link. So every law of legal and admissible histories holds
 /// of it.
@@ -109,4 +110,12 @@ pub fn runs_follow_their_actors()
 /// link and of each actor is one of a run.
 pub fn fitting_parts_make_a_run()
     ensures { FittingPartsMakeARun }
+{}
+
+/// The merge of the links' journals by stamp is a run where each journal is a legal history of its link, stamps rise in each and
+/// none stands twice, and each actor's own entries, in order of stamp, are what it asks next. The merge is in order of stamp
+/// and has what stands in the journals and nothing else, and its part on each link is that link's journal. An actor whose own
+/// entries leave it no ask has no step left in the run.
+pub fn journals_weave_to_a_run()
+    ensures { JournalsWeaveToARun }
 {}
