@@ -1,9 +1,13 @@
 //! A calendar of keys that fall due at ticks to come.
 #![tactic(auto)]
 
-ghost use Rattle.std.specs.Prelude.{◌≡◌, ◌+◌, ◌-◌, ◌<◌, ◌≤◌, ◌↔◌, ◌==◌, ◌++◌, ◌∷◌, [], IsOk, OnOk, OnErr, IfOk, IsNone, IfSome, is_some, if◌then◌else◌, All, Any, position};
-ghost use Rattle.tick_calendar.specs.Calendar.{Schedule, TakesDue, due_place, due_key, left_at};
+ghost use Rattle.std.specs.Prelude.{◌≡◌, ◌+◌, ◌-◌, ◌<◌, ◌≤◌, ◌↔◌, ◌++◌, ◌∷◌, [], IsOk, OnOk, OnErr, IfOk, IsNone, IfSome, is_some, if◌then◌else◌, All};
+ghost use Rattle.tick_calendar.specs.Calendar.{Schedule, TakesDue, due_key, left_at};
 
+mod place;
+mod wheel;
+
+use crate::wheel::Wheel;
 use net_units::OutOfMemory;
 use std::alloc::Global;
 use std::marker::Model;
@@ -16,17 +20,24 @@ use std::marker::Model;
 /// `clock`.
 #[derive(Debug, Drop)]
 pub struct Calendar {
-    entries: Vec<(u64, u32)>,
+    wheel: Wheel,
+    // How many entries there are, and how many there is room for: half as many as places, so that a turn that is made
+    // to clear the places is paid for by the keys that were taken.
+    waiting: usize,
+    room: usize,
     clock: u64,
 }
 
 impl Model for Calendar {
-    ghost use Rattle.std.specs.Prelude.{◌-◌, vec_len, vec_capacity};
+    ghost use Rattle.std.specs.Prelude.{◌-◌, vec_capacity};
     ghost use Rattle.tick_calendar.specs.Calendar.{Schedule};
+    ghost use Rattle.tick_calendar.specs.Wheel.{entries_in, IsKept};
 
     ghost Value = { Schedule };
 
-    ghost view = { λ c. record { entries = c.entries.items; spare = vec_capacity c.entries - vec_len c.entries; clock = c.clock } };
+    ghost view = { λ c. record { entries = entries_in c.wheel.places.items; spare = c.room - c.waiting; clock = c.clock } };
+
+    ghost invariant = { λ c. IsKept c.wheel.places.items c.wheel.firsts.items c.wheel.lasts.items c.wheel.base c.wheel.slot c.waiting c.room c.clock (vec_capacity c.wheel.places) };
 }
 
 impl Calendar {
@@ -35,7 +46,9 @@ impl Calendar {
         ensures { IfOk result (λ made. made ≡ record { entries = []; spare = 0; clock = 0 }) }
     {
         Ok(Calendar {
-            entries: Vec::new(alloc),
+            wheel: Wheel::new(alloc)?,
+            waiting: 0,
+            room: 0,
             clock: 0,
         })
     }
@@ -49,7 +62,12 @@ impl Calendar {
         ensures kept { self.new ≡ record self.old { spare = self.new.spare } }
         ensures err { OnErr result (self.new ≡ self.old) }
     {
-        self.entries.reserve(more)?;
+        if more <= self.room - self.waiting {
+            return Ok(());
+        }
+        let room = self.waiting.checked_add(more).ok_or(OutOfMemory)?;
+        self.wheel.reserve(room)?;
+        self.room = room;
         Ok(())
     }
 
@@ -60,7 +78,9 @@ impl Calendar {
         requires ahead { self.old.clock ≤ tick }
         ensures { self.new ≡ record self.old { entries = self.old.entries ++ (tick, key) ∷ []; spare = self.old.spare - 1 } }
     {
-        self.entries.push_reserved((tick, key));
+        self.wheel.clear_if_full();
+        self.wheel.append(tick, key);
+        self.waiting += 1;
     }
 
     /// Takes out the key with the least tick, the earliest put among equals, where that tick is at most
@@ -78,56 +98,12 @@ impl Calendar {
         ensures taken { IfSome result (TakesDue self.old.entries self.new.entries now) }
     {
         self.clock = now;
-        let place = first_due(&self.entries, now)?;
-        let (_tick, key) = self.entries.remove(place);
+        let first = self.wheel.first_due(now)?;
+        let key = self.wheel.take(first);
+        self.waiting -= 1;
         Some(key)
     }
 }
 
-// The place of the entry that is taken at tick `now`.
-fn first_due(entries: &[(u64, u32)], now: u64) -> Option<usize>
-    ensures { result ≡ due_place entries.now now }
-{
-    let least = least_tick(entries)?;
-    if least > now {
-        return None;
-    }
-    first_at(entries, least)
-}
-
-// The first place of an entry of this tick.
-fn first_at(entries: &[(u64, u32)], at: u64) -> Option<usize>
-    ensures { result ≡ position (λ entry. entry.0 == at) entries.now }
-{
-    entries.iter().position(|(tick, _)| *tick == at)
-}
-
-// The least tick of an entry.
-fn least_tick(entries: &[(u64, u32)]) -> Option<u64>
-    ensures none { IsNone result ↔ (entries.now ≡ []) }
-    ensures found { IfSome result (λ least. Any (λ entry. entry.0 ≡ least) entries.now) }
-    ensures least { IfSome result (λ least. All (λ entry. least ≤ entry.0) entries.now) }
-{
-    entries.iter().map(|(tick, _)| *tick).min()
-}
-
 #[cfg(test)]
-mod tests {
-    use super::*;
-    use std::test::Fail;
-
-    #[test]
-    fn takes_the_least_tick_and_then_the_earliest_put(rt: HostRuntime) -> Result<(), Fail> {
-        let mut calendar = Calendar::new(rt.alloc())?;
-        calendar.reserve(3)?;
-        calendar.put(5, 1);
-        calendar.put(3, 2);
-        calendar.put(5, 3);
-        assert_eq!(rt; calendar.take_due(2), None);
-        assert_eq!(rt; calendar.take_due(5), Some(2));
-        assert_eq!(rt; calendar.take_due(5), Some(1));
-        assert_eq!(rt; calendar.take_due(5), Some(3));
-        assert_eq!(rt; calendar.take_due(5), None);
-        Ok(())
-    }
-}
+mod tests;

@@ -1,0 +1,233 @@
+//! The wheel of a calendar: its entries in the order of their puts, with chains of those that are due soon.
+ghost use Rattle.std.specs.Prelude.{◌≡◌, ◌+◌, ◌-◌, ◌^◌, ◌<◌, ◌≤◌, ◌++◌, ◌∷◌, [], suc, true, Some, None, is_some, IfOk, OnOk, IfNone, IfSome, All, length, get_or, drop};
+ghost use Rattle.std.specs.Vec.{vec_capacity};
+ghost use Rattle.tick_calendar.specs.Wheel.{entries_in, IsWheel, IsWheelFrom, AreAll, IsLeastBy};
+
+use crate::place::Place;
+use net_units::OutOfMemory;
+use std::alloc::Global;
+
+// The entries, and a slot for each of the 1,024 ticks from `base` on, with the first and the last place of its chain.
+#[derive(Debug, Drop)]
+pub(crate) struct Wheel {
+    pub(crate) places: Vec<Place>,
+    pub(crate) firsts: Vec<Option<usize>>,
+    pub(crate) lasts: Vec<usize>,
+    pub(crate) base: u64,
+    // No entry is due before this slot's tick.
+    pub(crate) slot: usize,
+}
+
+impl Wheel {
+    ghost use Rattle.tick_calendar.specs.Wheel.{RemovesFirst};
+
+    // A wheel with no entry, whose turn begins at tick 0.
+    pub(crate) fn new(alloc: Global) -> Result<Wheel, OutOfMemory>
+        ensures wheel { IfOk result (λ made. IsWheel made.places.items made.firsts.items made.lasts.items made.base) }
+        ensures empty { IfOk result (λ made. made.places.items ≡ []) }
+        ensures base { IfOk result (λ made. made.base ≡ 0) }
+        ensures slot { IfOk result (λ made. made.slot ≡ 0) }
+    {
+        Ok(Wheel {
+            places: Vec::new(alloc),
+            firsts: vec![in alloc; None; 1_024]?,
+            lasts: vec![in alloc; 0; 1_024]?,
+            base: 0,
+            slot: 0,
+        })
+    }
+
+    // Takes memory for two places an entry.
+    pub(crate) fn reserve(&mut self, room: usize) -> Result<(), OutOfMemory>
+        ensures room { OnOk result (room ≤ vec_capacity self.new.places) }
+        ensures grows { vec_capacity self.old.places ≤ vec_capacity self.new.places }
+        ensures places { self.new.places.items ≡ self.old.places.items }
+        ensures firsts { self.new.firsts ≡ self.old.firsts }
+        ensures lasts { self.new.lasts ≡ self.old.lasts }
+        ensures base { self.new.base ≡ self.old.base }
+        ensures slot { self.new.slot ≡ self.old.slot }
+    {
+        let places = room.checked_mul(2).ok_or(OutOfMemory)?;
+        self.places
+            .reserve(places.saturating_sub(self.places.len()))?;
+        Ok(())
+    }
+
+    // Clears the places that keys have left where no other place is free.
+    pub(crate) fn clear_if_full(&mut self)
+        requires wheel { IsWheel self.old.places.items self.old.firsts.items self.old.lasts.items self.old.base }
+        requires slot { self.old.slot < 1024 }
+        requires ahead { AreAll (self.old.base + self.old.slot) (entries_in self.old.places.items) }
+        requires fits { self.old.base + self.old.slot < 2 ^ 64 }
+        requires room { length (entries_in self.old.places.items) < vec_capacity self.old.places }
+        ensures wheel { IsWheel self.new.places.items self.new.firsts.items self.new.lasts.items self.new.base }
+        ensures slot { self.new.slot < 1024 }
+        ensures entries { entries_in self.new.places.items ≡ entries_in self.old.places.items }
+        ensures capacity { vec_capacity self.new.places ≡ vec_capacity self.old.places }
+        ensures room { length self.new.places.items < vec_capacity self.new.places }
+        ensures begun { self.new.base + self.new.slot ≡ self.old.base + self.old.slot }
+    {
+        if self.places.len() < self.places.capacity() {
+            return;
+        }
+        self.turn(self.base + self.slot as u64);
+    }
+
+    // Puts an entry behind the others. It takes no memory.
+    pub(crate) fn append(&mut self, tick: u64, key: u32)
+        requires wheel { IsWheel self.old.places.items self.old.firsts.items self.old.lasts.items self.old.base }
+        requires ahead { self.old.base ≤ tick }
+        requires room { length self.old.places.items < vec_capacity self.old.places }
+        ensures wheel { IsWheel self.new.places.items self.new.firsts.items self.new.lasts.items self.new.base }
+        ensures entries { entries_in self.new.places.items ≡ entries_in self.old.places.items ++ (tick, key) ∷ [] }
+        ensures capacity { vec_capacity self.new.places ≡ vec_capacity self.old.places }
+        ensures base { self.new.base ≡ self.old.base }
+        ensures slot { self.new.slot ≡ self.old.slot }
+    {
+        let place = self.places.len();
+        self.places.push_reserved(Place {
+            tick,
+            key,
+            waits: true,
+            next: None,
+        });
+        if tick - self.base >= 1_024 {
+            return;
+        }
+        let slot = (tick - self.base) as usize;
+        if self.firsts[slot].is_none() {
+            self.firsts[slot] = Some(place);
+            self.lasts[slot] = place;
+            return;
+        }
+        let last = self.lasts[slot];
+        self.places[last].next = Some(place);
+        self.lasts[slot] = place;
+    }
+
+    // Takes out the entry that was put first among those of the slot. It takes no memory.
+    pub(crate) fn take(&mut self, first: usize) -> u32
+        requires wheel { IsWheel self.old.places.items self.old.firsts.items self.old.lasts.items self.old.base }
+        requires slot { self.old.slot < 1024 }
+        requires first { get_or self.old.firsts.items self.old.slot None ≡ Some first }
+        ensures wheel { IsWheel self.new.places.items self.new.firsts.items self.new.lasts.items self.new.base }
+        ensures entries { RemovesFirst (self.old.base + self.old.slot) self.old.places.items self.new.places.items result }
+        ensures capacity { vec_capacity self.new.places ≡ vec_capacity self.old.places }
+        ensures base { self.new.base ≡ self.old.base }
+        ensures slot { self.new.slot ≡ self.old.slot }
+    {
+        let Place { key, next, .. } = self.places[first];
+        self.places[first].waits = false;
+        self.firsts[self.slot] = next;
+        key
+    }
+
+    // Goes on to the first tick with an entry, where that is at most `now`, by a new turn where this one is over. Answers
+    // the place of the entry that was put first among those of that tick. It takes no memory.
+    pub(crate) fn first_due(&mut self, now: u64) -> Option<usize>
+        requires wheel { IsWheel self.old.places.items self.old.firsts.items self.old.lasts.items self.old.base }
+        requires slot { self.old.slot < 1024 }
+        requires begun { self.old.base + self.old.slot ≤ now }
+        requires ahead { AreAll (self.old.base + self.old.slot) (entries_in self.old.places.items) }
+        ensures wheel { IsWheel self.new.places.items self.new.firsts.items self.new.lasts.items self.new.base }
+        ensures slot { self.new.slot < 1024 }
+        ensures begun { self.new.base + self.new.slot ≤ now }
+        ensures ahead { AreAll (self.new.base + self.new.slot) (entries_in self.new.places.items) }
+        ensures entries { entries_in self.new.places.items ≡ entries_in self.old.places.items }
+        ensures capacity { vec_capacity self.new.places ≡ vec_capacity self.old.places }
+        ensures none { result ≡ None → AreAll (suc now) (entries_in self.new.places.items) }
+        ensures found { result ≡ get_or self.new.firsts.items self.new.slot None }
+    {
+        self.slot = self.next_slot((now - self.base).min(1_023) as usize);
+        let first = self.firsts[self.slot];
+        if first.is_some() || now - self.base < 1_024 {
+            return first;
+        }
+        let base = least_tick(&self.places, now);
+        self.turn(base);
+        self.firsts[0]
+    }
+
+    // The first slot with an entry, or the slot `last` where that comes first.
+    fn next_slot(&self, last: usize) -> usize
+        requires wheel { IsWheel self.now.places.items self.now.firsts.items self.now.lasts.items self.now.base }
+        requires last { last < 1024 }
+        requires slot { self.now.slot ≤ last }
+        requires ahead { AreAll (self.now.base + self.now.slot) (entries_in self.now.places.items) }
+        ensures within { result ≤ last }
+        ensures ahead { AreAll (self.now.base + result) (entries_in self.now.places.items) }
+        ensures found { result < last → is_some (get_or self.now.firsts.items result None) ≡ true }
+    {
+        for slot in self.slot..last {
+            if self.firsts[slot].is_some() {
+                return slot;
+            }
+        }
+        last
+    }
+
+    // Begins a turn: the slots are those of the ticks from `base` on. The places that keys have left are gone.
+    fn turn(&mut self, base: u64)
+        requires wheel { IsWheel self.old.places.items self.old.firsts.items self.old.lasts.items self.old.base }
+        requires ahead { AreAll base (entries_in self.old.places.items) }
+        ensures wheel { IsWheel self.new.places.items self.new.firsts.items self.new.lasts.items self.new.base }
+        ensures entries { entries_in self.new.places.items ≡ entries_in self.old.places.items }
+        ensures capacity { vec_capacity self.new.places ≡ vec_capacity self.old.places }
+        ensures full { length self.new.places.items ≡ length (entries_in self.new.places.items) }
+        ensures base { self.new.base ≡ base }
+        ensures slot { self.new.slot ≡ 0 }
+    {
+        self.places.retain(|place| place.waits);
+        self.firsts.fill(None);
+        self.base = base;
+        self.slot = 0;
+        let mut index = self.places.len();
+        while index > 0 {
+            index -= 1;
+            self.link(index);
+        }
+    }
+
+    // Puts the place at an index before the chain of its tick, where that tick is one of the turn. Those behind it are in
+    // their chains.
+    fn link(&mut self, index: usize)
+        requires wheel { IsWheelFrom (suc index) (drop (suc index) self.old.places.items) self.old.firsts.items self.old.lasts.items self.old.base }
+        requires within { index < length self.old.places.items }
+        requires waits { All (λ place. place.waits ≡ true) self.old.places.items }
+        requires ahead { All (λ place. self.old.base ≤ place.tick) self.old.places.items }
+        ensures wheel { IsWheelFrom index (drop index self.new.places.items) self.new.firsts.items self.new.lasts.items self.new.base }
+        ensures waits { All (λ place. place.waits ≡ true) self.new.places.items }
+        ensures ahead { All (λ place. self.new.base ≤ place.tick) self.new.places.items }
+        ensures entries { entries_in self.new.places.items ≡ entries_in self.old.places.items }
+        ensures capacity { vec_capacity self.new.places ≡ vec_capacity self.old.places }
+        ensures len { length self.new.places.items ≡ length self.old.places.items }
+        ensures base { self.new.base ≡ self.old.base }
+        ensures slot { self.new.slot ≡ self.old.slot }
+    {
+        let tick = self.places[index].tick;
+        if tick - self.base >= 1_024 {
+            return;
+        }
+        let slot = (tick - self.base) as usize;
+        let first = self.firsts[slot];
+        self.places[index].next = first;
+        self.firsts[slot] = Some(index);
+        if first.is_some() {
+            return;
+        }
+        self.lasts[slot] = index;
+    }
+}
+
+// The least tick of an entry, or `now` where that is less.
+fn least_tick(places: &[Place], now: u64) -> u64
+    ensures { IsLeastBy (entries_in places.now) now result }
+{
+    let mut least = now;
+    for place in places {
+        if place.waits {
+            least = least.min(place.tick);
+        }
+    }
+    least
+}
