@@ -23,7 +23,7 @@ use Rattle.step_stamp.proofs.ListFacts.{has_left, has_right, has_split, each_has
 use Rattle.step_stamp.proofs.MarkFacts.{longer_both, longer_whole, longer_other}
 use Rattle.step_stamp.proofs.Meeting.{most_left}
 use Rattle.step_stamp.proofs.ShelfFacts.{shelf_cases, shelf_here, shelf_else, shelf_made, shelf_none, no_known, no_shelf}
-use Rattle.step_stamp.proofs.ViewFacts.{Law, stays, moves, joins_all}
+use Rattle.step_stamp.proofs.ViewFacts.{Law, stays, moves, joins_all, acts_live, acts_some}
 
 -- stamps that the other had seen are at most what is seen after a join
 most_right : (v w : View) (ms : List Mark) → Each (λ (m : Mark). m.stamp ≤ w.seen) ms → Each (λ (m : Mark). m.stamp ≤ max v.seen w.seen) ms
@@ -38,8 +38,8 @@ none_of t a j other u g owns apart =
     apart (sym owns ∙ (g.acts a (subst (λ k. Has k u.actors) (eqb-true (actor_number d.mark.actor) a on) acts)).here))
 
 module _ {S : Type 0} where
-  pub settles : (id l : ℕ) (v : View) (other : ℕ) (w : View) → w.links ≡ l ∷ [] → Joins {S = S} Law id v other w (settled l v w) nobody
-  settles id l v other w links = joins_all id v other w (settled l v w)
+  pub settles : (id l a : ℕ) (v : View) (other : ℕ) (w : View) → Has a v.actors → w.hand ≡ [] → w.links ≡ l ∷ [] → Joins {S = S} Law id v other w (settled l v w) nobody
+  settles id l a v other w acts empty links = joins_all id v other w (settled l v w) refl empty
       (λ t apart f g.
       let own = g.has l (subst (Has l) (sym links) (inl refl)) in
       let sh = shelf l (known_of l w) (known_of l v) (known_of l w) in
@@ -63,10 +63,12 @@ module _ {S : Type 0} where
         acts = λ a has. (let old = f.acts a has in record { here = stays other id (t.owner a) id old.here (λ e. absurd (apart (sym e))); whole = old.whole; small = old.small });
         drew = f.drew;
         holds = f.holds;
+        spent = λ none. absurd (acts_live a v acts (f.spent none));
+        lone = acts_some a v.actors acts;
       })
 
-  pub gathers : (id : ℕ) (v : View) (other : ℕ) (w : View) → Joins {S = S} Law id v other w (gathered v w) nobody
-  gathers id v other w = joins_all id v other w (gathered v w)
+  pub gathers : (id a : ℕ) (v : View) (other : ℕ) (w : View) → Has a v.actors → w.hand ≡ [] → Joins {S = S} Law id v other w (gathered v w) nobody
+  gathers id a v other w acts empty = joins_all id v other w (gathered v w) (ap (λ ds. v.hand ++ ds) empty ∙ append-nil v.hand) empty
       (λ t apart f g.
       let at_link : ℕ → Shelf = λ l. shelf l (longer (known_of l v) (known_of l w)) (known_of l v) (known_of l w) in
       let ss = v.shelves ++ w.shelves in
@@ -116,6 +118,8 @@ module _ {S : Type 0} where
             (Each-if (λ (d : Drawn). Has (actor_number d.mark.actor) v.actors) (λ (d : Drawn). Has (actor_number d.mark.actor) (v.actors ++ w.actors)) v.drawn (λ d has. has_left (actor_number d.mark.actor) v.actors w.actors has) f.drew)
             (Each-if (λ (d : Drawn). Has (actor_number d.mark.actor) w.actors) (λ (d : Drawn). Has (actor_number d.mark.actor) (v.actors ++ w.actors)) w.drawn (λ d has. has_right (actor_number d.mark.actor) v.actors w.actors has) g.drew);
         holds = Each-append (λ (d : Drawn). Has d t.draws) v.hand w.hand f.holds g.holds;
+        spent = λ none. absurd (acts_live a v acts (f.spent none));
+        lone = acts_some a (v.actors ++ w.actors) (has_left a v.actors w.actors acts);
       })
 
 -- ---- what a join for good tells

@@ -15,11 +15,13 @@ use Rattle.step_stamp.specs.declared.marks.Mark.{Mark}
 use Rattle.step_stamp.specs.declared.views.View.{View}
 use Rattle.step_stamp.specs.Lists.{Has}
 use Rattle.step_stamp.specs.Marks.{by_actor, of_actor, drawn_for}
+use Rattle.step_stamp.specs.Placing.{hand_at}
 use Rattle.step_stamp.specs.Rule.{Tally, Fits, Kept}
 use Rattle.step_stamp.specs.Views.{drew}
-use Rattle.step_stamp.proofs.ListFacts.{has_left, has_right, length-passed}
+use Rattle.step_stamp.proofs.ListFacts.{has_left, has_right, each_has, length-passed}
 use Rattle.step_stamp.proofs.MarkFacts.{numbered-append, most_drawn}
-use Rattle.step_stamp.proofs.ViewFacts.{Law, views_set}
+use Rattle.step_stamp.proofs.PlacingFacts.{hand_here, hand_was, hand_else, placed_drawn, numbered_most}
+use Rattle.step_stamp.proofs.ViewFacts.{Law, views_set, acts_live, acts_some}
 
 -- ---- what each actor has drawn after a draw by one
 
@@ -45,6 +47,8 @@ apart_fits t a j d u is apart g =
           record { here = was.here; whole = was.whole ∙ sym (others_same a b t.draws d is (λ e. absurd (apart (sym (ap t.owner e) ∙ was.here)))); small = was.small };
       drew = g.drew;
       holds = Each-if (λ (x : Drawn). Has x t.draws) (λ (x : Drawn). Has x (t.draws ++ d ∷ [])) u.hand (λ x has. has_left x t.draws (d ∷ []) has) g.holds;
+      spent = g.spent;
+      lone = g.lone;
     }
 
 -- the view that draws
@@ -72,6 +76,8 @@ drew_fits t id a v d f acts is =
           };
       drew = Each-append (λ (x : Drawn). Has (actor_number x.mark.actor) v.actors) v.drawn (d ∷ []) f.drew (subst (λ k. Has k v.actors) (sym is) acts, tt);
       holds = Each-append (λ (x : Drawn). Has x now) v.hand (d ∷ []) (Each-if (λ (x : Drawn). Has x t.draws) (λ (x : Drawn). Has x now) v.hand (λ x has. has_left x t.draws (d ∷ []) has) f.holds) (has_right d t.draws (d ∷ []) (inl refl), tt);
+      spent = λ none. absurd (acts_live a v acts (f.spent none));
+      lone = acts_some a v.actors acts;
     }
 
 -- ---- the rule after a draw
@@ -100,6 +106,12 @@ draw_kept words views id a v d h at acts few is stamp =
       acting = Each-append (λ (x : Drawn). actor_number x.mark.actor < t.actors) t.draws (d ∷ []) h.acting (subst (λ k. k < t.actors) (sym is) mine.small, tt);
       rises = h.rises;
       drawn = λ l. Each-if (λ (m : Mark). Has (drawn_for l m) t.draws) (λ (m : Mark). Has (drawn_for l m) now) (t.log l) (λ m has. has_left (drawn_for l m) t.draws (d ∷ []) has) (h.drawn l);
+      placed = placed_drawn t.draws t.log (hand_at views) (hand_at (set views id (drew (d ∷ []) (length t.draws + 1) v))) id d
+          (λ e has is. let most = numbered_most 0 t.draws e h.numbered has in omega (arith, is, most, stamp))
+          (λ l x has is. let most = numbered_most 0 t.draws (drawn_for l x) h.numbered (each_has (λ (m : Mark). Has (drawn_for l m) t.draws) x (t.log l) (h.drawn l) has) in omega (arith, is, most, stamp))
+          (hand_here views id v (drew (d ∷ []) (length t.draws + 1) v) at ∙ ap (λ ds. ds ++ d ∷ []) (sym (hand_was views id v at)))
+          (λ k other. hand_else views id (drew (d ∷ []) (length t.draws + 1) v) k other)
+          h.placed;
       fits = views_set (Fits after) views id (drew (d ∷ []) (length t.draws + 1) v)
           (λ j u apart e. apart_fits t a j d u is (λ owns. apart (sym owns ∙ mine.here)) (h.fits j u e))
           (drew_fits t id a v d f acts is);

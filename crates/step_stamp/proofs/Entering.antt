@@ -1,6 +1,6 @@
 -- A mark goes into a link's list: the pass hands it over to a copy, and the copy joins the link's seat. The list then
 -- rises still, since the stamp is above all that the seat had seen.
-use Rattle.std.proofs.Common.{◌≡◌, ℕ, eqb, ◌<◌, ◌≤◌, max, cond, List, [], ◌∷◌, ◌++◌, refl, sym, ap, ◌∙◌, subst, inl, ⊎_elim, set, arith}
+use Rattle.std.proofs.Common.{◌≡◌, ℕ, eqb, ◌<◌, ◌≤◌, max, cond, List, [], ◌∷◌, ◌++◌, length, refl, sym, ap, ◌∙◌, subst, inl, ⊎_elim, set, arith}
 use Rattle.std.proofs.lemmas.Bool.{cond_both, eq-eqb, eqb-true}
 use Rattle.std.proofs.Math.Nat.{le-max_right, max-le, max-eq_right}
 use mathlib.Core.List.{IsPrefix}
@@ -13,14 +13,16 @@ use Rattle.step_stamp.specs.declared.views.Shelf.{Shelf}
 use Rattle.step_stamp.specs.declared.views.View.{View}
 use Rattle.step_stamp.specs.Lists.{Has}
 use Rattle.step_stamp.specs.Marks.{Rises, drawn_for, marks_in}
+use Rattle.step_stamp.specs.Placing.{hand_at}
 use Rattle.step_stamp.specs.Rule.{Tally, Begins, HasList, Fits}
 use Rattle.step_stamp.specs.Seats.{EntersMark}
 use Rattle.step_stamp.specs.Views.{shelf, shelf_of, known_of, emptied, handed, entered, nobody}
 use Rattle.step_stamp.proofs.ListFacts.{begins_nothing, begins_itself, begins_longer}
 use Rattle.step_stamp.proofs.MarkFacts.{rises-append}
-use Rattle.step_stamp.proofs.Meeting.{most_left}
+use Rattle.step_stamp.proofs.Meeting.{most_left, still_lone}
 use Rattle.step_stamp.proofs.ShelfFacts.{shelf_cases, shelf_here}
-use Rattle.step_stamp.proofs.ViewFacts.{Law, splits, copy_fits, nobody_fits, views_set, other_view}
+use Rattle.step_stamp.proofs.PlacingFacts.{hand_was, hand_here, hand_else, hand_set, hand_before, hand_end, hand_beyond, at_short, placed_moved, placed_entered}
+use Rattle.step_stamp.proofs.ViewFacts.{Law, length-set, splits, copy_fits, nobody_fits, views_set, other_view, acts_live, acts_some, lists_live}
 
 -- the lists with one mark more at link l
 with_mark : ℕ → Mark → (ℕ → List Mark) → ℕ → List Mark
@@ -33,6 +35,9 @@ log_cases l m log P here else k = cond_both (eqb k l) (log l ++ m ∷ []) (log k
 with_mark-here : (l : ℕ) (m : Mark) (log : ℕ → List Mark) → with_mark l m log l ≡ log l ++ m ∷ []
 unfolding with_mark
 with_mark-here l m log = ap (λ b. cond b (log l ++ m ∷ []) (log l)) (eq-eqb l l refl)
+
+with_mark-else : (l : ℕ) (m : Mark) (log : ℕ → List Mark) (k : ℕ) → (k ≡ l → ⊥) → with_mark l m log k ≡ log k
+with_mark-else l m log k = log_cases l m log (λ j ms. (j ≡ l → ⊥) → ms ≡ log j) (λ no. absurd (no refl)) (λ j _ _. refl) k
 
 -- what began a list still begins it
 begins_still : (l : ℕ) (m : Mark) (log : ℕ → List Mark) (k : ℕ) (sh : Shelf) → Begins (log k) sh → Begins (with_mark l m log k) sh
@@ -53,6 +58,8 @@ apart_fits t l j m u apart g = record {
   acts = λ a h. let was = g.acts a h in record { here = was.here; whole = was.whole; small = was.small };
   drew = g.drew;
   holds = g.holds;
+  spent = g.spent;
+  lone = g.lone;
 }
 
 -- the link's seat with the mark
@@ -83,14 +90,25 @@ entered_fits t id other l v w m f g links hand most =
       acts = λ a h. let was = f.acts a h in record { here = was.here; whole = was.whole; small = was.small };
       drew = f.drew;
       holds = f.holds;
+      spent = λ none. absurd (lists_live l v (subst (Has l) (sym links) (inl refl)) (f.spent none));
+      lone = still_lone l v w links f.lone;
     }
 
 module _ {S : Type 0} where
-  pub hands_over : (id l : ℕ) (v : View) → Splits {S = S} Law id v (emptied v) (handed l v)
-  hands_over id l v = splits id v (emptied v) (handed l v)
+  pub hands_over : (id l a : ℕ) (v : View) → Has a v.actors → Splits {S = S} Law id v (emptied v) (handed l v)
+  hands_over id l a v own = splits id v (emptied v) (handed l v)
+      (λ s at draws log p.
+      let cut = set s.views id (emptied v) in
+      let short = at_short s.views id v at in
+      let long : length cut ≡ length s.views = length-set s.views id (emptied v) in
+      placed_moved draws log (hand_at s.views) (hand_at (cut ++ handed l v ∷ [])) id (length s.views) short (hand_beyond s.views)
+      (subst (λ n. hand_at (cut ++ handed l v ∷ []) n ≡ v.hand) long (hand_end cut (handed l v)) ∙ sym (hand_was s.views id v at))
+      (hand_before cut (handed l v) id (λ e. absurd (short (e ∙ long))) ∙ hand_here s.views id v (emptied v) at)
+      (λ k not_a not_b. hand_before cut (handed l v) k (λ e. absurd (not_b (e ∙ long))) ∙ hand_else s.views id (emptied v) k not_a)
+      p)
       (λ t f. (
-        record { seen = f.seen; among = f.among; knows = f.knows; has = λ k h. (let was = f.has k h in record { here = was.here; whole = was.whole; most = was.most }); acts = f.acts; drew = f.drew; holds = tt },
-        λ j. copy_fits t id j v v.hand l [] f f.holds (begins_nothing (t.log l)),
+        record { seen = f.seen; among = f.among; knows = f.knows; has = λ k h. (let was = f.has k h in record { here = was.here; whole = was.whole; most = was.most }); acts = f.acts; drew = f.drew; holds = tt; spent = λ none. absurd (acts_live a v own (f.spent none)); lone = acts_some a v.actors own },
+        λ j. copy_fits t id j v v.hand l [] (acts_live a v own) f f.holds (begins_nothing (t.log l)),
       ))
 
   -- a link's list takes the mark that a copy has in hand
@@ -111,6 +129,13 @@ module _ {S : Type 0} where
         acting = h.acting;
         rises = log_cases l m t.log (λ k ms. Rises ms) (rises-append 0 v.seen (t.log l) m (h.rises l) own.most (omega arith) above) (λ k _. h.rises k);
         drawn = log_cases l m t.log (λ k ms. Each (λ (x : Mark). Has (drawn_for k x) t.draws) ms) (Each-append (λ (x : Mark). Has (drawn_for l x) t.draws) (t.log l) (m ∷ []) (h.drawn l) (in_draws, tt)) (λ k _. h.drawn k);
+        placed = placed_entered t.draws t.log after.log (hand_at s.views) (hand_at (set (set s.views id both) other nobody)) other l m
+            (sym (hand_set s.views id v both at refl other) ∙ hand_was (set s.views id both) other w there ∙ hand)
+            (with_mark-here l m t.log)
+            (λ k no_l. with_mark-else l m t.log k no_l)
+            (hand_here (set s.views id both) other w nobody there)
+            (λ k elsewhere. hand_else (set s.views id both) other nobody k elsewhere ∙ hand_set s.views id v both at refl k)
+            h.placed;
         fits = views_set (Fits after) (set s.views id both) other nobody
             (λ j u _ e. views_set (Fits after) s.views id both
             (λ i x elsewhere e'. apart_fits t l i m x (λ has. elsewhere (sym has ∙ own.here)) (h.fits i x e'))

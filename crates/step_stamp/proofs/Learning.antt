@@ -14,11 +14,13 @@ use Rattle.step_stamp.specs.declared.marks.Mark.{Mark}
 use Rattle.step_stamp.specs.declared.views.View.{View}
 use Rattle.step_stamp.specs.Lists.{Has}
 use Rattle.step_stamp.specs.Marks.{Rises, marks_in, by_actor, of_actor, drawn_for}
+use Rattle.step_stamp.specs.Placing.{hand_at}
 use Rattle.step_stamp.specs.Rule.{Fits, Kept, Learnt}
 use Rattle.step_stamp.specs.Views.{known_of, first_of, second_of, saw}
 use Rattle.step_stamp.proofs.ListFacts.{has_prefix, each_has, has_passed, has_kept, passes_test, prefixes}
 use Rattle.step_stamp.proofs.MarkFacts.{numbered_rise, draws_filter, same_stamp, no_twice, most_drawn}
-use Rattle.step_stamp.proofs.ViewFacts.{Law, views_set}
+use Rattle.step_stamp.proofs.PlacingFacts.{hand_set, placed_same}
+use Rattle.step_stamp.proofs.ViewFacts.{Law, views_set, acts_live, acts_some}
 
 -- what the rule says of a view
 pub learnt : (words : List ℕ) (views : List View) (id : ℕ) (v : View) → Kept words views → get_elem? views id ≡ some v → Learnt v
@@ -89,8 +91,8 @@ module _ {S : Type 0} where
       )
 
   -- a load counts as seen
-  pub sees : (slots id : ℕ) (me : Me S View) → Allows Law slots id me 0 (λ n. n) (λ found after. (after ≡ (saw found me.0, me.1)) × (me.0.seen ≤ found))
-  sees slots id me s h many at lt =
+  pub sees : (slots id a : ℕ) (me : Me S View) → Has a me.0.actors → Allows Law slots id me 0 (λ n. n) (λ found after. (after ≡ (saw found me.0, me.1)) × (me.0.seen ≤ found))
+  sees slots id a me acts s h many at lt =
       let t = h.tally in
       let same : slice_set s.words 0 (slice_index s.words 0) ≡ s.words = subst (λ ws. slice_set ws 0 (slice_index ws 0) ≡ ws) (sym h.word) refl in
       let n : slice_index s.words 0 ≡ length t.draws = ap (λ ws. slice_index ws 0) h.word in
@@ -108,6 +110,7 @@ module _ {S : Type 0} where
               acting = h.acting;
               rises = h.rises;
               drawn = h.drawn;
+              placed = placed_same t.draws t.log (hand_at s.views) (hand_at (set s.views id (saw (slice_index s.words 0) me.0))) (hand_set s.views id me.0 (saw (slice_index s.words 0) me.0) at refl) h.placed;
               fits = views_set (Fits t) s.views id (saw (slice_index s.words 0) me.0) (λ j u _ e. h.fits j u e)
                   (record {
                     seen = omega (arith, n);
@@ -119,6 +122,8 @@ module _ {S : Type 0} where
                     acts = f.acts;
                     drew = f.drew;
                     holds = f.holds;
+                    spent = λ none. absurd (acts_live a me.0 acts (f.spent none));
+                    lone = acts_some a me.0.actors acts;
                   });
             }),
         (refl, most),

@@ -1,6 +1,7 @@
 pub mod ListFacts
 pub mod MarkFacts
 mod ShelfFacts
+mod PlacingFacts
 mod ViewFacts
 mod Learning
 mod Drawing

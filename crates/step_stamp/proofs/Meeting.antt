@@ -1,6 +1,6 @@
 -- A pass meets a link: a copy of what the pass knows of the link joins the link's seat, and then a copy of the link's list
 -- joins the pass. Both keep the rule, and from what the rule then tells follow the clauses of a meeting.
-use Rattle.std.proofs.Common.{◌≡◌, ℕ, ◌≤◌, max, List, [], ◌∷◌, ◌++◌, refl, sym, ap, ◌∙◌, subst, inl, arith}
+use Rattle.std.proofs.Common.{◌≡◌, ℕ, ◌≤◌, max, List, [], ◌∷◌, ◌++◌, set, refl, sym, ap, ◌∙◌, subst, inl, ⊎_elim, arith}
 use Rattle.std.proofs.lemmas.List.{append-nil}
 use Rattle.std.proofs.Math.Nat.{le-max_left, max-le}
 use mathlib.Core.List.{IsPrefix}
@@ -12,24 +12,43 @@ use Rattle.step_stamp.specs.declared.views.Shelf.{Shelf}
 use Rattle.step_stamp.specs.declared.views.View.{View}
 use Rattle.step_stamp.specs.Lists.{Has}
 use Rattle.step_stamp.specs.Marks.{Rises, marks_in, longer}
-use Rattle.step_stamp.specs.Rule.{Begins, Learnt}
+use Rattle.step_stamp.specs.Placing.{hand_at}
+use Rattle.step_stamp.specs.Rule.{Begins, OfOneLink, Learnt}
 use Rattle.step_stamp.specs.Seats.{Meets}
 use Rattle.step_stamp.specs.Views.{shelf, known_of, second_of, shown, entered, taken, nobody}
 use Rattle.step_stamp.proofs.MarkFacts.{longer_both, longer_whole, longer_second, in_their_order}
 use Rattle.step_stamp.proofs.ShelfFacts.{shelf_cases, shelf_here, shelf_else, known_shown}
-use Rattle.step_stamp.proofs.ViewFacts.{Law, splits, joins, copy_fits}
+use Rattle.step_stamp.proofs.PlacingFacts.{placed_same}
+use Rattle.step_stamp.proofs.ViewFacts.{Law, hands_cut, splits, joins, copy_fits, acts_live, acts_some, lists_live}
 
 -- stamps that were seen are at most what is seen after a join
 pub most_left : (v w : View) (ms : List Mark) → Each (λ (m : Mark). m.stamp ≤ v.seen) ms → Each (λ (m : Mark). m.stamp ≤ max v.seen w.seen) ms
 most_left v w ms most = Each-if (λ (m : Mark). m.stamp ≤ v.seen) (λ (m : Mark). m.stamp ≤ max v.seen w.seen) ms (λ m le. omega (arith, le, le-max_left v.seen w.seen)) most
 
+-- a link's seat speaks of that link alone once a copy for it has joined
+pub still_lone : (l : ℕ) (v w : View) → v.links ≡ l ∷ [] → (v.actors ≡ [] → OfOneLink v) → v.actors ≡ [] → OfOneLink (entered l v w)
+still_lone l v w links lone none =
+    let was = lone none in
+    record {
+      link = l;
+      lists = λ k has. ⊎_elim (λ (e : l ≡ k). inl (sym e)) (λ no. absurd no) (subst (Has k) links has);
+      drawn = was.drawn;
+      alone = (
+        refl,
+        ⊎_elim
+            (λ (e : l ≡ was.link). subst (λ n. Each (λ (s : Shelf). s.link ≡ n) v.shelves) (sym e) was.alone)
+            (λ (empty : v.shelves ≡ []). subst (Each (λ (s : Shelf). s.link ≡ l)) (sym empty) tt)
+            (was.lists l (subst (Has l) (sym links) (inl refl))),
+      );
+    }
+
 module _ {S : Type 0} where
-  pub shows : (id l : ℕ) (v : View) → Splits {S = S} Law id v v (shown l v)
-  shows id l v = splits id v v (shown l v) (λ t f. (f, λ j. copy_fits t id j v [] l (known_of l v) f tt (f.knows l).known))
+  pub shows : (id l : ℕ) (v : View) → (v ≡ nobody → ⊥) → Splits {S = S} Law id v v (shown l v)
+  shows id l v live = splits id v v (shown l v) (λ s at draws log p. placed_same draws log (hand_at s.views) (hand_at (set s.views id v ++ shown l v ∷ [])) (hands_cut s.views id v v (shown l v) at refl refl) p) (λ t f. (f, λ j. copy_fits t id j v [] l (known_of l v) live f tt (f.knows l).known))
 
   -- a copy of a link's seat joins a pass
-  pub takes : (id l : ℕ) (v : View) (other : ℕ) (w : View) → Joins {S = S} Law id v other w (taken l v w) nobody
-  takes id l v other w = joins id v other w (taken l v w)
+  pub takes : (id l a : ℕ) (v : View) (other : ℕ) (w : View) → Has a v.actors → w.hand ≡ [] → Joins {S = S} Law id v other w (taken l v w) nobody
+  takes id l a v other w acts empty = joins id v other w (taken l v w) refl empty
       (λ t f g.
       let list = longer (known_of l v) (known_of l w) in
       let sh = shelf l list (known_of l v) (known_of l w) in
@@ -52,11 +71,13 @@ module _ {S : Type 0} where
         acts = f.acts;
         drew = f.drew;
         holds = f.holds;
+        spent = λ none. absurd (acts_live a v acts (f.spent none));
+        lone = acts_some a v.actors acts;
       })
 
   -- a copy with no mark in hand joins a link's seat
-  pub meets : (id l : ℕ) (v : View) (other : ℕ) (w : View) → w.hand ≡ [] → Joins {S = S} Law id v other w (entered l v w) nobody
-  meets id l v other w empty = joins id v other w (entered l v w)
+  pub meets : (id l : ℕ) (v : View) (other : ℕ) (w : View) → v.links ≡ l ∷ [] → w.hand ≡ [] → Joins {S = S} Law id v other w (entered l v w) nobody
+  meets id l v other w links empty = joins id v other w (entered l v w) refl empty
       (λ t f g.
       let same : known_of l v ++ marks_in w.hand ≡ known_of l v = ap (λ ds. known_of l v ++ marks_in ds) empty ∙ append-nil (known_of l v) in
       let sh = shelf l (known_of l v ++ marks_in w.hand) (known_of l v) (known_of l w) in
@@ -79,6 +100,8 @@ module _ {S : Type 0} where
         acts = f.acts;
         drew = f.drew;
         holds = f.holds;
+        spent = λ none. absurd (lists_live l v (subst (Has l) (sym links) (inl refl)) (f.spent none));
+        lone = still_lone l v w links f.lone;
       })
 
 -- ---- what a meeting tells

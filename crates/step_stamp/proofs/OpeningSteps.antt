@@ -1,6 +1,6 @@
 -- Opening: the rule at the first word and the first seat, the seats of links and passes cut from it one by one, and what
 -- stands of the seats made so far.
-use Rattle.std.proofs.Common.{◌≡◌, ℕ, zero, suc, eqb, ◌+◌, ◌<◌, not, cond, List, [], ◌∷◌, ◌++◌, refl, sym, ap, ◌∙◌, subst, inl, inr, ⊎_elim, arith, ne_eqb}
+use Rattle.std.proofs.Common.{◌≡◌, ℕ, zero, suc, eqb, ◌+◌, ◌<◌, ◌≤◌, not, cond, List, [], ◌∷◌, ◌++◌, refl, sym, ap, ◌∙◌, subst, inl, inr, ⊎_elim, arith, ne_eqb}
 use Rattle.std.proofs.lemmas.Bool.{cond_both, eq-eqb, eqb-true, cases_eq}
 use Rattle.std.proofs.lemmas.List.{map-append}
 use mathlib.Core.Option.{some-ne-none}
@@ -22,7 +22,8 @@ use Rattle.step_stamp.specs.Seats.{link_table, pass_table, link_view, pass_view,
 use Rattle.step_stamp.specs.Views.{shelf, shelf_of, known_of, first_view, new_link, less_link, new_pass, less_actor}
 use Rattle.step_stamp.proofs.ListFacts.{has_kept, has_passed, begins_nothing}
 use Rattle.step_stamp.proofs.ShelfFacts.{shelf_cases, shelf_here, no_known, no_shelf}
-use Rattle.step_stamp.proofs.ViewFacts.{Law, views_end, hands_on}
+use Rattle.step_stamp.proofs.PlacingFacts.{hand_more, no_hand}
+use Rattle.step_stamp.proofs.ViewFacts.{Law, views_end, hands_on, acts_live, acts_some, lists_live}
 
 -- ---- numbers below n, and without one
 
@@ -55,8 +56,8 @@ moved_else k l new was other = cond_both (eqb k l) new was (λ n. n ≡ was) (λ
 
 -- ---- the rule at the opening
 
-pub begins : (links actors : ℕ) → Kept (0 ∷ []) (first_view links actors ∷ [])
-begins links actors =
+pub begins : (links actors : ℕ) → 1 ≤ actors → Kept (0 ∷ []) (first_view links actors ∷ [])
+begins links actors some =
     let t : Tally = record { draws = []; log = λ l. []; seat = λ l. 0; owner = λ a. 0; actors = actors } in
     record {
       tally = t;
@@ -66,6 +67,12 @@ begins links actors =
       acting = tt;
       rises = λ l. tt;
       drawn = λ l. tt;
+      placed = record {
+        place = λ s. 0;
+        in_hand = λ k. subst (Each (λ (d : Drawn). Has d [] × (0 ≡ suc k))) (sym (hand_more [] (first_view links actors) refl k ∙ no_hand k)) tt;
+        entered = λ l. tt;
+        stands = λ d has. absurd has;
+      };
       fits = views_end (Fits t) [] (first_view links actors) 0 refl (λ j u e. absurd (some-ne-none u (sym e)))
           (record {
             seen = omega arith;
@@ -75,12 +82,14 @@ begins links actors =
             acts = λ a has. record { here = refl; whole = refl; small = below_small a actors has };
             drew = tt;
             holds = tt;
+            spent = λ none. absurd (omega (arith, some, none));
+            lone = λ _. record { link = 0; lists = λ k _. inr refl; drawn = refl; alone = tt };
           });
     }
 
 module _ {S : Type 0} where
   pub opens_link : (id l : ℕ) (v : View) → Has l v.links → Splits {S = S} Law id v (less_link l v) (new_link l v)
-  opens_link id l v mine = hands_on id v (less_link l v) (new_link l v) (λ seat new k. cond (eqb k l) new (seat k)) (λ owner new. owner)
+  opens_link id l v mine = hands_on id v (less_link l v) (new_link l v) refl refl (λ seat new k. cond (eqb k l) new (seat k)) (λ owner new. owner)
       (λ t new f.
       let was = f.has l mine in
       let now : Tally = record t { seat = λ k. cond (eqb k l) new (t.seat k) } in
@@ -95,6 +104,10 @@ module _ {S : Type 0} where
           acts = λ a has. (let old = f.acts a has in record { here = old.here; whole = old.whole; small = old.small });
           drew = f.drew;
           holds = f.holds;
+          spent = λ none. absurd (lists_live l v mine (f.spent none));
+          lone = λ none.
+              let o = f.lone none in
+              record { link = o.link; lists = λ k has. o.lists k (has_kept (λ x. not (eqb x l)) k v.links has); drawn = o.drawn; alone = o.alone };
         },
         record {
           seen = f.seen;
@@ -106,6 +119,8 @@ module _ {S : Type 0} where
           acts = λ a h. absurd h;
           drew = tt;
           holds = tt;
+          spent = λ none. absurd (lists_live l v mine (f.spent none));
+          lone = λ _. record { link = l; lists = λ k has. ⊎_elim (λ (e : l ≡ k). inl (sym e)) (λ no. absurd no) has; drawn = refl; alone = (refl, tt) };
         },
         λ j u apart g. record {
           seen = g.seen;
@@ -117,11 +132,13 @@ module _ {S : Type 0} where
           acts = λ a has. (let old = g.acts a has in record { here = old.here; whole = old.whole; small = old.small });
           drew = g.drew;
           holds = g.holds;
+          spent = g.spent;
+          lone = g.lone;
         },
       ))
 
-  pub opens_pass : (id a : ℕ) (v : View) → Has a v.actors → v.drawn ≡ [] → Splits {S = S} Law id v (less_actor a v) (new_pass a v)
-  opens_pass id a v mine nothing = hands_on id v (less_actor a v) (new_pass a v) (λ seat new. seat) (λ owner new k. cond (eqb k a) new (owner k))
+  pub opens_pass : (id a : ℕ) (v : View) → Has a v.actors → v.drawn ≡ [] → v.shelves ≡ [] → Splits {S = S} Law id v (less_actor a v) (new_pass a v)
+  opens_pass id a v mine nothing bare = hands_on id v (less_actor a v) (new_pass a v) refl refl (λ seat new. seat) (λ owner new k. cond (eqb k a) new (owner k))
       (λ t new f.
       let was = f.acts a mine in
       let now : Tally = record t { owner = λ k. cond (eqb k a) new (t.owner k) } in
@@ -136,6 +153,8 @@ module _ {S : Type 0} where
               record { here = moved_else k a new (t.owner k) (λ e. apart_from a k v.actors has e) ∙ old.here; whole = old.whole; small = old.small };
           drew = subst (Each (λ (d : Drawn). Has (actor_number d.mark.actor) (less_actor a v).actors)) (sym nothing) tt;
           holds = f.holds;
+          spent = λ none. absurd (acts_live a v mine (f.spent none));
+          lone = λ _. record { link = 0; lists = λ k _. inr bare; drawn = nothing; alone = subst (Each (λ (s : Shelf). s.link ≡ 0)) (sym bare) tt };
         },
         record {
           seen = f.seen;
@@ -145,6 +164,8 @@ module _ {S : Type 0} where
           acts = λ k has. ⊎_elim (λ (e : a ≡ k). subst (λ n. HasActor now new n []) e taken_over) (λ no. absurd no) has;
           drew = tt;
           holds = tt;
+          spent = λ none. absurd (acts_live a v mine (f.spent none));
+          lone = acts_some a (a ∷ []) (inl refl);
         },
         λ j u apart g. record {
           seen = g.seen;
@@ -156,6 +177,8 @@ module _ {S : Type 0} where
               record { here = moved_else k a new (t.owner k) (λ e. absurd (apart (sym old.here ∙ ap t.owner e ∙ was.here))) ∙ old.here; whole = old.whole; small = old.small };
           drew = g.drew;
           holds = g.holds;
+          spent = g.spent;
+          lone = g.lone;
         },
       ))
 

@@ -13,9 +13,11 @@ use Rattle.step_stamp.specs.declared.marks.Drawn.{Drawn}
 use Rattle.step_stamp.specs.declared.marks.Mark.{Mark}
 use Rattle.step_stamp.specs.declared.views.View.{View}
 use Rattle.step_stamp.specs.Lists.{Has}
-use Rattle.step_stamp.specs.Rule.{Tally, Begins, Fits, Kept}
+use Rattle.step_stamp.specs.Placing.{hand_at, Placed}
+use Rattle.step_stamp.specs.Rule.{Tally, Begins, OfOneLink, Fits, Kept}
 use Rattle.step_stamp.specs.Views.{shelf, nobody, copy}
 use Rattle.step_stamp.proofs.ListFacts.{begins_nothing}
+use Rattle.step_stamp.proofs.PlacingFacts.{hand_set, hand_more, placed_same}
 use Rattle.step_stamp.proofs.ShelfFacts.{shelf_cases, no_shelf}
 
 -- ---- a fact of each view
@@ -42,7 +44,7 @@ views_end F (x ∷ views) w n long others mine zero u e = others zero u e
 views_end F (x ∷ views) w n long others mine (suc j) u e =
     views_end (λ k. F (suc k)) views w (length views) refl (λ k y at. others (suc k) y at) (subst (λ k. F k w) (sym long) mine) j u e
 
-length-set : (views : List View) (id : ℕ) (w : View) → length (set views id w) ≡ length views
+pub length-set : (views : List View) (id : ℕ) (w : View) → length (set views id w) ≡ length views
 length-set [] id w = refl
 length-set (x ∷ views) zero w = refl
 length-set (x ∷ views) (suc id) w = ap suc (length-set views id w)
@@ -52,16 +54,40 @@ pub other_view : (F : ℕ → View → Type 0) (views : List View) (id other : �
 other_view F views id other both w apart all there =
     ⊎_elim (λ (t : (other ≡ id) × (both ≡ w)). absurd (apart t.0)) (λ (t : (other ≢ id) × (get_elem? views other ≡ some w)). all other w t.1) (at_set views id other both w there)
 
+-- ---- hands through a change that leaves each mark where it is
+
+pub hands_cut : (views : List View) (id : ℕ) (v left right : View) → get_elem? views id ≡ some v → left.hand ≡ v.hand → right.hand ≡ [] → (k : ℕ) → hand_at (set views id left ++ right ∷ []) k ≡ hand_at views k
+hands_cut views id v left right at same none k = hand_more (set views id left) right none k ∙ hand_set views id v left at same k
+
+pub hands_joined : (views : List View) (id : ℕ) (v : View) (other : ℕ) (w both : View) → get_elem? views id ≡ some v → get_elem? (set views id both) other ≡ some w → both.hand ≡ v.hand → w.hand ≡ []
+    → (k : ℕ) → hand_at (set (set views id both) other nobody) k ≡ hand_at views k
+hands_joined views id v other w both at there same none k = hand_set (set views id both) other w nobody there (sym none) k ∙ hand_set views id v both at same k
+
 -- ---- views that fit anywhere
+
+-- nobody speaks of no link
+no_link : OfOneLink nobody
+no_link = record { link = 0; lists = λ k h. absurd h; drawn = refl; alone = tt }
+
+-- a view with an actor, or with a list of a link, isn't spent
+pub acts_live : (a : ℕ) (v : View) → Has a v.actors → v ≡ nobody → ⊥
+acts_live a v has is = subst (λ (x : View). Has a x.actors) is has
+
+pub lists_live : (l : ℕ) (v : View) → Has l v.links → v ≡ nobody → ⊥
+lists_live l v has is = subst (λ (x : View). Has l x.links) is has
+
+-- a view with an actor isn't one without
+pub acts_some : {X : Type 0} (a : ℕ) (actors : List ℕ) → Has a actors → actors ≡ [] → X
+acts_some a actors has none = absurd (subst (Has a) none has)
 
 -- one that knows nothing
 pub nobody_fits : (t : Tally) (j : ℕ) → Fits t j nobody
-nobody_fits t j = record { seen = omega arith; among = inl refl; knows = λ l. no_shelf (t.log l) l; has = λ l h. absurd h; acts = λ a h. absurd h; drew = tt; holds = tt }
+nobody_fits t j = record { seen = omega arith; among = inl refl; knows = λ l. no_shelf (t.log l) l; has = λ l h. absurd h; acts = λ a h. absurd h; drew = tt; holds = tt; spent = λ _. refl; lone = λ _. no_link }
 
 -- a copy with a part of what a view knows
-pub copy_fits : (t : Tally) (id j : ℕ) (v : View) (hand : List Drawn) (l : ℕ) (known : List Mark) → Fits t id v → Each (λ (d : Drawn). Has d t.draws) hand → IsPrefix known (t.log l)
+pub copy_fits : (t : Tally) (id j : ℕ) (v : View) (hand : List Drawn) (l : ℕ) (known : List Mark) → (v ≡ nobody → ⊥) → Fits t id v → Each (λ (d : Drawn). Has d t.draws) hand → IsPrefix known (t.log l)
     → Fits t j (copy v hand (shelf l known [] []))
-copy_fits t id j v hand l known f holds begins = record {
+copy_fits t id j v hand l known live f holds begins = record {
   seen = f.seen;
   among = f.among;
   knows = λ k. shelf_cases (λ s. Begins (t.log k) s) k (shelf l known [] []) []
@@ -71,6 +97,8 @@ copy_fits t id j v hand l known f holds begins = record {
   acts = λ a h. absurd h;
   drew = tt;
   holds = holds;
+  spent = λ none. absurd (live (f.spent none));
+  lone = λ _. record { link = l; lists = λ k h. absurd h; drawn = refl; alone = (refl, tt) };
 }
 
 -- ---- who has something of another has it still; what the other had is moved
@@ -86,8 +114,9 @@ module _ {S : Type 0} where
   Law s = Kept s.words s.views
 
   -- a view is cut in two, and all lists stay
-  pub splits : (id : ℕ) (v left right : View) → ((t : Tally) → Fits t id v → Fits t id left × ((j : ℕ) → Fits t j right)) → Splits Law id v left right
-  splits id v left right how s h at =
+  pub splits : (id : ℕ) (v left right : View) → ((s : State S View) → get_elem? s.views id ≡ some v → (draws : List Drawn) (log : ℕ → List Mark) → Placed draws log (hand_at s.views) → Placed draws log (hand_at (set s.views id left ++ right ∷ [])))
+      → ((t : Tally) → Fits t id v → Fits t id left × ((j : ℕ) → Fits t j right)) → Splits Law id v left right
+  splits id v left right hands how s h at =
       let t = h.tally in
       let parts = how t (h.fits id v at) in
       record {
@@ -98,12 +127,13 @@ module _ {S : Type 0} where
         acting = h.acting;
         rises = h.rises;
         drawn = h.drawn;
+        placed = hands s at h.tally.draws h.tally.log h.placed;
         fits = views_more (Fits t) (set s.views id left) right (views_set (Fits t) s.views id left (λ j u _ e. h.fits j u e) parts.0) parts.1;
       }
 
   -- two views are put together, and all lists stay
-  pub joins : (id : ℕ) (v : View) (other : ℕ) (w both : View) → ((t : Tally) → Fits t id v → Fits t other w → Fits t id both) → Joins Law id v other w both nobody
-  joins id v other w both how s h at apart there =
+  pub joins : (id : ℕ) (v : View) (other : ℕ) (w both : View) → both.hand ≡ v.hand → w.hand ≡ [] → ((t : Tally) → Fits t id v → Fits t other w → Fits t id both) → Joins Law id v other w both nobody
+  joins id v other w both same none how s h at apart there =
       let t = h.tally in
       let theirs = other_view (Fits t) s.views id other both w apart h.fits there in
       record {
@@ -114,19 +144,20 @@ module _ {S : Type 0} where
         acting = h.acting;
         rises = h.rises;
         drawn = h.drawn;
+        placed = placed_same h.tally.draws h.tally.log (hand_at s.views) (hand_at (set (set s.views id both) other nobody)) (hands_joined s.views id v other w both at there same none) h.placed;
         fits = views_set (Fits t) (set s.views id both) other nobody
             (λ j u _ e. views_set (Fits t) s.views id both (λ i x _ e'. h.fits i x e') (how t (h.fits id v at) theirs) j u e)
             (nobody_fits t other);
       }
 
   -- a view is cut in two, and what it had of one link or one actor goes to the new one
-  pub hands_on : (id : ℕ) (v left right : View) (seat_now owner_now : (ℕ → ℕ) → ℕ → ℕ → ℕ)
+  pub hands_on : (id : ℕ) (v left right : View) → left.hand ≡ v.hand → right.hand ≡ [] → (seat_now owner_now : (ℕ → ℕ) → ℕ → ℕ → ℕ)
       → ((t : Tally) (new : ℕ) → Fits t id v
       → Fits (record t { seat = seat_now t.seat new; owner = owner_now t.owner new }) id left
       × Fits (record t { seat = seat_now t.seat new; owner = owner_now t.owner new }) new right
       × ((j : ℕ) (u : View) → (j ≡ id → ⊥) → Fits t j u → Fits (record t { seat = seat_now t.seat new; owner = owner_now t.owner new }) j u))
       → Splits Law id v left right
-  hands_on id v left right seat_now owner_now how s h at =
+  hands_on id v left right same none seat_now owner_now how s h at =
       let t = h.tally in
       let new = length s.views in
       let now : Tally = record t { seat = seat_now t.seat new; owner = owner_now t.owner new } in
@@ -139,15 +170,16 @@ module _ {S : Type 0} where
         acting = h.acting;
         rises = h.rises;
         drawn = h.drawn;
+        placed = placed_same h.tally.draws h.tally.log (hand_at s.views) (hand_at (set s.views id left ++ right ∷ [])) (hands_cut s.views id v left right at same none) h.placed;
         fits = views_end (Fits now) (set s.views id left) right new (length-set s.views id left) (views_set (Fits now) s.views id left (λ j u apart e. parts.2 j u apart (h.fits j u e)) parts.0) parts.1;
       }
 
   -- two views are put together for good: what the other had is this one's
-  pub joins_all : (id : ℕ) (v : View) (other : ℕ) (w both : View)
+  pub joins_all : (id : ℕ) (v : View) (other : ℕ) (w both : View) → both.hand ≡ v.hand → w.hand ≡ []
       → ((t : Tally) → (other ≡ id → ⊥) → Fits t id v → Fits t other w
       → Fits (record t { seat = λ k. cond (eqb (t.seat k) other) id (t.seat k); owner = λ k. cond (eqb (t.owner k) other) id (t.owner k) }) id both)
       → Joins Law id v other w both nobody
-  joins_all id v other w both how s h at apart there =
+  joins_all id v other w both same none how s h at apart there =
       let t = h.tally in
       let theirs = other_view (Fits t) s.views id other both w apart h.fits there in
       let now : Tally = record t { seat = λ k. cond (eqb (t.seat k) other) id (t.seat k); owner = λ k. cond (eqb (t.owner k) other) id (t.owner k) } in
@@ -159,6 +191,7 @@ module _ {S : Type 0} where
         acting = h.acting;
         rises = h.rises;
         drawn = h.drawn;
+        placed = placed_same h.tally.draws h.tally.log (hand_at s.views) (hand_at (set (set s.views id both) other nobody)) (hands_joined s.views id v other w both at there same none) h.placed;
         fits = λ j u e. ⊎_elim
             (λ (x : (j ≡ other) × (nobody ≡ u)). subst (Fits now j) x.1 (nobody_fits now j))
             (λ (x : (j ≢ other) × (get_elem? (set s.views id both) j ≡ some u)).
@@ -173,6 +206,8 @@ module _ {S : Type 0} where
               acts = λ a has. let old = g.acts a has in record { here = stays other id (t.owner a) k old.here elsewhere; whole = old.whole; small = old.small };
               drew = g.drew;
               holds = g.holds;
+              spent = g.spent;
+              lone = g.lone;
             })
             (λ _. how t apart (h.fits id v at) theirs)
             j u x.1 x.0)

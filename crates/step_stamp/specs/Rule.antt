@@ -2,7 +2,9 @@
 -- link, which view has that list, and which view each actor is in. The rule says how the word and every view agree with
 -- these: the draws are numbered from 1 to the word; each link's list rises and holds marks drawn for it alone; what any
 -- view knows of a link begins that link's list; the view that has the list knows all of it and has seen its stamps; a
--- view that has an actor has all that the actor drew; no actor draws more than 2^40 marks. It holds between any two steps.
+-- view that has an actor has all that the actor drew; no actor draws more than 2^40 marks. A view without an actor has drawn
+-- nothing and speaks of one link alone, and a spent one has seen nothing and has nothing. Each drawn mark stands either in
+-- one hand or in its link's list, and no other mark stands there. It holds between any two steps.
 use Rattle.std.specs.Prelude.{◌≡◌, ℕ, ◌*◌, ◌^◌, ◌<◌, ◌≤◌, ◌⊎◌, List, [], ◌∷◌, length}
 use mathlib.Core.Option.{some}
 use mathlib.Core.List.{IsPrefix}
@@ -15,7 +17,8 @@ use Rattle.step_stamp.specs.declared.views.Shelf.{Shelf}
 use Rattle.step_stamp.specs.declared.views.View.{View}
 use Rattle.step_stamp.specs.Lists.{Has}
 use Rattle.step_stamp.specs.Marks.{Rises, Numbered, NoTwice, drawn_for, marks_in, of_actor}
-use Rattle.step_stamp.specs.Views.{shelf_of, known_of, first_of, second_of}
+use Rattle.step_stamp.specs.Placing.{hand_at, Placed}
+use Rattle.step_stamp.specs.Views.{shelf_of, known_of, first_of, second_of, nobody}
 
 -- what stands behind the word: all draws in their order, the list of each link and the number of the view that has it, the
 -- number of the view of each actor, and how many actors there are
@@ -44,6 +47,14 @@ pub record HasActor (t : Tally) (by a : ℕ) (drawn : List Drawn) : Type 0 where
   pub whole : of_actor a drawn ≡ of_actor a t.draws
   pub small : a < t.actors
 
+-- it speaks of one link alone and has drawn nothing. So it is with a link's seat, which has that link's list, and with every
+-- copy, made for one link; a spent seat and the first seat, once its actors were cut from it, speak of no link at all
+pub record OfOneLink (v : View) : Type 0 where
+  pub link : ℕ
+  pub lists : (k : ℕ) → Has k v.links → (k ≡ link) ⊎ (v.shelves ≡ [])
+  pub drawn : v.drawn ≡ []
+  pub alone : Each (λ (s : Shelf). s.link ≡ link) v.shelves
+
 -- what the rule says of view `by`
 pub record Fits (t : Tally) (by : ℕ) (v : View) : Type 0 where
   pub seen : v.seen ≤ length t.draws
@@ -53,6 +64,8 @@ pub record Fits (t : Tally) (by : ℕ) (v : View) : Type 0 where
   pub acts : (a : ℕ) → Has a v.actors → HasActor t by a v.drawn
   pub drew : Each (λ (d : Drawn). Has (actor_number d.mark.actor) v.actors) v.drawn
   pub holds : Each (λ (d : Drawn). Has d t.draws) v.hand
+  pub spent : v.among ≡ 0 → v ≡ nobody
+  pub lone : v.actors ≡ [] → OfOneLink v
 
 -- the rule on the word and all views
 pub record Kept (words : List ℕ) (views : List View) : Type 0 where
@@ -63,6 +76,7 @@ pub record Kept (words : List ℕ) (views : List View) : Type 0 where
   pub acting : Each (λ (d : Drawn). actor_number d.mark.actor < tally.actors) tally.draws
   pub rises : (l : ℕ) → Rises (tally.log l)
   pub drawn : (l : ℕ) → Each (λ (m : Mark). Has (drawn_for l m) tally.draws) (tally.log l)
+  pub placed : Placed tally.draws tally.log (hand_at views)
   pub fits : (by : ℕ) (v : View) → get_elem? views by ≡ some v → Fits tally by v
 
 -- ---- what the rule tells of a view, whatever the table is

@@ -19,6 +19,7 @@ pub struct LinkSeat {
     pub(crate) link: LinkNo,
     ghost free: { seat.me.1 ≡ [] },
     ghost links: { seat.me.0.links ≡ link_number link ∷ [] },
+    ghost actors: { seat.me.0.actors ≡ [] },
     ghost hand: { seat.me.0.hand ≡ [] },
 }
 
@@ -45,6 +46,7 @@ pub struct Ticket {
     ghost free: { seat.me.1 ≡ [] },
     ghost hand: { seat.me.0.hand ≡ drawn_for (link_number link) mark ∷ [] },
     ghost saw: { seat.me.0.seen ≡ mark.stamp },
+    ghost actors: { seat.me.0.actors ≡ [] },
 }
 
 impl PassSeat {

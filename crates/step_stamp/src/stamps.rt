@@ -119,6 +119,7 @@ impl Stamps {
         requires table { first.old.table_id ≡ table_of self.now }
         requires mine { Has (actor_number actor) first.old.me.0.actors }
         requires nothing { first.old.me.0.drawn ≡ [] }
+        requires bare { first.old.me.0.shelves ≡ [] }
         requires among { 1 ≤ first.old.me.0.among }
         requires chosen { actor_number actor ≡ C.number }
         ensures seat { (pass_table result ≡ table_of self.now) × (result.actor ≡ actor) × (pass_view result ≡ new_pass (actor_number actor) first.old.me.0) }

@@ -1,14 +1,16 @@
 use Rattle.std.proofs.Common.{◌≡◌, sym, ap, ◌∙◌, subst, arith}
+use Rattle.net_units.specs.Numbers.{actor_number}
 use Rattle.step_stamp.specs.declared.views.View.{View}
 use Rattle.step_stamp.specs.Rule.{Learnt}
 use Rattle.step_stamp.specs.Seats.{Gathered}
 use Rattle.step_stamp.specs.Views.{gathered}
 use Rattle.step_stamp.proofs.Closing.{gathers, gathered_facts}
+use Rattle.step_stamp.proofs.ListFacts.{has_first}
 use Rattle.step_stamp.proofs.Learning.{learns}
 use Rattle.step_stamp.proofs.seats.PassSeat.gather.Goals as goal
 
 pub join_seat-requires : goal.join_seat-requires
-join_seat-requires c = (c.requires.this, c.requires.that, c.args.other.free, omega (arith, c.args.stamps.now.words), gathers _ _ _ _)
+join_seat-requires c = (c.requires.this, c.requires.that, c.args.other.free, omega (arith, c.args.stamps.now.words), gathers _ (actor_number c.args.self.now.actor) _ _ _ (has_first (actor_number c.args.self.now.actor) _ c.args.self.now.actors) c.args.other.hand)
 
 pub load-requires : goal.load-requires
 load-requires c = (c.join_seat.ensures.0 ∙ c.requires.this, omega (arith, c.args.stamps.now.words), learns _ _ _)

@@ -1,14 +1,16 @@
 use Rattle.std.proofs.Common.{◌≡◌, [], ◌∷◌, sym, ap, ◌∙◌, subst, arith}
+use Rattle.net_units.specs.Numbers.{actor_number}
 use Rattle.step_stamp.specs.declared.views.View.{View}
 use Rattle.step_stamp.specs.Rule.{Learnt}
 use Rattle.step_stamp.specs.Seats.{Settled}
 use Rattle.step_stamp.specs.Views.{settled}
 use Rattle.step_stamp.proofs.Closing.{settles, settled_facts}
+use Rattle.step_stamp.proofs.ListFacts.{has_first}
 use Rattle.step_stamp.proofs.Learning.{learns}
 use Rattle.step_stamp.proofs.seats.PassSeat.settle_at.Goals as goal
 
 pub join_seat-requires : goal.join_seat-requires
-join_seat-requires g c = (c.requires.this, c.requires.that, c.args.link.free, omega (arith, c.args.stamps.now.words), settles _ g.C.Chosen.number _ _ _ (c.args.link.links ∙ ap (λ l. l ∷ []) c.requires.chosen))
+join_seat-requires g c = (c.requires.this, c.requires.that, c.args.link.free, omega (arith, c.args.stamps.now.words), settles _ g.C.Chosen.number (actor_number c.args.self.now.actor) _ _ _ (has_first (actor_number c.args.self.now.actor) _ c.args.self.now.actors) c.args.link.hand (c.args.link.links ∙ ap (λ l. l ∷ []) c.requires.chosen))
 
 pub load-requires : goal.load-requires
 load-requires g c = (c.join_seat.ensures.0 ∙ c.requires.this, omega (arith, c.args.stamps.now.words), learns _ _ _)
