@@ -39,3 +39,7 @@ pub mod GuaranteeLaw
 pub mod LinksAsked
 pub mod Merge
 pub mod WeaveLaw
+pub mod Lookups
+pub mod LinkFacts
+pub mod ActorFacts
+pub mod StepFacts

@@ -11,3 +11,4 @@ pub mod Guarantee
 pub mod Verdicts
 pub mod Laws
 pub mod Linked
+pub mod Standing

@@ -2,8 +2,18 @@
 //!
 //! The actors are the callers of a plan and the plane. Each asks what its own replies so far tell it to ask, and each link
 //! replies by its own history. `specs/` defines a run and its parts; the laws say what holds of every run of a network whose
-//! parts fit. They speak of no calendar, queue or running sum.
+//! parts fit. They speak of no calendar, queue or running sum. [`Core`] makes such a run, one step of one actor at a time.
 #![tactic(auto)]
 
+mod actors;
 pub mod laws;
 pub mod linked_laws;
+mod links;
+pub mod refusal;
+pub mod stepping;
+
+pub use refusal::CoreRefusal;
+pub use stepping::Core;
+
+#[cfg(test)]
+mod tests;

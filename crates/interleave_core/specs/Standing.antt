@@ -1,0 +1,89 @@
+-- What a core keeps stands for the run that its record has: each link for its part of the run, each caller and the plane for
+-- the replies that they have got. The run is one of the plan's network.
+use Rattle.std.specs.Prelude.{◌≡◌, ℕ, suc, ◌-◌, ◌≤◌, None, Some, IsSome, List, ◌∷◌, length, reverse}
+use Rattle.std.specs.List.{slice_get}
+use Rattle.net_units.specs.Numbers.{actor_number}
+use Rattle.net_units.specs.declared.numbers.ActorNo.{ActorNo}
+use Rattle.link_server.specs.State.{Stands as LinkStands}
+use Rattle.link_server.specs.declared.link_state.LinkState.{LinkState}
+use Rattle.link_steps.specs.Split.{Link, whole}
+use Rattle.link_steps.specs.declared.replies.Reply.{Reply}
+use Rattle.call_script.specs.Parts.{PlanParts}
+use Rattle.call_script.specs.Plans.{IsPlan}
+use Rattle.call_script.specs.Standing.{Stands as CallerStands}
+use Rattle.call_script.specs.Tasks.{Network, network_of}
+use Rattle.call_script.specs.declared.actor.Actor.{Actor}
+use Rattle.interleave_core.specs.Runs.{plane_at, next_for, IsNext, IsRun, step}
+use Rattle.interleave_core.specs.declared.actors.Actors.{Actors}
+use Rattle.interleave_core.specs.declared.stepping.Core.{Core}
+use Rattle.interleave_core.specs.declared.refusal.CoreRefusal.{CoreRefusal}
+use Rattle.interleave_core.specs.declared.refusal.CoreRefusal.TheVariants.{NoSuchActor, NoStepLeft, Memory}
+use Rattle.run_record.specs.Runs.{replies_to, part_of}
+use Rattle.run_record.specs.declared.done.Done.{Done}
+use Rattle.tick_plane.specs.Kept.{Kept}
+
+-- ---- the parts of a core
+
+-- each link has its shape, and stands for its part of the run
+pub record LinksStand (network : List Link) (links : List LinkState) (run : List Done) : Type 0 where
+  pub same : length links ≡ length network
+  pub linked : (n : ℕ) (link : LinkState) → slice_get links n ≡ Some link → slice_get network n ≡ Some (whole link.shape)
+  pub parts : (n : ℕ) (link : LinkState) → slice_get links n ≡ Some link → LinkStands link (part_of n run)
+
+-- each caller has its number, and stands for its replies
+pub record CallersStand (parts : PlanParts) (callers : List Actor) (run : List Done) : Type 0 where
+  pub same : length callers ≡ length parts.callers
+  pub numbers : (n : ℕ) (caller : Actor) → slice_get callers n ≡ Some caller → actor_number caller.caller ≡ n
+  pub stand : (n : ℕ) (caller : Actor) → slice_get callers n ≡ Some caller → CallerStands parts caller (replies_to n run)
+
+pub record PlaneStands (network : Network) (plane : Kept) (run : List Done) : Type 0 where
+  pub links : plane.links ≡ length network.links
+  pub rounds : plane.rounds ≡ network.rounds
+  pub at : plane.at ≡ plane_at network run
+
+pub record ActorsStand (parts : PlanParts) (actors : Actors) (run : List Done) : Type 0 where
+  pub callers : CallersStand parts actors.callers.items run
+  pub plane : PlaneStands (network_of parts) actors.plane run
+
+-- ---- a core
+
+-- the run that it has recorded, newest first
+abbrev pub run_in : Core → List Done
+run_in core = reverse core.steps.entries
+
+pub record Stands (parts : PlanParts) (core : Core) : Type 0 where
+  pub plan : IsPlan parts
+  pub run : IsRun (network_of parts) (run_in core)
+  pub links : LinksStand (network_of parts).links core.links.items (run_in core)
+  pub actors : ActorsStand parts core.actors (run_in core)
+
+-- ---- its steps
+
+-- the actors stand for a run, are ready for its next step, and this is that step
+pub record IsDue (parts : PlanParts) (actors : Actors) (past : List Done) (done : Done) : Type 0 where
+  pub plan : IsPlan parts
+  pub run : IsRun (network_of parts) past
+  pub next : IsNext (network_of parts) past done
+  pub stand : ActorsStand parts actors past
+  pub room : actors.plane.links - actors.plane.at.ticked ≤ actors.plane.spare
+
+-- the run goes on with the actor's next step, which gets this reply
+pub record StepsTo (network : Network) (actor : ActorNo) (past : List Done) (reply : Reply) (run : List Done) : Type 0 where
+  pub done : Done
+  pub next : IsNext network past done
+  pub by : done.actor ≡ actor
+  pub gets : done.reply ≡ reply
+  pub is : run ≡ done ∷ past
+  pub goes : run ≡ step network actor past
+
+-- why one of so many callers and the plane, by its number, has no step left
+abbrev pub IsLeft : ℕ → ℕ → List Done → CoreRefusal → Type 0
+IsLeft callers actor run (NoSuchActor actors) = (actors ≡ suc callers) × (actors ≤ actor)
+IsLeft callers actor run (NoStepLeft made) = (actor ≤ callers) × (made ≡ length (replies_to actor run))
+IsLeft callers actor run Memory = ⊥
+
+-- a refusal is right: without such an actor, or a step of it left, memory isn't wanted
+abbrev pub IsRefused : PlanParts → ℕ → List Done → CoreRefusal → Type 0
+IsRefused parts actor run (NoSuchActor actors) = (actors ≡ suc (length parts.callers)) × (actors ≤ actor)
+IsRefused parts actor run (NoStepLeft made) = (actor ≤ length parts.callers) × (next_for (network_of parts) actor run ≡ None) × (made ≡ length (replies_to actor run))
+IsRefused parts actor run Memory = IsSome (next_for (network_of parts) actor run)

@@ -1,0 +1,116 @@
+//! The links and the actors of a plan, and the steps that they have made.
+ghost use Rattle.std.specs.Prelude.{◌≡◌, ◌≤◌, ◌↔◌, [], ℕ, List, IfOk, IfErr, OnErr, IsSome, IsTrue, length, reverse};
+ghost use Rattle.net_units.specs.Numbers.{actor_number};
+ghost use Rattle.call_script.specs.Tasks.{network_of};
+ghost use Rattle.interleave_core.specs.Runs.{next_for};
+ghost use Rattle.interleave_core.specs.Standing.{IsLeft, IsRefused, Stands, StepsTo, run_in};
+ghost use Rattle.run_record.specs.Runs.{replies_to};
+
+use crate::actors::Actors;
+use crate::links::{new_links, step_link};
+use crate::refusal::CoreRefusal;
+use call_script::Plan;
+use link_server::LinkState;
+use link_steps::Reply;
+use net_units::{ActorNo, OutOfMemory};
+use run_record::{Done, Record};
+use std::alloc::Global;
+
+/// The links and the actors of a plan, which each call is given, and the record of the steps that they have made.
+///
+/// What it keeps stands for the run that it has recorded (`Stands`): that is a run of the plan's network, so every law of
+/// runs holds of it, in whatever order its actors make their steps.
+#[derive(Drop)]
+pub struct Core {
+    pub(crate) links: Vec<LinkState>,
+    pub(crate) actors: Actors,
+    pub(crate) steps: Record,
+}
+
+impl Core {
+    /// The links and the actors of a plan, before any step. An `Err` comes only for want of memory.
+    pub fn new(alloc: Global, plan: &Plan) -> Result<Core, OutOfMemory>
+        ensures stands { IfOk result (Stands plan.now) }
+        ensures none { IfOk result (λ core. run_in core ≡ []) }
+    {
+        let links = new_links(alloc, plan)?;
+        let actors = Actors::new(alloc, plan)?;
+        Ok(Core {
+            links,
+            actors,
+            steps: Record::new(alloc),
+        })
+    }
+
+    /// Whether the actor has a step left: false where there is no such actor. The plan is the one that it was made for.
+    pub fn has_step(&self, plan: &Plan, actor: ActorNo) -> bool
+        requires { Stands plan.now self.now }
+        ensures { IsTrue result ↔ IsSome (next_for (network_of plan.now) (actor_number actor) (run_in self.now)) }
+    {
+        self.actors.next_ask(plan, actor).is_some()
+    }
+
+    /// Makes the actor's next step, and records it: asks the link, and hands the actor the reply. The plan is the one that
+    /// it was made for. A refusal leaves the run as it was: there is no such actor, or it has no step left, or memory was
+    /// wanted.
+    pub fn step(&mut self, plan: &Plan, actor: ActorNo) -> Result<Reply, CoreRefusal>
+        requires { Stands plan.now self.old }
+        ensures stands { Stands plan.now self.new }
+        ensures made { IfOk result (λ reply. StepsTo (network_of plan.now) actor (run_in self.old) reply (run_in self.new)) }
+        ensures refused { IfErr result (IsRefused plan.now (actor_number actor) (run_in self.old)) }
+        ensures unchanged { OnErr result (run_in self.new ≡ run_in self.old) }
+    {
+        let (link, ask) = match self.actors.next_ask(plan, actor) {
+            Some(to) => to,
+            None => return Err(self.refusal(actor)),
+        };
+        self.steps.reserve(1)?;
+        self.actors.ready()?;
+        let reply = step_link(&mut self.links, usize::from(link.get()), &ask)?;
+        let done = Done {
+            actor,
+            link,
+            ask,
+            reply,
+        };
+        self.actors.take(plan, &done);
+        self.steps.push(done);
+        Ok(reply)
+    }
+
+    /// The record of its steps.
+    pub fn finish(self) -> Record
+        ensures { result ≡ self.steps }
+    {
+        self.steps
+    }
+
+    // Why there is no step of this actor.
+    fn refusal(&self, actor: ActorNo) -> CoreRefusal
+        requires { length self.now.actors.callers.items ≤ 64 }
+        ensures { IsLeft (length self.now.actors.callers.items) (actor_number actor) (run_in self.now) result }
+    {
+        let callers = self.actors.callers.len();
+        if usize::from(actor.get()) > callers {
+            return CoreRefusal::NoSuchActor {
+                actors: callers as u32 + 1,
+            };
+        }
+        CoreRefusal::NoStepLeft {
+            made: steps_of(self.steps.entries(), actor),
+        }
+    }
+}
+
+// How many steps the actor has made.
+fn steps_of(entries: &[Done], actor: ActorNo) -> u64
+    ensures { result ≡ length (replies_to (actor_number actor) (reverse entries.now)) }
+{
+    let mut made = 0;
+    for done in entries {
+        if done.actor.get() == actor.get() {
+            made += 1;
+        }
+    }
+    made
+}

@@ -1,0 +1,117 @@
+//! Runs of a plan over one link, worked by hand. The link has levels of 10, 20 and 40 ticks and a propagation of 2.
+ghost use Rattle.std.specs.Prelude.{◌≡◌, [], ◌∷◌, IfOk};
+ghost use Rattle.net_units.specs.Numbers.{link_number, channel_number};
+ghost use Rattle.call_script.specs.OneLink.{IsThatLink, IsThatRequest, IsThatScript};
+
+use super::*;
+use call_script::{CallerEntry, LinkEntry, Op, Ops, Plan, RequestEntry, Version};
+use hop_reservation::{Hop, Route};
+use link_steps::{LinkShape, Reply};
+use net_units::{ActorNo, Bounds, ChanNo, Level, LinkNo, Name};
+use setup_protocol::{Control, Request};
+use std::alloc::Global;
+use std::process::Abort;
+use std::test::Fail;
+use traffic_contract::{Contract, Test};
+
+fn name(text: &str) -> Result<Name, Fail> {
+    Ok(Name::new(text.as_bytes()).ok_or("name")?)
+}
+
+fn bounds() -> Result<Bounds, Fail>
+    ensures { IfOk result (λ made. made ≡ 10 ∷ 20 ∷ 40 ∷ []) }
+{
+    Ok(Bounds::new(&[10, 20, 40]).ok_or("bounds")?)
+}
+
+fn link_no() -> Result<LinkNo, Fail>
+    ensures { IfOk result (λ link. link_number link ≡ 0) }
+{
+    Ok(LinkNo::new(0).ok_or("link")?)
+}
+
+fn link() -> Result<LinkEntry, Fail>
+    ensures { IfOk result IsThatLink }
+{
+    Ok(LinkEntry {
+        name: name("A")?,
+        from: name("n1")?,
+        to: name("n2")?,
+        shape: LinkShape::new(link_no()?, 1, 4, 2, 100, bounds()?, Test::Whole, 0)?,
+    })
+}
+
+fn request() -> Result<RequestEntry, Fail>
+    ensures { IfOk result IsThatRequest }
+{
+    let hop = Hop {
+        link: link_no()?,
+        bounds: bounds()?,
+        prop: 2,
+    };
+    Ok(RequestEntry {
+        name: name("r1")?,
+        caller: ActorNo::new(0).ok_or("caller")?,
+        request: Request {
+            chan: ChanNo::new(0).ok_or("channel")?,
+            route: Route::new(&[hop])?,
+            contract: Contract::new(5, 10, 20, 2)?,
+            control: Control::Rate,
+            delay: 12,
+        },
+    })
+}
+
+// The caller opens the request.
+#[tactic(auto, unfolding(call_script::specs::Parts::openings_in))]
+fn caller(alloc: Global, chan: ChanNo) -> Result<CallerEntry, Fail>
+    requires { channel_number chan ≡ 0 }
+    ensures { IfOk result IsThatScript }
+{
+    let mut ops = Vec::new(alloc);
+    ops.push(Op::Open(chan))?;
+    Ok(CallerEntry {
+        name: name("k1")?,
+        ops: Ops::new(ops),
+    })
+}
+
+// A plan of that link, that request and that caller.
+fn plan(alloc: Global) -> Result<Plan, Fail> {
+    let request = request()?;
+    let caller = caller(alloc, request.request.chan)?;
+    let mut links = Vec::new(alloc);
+    links.push(link()?)?;
+    let mut requests = Vec::new(alloc);
+    requests.push(request)?;
+    let mut callers = Vec::new(alloc);
+    callers.push(caller)?;
+    Ok(Plan::new(alloc, Version::One, links, requests, callers, 1, 0)?)
+}
+
+#[test]
+fn a_caller_makes_its_steps(rt: HostRuntime) -> Result<(), Fail> {
+    let alloc = rt.alloc();
+    let plan = plan(alloc)?;
+    let mut core = Core::new(alloc, &plan)?;
+    let caller = ActorNo::new(0).ok_or("caller")?;
+    let nobody = ActorNo::new(9).ok_or("actor")?;
+    let offer = Reply::Offer {
+        level: Level::LEAST,
+        reach: Level::LEAST,
+    };
+    assert_eq!(rt;
+        core.step(&plan, nobody),
+        Err(CoreRefusal::NoSuchActor { actors: 2 })
+    );
+    assert!(rt; core.has_step(&plan, caller));
+    assert_eq!(rt; core.step(&plan, caller), Ok(offer));
+    assert_eq!(rt; core.step(&plan, caller), Ok(Reply::Relaxed { clock: 0 }));
+    assert!(rt; !core.has_step(&plan, caller));
+    assert_eq!(rt;
+        core.step(&plan, caller),
+        Err(CoreRefusal::NoStepLeft { made: 2 })
+    );
+    assert_eq!(rt; core.finish().entries().len(), 2);
+    Ok(())
+}
