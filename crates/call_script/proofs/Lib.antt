@@ -7,3 +7,5 @@ pub mod FitFacts
 pub mod OpeningFacts
 pub mod OwnerFacts
 pub mod OneLinkFacts
+pub mod GrowthFacts
+pub mod Growing

@@ -72,7 +72,7 @@ full-with request (Some task) tasks off full = inl (off, full)
 
 -- ---- what a send and a close say of the operations above
 
-twice-not : (b : Bool) → not (not b) ≡ true → b ≡ true
+pub twice-not : (b : Bool) → not (not b) ≡ true → b ≡ true
 twice-not true holds = refl
 twice-not false holds = cc
 
@@ -82,7 +82,7 @@ twice-not false holds = cc
 any-end : (test : Op → Bool) (above : List Op) (op : Op) → list_any test (above ++ op ∷ []) ≡ (list_any test above || (test op || false))
 any-end test above op = list_any-append test above (op ∷ [])
 
-any-later : (test : Op → Bool) (above rest : List Op) → list_any test above ≡ true → list_any test (above ++ rest) ≡ true
+pub any-later : (test : Op → Bool) (above rest : List Op) → list_any test above ≡ true → list_any test (above ++ rest) ≡ true
 any-later test above rest any = list_any-append test above rest ∙ ap (λ b. b || list_any test rest) any
 
 any-here : (test : Op → Bool) (above : List Op) (op : Op) (rest : List Op) → test op ≡ true → list_any test (above ++ op ∷ rest) ≡ true

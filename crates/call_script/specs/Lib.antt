@@ -8,6 +8,7 @@ pub mod Scripts
 pub mod Fits
 pub mod Owners
 pub mod Plans
+pub mod Growing
 pub mod Work
 pub mod Standing
 pub mod OneLink

@@ -1,0 +1,442 @@
+-- Parts that grow a line at a time keep the rules: each law of `specs/Growing.antt`.
+use Rattle.std.proofs.Common.{◌≡◌, ℕ, suc, ◌+◌, ◌<◌, ◌≤◌, Bool, true, false, not, Option, None, List, [], ◌∷◌, ◌++◌, length, map, refl, sym, ap, ◌∙◌, subst, inl, inr, append_assoc, arith}
+use Rattle.std.proofs.lemmas.Bool.{and_from, and_parts, le-leb, leb-true}
+use Rattle.std.proofs.lemmas.List.{length-append, map-append}
+use Rattle.std.proofs.lemmas.Option.{slice_get_within}
+use Rattle.std.specs.List.{list_all, list_any}
+use Rattle.std.specs.Prelude.{nat_le, ◌&&◌, ◌*◌}
+use Rattle.net_units.specs.Numbers.{link_number, actor_number, channel_number}
+use Rattle.net_units.specs.declared.numbers.ChanNo.{ChanNo}
+use Rattle.net_units.specs.declared.numbers.LinkNo.{LinkNo}
+use Rattle.link_steps.proofs.ListFacts.{Each-append}
+use Rattle.link_steps.specs.Lists.{Each}
+use Rattle.traffic_contract.specs.Admission.{total}
+use Rattle.call_script.specs.Growing.{nothing_of, new_caller, add_op, last_ops, with_link, with_caller, with_open, with_op, with_rounds, with_tail, MayAddLink, MayAddCaller, MayOpen, IsOpenedThere, IsWithinLoad, MaySend, MayPour, KeepSoFar, AreEnough}
+use Rattle.call_script.specs.Parts.{PlanParts, parts_of, Opening, opened_by, openings_of, opening_of, FollowsLink, ArePlanned}
+use Rattle.call_script.specs.Plans.{HasTerms, IsPlan}
+use Rattle.call_script.specs.Rules.{each_after, unless, link_has_version, op_has_version, have_version, have_links, is_new, are_distinct, link_names, caller_names, request_names, have_names, route_is_there, pour_is_there, opens, is_opened, are_opened, are_there, request_in_range, op_in_range, rounds_in_range, are_in_range, are_few, is_joined, are_joined, closes, is_unclosed, are_unclosed, hops_of, load_of, load_in, are_within_load, pour_is_taken, pours_are_taken, use_rule_broken, range_rule_broken, rule_broken}
+use Rattle.call_script.specs.declared.entries.CallerEntry.{CallerEntry}
+use Rattle.call_script.specs.declared.entries.LinkEntry.{LinkEntry}
+use Rattle.call_script.specs.declared.entries.RequestEntry.{RequestEntry}
+use Rattle.call_script.specs.declared.operations.Op.{Op}
+use Rattle.call_script.specs.declared.operations.Op.TheVariants.{Open, Send, Close, Pour}
+use Rattle.call_script.specs.declared.version.Version.{Version}
+use Rattle.call_script.proofs.FitFacts.{each-by}
+use Rattle.call_script.proofs.GrowthFacts.{all-more, after-more, get-before, get-more, total-more, added-all, added-after, added-names, added-length, added-total, added-openings, added-opens-none, new-opens-none}
+use Rattle.call_script.proofs.OpeningFacts.{opened-has}
+use Rattle.call_script.proofs.OwnerFacts.{any-later, twice-not}
+
+-- ---- the rules on names and numbers, in their parts
+
+-- the names of links, callers and requests
+record HasNames (parts : PlanParts) : Type 0 where
+  links : are_distinct (link_names parts.links) ≡ true
+  callers : are_distinct (caller_names parts.callers) ≡ true
+  requests : are_distinct (request_names parts.requests) ≡ true
+
+names-in : (parts : PlanParts) → have_names parts ≡ true → HasNames parts
+unfolding have_names
+names-in parts names =
+    let first = and_parts (are_distinct (link_names parts.links) && are_distinct (caller_names parts.callers)) (are_distinct (request_names parts.requests)) names in
+    let second = and_parts (are_distinct (link_names parts.links)) (are_distinct (caller_names parts.callers)) first.0 in
+    record { links = second.0; callers = second.1; requests = first.1 }
+
+names-from : (parts : PlanParts) → HasNames parts → have_names parts ≡ true
+unfolding have_names
+names-from parts has =
+    and_from (are_distinct (link_names parts.links) && are_distinct (caller_names parts.callers)) (are_distinct (request_names parts.requests))
+    (and_from (are_distinct (link_names parts.links)) (are_distinct (caller_names parts.callers)) has.links has.callers) has.requests
+
+-- what routes, pours, sends and closes use is there
+record HasUsed (parts : PlanParts) : Type 0 where
+  routes : list_all (route_is_there parts.links) parts.requests ≡ true
+  pours : list_all (λ (c : CallerEntry). list_all (pour_is_there parts.links) c.ops) parts.callers ≡ true
+  opened : list_all (λ (c : CallerEntry). each_after is_opened [] c.ops) parts.callers ≡ true
+
+used-in : (parts : PlanParts) → are_there parts ≡ true → HasUsed parts
+unfolding are_there
+used-in parts there =
+    let first = and_parts (list_all (route_is_there parts.links) parts.requests && list_all (λ (c : CallerEntry). list_all (pour_is_there parts.links) c.ops) parts.callers) (are_opened parts.callers) there in
+    let second = and_parts (list_all (route_is_there parts.links) parts.requests) (list_all (λ (c : CallerEntry). list_all (pour_is_there parts.links) c.ops) parts.callers) first.0 in
+    record { routes = second.0; pours = second.1; opened = first.1 }
+
+used-from : (parts : PlanParts) → HasUsed parts → are_there parts ≡ true
+unfolding are_there
+used-from parts has =
+    and_from (list_all (route_is_there parts.links) parts.requests && list_all (λ (c : CallerEntry). list_all (pour_is_there parts.links) c.ops) parts.callers) (are_opened parts.callers)
+    (and_from (list_all (route_is_there parts.links) parts.requests) (list_all (λ (c : CallerEntry). list_all (pour_is_there parts.links) c.ops) parts.callers) has.routes has.pours) has.opened
+
+-- numbers in their ranges
+record HasRanges (parts : PlanParts) : Type 0 where
+  requests : list_all request_in_range parts.requests ≡ true
+  ops : list_all (λ (c : CallerEntry). list_all op_in_range c.ops) parts.callers ≡ true
+  rounds : parts.rounds ≤ 524288
+  tail : parts.tail ≤ 524288
+
+ranges-in : (parts : PlanParts) → are_in_range parts ≡ true → HasRanges parts
+unfolding are_in_range
+ranges-in parts range =
+    let first = and_parts (list_all request_in_range parts.requests && list_all (λ (c : CallerEntry). list_all op_in_range c.ops) parts.callers) (rounds_in_range parts.rounds parts.tail) range in
+    let second = and_parts (list_all request_in_range parts.requests) (list_all (λ (c : CallerEntry). list_all op_in_range c.ops) parts.callers) first.0 in
+    let third = and_parts (nat_le parts.rounds 524288) (nat_le parts.tail 524288) first.1 in
+    record { requests = second.0; ops = second.1; rounds = leb-true parts.rounds 524288 third.0; tail = leb-true parts.tail 524288 third.1 }
+
+ranges-from : (parts : PlanParts) → HasRanges parts → are_in_range parts ≡ true
+unfolding are_in_range
+ranges-from parts has =
+    and_from (list_all request_in_range parts.requests && list_all (λ (c : CallerEntry). list_all op_in_range c.ops) parts.callers) (rounds_in_range parts.rounds parts.tail)
+    (and_from (list_all request_in_range parts.requests) (list_all (λ (c : CallerEntry). list_all op_in_range c.ops) parts.callers) has.requests has.ops)
+    (and_from (nat_le parts.rounds 524288) (nat_le parts.tail 524288) (le-leb parts.rounds 524288 has.rounds) (le-leb parts.tail 524288 has.tail))
+
+-- how many there are
+record AreFew (parts : PlanParts) : Type 0 where
+  links : length parts.links ≤ 32
+  callers : length parts.callers ≤ 64
+  requests : length parts.requests ≤ 1024
+
+few-in : (parts : PlanParts) → are_few parts ≡ true → AreFew parts
+unfolding are_few
+few-in parts few =
+    let first = and_parts (nat_le (length parts.links) 32 && nat_le (length parts.callers) 64) (nat_le (length parts.requests) 1024) few in
+    let second = and_parts (nat_le (length parts.links) 32) (nat_le (length parts.callers) 64) first.0 in
+    record { links = leb-true (length parts.links) 32 second.0; callers = leb-true (length parts.callers) 64 second.1; requests = leb-true (length parts.requests) 1024 first.1 }
+
+few-from : (parts : PlanParts) → AreFew parts → are_few parts ≡ true
+unfolding are_few
+few-from parts are =
+    and_from (nat_le (length parts.links) 32 && nat_le (length parts.callers) 64) (nat_le (length parts.requests) 1024)
+    (and_from (nat_le (length parts.links) 32) (nat_le (length parts.callers) 64) (le-leb (length parts.links) 32 are.links) (le-leb (length parts.callers) 64 are.callers))
+    (le-leb (length parts.requests) 1024 are.requests)
+
+-- one more
+length-more : {X : Type 0} (xs : List X) (x : X) → length (xs ++ x ∷ []) ≡ suc (length xs)
+length-more xs x = (let both : length (xs ++ x ∷ []) ≡ length xs + 1 = length-append xs (x ∷ []) in omega arith)
+
+names-more : (names : List (List ℕ)) (name : List ℕ) → are_distinct names ≡ true → is_new names name ≡ true → are_distinct (names ++ name ∷ []) ≡ true
+names-more names name apart new = after-more is_new [] names name apart new
+
+-- ---- nothing
+
+pub nothing-keeps : (version : Version) → KeepSoFar (nothing_of version)
+unfolding have_version have_names are_there are_in_range are_few are_joined are_unclosed pours_are_taken openings_of each_after
+nothing-keeps version = record {
+  version = refl;
+  names = refl;
+  there = refl;
+  range = refl;
+  few = refl;
+  joined = refl;
+  unclosed = refl;
+  load = omega arith;
+  pours = refl;
+  planned = record { links = λ n entry found. cc; requests = λ n entry found. cc; openings = refl; hops = λ n entry found. cc };
+  terms = tt;
+}
+
+-- ---- a link
+
+no-request : (parts : PlanParts) → ArePlanned parts → parts.callers ≡ [] → [] ≡ parts.requests
+unfolding openings_of
+no-request parts planned none = by parts.requests (sym (ap (openings_of 0) none) ∙ planned.openings) where
+  by : (requests : List RequestEntry) → [] ≡ map opening_of requests → [] ≡ requests
+  by [] same = refl
+  by (request ∷ requests) same = cc
+
+link-grown : (version : Version) (links : List LinkEntry) (entry : LinkEntry) (rounds tail : ℕ) → KeepSoFar (parts_of version links [] [] rounds tail)
+    → MayAddLink (parts_of version links [] [] rounds tail) entry → KeepSoFar (parts_of version (links ++ entry ∷ []) [] [] rounds tail)
+unfolding have_version are_there are_in_range are_joined are_unclosed pours_are_taken openings_of
+link-grown version links entry rounds tail keep may =
+    let few = few-in (parts_of version links [] [] rounds tail) keep.few in
+    let names = names-in (parts_of version links [] [] rounds tail) keep.names in
+    let longer = length-more links entry in
+    record {
+      version = and_from (list_all (link_has_version version) (links ++ entry ∷ [])) true (all-more (link_has_version version) links entry (and_parts (list_all (link_has_version version) links) true keep.version).0 may.version) refl;
+      names = names-from (parts_of version (links ++ entry ∷ []) [] [] rounds tail) (record {
+        links = ap are_distinct (map-append (λ (e : LinkEntry). e.name) links (entry ∷ [])) ∙ names-more (link_names links) entry.name names.links may.name;
+        callers = names.callers;
+        requests = names.requests;
+      });
+      there = refl;
+      range = keep.range;
+      few = few-from (parts_of version (links ++ entry ∷ []) [] [] rounds tail) (record { links = omega (arith, may.few, longer); callers = few.callers; requests = few.requests });
+      joined = refl;
+      unclosed = refl;
+      load = keep.load;
+      pours = refl;
+      planned = record {
+        links = λ n e found. elim (get-more links entry n e found) [
+          | inl old ↦ keep.planned.links n e old
+          | inr new ↦ ap (λ (x : LinkEntry). link_number x.shape.link) (sym new.1) ∙ may.number ∙ sym new.0
+        ];
+        requests = λ n e found. cc;
+        openings = refl;
+        hops = λ n e found. cc;
+      };
+      terms = tt;
+    }
+
+pub link-keeps : (parts : PlanParts) (entry : LinkEntry) → KeepSoFar parts → MayAddLink parts entry → KeepSoFar (with_link entry parts)
+link-keeps parts entry keep may = by parts.callers parts.requests (sym may.first) (no-request parts keep.planned may.first) keep may where
+  by : (callers : List CallerEntry) (requests : List RequestEntry) → [] ≡ callers → [] ≡ requests
+      → KeepSoFar (parts_of parts.version parts.links requests callers parts.rounds parts.tail) → MayAddLink (parts_of parts.version parts.links requests callers parts.rounds parts.tail) entry
+      → KeepSoFar (parts_of parts.version (parts.links ++ entry ∷ []) requests callers parts.rounds parts.tail)
+  by [] [] nobody nothing = link-grown parts.version parts.links entry parts.rounds parts.tail
+  by (caller ∷ callers) requests nobody nothing = cc
+  by [] (request ∷ requests) nobody nothing = cc
+
+-- ---- a caller
+
+pub caller-keeps : (parts : PlanParts) (name : List ℕ) → KeepSoFar parts → MayAddCaller parts name → KeepSoFar (with_caller name parts)
+unfolding have_version are_joined are_unclosed pours_are_taken each_after
+caller-keeps parts name keep may =
+    let names = names-in parts keep.names in
+    let used = used-in parts keep.there in
+    let ranges = ranges-in parts keep.range in
+    let few = few-in parts keep.few in
+    let version = and_parts (list_all (link_has_version parts.version) parts.links) (list_all (λ (c : CallerEntry). list_all (op_has_version parts.version) c.ops) parts.callers) keep.version in
+    let longer = length-more parts.callers (new_caller name) in
+    let load : load_in parts.requests (parts.callers ++ new_caller name ∷ []) ≡ load_in parts.requests parts.callers + 0 = total-more (λ (c : CallerEntry). total (load_of parts.requests) c.ops) parts.callers (new_caller name) in
+    record {
+      version = and_from (list_all (link_has_version parts.version) parts.links) (list_all (λ (c : CallerEntry). list_all (op_has_version parts.version) c.ops) (parts.callers ++ new_caller name ∷ [])) version.0 (calm (list_all (op_has_version parts.version)) refl version.1);
+      names = names-from (with_caller name parts) (record {
+        links = names.links;
+        callers = ap are_distinct (map-append (λ (c : CallerEntry). c.name) parts.callers (new_caller name ∷ [])) ∙ names-more (caller_names parts.callers) name names.callers may.new;
+        requests = names.requests;
+      });
+      there = used-from (with_caller name parts) (record { routes = used.routes; pours = calm (list_all (pour_is_there parts.links)) refl used.pours; opened = calm (each_after is_opened []) refl used.opened });
+      range = ranges-from (with_caller name parts) (record { requests = ranges.requests; ops = calm (list_all op_in_range) refl ranges.ops; rounds = ranges.rounds; tail = ranges.tail });
+      few = few-from (with_caller name parts) (record { links = few.links; callers = omega (arith, may.few, longer); requests = few.requests });
+      joined = keep.joined;
+      unclosed = calm (each_after is_unclosed []) refl keep.unclosed;
+      load = omega (arith, keep.load, load);
+      pours = calm (list_all (pour_is_taken parts.links)) refl keep.pours;
+      planned = record { links = keep.planned.links; requests = keep.planned.requests; openings = new-opens-none 0 name parts.callers ∙ keep.planned.openings; hops = keep.planned.hops };
+      terms = keep.terms;
+    } where
+      -- a caller without operations passes what no operations pass
+      calm : (test : List Op → Bool) → test [] ≡ true → list_all (λ (c : CallerEntry). test c.ops) parts.callers ≡ true → list_all (λ (c : CallerEntry). test c.ops) (parts.callers ++ new_caller name ∷ []) ≡ true
+      calm test none all = all-more (λ (c : CallerEntry). test c.ops) parts.callers (new_caller name) all none
+
+-- ---- an operation
+
+-- what an operation other than an open has to pass
+record MayFollow (parts : PlanParts) (op : Op) : Type 0 where
+  version : op_has_version parts.version op ≡ true
+  there : pour_is_there parts.links op ≡ true
+  opened : is_opened (last_ops parts.callers) op ≡ true
+  range : op_in_range op ≡ true
+  unclosed : is_unclosed (last_ops parts.callers) op ≡ true
+  load : IsWithinLoad parts op
+  taken : pour_is_taken parts.links op ≡ true
+  opens_none : (n : ℕ) → opened_by n op ≡ []
+
+op-keeps : (parts : PlanParts) (op : Op) → KeepSoFar parts → MayFollow parts op → KeepSoFar (with_op op parts)
+unfolding have_version are_joined are_unclosed pours_are_taken
+op-keeps parts op keep may =
+    let names = names-in parts keep.names in
+    let used = used-in parts keep.there in
+    let ranges = ranges-in parts keep.range in
+    let few = few-in parts keep.few in
+    let version = and_parts (list_all (link_has_version parts.version) parts.links) (list_all (λ (c : CallerEntry). list_all (op_has_version parts.version) c.ops) parts.callers) keep.version in
+    let load = added-total (load_of parts.requests) op parts.callers in
+    record {
+      version = and_from (list_all (link_has_version parts.version) parts.links) (list_all (λ (c : CallerEntry). list_all (op_has_version parts.version) c.ops) (add_op op parts.callers)) version.0 (added-all (op_has_version parts.version) op parts.callers version.1 may.version);
+      names = names-from (with_op op parts) (record { links = names.links; callers = ap are_distinct (added-names op parts.callers) ∙ names.callers; requests = names.requests });
+      there = used-from (with_op op parts) (record { routes = used.routes; pours = added-all (pour_is_there parts.links) op parts.callers used.pours may.there; opened = added-after is_opened op parts.callers used.opened may.opened });
+      range = ranges-from (with_op op parts) (record { requests = ranges.requests; ops = added-all op_in_range op parts.callers ranges.ops may.range; rounds = ranges.rounds; tail = ranges.tail });
+      few = few-from (with_op op parts) (record { links = few.links; callers = omega (arith, few.callers, added-length op parts.callers); requests = few.requests });
+      joined = keep.joined;
+      unclosed = added-after is_unclosed op parts.callers keep.unclosed may.unclosed;
+      load = omega (arith, load, may.load);
+      pours = added-all (pour_is_taken parts.links) op parts.callers keep.pours may.taken;
+      planned = record { links = keep.planned.links; requests = keep.planned.requests; openings = added-opens-none op parts.callers may.opens_none ∙ keep.planned.openings; hops = keep.planned.hops };
+      terms = keep.terms;
+    }
+
+not-hit : (b : Bool) → b ≡ false → not b ≡ true
+not-hit true fails = cc
+not-hit false holds = refl
+
+not-missed : (b : Bool) → b ≡ true → not (not b) ≡ true
+not-missed true holds = refl
+not-missed false fails = cc
+
+pub send-keeps : (parts : PlanParts) (chan : ChanNo) (count gap size : ℕ) → KeepSoFar parts → MaySend parts chan count gap size → KeepSoFar (with_op (Send chan count gap size) parts)
+send-keeps parts chan count gap size keep may = op-keeps parts (Send chan count gap size) keep (record {
+  version = refl;
+  there = refl;
+  opened = not-missed (list_any (opens (channel_number chan)) (last_ops parts.callers)) may.channel.opened;
+  range = may.range;
+  unclosed = not-hit (list_any (closes (channel_number chan)) (last_ops parts.callers)) may.channel.unclosed;
+  load = may.load;
+  taken = refl;
+  opens_none = λ n. refl;
+})
+
+pub close-keeps : (parts : PlanParts) (chan : ChanNo) → KeepSoFar parts → IsOpenedThere parts chan → KeepSoFar (with_op (Close chan) parts)
+close-keeps parts chan keep may = op-keeps parts (Close chan) keep (record {
+  version = refl;
+  there = refl;
+  opened = not-missed (list_any (opens (channel_number chan)) (last_ops parts.callers)) may.opened;
+  range = refl;
+  unclosed = not-hit (list_any (closes (channel_number chan)) (last_ops parts.callers)) may.unclosed;
+  load = omega (arith, keep.load);
+  taken = refl;
+  opens_none = λ n. refl;
+})
+
+pub pour-keeps : (parts : PlanParts) (link : LinkNo) (count gap size : ℕ) → KeepSoFar parts → MayPour parts link count gap size → KeepSoFar (with_op (Pour link count gap size) parts)
+pour-keeps parts link count gap size keep may = op-keeps parts (Pour link count gap size) keep (record {
+  version = may.version;
+  there = may.there;
+  opened = refl;
+  range = may.range;
+  unclosed = refl;
+  load = may.load;
+  taken = may.taken;
+  opens_none = λ n. refl;
+})
+
+-- ---- an open
+
+-- every channel that operations open has a request
+abbrev HaveRequests : List RequestEntry → List Op → Type 0
+HaveRequests requests ops = (c : ℕ) → list_any (opens c) ops ≡ true → c < length requests
+
+-- one request more doesn't change the load of operations whose requests are there
+ops-load : (requests : List RequestEntry) (entry : RequestEntry) (above ops : List Op) → each_after is_opened above ops ≡ true → HaveRequests requests (above ++ ops) → total (load_of (requests ++ entry ∷ [])) ops ≡ total (load_of requests) ops
+unfolding each_after
+ops-load requests entry above [] opened have = refl
+ops-load requests entry above (op ∷ ops) opened have =
+    let split = and_parts (is_opened above op) (each_after is_opened (above ++ op ∷ []) ops) opened in
+    let rest = ops-load requests entry (above ++ op ∷ []) ops split.1 (λ c any. have c (subst (λ os. list_any (opens c) os ≡ true) (append_assoc above (op ∷ []) ops) any)) in
+    ap (λ (n : ℕ). n + total (load_of (requests ++ entry ∷ [])) ops) (one op split.0 have) ∙ ap (λ (n : ℕ). load_of requests op + n) rest
+  where
+    one : (o : Op) → is_opened above o ≡ true → HaveRequests requests (above ++ o ∷ ops) → load_of (requests ++ entry ∷ []) o ≡ load_of requests o
+    one (Open chan) own all = refl
+    one (Send chan count gap size) own all =
+        let there = any-later (opens (channel_number chan)) above (Send chan count gap size ∷ ops) (twice-not (list_any (opens (channel_number chan)) above) own) in
+        ap (λ (found : Option RequestEntry). count * hops_of found) (get-before requests (entry ∷ []) (channel_number chan) (all (channel_number chan) there))
+    one (Close chan) own all = refl
+    one (Pour link count gap size) own all = refl
+
+callers-load : (requests : List RequestEntry) (entry : RequestEntry) (callers : List CallerEntry) → list_all (λ (c : CallerEntry). each_after is_opened [] c.ops) callers ≡ true → Each (λ (c : CallerEntry). HaveRequests requests c.ops) callers
+    → load_in (requests ++ entry ∷ []) callers ≡ load_in requests callers
+callers-load requests entry [] opened have = refl
+callers-load requests entry (caller ∷ callers) opened have =
+    let split = and_parts (each_after is_opened [] caller.ops) (list_all (λ (c : CallerEntry). each_after is_opened [] c.ops) callers) opened in
+    ap (λ (n : ℕ). n + load_in (requests ++ entry ∷ []) callers) (ops-load requests entry [] caller.ops split.0 have.0)
+    ∙ ap (λ (n : ℕ). total (load_of requests) caller.ops + n) (callers-load requests entry callers split.1 have.1)
+
+-- what the callers of planned parts open has a request
+all-have : (parts : PlanParts) → ArePlanned parts → Each (λ (c : CallerEntry). HaveRequests parts.requests c.ops) parts.callers
+all-have parts planned = each-by (λ (c : CallerEntry). HaveRequests parts.requests c.ops) parts.callers (λ n caller found c any.
+    let has = opened-has parts n c caller planned found any in
+    slice_get_within parts.requests c has.entry has.found)
+
+-- the openings of the callers with this open more
+opens-it : (chan : ChanNo) (by : ℕ) (callers : List CallerEntry) → suc by ≡ length callers → openings_of 0 (add_op (Open chan) callers) ≡ openings_of 0 callers ++ record { caller = by; chan = channel_number chan } ∷ []
+opens-it chan by [] last = absurd (omega (arith, last))
+opens-it chan by (caller ∷ callers) last = added-openings 0 by (Open chan) caller callers (omega (arith, last))
+
+pub open-keeps : (parts : PlanParts) (entry : RequestEntry) → KeepSoFar parts → MayOpen parts entry → KeepSoFar (with_open entry parts)
+unfolding have_version are_joined are_unclosed pours_are_taken
+open-keeps parts entry keep may =
+    let op = Open entry.request.chan in
+    let requests = parts.requests ++ entry ∷ [] in
+    let names = names-in parts keep.names in
+    let used = used-in parts keep.there in
+    let ranges = ranges-in parts keep.range in
+    let few = few-in parts keep.few in
+    let version = and_parts (list_all (link_has_version parts.version) parts.links) (list_all (λ (c : CallerEntry). list_all (op_has_version parts.version) c.ops) parts.callers) keep.version in
+    let same = callers-load parts.requests entry parts.callers used.opened (all-have parts keep.planned) in
+    let load = added-total (load_of requests) op parts.callers in
+    let longer = length-more parts.requests entry in
+    record {
+      version = and_from (list_all (link_has_version parts.version) parts.links) (list_all (λ (c : CallerEntry). list_all (op_has_version parts.version) c.ops) (add_op op parts.callers)) version.0 (added-all (op_has_version parts.version) op parts.callers version.1 refl);
+      names = names-from (with_open entry parts) (record {
+        links = names.links;
+        callers = ap are_distinct (added-names op parts.callers) ∙ names.callers;
+        requests = ap are_distinct (map-append (λ (e : RequestEntry). e.name) parts.requests (entry ∷ [])) ∙ names-more (request_names parts.requests) entry.name names.requests may.name;
+      });
+      there = used-from (with_open entry parts) (record {
+        routes = all-more (route_is_there parts.links) parts.requests entry used.routes may.there;
+        pours = added-all (pour_is_there parts.links) op parts.callers used.pours refl;
+        opened = added-after is_opened op parts.callers used.opened refl;
+      });
+      range = ranges-from (with_open entry parts) (record { requests = all-more request_in_range parts.requests entry ranges.requests may.range; ops = added-all op_in_range op parts.callers ranges.ops refl; rounds = ranges.rounds; tail = ranges.tail });
+      few = few-from (with_open entry parts) (record { links = few.links; callers = omega (arith, few.callers, added-length op parts.callers); requests = omega (arith, may.few, longer) });
+      joined = all-more (λ (e : RequestEntry). is_joined parts.links e.request.route) parts.requests entry keep.joined may.joined;
+      unclosed = added-after is_unclosed op parts.callers keep.unclosed refl;
+      load = omega (arith, load, same, keep.load);
+      pours = added-all (pour_is_taken parts.links) op parts.callers keep.pours refl;
+      planned = record {
+        links = keep.planned.links;
+        requests = λ n e found. elim (get-more parts.requests entry n e found) [
+          | inl old ↦ keep.planned.requests n e old
+          | inr new ↦ ap (λ (x : RequestEntry). channel_number x.request.chan) (sym new.1) ∙ may.number ∙ sym new.0
+        ];
+        openings = opens-it entry.request.chan (actor_number entry.caller) parts.callers may.caller ∙ ap (λ (os : List Opening). os ++ opening_of entry ∷ []) keep.planned.openings ∙ sym (map-append opening_of parts.requests (entry ∷ []));
+        hops = λ n e found. elim (get-more parts.requests entry n e found) [
+          | inl old ↦ keep.planned.hops n e old
+          | inr new ↦ subst (λ (x : RequestEntry). Each (FollowsLink parts.links) x.request.route) new.1 may.hops
+        ];
+      };
+      terms = Each-append HasTerms parts.requests (entry ∷ []) keep.terms (may.terms, tt);
+    }
+
+-- ---- rounds and tail
+
+pub rounds-keep : (parts : PlanParts) (rounds : ℕ) → KeepSoFar parts → rounds ≤ 524288 → KeepSoFar (with_rounds rounds parts)
+unfolding have_version have_names are_there are_few are_joined are_unclosed pours_are_taken
+rounds-keep parts rounds keep few =
+    let ranges = ranges-in parts keep.range in
+    record {
+      version = keep.version;
+      names = keep.names;
+      there = keep.there;
+      range = ranges-from (with_rounds rounds parts) (record { requests = ranges.requests; ops = ranges.ops; rounds = few; tail = ranges.tail });
+      few = keep.few;
+      joined = keep.joined;
+      unclosed = keep.unclosed;
+      load = keep.load;
+      pours = keep.pours;
+      planned = record { links = keep.planned.links; requests = keep.planned.requests; openings = keep.planned.openings; hops = keep.planned.hops };
+      terms = keep.terms;
+    }
+
+pub tail-keeps : (parts : PlanParts) (tail : ℕ) → KeepSoFar parts → tail ≤ 524288 → KeepSoFar (with_tail tail parts)
+unfolding have_version have_names are_there are_few are_joined are_unclosed pours_are_taken
+tail-keeps parts tail keep few =
+    let ranges = ranges-in parts keep.range in
+    record {
+      version = keep.version;
+      names = keep.names;
+      there = keep.there;
+      range = ranges-from (with_tail tail parts) (record { requests = ranges.requests; ops = ranges.ops; rounds = ranges.rounds; tail = few });
+      few = keep.few;
+      joined = keep.joined;
+      unclosed = keep.unclosed;
+      load = keep.load;
+      pours = keep.pours;
+      planned = record { links = keep.planned.links; requests = keep.planned.requests; openings = keep.planned.openings; hops = keep.planned.hops };
+      terms = keep.terms;
+    }
+
+-- ---- a plan
+
+passes : (kept : Bool) (rule : ℕ) (other : Option ℕ) → kept ≡ true → other ≡ None → unless kept rule other ≡ None
+passes true rule other holds none = none
+passes false rule other fails none = cc
+
+pub grown-is-plan : (parts : PlanParts) → KeepSoFar parts → AreEnough parts → IsPlan parts
+unfolding rule_broken range_rule_broken use_rule_broken have_links are_within_load
+grown-is-plan parts keep enough = record {
+  planned = keep.planned;
+  terms = keep.terms;
+  kept =
+      passes (have_version parts) 1 _ keep.version (passes (have_links parts) 2 _ (le-leb 1 (length parts.links) enough.links) (passes (have_names parts) 6 _ keep.names
+      (passes (are_there parts) 7 _ keep.there (passes (are_in_range parts) 8 _ keep.range (passes (are_few parts) 9 _ keep.few (passes (are_joined parts) 12 _ keep.joined
+      (passes (are_unclosed parts) 13 _ keep.unclosed (passes (are_within_load parts) 14 _ (and_from (nat_le (load_in parts.requests parts.callers) 262144) (nat_le ((parts.rounds + parts.tail) * length parts.links) 524288) (le-leb (load_in parts.requests parts.callers) 262144 keep.load) (le-leb ((parts.rounds + parts.tail) * length parts.links) 524288 enough.ticks))
+      (passes (pours_are_taken parts) 19 _ keep.pours refl)))))))));
+}

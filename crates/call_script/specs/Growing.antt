@@ -1,0 +1,168 @@
+-- How the parts of a plan grow, a line at a time. A link is added while there is no caller; then callers, each first without
+-- operations; behind the operations of the last caller an open, with its request, or a send, a close or a pour; and at last
+-- the numbers of rounds. Each addition has what a reader judges of its line. Parts that grew so keep all rules but two, that
+-- there is a link and that the ticks of all links are within the limit; with these they are those of a plan.
+use Rattle.std.specs.Prelude.{◌≡◌, ℕ, suc, ◌+◌, ◌*◌, ◌<◌, ◌≤◌, true, false, List, [], ◌∷◌, ◌++◌, length}
+use Rattle.std.specs.List.{list_any}
+use Rattle.net_units.specs.Numbers.{link_number, actor_number, channel_number}
+use Rattle.net_units.specs.declared.numbers.ChanNo.{ChanNo}
+use Rattle.net_units.specs.declared.numbers.LinkNo.{LinkNo}
+use Rattle.std.specs.List.{slice_get}
+use Rattle.link_steps.specs.Lists.{Each}
+use Rattle.call_script.specs.Limits.{most_links, most_callers, most_requests, most_packets, most_rounds}
+use Rattle.call_script.specs.Parts.{PlanParts, parts_of, FollowsLink, ArePlanned}
+use Rattle.call_script.specs.Plans.{HasTerms, IsPlan}
+use Rattle.call_script.specs.Rules.{have_version, have_names, are_there, are_in_range, are_few, are_joined, are_unclosed, pours_are_taken, link_names, caller_names, request_names, is_new, link_has_version, has_link, route_is_there, opens, request_in_range, packets_in_range, is_joined, closes, load_of, load_in, takes_best_effort}
+use Rattle.call_script.specs.Versions.{has_best_effort}
+use Rattle.call_script.specs.declared.entries.CallerEntry.{CallerEntry}
+use Rattle.call_script.specs.declared.entries.LinkEntry.{LinkEntry}
+use Rattle.call_script.specs.declared.entries.RequestEntry.{RequestEntry}
+use Rattle.call_script.specs.declared.operations.Op.{Op}
+use Rattle.call_script.specs.declared.operations.Op.TheVariants.{Open, Send, Close, Pour}
+use Rattle.call_script.specs.declared.version.Version.{Version}
+
+-- ---- the ways to grow
+
+-- no part yet
+abbrev pub nothing_of : Version → PlanParts
+nothing_of version = parts_of version [] [] [] 0 0
+
+-- a caller of this name that does nothing yet
+abbrev pub new_caller : List ℕ → CallerEntry
+new_caller name = record { name = name; ops = [] }
+
+-- a caller with one operation more
+abbrev pub with_its_op : Op → CallerEntry → CallerEntry
+with_its_op op caller = record { name = caller.name; ops = caller.ops ++ op ∷ [] }
+
+-- the last caller with one operation more
+abbrev pub add_op : Op → List CallerEntry → List CallerEntry
+add_op op [] = []
+add_op op (caller ∷ []) = with_its_op op caller ∷ []
+add_op op (caller ∷ next ∷ callers) = caller ∷ add_op op (next ∷ callers)
+
+-- the operations of the last caller
+abbrev pub last_ops : List CallerEntry → List Op
+last_ops [] = []
+last_ops (caller ∷ []) = caller.ops
+last_ops (caller ∷ next ∷ callers) = last_ops (next ∷ callers)
+
+abbrev pub with_link : LinkEntry → PlanParts → PlanParts
+with_link entry parts = record parts { links = parts.links ++ entry ∷ [] }
+
+abbrev pub with_caller : List ℕ → PlanParts → PlanParts
+with_caller name parts = record parts { callers = parts.callers ++ new_caller name ∷ [] }
+
+-- a request, and its open behind the operations of the last caller
+abbrev pub with_open : RequestEntry → PlanParts → PlanParts
+with_open entry parts = record parts { requests = parts.requests ++ entry ∷ []; callers = add_op (Open entry.request.chan) parts.callers }
+
+-- another operation
+abbrev pub with_op : Op → PlanParts → PlanParts
+with_op op parts = record parts { callers = add_op op parts.callers }
+
+abbrev pub with_rounds : ℕ → PlanParts → PlanParts
+with_rounds rounds parts = record parts { rounds = rounds }
+
+abbrev pub with_tail : ℕ → PlanParts → PlanParts
+with_tail tail parts = record parts { tail = tail }
+
+-- ---- what is judged of each
+
+pub record MayAddLink (parts : PlanParts) (entry : LinkEntry) : Type 0 where
+  pub first : parts.callers ≡ []
+  pub version : link_has_version parts.version entry ≡ true
+  pub name : is_new (link_names parts.links) entry.name ≡ true
+  pub few : length parts.links < most_links
+  pub number : link_number entry.shape.link ≡ length parts.links
+
+pub record MayAddCaller (parts : PlanParts) (name : List ℕ) : Type 0 where
+  pub new : is_new (caller_names parts.callers) name ≡ true
+  pub few : length parts.callers < most_callers
+
+-- the request has the next number, and is that of the last caller
+pub record MayOpen (parts : PlanParts) (entry : RequestEntry) : Type 0 where
+  pub name : is_new (request_names parts.requests) entry.name ≡ true
+  pub few : length parts.requests < most_requests
+  pub number : channel_number entry.request.chan ≡ length parts.requests
+  pub caller : suc (actor_number entry.caller) ≡ length parts.callers
+  pub there : route_is_there parts.links entry ≡ true
+  pub joined : is_joined parts.links entry.request.route ≡ true
+  pub range : request_in_range entry ≡ true
+  pub hops : Each (FollowsLink parts.links) entry.request.route
+  pub terms : HasTerms entry
+
+-- the last caller has opened the channel, and not closed it
+pub record IsOpenedThere (parts : PlanParts) (chan : ChanNo) : Type 0 where
+  pub opened : list_any (opens (channel_number chan)) (last_ops parts.callers) ≡ true
+  pub unclosed : list_any (closes (channel_number chan)) (last_ops parts.callers) ≡ false
+
+-- the load with this operation is within the limit
+abbrev pub IsWithinLoad : PlanParts → Op → Type 0
+IsWithinLoad parts op = load_in parts.requests parts.callers + load_of parts.requests op ≤ most_packets
+
+pub record MaySend (parts : PlanParts) (chan : ChanNo) (count gap size : ℕ) : Type 0 where
+  pub channel : IsOpenedThere parts chan
+  pub range : packets_in_range count gap size ≡ true
+  pub load : IsWithinLoad parts (Send chan count gap size)
+
+pub record MayPour (parts : PlanParts) (link : LinkNo) (count gap size : ℕ) : Type 0 where
+  pub some : 1 ≤ length parts.callers
+  pub version : has_best_effort parts.version ≡ true
+  pub there : has_link parts.links link ≡ true
+  pub range : packets_in_range count gap size ≡ true
+  pub load : IsWithinLoad parts (Pour link count gap size)
+  pub taken : takes_best_effort (slice_get parts.links (link_number link)) ≡ true
+
+-- ---- what parts that grow keep
+
+-- all rules but that there is a link and that the ticks are within the limit
+pub record KeepSoFar (parts : PlanParts) : Type 0 where
+  pub version : have_version parts ≡ true
+  pub names : have_names parts ≡ true
+  pub there : are_there parts ≡ true
+  pub range : are_in_range parts ≡ true
+  pub few : are_few parts ≡ true
+  pub joined : are_joined parts ≡ true
+  pub unclosed : are_unclosed parts ≡ true
+  pub load : load_in parts.requests parts.callers ≤ most_packets
+  pub pours : pours_are_taken parts ≡ true
+  pub planned : ArePlanned parts
+  pub terms : Each HasTerms parts.requests
+
+-- the two that are left
+pub record AreEnough (parts : PlanParts) : Type 0 where
+  pub links : 1 ≤ length parts.links
+  pub ticks : (parts.rounds + parts.tail) * length parts.links ≤ most_rounds
+
+-- ---- the laws, whose proofs are in `proofs/Growing.antt`
+
+abbrev pub NothingKeeps : Type 0
+NothingKeeps = (version : Version) → KeepSoFar (nothing_of version)
+
+abbrev pub LinksKeep : Type 0
+LinksKeep = (parts : PlanParts) (entry : LinkEntry) → KeepSoFar parts → MayAddLink parts entry → KeepSoFar (with_link entry parts)
+
+abbrev pub CallersKeep : Type 0
+CallersKeep = (parts : PlanParts) (name : List ℕ) → KeepSoFar parts → MayAddCaller parts name → KeepSoFar (with_caller name parts)
+
+abbrev pub OpensKeep : Type 0
+OpensKeep = (parts : PlanParts) (entry : RequestEntry) → KeepSoFar parts → MayOpen parts entry → KeepSoFar (with_open entry parts)
+
+abbrev pub SendsKeep : Type 0
+SendsKeep = (parts : PlanParts) (chan : ChanNo) (count gap size : ℕ) → KeepSoFar parts → MaySend parts chan count gap size → KeepSoFar (with_op (Send chan count gap size) parts)
+
+abbrev pub ClosesKeep : Type 0
+ClosesKeep = (parts : PlanParts) (chan : ChanNo) → KeepSoFar parts → IsOpenedThere parts chan → KeepSoFar (with_op (Close chan) parts)
+
+abbrev pub PoursKeep : Type 0
+PoursKeep = (parts : PlanParts) (link : LinkNo) (count gap size : ℕ) → KeepSoFar parts → MayPour parts link count gap size → KeepSoFar (with_op (Pour link count gap size) parts)
+
+abbrev pub RoundsKeep : Type 0
+RoundsKeep = (parts : PlanParts) (rounds : ℕ) → KeepSoFar parts → rounds ≤ most_rounds → KeepSoFar (with_rounds rounds parts)
+
+abbrev pub TailsKeep : Type 0
+TailsKeep = (parts : PlanParts) (tail : ℕ) → KeepSoFar parts → tail ≤ most_rounds → KeepSoFar (with_tail tail parts)
+
+abbrev pub GrownPartsArePlans : Type 0
+GrownPartsArePlans = (parts : PlanParts) → KeepSoFar parts → AreEnough parts → IsPlan parts
