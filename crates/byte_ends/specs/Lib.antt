@@ -1,6 +1,7 @@
 pub mod Answers
 pub mod Cutting
 pub mod Faults
+pub mod Gathering
 pub mod Held
 pub mod Reading
 pub mod Steps

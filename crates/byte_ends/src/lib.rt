@@ -3,6 +3,7 @@
 
 mod block;
 mod fault_plan;
+pub mod gather;
 pub mod laws;
 pub mod lines;
 pub mod mem_sink;
@@ -14,6 +15,7 @@ pub mod standard;
 pub mod sure_sink;
 pub mod sure_source;
 
+pub use gather::Gather;
 pub use lines::{Cut, LineRefusal, Lines};
 pub use mem_sink::MemSink;
 pub use mem_source::MemSource;

@@ -23,6 +23,23 @@ fn answers_twice<S: Source>(
 }
 
 #[test]
+fn gathered_pieces_are_written_when_there_is_no_room_and_at_the_end(
+    rt: HostRuntime,
+) -> Result<(), Fail> {
+    let piece = vec![in rt.alloc(); b'x'; 65_535]?;
+    let mut sink = MemSink::new(rt.alloc(), 70_000, 70_000, Vec::new(rt.alloc()))?;
+    let mut gather = Gather::new(rt.alloc())?;
+    assert_eq!(rt; gather.push(&mut sink, piece.as_slice()), Ok(()));
+    assert_eq!(rt; sink.bytes().len(), 0);
+    assert_eq!(rt; gather.push(&mut sink, b"abc"), Ok(()));
+    assert_eq!(rt; sink.bytes().len(), 65_536);
+    assert_eq!(rt; gather.finish(&mut sink), Ok(()));
+    assert_eq!(rt; sink.bytes().len(), 65_538);
+    assert_eq!(rt; &sink.bytes()[65_534..], b"xabc".as_slice());
+    Ok(())
+}
+
+#[test]
 fn the_last_line_has_no_line_feed(rt: HostRuntime) -> Result<(), Fail> {
     let mut source = SureSource::new(Vec::from_slice(rt.alloc(), b"a\nb")?, 100);
     let mut lines = Lines::new(rt.alloc(), 1000)?;

@@ -1,0 +1,15 @@
+use Rattle.std.proofs.Common.{◌≤◌, ◌-◌, length, take}
+use Rattle.byte_ends.proofs.gather.Gather.push.Given as goal
+use Rattle.byte_ends.specs.Gathering.{Gathers}
+
+-- the first bytes of the piece were gathered
+abbrev pub invariant-loop-done : goal.invariant-loop-done
+invariant-loop-done g l = record {
+  within : l.done ≤ length l.piece;
+  gathers : Gathers (g.K.Sink.written l.initial.sink) (g.K.Sink.written l.sink) l.initial.self l.self (take l.done l.piece);
+  counts : g.K.Sink.faults l.initial.sink ≤ g.K.Sink.faults l.sink;
+}
+
+-- how many bytes of it are left
+abbrev pub decreases-loop-done : goal.decreases-loop-done
+decreases-loop-done g l = length l.initial.piece - l.done
