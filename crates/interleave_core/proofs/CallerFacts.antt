@@ -102,7 +102,7 @@ pub record StandingFits (links : List Link) (at : Standing) : Type 0 where
   pub offers : OffersFit at.tasks at.replies
 
 -- the first task alone
-first-fits : (task : Task) (tasks : List Task) (replies : List Reply) → OffersFit (task ∷ tasks) replies → OffersFit (task ∷ []) replies
+pub first-fits : (task : Task) (tasks : List Task) (replies : List Reply) → OffersFit (task ∷ tasks) replies → OffersFit (task ∷ []) replies
 first-fits (Opens request) tasks replies are = are
 first-fits (Sends request count gap size) tasks replies are = are
 first-fits (Closes request) tasks replies are = are

@@ -43,3 +43,4 @@ pub mod Lookups
 pub mod LinkFacts
 pub mod ActorFacts
 pub mod StepFacts
+pub mod TurnFacts

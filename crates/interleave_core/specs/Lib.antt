@@ -12,3 +12,5 @@ pub mod Verdicts
 pub mod Laws
 pub mod Linked
 pub mod Standing
+pub mod Turns
+pub mod Schedules

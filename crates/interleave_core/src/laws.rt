@@ -1,5 +1,6 @@
 //! Laws of every run, each as the contract of a function that does nothing.
 ghost use Rattle.interleave_core.specs.Laws.{EveryPartIsLegal, EveryAskFits, ClocksFollowThePlane, HeldRowsPassOnEveryLink, EveryHopIsGuaranteed, NoFlightIsLate, EveryAskIsAnswered, EveryReplyIsExpected, VerdictsFollowTheReplies, AcceptedRequestsAreKept, AcceptedChannelsKeepTheirDelays, EveryRunIsGuaranteed, RunsFollowTheirActors, FittingPartsMakeARun};
+ghost use Rattle.interleave_core.specs.Turns.{StepsComeToAnEnd};
 ghost use Rattle.interleave_core.specs.Sent.{TicksTellWhatHasLeft};
 ghost use Rattle.interleave_core.specs.Weave.{JournalsWeaveToARun};
 
@@ -118,4 +119,10 @@ pub fn fitting_parts_make_a_run()
 /// entries leave it no ask has no step left in the run.
 pub fn journals_weave_to_a_run()
     ensures { JournalsWeaveToARun }
+{}
+
+/// An actor's steps come to an end. One that has a step left makes one, and how many it has left at most falls with it, whatever
+/// the links reply. The steps of other actors change nothing of that number.
+pub fn steps_come_to_an_end()
+    ensures { StepsComeToAnEnd }
 {}

@@ -9,9 +9,11 @@ mod actors;
 pub mod laws;
 pub mod linked_laws;
 mod links;
+pub mod playing;
 pub mod refusal;
 pub mod stepping;
 
+pub use playing::{PlayFault, play};
 pub use refusal::CoreRefusal;
 pub use stepping::Core;
 
