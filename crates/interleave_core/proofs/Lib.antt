@@ -44,3 +44,5 @@ pub mod LinkFacts
 pub mod ActorFacts
 pub mod StepFacts
 pub mod TurnFacts
+pub mod ScheduleFacts
+pub mod PlayFacts

@@ -52,7 +52,7 @@ unfolding run_from
 from-run network past [] run = run
 from-run network past (actor ∷ actors) run = from-run network (step network actor past) actors (step-run network past actor run)
 
-none-run : (network : Network) → IsRun network []
+pub none-run : (network : Network) → IsRun network []
 unfolding IsRun
 none-run network = tt
 

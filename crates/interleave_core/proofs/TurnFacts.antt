@@ -232,7 +232,7 @@ made-next network past actor fits run some =
       next = record { link = there.link; linked = there.found; asked = asks.1; answered = refl };
     }
 
-makes-one : (network : Network) (past : List Done) (actor : ActorNo) → NetworkFits network → IsRun network past → IsSome (next_for network (actor_number actor) past) → MakesOne network actor past
+pub makes-one : (network : Network) (past : List Done) (actor : ActorNo) → NetworkFits network → IsRun network past → IsSome (next_for network (actor_number actor) past) → MakesOne network actor past
 makes-one network past actor fits run some =
     let made = made-next network past actor fits run some in
     let is : step network actor past ≡ made.done ∷ past = ap (λ a. step network a past) (sym made.by) ∙ step-is network past made.done made.next in

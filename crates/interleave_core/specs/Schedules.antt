@@ -12,8 +12,6 @@ use Rattle.call_script.specs.Parts.{PlanParts}
 use Rattle.call_script.specs.Tasks.{Network, network_of}
 use Rattle.call_script.specs.declared.schedule.Do.{Do}
 use Rattle.call_script.specs.declared.schedule.Schedule.{Schedule}
-use Rattle.interleave_core.specs.Guarantee.{Guaranteed}
-use Rattle.interleave_core.specs.Laws.{AfterEachEntry}
 use Rattle.interleave_core.specs.Runs.{plane_no, next_for, IsRun, step, run_from}
 use Rattle.interleave_core.specs.declared.playing.PlayFault.{PlayFault}
 use Rattle.interleave_core.specs.declared.playing.PlayFault.TheVariants.{Memory, Step}
@@ -110,11 +108,6 @@ abbrev pub AsksTooMuch : Network → Schedule → ℕ → ℕ → Type 0
 AsksTooMuch network schedule line made = StopsBy network schedule.written schedule.items line made
 
 -- ---- what playing answers
-
--- the run is one of the plan, with the whole guarantee at its beginning and after each of its entries
-pub record IsGuaranteedRun (parts : PlanParts) (run : List Done) : Type 0 where
-  pub run_is : IsRun (network_of parts) run
-  pub guaranteed : AfterEachEntry (Guaranteed (network_of parts)) run
 
 -- a fault is right: a step is missing where the schedule asks too much; of want of memory nothing is said
 abbrev pub IsFaultOf : Network → Schedule → PlayFault → Type 0

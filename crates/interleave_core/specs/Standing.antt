@@ -13,6 +13,8 @@ use Rattle.call_script.specs.Plans.{IsPlan}
 use Rattle.call_script.specs.Standing.{Stands as CallerStands}
 use Rattle.call_script.specs.Tasks.{Network, network_of}
 use Rattle.call_script.specs.declared.actor.Actor.{Actor}
+use Rattle.interleave_core.specs.Guarantee.{Guaranteed}
+use Rattle.interleave_core.specs.Laws.{AfterEachEntry}
 use Rattle.interleave_core.specs.Runs.{plane_at, next_for, IsNext, IsRun, step}
 use Rattle.interleave_core.specs.declared.actors.Actors.{Actors}
 use Rattle.interleave_core.specs.declared.stepping.Core.{Core}
@@ -58,6 +60,11 @@ pub record Stands (parts : PlanParts) (core : Core) : Type 0 where
   pub actors : ActorsStand parts core.actors (run_in core)
 
 -- ---- its steps
+
+-- the run is one of the plan, with the whole guarantee at its beginning and after each of its entries
+pub record IsGuaranteedRun (parts : PlanParts) (run : List Done) : Type 0 where
+  pub run_is : IsRun (network_of parts) run
+  pub guaranteed : AfterEachEntry (Guaranteed (network_of parts)) run
 
 -- the actors stand for a run, are ready for its next step, and this is that step
 pub record IsDue (parts : PlanParts) (actors : Actors) (past : List Done) (done : Done) : Type 0 where

@@ -1,5 +1,6 @@
 //! Laws of every run, each as the contract of a function that does nothing.
 ghost use Rattle.interleave_core.specs.Laws.{EveryPartIsLegal, EveryAskFits, ClocksFollowThePlane, HeldRowsPassOnEveryLink, EveryHopIsGuaranteed, NoFlightIsLate, EveryAskIsAnswered, EveryReplyIsExpected, VerdictsFollowTheReplies, AcceptedRequestsAreKept, AcceptedChannelsKeepTheirDelays, EveryRunIsGuaranteed, RunsFollowTheirActors, FittingPartsMakeARun};
+ghost use Rattle.interleave_core.specs.Schedules.{SchedulesComeToOneEnd};
 ghost use Rattle.interleave_core.specs.Turns.{StepsComeToAnEnd};
 ghost use Rattle.interleave_core.specs.Sent.{TicksTellWhatHasLeft};
 ghost use Rattle.interleave_core.specs.Weave.{JournalsWeaveToARun};
@@ -125,4 +126,10 @@ pub fn journals_weave_to_a_run()
 /// the links reply. The steps of other actors change nothing of that number.
 pub fn steps_come_to_an_end()
     ensures { StepsComeToAnEnd }
+{}
+
+/// A schedule comes to a run or asks too much at a line: to exactly one of these, to no second run, and to no second line.
+/// What it comes to is a run of the network.
+pub fn schedules_come_to_one_end()
+    ensures { SchedulesComeToOneEnd }
 {}

@@ -1,8 +1,8 @@
 //! Runs that are played by a schedule.
 ghost use Rattle.std.specs.Prelude.{◌≡◌, ◌+◌, ◌<◌, ◌≤◌, [], IfOk, IfErr, OnOk, length, reverse};
 ghost use Rattle.call_script.specs.Tasks.{network_of};
-ghost use Rattle.interleave_core.specs.Schedules.{Follows, IsActorOf, IsFaultOf, IsGuaranteedRun, IsMissing, IsPlayed, IsStop, IsWanted, PlayedOut, StepsOut, actor_at, lined_turns, repeated, turn_of, turns_of};
-ghost use Rattle.interleave_core.specs.Standing.{Stands, run_in};
+ghost use Rattle.interleave_core.specs.Schedules.{Follows, IsActorOf, IsFaultOf, IsMissing, IsPlayed, IsStop, IsWanted, PlayedOut, StepsOut, actor_at, lined_turns, repeated, turn_of, turns_of};
+ghost use Rattle.interleave_core.specs.Standing.{IsGuaranteedRun, Stands, run_in};
 ghost use Rattle.link_steps.specs.Lists.{Each};
 ghost use Rattle.net_units.specs.Numbers.{actor_number};
 

@@ -1,9 +1,10 @@
 //! The links and the actors of a plan, and the steps that they have made.
 ghost use Rattle.std.specs.Prelude.{◌≡◌, ◌≤◌, ◌↔◌, [], ℕ, List, IfOk, IfErr, OnErr, IsSome, IsTrue, length, reverse};
 ghost use Rattle.net_units.specs.Numbers.{actor_number};
+ghost use Rattle.call_script.specs.Parts.{PlanParts};
 ghost use Rattle.call_script.specs.Tasks.{network_of};
 ghost use Rattle.interleave_core.specs.Runs.{next_for};
-ghost use Rattle.interleave_core.specs.Standing.{IsLeft, IsRefused, Stands, StepsTo, run_in};
+ghost use Rattle.interleave_core.specs.Standing.{IsGuaranteedRun, IsLeft, IsRefused, Stands, StepsTo, run_in};
 ghost use Rattle.run_record.specs.Runs.{replies_to};
 
 use crate::actors::Actors;
@@ -51,9 +52,30 @@ impl Core {
     }
 
     /// Makes the actor's next step, and records it: asks the link, and hands the actor the reply. The plan is the one that
-    /// it was made for. A refusal leaves the run as it was: there is no such actor, or it has no step left, or memory was
+    /// it was made for. The run has the whole guarantee at its beginning and after each of its entries. A refusal leaves the run as it was: there is no such actor, or it has no step left, or memory was
     /// wanted.
     pub fn step(&mut self, plan: &Plan, actor: ActorNo) -> Result<Reply, CoreRefusal>
+        requires { Stands plan.now self.old }
+        ensures stands { Stands plan.now self.new }
+        ensures made { IfOk result (λ reply. StepsTo (network_of plan.now) actor (run_in self.old) reply (run_in self.new)) }
+        ensures refused { IfErr result (IsRefused plan.now (actor_number actor) (run_in self.old)) }
+        ensures guaranteed { IsGuaranteedRun plan.now (run_in self.new) }
+        ensures unchanged { OnErr result (run_in self.new ≡ run_in self.old) }
+    {
+        self.make_step(plan, actor)
+    }
+
+    /// The record of its steps. It is a run of the plan that the core was made for, with the whole guarantee at its beginning
+    /// and after each of its entries.
+    pub fn finish(self) -> Record
+        ensures steps { result ≡ self.steps }
+        ensures guaranteed { (parts : PlanParts) → Stands parts self → IsGuaranteedRun parts (reverse result.entries) }
+    {
+        self.steps
+    }
+
+    // The step, without what the laws of runs say of it.
+    fn make_step(&mut self, plan: &Plan, actor: ActorNo) -> Result<Reply, CoreRefusal>
         requires { Stands plan.now self.old }
         ensures stands { Stands plan.now self.new }
         ensures made { IfOk result (λ reply. StepsTo (network_of plan.now) actor (run_in self.old) reply (run_in self.new)) }
@@ -76,13 +98,6 @@ impl Core {
         self.actors.take(plan, &done);
         self.steps.push(done);
         Ok(reply)
-    }
-
-    /// The record of its steps.
-    pub fn finish(self) -> Record
-        ensures { result ≡ self.steps }
-    {
-        self.steps
     }
 
     // Why there is no step of this actor.

@@ -1,0 +1,5 @@
+use Rattle.interleave_core.proofs.PlayFacts.{run-guaranteed}
+use Rattle.interleave_core.proofs.stepping.Core.finish.Goals as goal
+
+pub returns-clause-guaranteed : goal.returns-clause-guaranteed
+returns-clause-guaranteed c = λ parts stands. run-guaranteed parts c.args.self stands
