@@ -1,5 +1,5 @@
-mod JournalFacts
+pub mod JournalFacts
+pub mod OwnFacts
 mod OrderFacts
-mod OwnFacts
 mod StepFacts
 mod AnswerFacts

@@ -15,7 +15,7 @@ use Rattle.step_stamp.specs.Marks.{RisesFrom}
 use Rattle.step_stamp.specs.declared.marks.Mark.{Mark}
 use Rattle.step_stamp.proofs.MarkFacts.{rises-append}
 use Rattle.link_ledger.specs.Journals.{mark_in, done_in, history_in}
-use Rattle.link_ledger.specs.Order.{HeldLink, IsInOrder, IsOrdered}
+use Rattle.link_ledger.specs.Order.{HeldLink, IsInOrder, AreInOrder, IsOrdered}
 use Rattle.link_ledger.specs.Owners.{OwnsAsk, NextBelow}
 use Rattle.link_ledger.specs.declared.entries.Entry.{Entry}
 use Rattle.link_ledger.proofs.JournalFacts.{history-more, marks-more, journal-clock-most}
@@ -106,3 +106,7 @@ in_order-new stands owners links held entries list split stands_now =
 pub order-out : (stands : List Done → Type 0) (owners : List ActorNo) (links : ℕ) (held : HeldLink) → IsInOrder stands owners links held → IsOrdered owners links held
 order-out stands owners links held o =
     record { split = o.split; stands_for = tt; legal = o.legal; guaranteed = o.guaranteed; marks = o.marks; rises = o.rises; most_seen = o.most_seen; owned = o.owned; next = o.next; most = o.most }
+
+-- and of its list alone
+pub order-marks : (stands : List Done → Type 0) (owners : List ActorNo) (links : ℕ) (held : HeldLink) → IsInOrder stands owners links held → AreInOrder owners links held.list
+order-marks stands owners links held o = record { rises = o.rises; owned = o.owned; next = o.next; most = o.most }

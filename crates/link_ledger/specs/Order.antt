@@ -39,6 +39,13 @@ pub record IsInOrder (stands : List Done → Type 0) (owners : List ActorNo) (li
   pub next : Each (λ (m : Mark). NextBelow links m.ask) held.list
   pub most : Each (λ (m : Mark). m.stamp ≤ 65 * 2 ^ 40) held.list
 
+-- the same of marks alone, as a pass knows them
+pub record AreInOrder (owners : List ActorNo) (links : ℕ) (marks : List Mark) : Type 0 where
+  pub rises : Rises marks
+  pub owned : Each (λ (m : Mark). OwnsAsk owners m.actor m.ask) marks
+  pub next : Each (λ (m : Mark). NextBelow links m.ask) marks
+  pub most : Each (λ (m : Mark). m.stamp ≤ 65 * 2 ^ 40) marks
+
 -- out of the lock: nothing is said of the link itself
 abbrev pub IsOrdered : List ActorNo → ℕ → HeldLink → Type 0
 IsOrdered owners links held = IsInOrder (λ h. Unit {0}) owners links held

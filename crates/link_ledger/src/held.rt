@@ -3,6 +3,7 @@ ghost use Rattle.std.specs.Prelude.{◌≡◌, ℕ, ◌^◌, ◌<◌, ◌+◌, �
 ghost use Rattle.net_units.specs.Numbers.{link_number};
 ghost use Rattle.link_steps.specs.Legal.{AskFits};
 ghost use Rattle.step_stamp.specs.Seats.{table_of, pass_table, pass_view};
+ghost use Rattle.step_stamp.specs.Views.{known_of};
 ghost use Rattle.link_ledger.specs.Owners.{OwnsAsk, NextBelow};
 ghost use Rattle.link_ledger.specs.Own.{Acted, DrewOneAtMost, EnteredOneAtMost, own_entry};
 ghost use Rattle.link_ledger.specs.Tokens.{IsLink};
@@ -40,7 +41,7 @@ impl<L: LinkStep, H: Home> Model for Held<L, H> {
 impl<L: LinkStep, H: Home> Held<L, H> {
     ghost use Rattle.link_steps.specs.Split.{SplitFits};
     ghost use Rattle.step_stamp.specs.Seats.{link_table, link_of, list_of, link_view};
-    ghost use Rattle.link_ledger.specs.Order.{IsOrdered};
+    ghost use Rattle.link_ledger.specs.Order.{IsOrdered, AreInOrder};
 
     /// A link of the empty history with an empty seat.
     pub fn new(alloc: Global, link: L, seat: LinkSeat) -> Held<L, H>
@@ -99,6 +100,7 @@ impl<L: LinkStep, H: Home> Held<L, H> {
         requires next { NextBelow (length H.links) ask.now }
         ensures acted { IfOk result (λ e. Acted self.old.rules self.old.number pass.old.actor ask.now (pass_view pass.old) (pass_view pass.new) self.old.entries e) }
         ensures entered { IfOk result (λ e. self.new.entries ≡ self.old.entries ++ own_entry pass.old.actor e ∷ []) }
+        ensures order { IfOk result (λ _. AreInOrder H.owners (length H.links) (known_of self.old.number (pass_view pass.new))) }
         ensures same { (pass_table pass.new ≡ pass_table pass.old) × (pass.new.actor ≡ pass.old.actor) }
         ensures memory { OnErr result (DrewOneAtMost (pass_view pass.old) (pass_view pass.new)) }
         ensures journal { OnErr result (EnteredOneAtMost pass.old.actor ask.now self.old.entries self.new.entries) }

@@ -4,6 +4,7 @@ ghost use Rattle.net_units.specs.Numbers.{link_number};
 ghost use Rattle.link_steps.specs.Legal.{AskFits};
 ghost use Rattle.link_steps.specs.Split.{Link};
 ghost use Rattle.step_stamp.specs.Seats.{table_of, pass_table, pass_view};
+ghost use Rattle.step_stamp.specs.Views.{known_of};
 ghost use Rattle.link_ledger.specs.Owners.{OwnsAsk, NextBelow};
 ghost use Rattle.link_ledger.specs.Own.{DrewOneAtMost};
 ghost use Rattle.link_ledger.specs.Tokens.{IsLink, shape_at, OwnsAt, ActedAt, Steps};
@@ -40,7 +41,7 @@ impl<L: LinkStep + Send, H: Home> LockedLink<L, H> {
     ghost use Rattle.net_units.specs.declared.numbers.ActorNo.{ActorNo};
     ghost use Rattle.step_stamp.specs.Seats.{link_table, link_of, list_of, link_view};
     ghost use Rattle.link_ledger.specs.Journals.{marks_in, done_in};
-    ghost use Rattle.link_ledger.specs.Order.{IsOrdered};
+    ghost use Rattle.link_ledger.specs.Order.{IsOrdered, AreInOrder};
 
     /// Puts a link behind a lock. It stands for the empty history (`stands`), its seat's list is empty, and its split fits
     /// its shape. What is given is as `H` says: the stamps, the link of this number, the actor of each channel by the
@@ -102,7 +103,9 @@ impl<L: LinkStep + Send, H: Home> LockedLink<L, H> {
 
     /// Makes one step of this pass under the lock, which it may wait for: the link's reply is that of the rules after the
     /// journal so far, and the entry is the journal's next one and the pass's last. All that the pass had seen of the link
-    /// begins that journal, and the stamp is above every stamp that the pass had seen (`made`).
+    /// begins that journal, and the stamp is above every stamp that the pass had seen (`made`). What it then knows of the
+    /// link has rising stamps, each ask in it was asked by right, and each reserve's next link is one of the network's
+    /// (`order`).
     ///
     /// The pass has its seat (`seat`) and isn't spent, it owns its entries at this link (`own`), as a new pass and one
     /// that has made its steps so does, and it has drawn fewer than 2^40 stamps. Its actor owns the channel that is asked
@@ -125,6 +128,7 @@ impl<L: LinkStep + Send, H: Home> LockedLink<L, H> {
         requires owned { OwnsAsk H.owners pass.old.actor ask.now }
         requires next { NextBelow (length H.links) ask.now }
         ensures made { IfOk result (λ reply. Steps H.links (link_number self.now.link) ask.now pass.old pass.new reply) }
+        ensures order { IfOk result (λ _. AreInOrder H.owners (length H.links) (known_of (link_number self.now.link) pass.new.view)) }
         ensures memory { OnErr result ((pass.new.spent ≡ true) × (pass.new.own ≡ pass.old.own)) }
         ensures lost { OnErr result (DrewOneAtMost pass.old.view pass.new.view) }
         ensures same { (pass.new.actor ≡ pass.old.actor) × (pass.new.has_seat ≡ true) × (pass.new.table ≡ pass.old.table) }
@@ -167,6 +171,7 @@ impl<L: LinkStep + Send, H: Home> LockedLink<L, H> {
         requires owned { OwnsAsk H.owners seat.old.actor ask.now }
         requires next { NextBelow (length H.links) ask.now }
         ensures acted { IfOk result (λ e. ActedAt H.links (link_number self.now.link) seat.old.actor ask.now (pass_view seat.old) (pass_view seat.new) e) }
+        ensures order { IfOk result (λ _. AreInOrder H.owners (length H.links) (known_of (link_number self.now.link) (pass_view seat.new))) }
         ensures same { (pass_table seat.new ≡ pass_table seat.old) × (seat.new.actor ≡ seat.old.actor) }
         ensures memory { OnErr result (DrewOneAtMost (pass_view seat.old) (pass_view seat.new)) }
     {
@@ -193,6 +198,7 @@ impl<L: LinkStep + Send, H: Home> LockedLink<L, H> {
         requires owned { OwnsAsk H.owners seat.old.actor ask.now }
         requires next { NextBelow (length H.links) ask.now }
         ensures acted { IfOk result (λ e. ActedAt H.links (link_number self.now.link) seat.old.actor ask.now (pass_view seat.old) (pass_view seat.new) e) }
+        ensures order { IfOk result (λ _. AreInOrder H.owners (length H.links) (known_of (link_number self.now.link) (pass_view seat.new))) }
         ensures same { (pass_table seat.new ≡ pass_table seat.old) × (seat.new.actor ≡ seat.old.actor) }
         ensures memory { OnErr result (DrewOneAtMost (pass_view seat.old) (pass_view seat.new)) }
     {

@@ -9,12 +9,13 @@ use Rattle.step_stamp.specs.Seats.{Meets, DrawsMark, EntersMark, pass_view, link
 use Rattle.step_stamp.specs.Views.{known_of}
 use Rattle.step_stamp.specs.declared.marks.Mark.{Mark}
 use Rattle.step_stamp.specs.declared.seats.LinkSeat.{LinkSeat}
+use Rattle.step_stamp.specs.declared.views.View.{View}
 use Rattle.link_ledger.specs.Journals.{entry_of}
-use Rattle.link_ledger.specs.Order.{HeldLink}
+use Rattle.link_ledger.specs.Order.{HeldLink, AreInOrder}
 use Rattle.link_ledger.specs.Own.{Acted}
 use Rattle.link_ledger.specs.Tokens.{IsLink}
 use Rattle.link_ledger.specs.declared.entries.OwnEntry.{OwnEntry}
-use Rattle.link_ledger.proofs.OrderFacts.{early, in_order-same}
+use Rattle.link_ledger.proofs.OrderFacts.{early, in_order-same, order-marks}
 use Rattle.link_ledger.proofs.StepFacts.{step-order, step-acted}
 use Rattle.link_ledger.proofs.held.Held.act.Goals as goal
 
@@ -108,3 +109,14 @@ returns-clause-acted g c =
     step-acted _ (g.L.LinkStep.stands_for c.step.new.self) _ _ _ l actor ask c.in_ok-reply.reply m _ _ _ _ _ _ inv.2 refl refl met.met drew entered (subst (λ (x : HeldLink). AskFits x.rules.shape ask) (sym c.self.view_is) c.requires.fits) c.requires.owned c.requires.next
     (step.legal _ inv.2.stands_for) (step.entered _ inv.2.stands_for) _ _ e met_again (ap link_number (c.link.ensures ∙ again.same.3) ∙ here) (omega (arith, long, len)) c.stamp-stamp.ensures refl refl in
     subst (λ (x : HeldLink). Acted x.rules x.number actor ask (pass_view c.args.pass.now) (pass_view c.meet-2.new.self) x.entries e) c.self.view_is acted
+
+pub returns-clause-order : goal.returns-clause-order
+returns-clause-order g c =
+    let after = invariant_of-self-2 g c in
+    let again = c.in_ok-meet-2.ensures in
+    let k : View = link_view c.meet-2.new.link in
+    let v : View = pass_view c.meet-2.new.self in
+    let here : link_of c.enter.new.self ≡ c.args.self.now.number = ap link_number c.enter.ensures.same.1 ∙ ap link_number c.in_ok-meet.ensures.same.3 ∙ ap (λ (x : HeldLink). x.number) c.self.view_is in
+    let knows : known_of (link_of c.meet-2.new.link) k ≡ known_of c.args.self.now.number v =
+    ap (λ (n : LinkNo). known_of (link_number n) k) again.same.3 ∙ again.met.keeps ∙ sym again.met.knows ∙ ap (λ n. known_of n v) here in
+    subst (AreInOrder g.H.Home.owners (length g.H.Home.links)) knows (order-marks _ _ _ _ after.2)

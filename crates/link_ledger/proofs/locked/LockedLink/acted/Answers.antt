@@ -1,8 +1,9 @@
-use Rattle.std.proofs.Common.{◌≡◌, sym, ap, ◌∙◌, subst, IfOk}
+use Rattle.std.proofs.Common.{◌≡◌, length, sym, ap, ◌∙◌, subst, IfOk}
 use Rattle.std.specs.Prelude.{Result, Ok, Err}
 use Rattle.net_units.specs.Numbers.{link_number}
 use Rattle.step_stamp.specs.Seats.{pass_view}
-use Rattle.link_ledger.specs.Order.{HeldLink}
+use Rattle.step_stamp.specs.Views.{known_of}
+use Rattle.link_ledger.specs.Order.{HeldLink, AreInOrder}
 use Rattle.link_ledger.specs.Own.{Acted}
 use Rattle.link_ledger.specs.Tokens.{IsLink}
 use Rattle.link_ledger.proofs.locked.LockedLink.acted.Goals as goal
@@ -26,3 +27,11 @@ returns-clause-acted g c =
       acted = subst (λ n. Acted held.rules n c.args.seat.now.actor c.args.ask.now (pass_view c.args.seat.now) (pass_view c.act.new.pass) held.entries e) number acted;
     })
     c.act.ensures.acted
+
+pub returns-clause-order : goal.returns-clause-order
+returns-clause-order g c =
+    let held : HeldLink = c.deref_mut.result.now in
+    let same : held ≡ c.deref.result.now = c.deref_mut.ensures.value ∙ sym c.deref.ensures in
+    let number : held.number ≡ link_number c.args.self.now.link =
+    ap (λ (h : HeldLink). h.number) same ∙ sym c.number.ensures.number ∙ sym c.get.ensures.value ∙ c.if-get.false ∙ c.get-2.ensures.value in
+    if_ok _ _ c.act.result (λ e order. subst (λ n. AreInOrder g.H.Home.owners (length g.H.Home.links) (known_of n (pass_view c.act.new.pass))) number order) c.act.ensures.order
