@@ -1,3 +1,5 @@
 pub mod RowFacts
 pub mod SumsFacts
 pub mod RoomFacts
+pub mod KeyFacts
+pub mod LoadsFacts

@@ -4,8 +4,8 @@ use Rattle.std.proofs.lemmas.Bool.{cases_lt}
 use Rattle.traffic_contract.specs.Contract.{Terms}
 use Rattle.std.specs.List.{All}
 use Rattle.net_units.specs.LevelBounds.{last_bound}
-use Rattle.traffic_contract.specs.Admission.{Server, Row, load, with_row, HasRoom, Counts, Passes, IsBest, IsRefused, best_level, refused_sum}
-use Rattle.traffic_contract.specs.declared.admission.Test.TheVariants.{Least}
+use Rattle.traffic_contract.specs.Admission.{Server, Row, load, level_sum, with_row, HasRoom, Counts, PassesAt, Passes, IsBest, IsRefused, best_level, refused_sum}
+use Rattle.traffic_contract.specs.declared.admission.Test.TheVariants.{Whole, Least}
 use Rattle.net_units.specs.LevelBounds.{bound_at}
 use Rattle.traffic_contract.proofs.AdmissionFacts.{Decides-passes_at, window-of, PassesAt-whole, Passes-with_row, room-from-Passes, best_level-found}
 use Rattle.traffic_contract.proofs.LoadFacts.{HasContract, load-mono}
@@ -63,3 +63,19 @@ some-room server rows terms m bound least same room =
     let found = window-of server (with_row rows terms m) m room in
     let counts = subst (λ test. Counts test (bound_at server.bounds m) found.window) least found.counts in
     (found.window, counts.0, subst (λ d. found.window ≤ d) (sym same) counts.1, found.fits)
+
+-- where the whole bound counts alone, the load in it fits it
+pub whole-fits : (server : Server) (rows : List Row) (m : ℕ) → server.test ≡ Whole → PassesAt server rows m → level_sum server rows m ≤ bound_at server.bounds m
+whole-fits server rows m whole passed =
+    let found = window-of server rows m passed in
+    let counts : found.window ≡ bound_at server.bounds m = subst (λ test. Counts test (bound_at server.bounds m) found.window) whole found.counts in
+    subst (λ w. load server rows m w ≤ w) counts found.fits
+
+-- so a level has no room whose load in the whole bound, with the row, is over it
+pub whole-none : (server : Server) (rows : List Row) (terms : Terms) (m : ℕ) → server.test ≡ Whole → bound_at server.bounds m < load_with server rows terms m (bound_at server.bounds m) → HasRoom server rows terms m → ⊥
+whole-none server rows terms m whole over room =
+    let fits = whole-fits server (with_row rows terms m) m whole room in omega (arith, fits, over)
+
+-- and under every test one has room whose load there fits
+pub room-whole : (server : Server) (rows : List Row) (terms : Terms) (m : ℕ) → 1 ≤ bound_at server.bounds m → load_with server rows terms m (bound_at server.bounds m) ≤ bound_at server.bounds m → HasRoom server rows terms m
+room-whole server rows terms m least fits = PassesAt-whole server (with_row rows terms m) m least fits

@@ -17,6 +17,13 @@ total-take_more f rows i row h e =
     let kept : kept_rows (take (i + 1) rows) ≡ kept_rows (take i rows) ++ row_of (held_of row) ∷ [] = ap rows_of held ∙ map_push row_of (map held_of (take i rows)) (held_of row) in
     ap (total f) kept ∙ total-push f (kept_rows (take i rows)) (row_of (held_of row))
 
+-- and so does a row behind all
+pub total-pushed : (f : Row → ℕ) (rows after : List KeptRow) (row : KeptRow) → after ≡ rows ++ row ∷ [] → total f (kept_rows after) ≡ total f (kept_rows rows) + f (row_of (held_of row))
+total-pushed f rows after row pushed =
+    let held : map held_of after ≡ map held_of rows ++ held_of row ∷ [] = ap (map held_of) pushed ∙ map_push held_of rows row in
+    let kept : kept_rows after ≡ kept_rows rows ++ row_of (held_of row) ∷ [] = ap rows_of held ∙ map_push row_of (map held_of rows) (held_of row) in
+    ap (total f) kept ∙ total-push f (kept_rows rows) (row_of (held_of row))
+
 -- the first rows add no more than all
 pub total-take-le : (f : Row → ℕ) (rows : List KeptRow) (i : ℕ) → total f (kept_rows (take i rows)) ≤ total f (kept_rows rows)
 total-take-le f rows i =

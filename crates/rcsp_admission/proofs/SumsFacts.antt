@@ -104,7 +104,7 @@ without-none (held ∷ rows) key others =
     rw other (ap suc (without-none rows key (λ k d inside. others (suc k) d (omega arith))))
 
 -- a key that is held and isn't the first row's is held by a later one
-held_later : (held : Held) (rows : List Held) (key k : ℕ) → k < length (map key_of (held ∷ rows)) → get_or (map key_of (held ∷ rows)) k key ≡ key → (held.key ≡ key → ⊥) → Holds rows key
+pub held_later : (held : Held) (rows : List Held) (key k : ℕ) → k < length (map key_of (held ∷ rows)) → get_or (map key_of (held ∷ rows)) k key ≡ key → (held.key ≡ key → ⊥) → Holds rows key
 held_later held rows key zero inside at other = absurd (other at)
 held_later held rows key (suc k) inside at other = (k, omega arith, at)
 

@@ -2,3 +2,4 @@ pub mod Sums
 pub mod Room
 pub mod Kept
 pub mod Fields
+pub mod Loads

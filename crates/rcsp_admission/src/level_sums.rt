@@ -8,7 +8,9 @@ ghost use Rattle.traffic_contract.specs.declared.admission.Test.TheVariants.{Who
 ghost use Rattle.rcsp_admission.specs.Room.{IsLastFull, load_with, FitsSome};
 ghost use Rattle.rcsp_admission.specs.Sums.{Holds, HoldsUpTo, AreAdmitted, server_of, rows_of, added, moved, without};
 
-use crate::rows::{KeptRow, move_in, work, work_of};
+use crate::loads::{add_row, level_at, take_row};
+use crate::rows::{KeptRow, move_in, row_of_key, work, work_of};
+use net_units::limits::MOST_LEVELS;
 use net_units::{Bounds, Level, OutOfMemory};
 use std::alloc::Global;
 use std::marker::Model;
@@ -36,6 +38,8 @@ pub struct LevelSums {
     blocking: u32,
     test: Test,
     rows: Vec<KeptRow>,
+    // Of each level, the work of the rows at levels up to it in a window as long as its bound.
+    loads: [u64; MOST_LEVELS as usize],
 }
 
 impl Model for LevelSums {
@@ -47,7 +51,9 @@ impl Model for LevelSums {
 
     ghost view = { sums_of };
 
-    ghost invariant = { λ s. AreAdmitted (sums_of s) };
+    ghost use Rattle.rcsp_admission.specs.Loads.{IsKept};
+
+    ghost invariant = { IsKept };
 }
 
 impl LevelSums {
@@ -68,6 +74,7 @@ impl LevelSums {
             blocking,
             test,
             rows: Vec::new(alloc),
+            loads: [0; MOST_LEVELS as usize],
         }
     }
 
@@ -104,10 +111,9 @@ impl LevelSums {
         let full = self.last_full(contract);
         if full == levels {
             let last = level_at(levels);
-            let bound = u64::from(self.bounds.at(last));
             return Err(NoLevel {
-                sum: self.load_with(contract, last, bound),
-                bound,
+                sum: self.whole_load_with(contract, last),
+                bound: u64::from(self.bounds.at(last)),
             });
         }
         Ok(level_at(full + 1))
@@ -126,11 +132,13 @@ impl LevelSums {
     {
         // `burst` tells that this is a contract.
         let _burst = contract.burst();
-        self.rows.push_reserved(KeptRow {
+        let row = KeptRow {
             key,
             contract,
             level,
-        });
+        };
+        add_row(&mut self.loads, &self.bounds, self.rate, &row);
+        self.rows.push_reserved(row);
     }
 
     /// Moves the row of a key to a level that is no smaller.
@@ -142,6 +150,10 @@ impl LevelSums {
         ensures spare { self.new.spare ≡ self.old.spare }
         ensures admitted { AreAdmitted self.new }
     {
+        let before = row_of_key(&self.rows, key);
+        take_row(&mut self.loads, &self.bounds, self.rate, &before);
+        let after = KeptRow { level, ..before };
+        add_row(&mut self.loads, &self.bounds, self.rate, &after);
         move_in(&mut self.rows, key, level);
     }
 
@@ -153,6 +165,8 @@ impl LevelSums {
         ensures spare { self.new.spare ≡ self.old.spare + 1 }
         ensures admitted { AreAdmitted self.new }
     {
+        let row = row_of_key(&self.rows, key);
+        take_row(&mut self.loads, &self.bounds, self.rate, &row);
         self.rows.retain(|row| row.key != key);
     }
 
@@ -164,7 +178,26 @@ impl LevelSums {
         ensures fits { self.now.server.test ≡ Whole → result ≤ bound_at self.now.server.bounds (level_number level) }
         ensures admitted { AreAdmitted self.now }
     {
-        self.load(level, u64::from(self.bounds.at(level)))
+        self.whole_load(level)
+    }
+
+    // The load of the levels up to this one in a window as long as its bound, in ticks.
+    fn whole_load(&self, level: Level) -> u64
+        requires within { level_number level ≤ length self.now.server.bounds }
+        ensures value { result ≡ level_sum self.now.server (rows_of self.now.rows) (level_number level) }
+        ensures small { result < 2 ^ 61 }
+        ensures admitted { AreAdmitted self.now }
+    {
+        u64::from(self.blocking) + self.loads[usize::from(level.get()) - 1]
+    }
+
+    // The same with a row of this contract at the level.
+    fn whole_load_with(&self, contract: &Contract, level: Level) -> u64
+        requires within { level_number level ≤ length self.now.server.bounds }
+        ensures { result ≡ load_with self.now.server (rows_of self.now.rows) contract.now (level_number level) (bound_at self.now.server.bounds (level_number level)) }
+    {
+        let window = u64::from(self.bounds.at(level));
+        self.whole_load(level) + work(contract, self.rate, window)
     }
 
     // The load of the levels up to this one in a window, in ticks.
@@ -212,8 +245,11 @@ impl LevelSums {
         ensures { IsTrue result ↔ HasRoom self.now.server (rows_of self.now.rows) contract.now (level_number level) }
     {
         let bound = u64::from(self.bounds.at(level));
+        if self.whole_load_with(contract, level) <= bound {
+            return true;
+        }
         match self.test {
-            Test::Whole => self.load_with(contract, level, bound) <= bound,
+            Test::Whole => false,
             Test::Least => self.fits_some(contract, level, bound),
         }
     }
@@ -231,15 +267,6 @@ impl LevelSums {
         }
         full
     }
-}
-
-// The level of a number from 1 to 8.
-fn level_at(number: u8) -> Level
-    requires least { 1 ≤ number }
-    requires most { number ≤ 8 }
-    ensures { level_number result ≡ number }
-{
-    Level::new(number).unwrap()
 }
 
 #[cfg(test)]

@@ -1,10 +1,11 @@
 //! The admission test of one link.
 //!
 //! A link is a rate-controlled static-priority server (Zhang & Ferrari 1993). It keeps the channels that it has
-//! admitted as a list of rows and sums their work anew at each call. After every call the rows pass the test.
+//! admitted as a list of rows, and beside them a running load for each level. After every call the rows pass the test.
 #![tactic(auto)]
 
 mod level_sums;
+mod loads;
 mod rows;
 
 pub use level_sums::{LevelSums, NoLevel};

@@ -8,7 +8,7 @@ use Rattle.rcsp_admission.proofs.level_sums.LevelSums.fits_some.Goals as goal
 
 pub loop-window-init : goal.loop-window-init
 loop-window-init c =
-    let admitted = subst AreAdmitted c.self.view_is c.self.invariant in
+    let admitted = subst AreAdmitted c.self.view_is c.self.invariant.admitted in
     let same : c.self.inside.blocking ≡ c.args.self.now.server.blocking = ap (λ s. s.server.blocking) c.self.view_is in (
       omega (arith, admitted.server.blocking, same, c.from-window.ensures),
       λ w fits. (let least = search-begins c.args.self.now.server (rows_of c.args.self.now.rows) c.args.contract.now (level_number c.args.level) w fits in omega (arith, least, same, c.from-window.ensures)),
@@ -16,7 +16,7 @@ loop-window-init c =
 
 pub loop-window-preserved : goal.loop-window-preserved
 loop-window-preserved c =
-    let admitted = subst AreAdmitted c.self.view_is c.self.invariant in (
+    let admitted = subst AreAdmitted c.self.view_is c.self.invariant.admitted in (
       omega (arith, c.loop-window.invariant.0, c.if-load-window.false),
       λ w fits. subst (λ n. n ≤ w) (sym c.load_with-load.ensures)
           (search-goes_on c.args.self.now.server (rows_of c.args.self.now.rows) c.args.contract.now (level_number c.args.level) c.loop-window.window

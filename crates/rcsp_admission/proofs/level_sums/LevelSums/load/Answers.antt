@@ -12,7 +12,7 @@ pub work_of-requires-clause-fits : goal.work_of-requires-clause-fits
 work_of-requires-clause-fits c =
     let level = level_number c.args.level in
     let within : level_number c.args.level ≤ length c.self.inside.bounds = (let e = ap (λ s. s.server.bounds) c.self.view_is in rw e c.requires.within) in
-    let small = work-small (sums_of c.self.inside) (level_number c.args.level) c.args.window c.self.invariant c.args.level.least within c.requires.window in
+    let small = work-small (sums_of c.self.inside) (level_number c.args.level) c.args.window c.self.invariant.admitted c.args.level.least within c.requires.window in
     let same : total (work_up_to c.self.inside.rate level c.args.window) (kept_rows c.deref.result.now) ≡ total (work_up_to c.self.inside.rate level c.args.window) (kept_rows c.self.inside.rows.items) = cc in
     omega (arith, small, same)
 
@@ -21,7 +21,7 @@ small : (c : goal.After-work_of) → c.work_of.result < 2 ^ 60
 small c =
     let level = level_number c.args.level in
     let within : level_number c.args.level ≤ length c.self.inside.bounds = (let e = ap (λ s. s.server.bounds) c.self.view_is in rw e c.requires.within) in
-    let few = work-small (sums_of c.self.inside) (level_number c.args.level) c.args.window c.self.invariant c.args.level.least within c.requires.window in
+    let few = work-small (sums_of c.self.inside) (level_number c.args.level) c.args.window c.self.invariant.admitted c.args.level.least within c.requires.window in
     let same : total (work_up_to c.self.inside.rate level c.args.window) (kept_rows c.deref.result.now) ≡ total (work_up_to c.self.inside.rate level c.args.window) (kept_rows c.self.inside.rows.items) = cc in
     omega (arith, few, same, c.work_of.ensures)
 

@@ -1,12 +1,16 @@
--- The empty list of rows passes, since the blocking is at most the first bound and so at most each.
+-- The empty list of rows passes, since the blocking is at most the first bound and so at most each. It has no load.
 use Rattle.std.proofs.Common.{ap, map}
-use Rattle.rcsp_admission.specs.Kept.{held_of}
+use Rattle.rcsp_admission.specs.Kept.{held_of, kept_rows}
+use Rattle.rcsp_admission.proofs.LoadsFacts.{loads-none}
 use Rattle.rcsp_admission.proofs.SumsFacts.{AreAdmitted-new}
 use Rattle.rcsp_admission.proofs.level_sums.LevelSums.new.Goals as goal
 
 pub invariant_of-result : goal.invariant_of-result
 invariant_of-result c =
-    AreAdmitted-new _ (record { bounds = c.len-levels.ensures.valid; rate = c.requires.rate; blocking = c.requires.blocking; first = c.requires.first }) (ap (map held_of) c.new.ensures.items)
+    record {
+      admitted = AreAdmitted-new _ (record { bounds = c.len-levels.ensures.valid; rate = c.requires.rate; blocking = c.requires.blocking; first = c.requires.first }) (ap (map held_of) c.new.ensures.items);
+      loads = loads-none c.args.rate c.args.bounds _ (ap kept_rows c.new.ensures.items) c.len-levels.ensures.valid;
+    }
 
 pub returns-clause-admitted : goal.returns-clause-admitted
-returns-clause-admitted c = invariant_of-result c
+returns-clause-admitted c = (invariant_of-result c).admitted
