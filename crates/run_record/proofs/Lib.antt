@@ -1,0 +1,2 @@
+pub mod HopFacts
+pub mod OrderFacts

@@ -5,8 +5,15 @@
 //! actor has got. Nothing here knows of a plan.
 #![tactic(auto)]
 
+pub(crate) mod departures;
 pub mod done;
+pub(crate) mod hops;
 pub mod record;
+pub mod rows;
 
 pub use done::Done;
 pub use record::Record;
+pub use rows::{HopRow, HopRows};
+
+#[cfg(test)]
+mod tests;

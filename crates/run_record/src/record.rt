@@ -1,7 +1,12 @@
 //! The entries of a run, in the order of time.
-ghost use Rattle.std.specs.Prelude.{◌≡◌, ◌-◌, ◌≤◌, [], ◌∷◌, ◌++◌, IsOk, OnOk, OnErr};
+ghost use Rattle.std.specs.Prelude.{◌≡◌, ◌-◌, ◌≤◌, [], ◌∷◌, ◌++◌, IsOk, IfOk, OnOk, OnErr};
+ghost use Rattle.link_steps.specs.Lists.{Each};
+ghost use Rattle.run_record.specs.Rows.{IsEarly, rows_of};
 
+use crate::departures::{departures, put_in_order};
 use crate::done::Done;
+use crate::hops::hops_of;
+use crate::rows::HopRows;
 use net_units::OutOfMemory;
 use std::alloc::Global;
 use std::marker::Model;
@@ -71,6 +76,18 @@ impl Record {
         ensures { result.now ≡ self.now.entries }
     {
         self.entries.as_slice()
+    }
+
+    /// One row for each departure, in the order of channel, packet and hop. An `Err` comes only for want of memory. Ticks
+    /// are told before 2^63.
+    pub fn rows(&self, alloc: Global) -> Result<HopRows, OutOfMemory>
+        requires early { Each (λ done. IsEarly done.reply) self.now.entries }
+        ensures { IfOk result (λ rows. rows ≡ rows_of self.now.entries) }
+    {
+        let table = hops_of(alloc, self.entries())?;
+        let mut rows = departures(alloc, self.entries(), table.as_slice())?;
+        put_in_order(&mut rows)?;
+        Ok(HopRows::new(rows))
     }
 }
 
