@@ -30,19 +30,19 @@ use Rattle.link_ledger.proofs.JournalFacts.{history-more, marks-more, journal-to
 
 -- ---- an element at a place
 
-get-left : {X : Type 0} (xs ys : List X) (k : ℕ) (x : X) → slice_get xs k ≡ Some x → slice_get (xs ++ ys) k ≡ Some x
+pub get-left : {X : Type 0} (xs ys : List X) (k : ℕ) (x : X) → slice_get xs k ≡ Some x → slice_get (xs ++ ys) k ≡ Some x
 get-left [] ys k x at = absurd (let clash : None ≡ Some x = at in cc)
 get-left (y ∷ xs) ys zero x at = at
 get-left (y ∷ xs) ys (suc k) x at = get-left xs ys k x at
 
-get-last : {X : Type 0} (xs : List X) (x : X) → slice_get (xs ++ x ∷ []) (length xs) ≡ Some x
+pub get-last : {X : Type 0} (xs : List X) (x : X) → slice_get (xs ++ x ∷ []) (length xs) ≡ Some x
 get-last [] x = refl
 get-last (y ∷ xs) x = get-last xs x
 
 -- ---- the own entries of a link
 
 -- a mark of an own entry, found among the drawn ones
-own_drawn-has : (a : ActorNo) (l : ℕ) (m : Mark) (own : List OwnEntry) → Has (drawn_for l m) (map (own_drawn a) own) → Has m (map (own_mark a) (own_at l own))
+pub own_drawn-has : (a : ActorNo) (l : ℕ) (m : Mark) (own : List OwnEntry) → Has (drawn_for l m) (map (own_drawn a) own) → Has m (map (own_mark a) (own_at l own))
 own_drawn-has a l m [] has = absurd has
 own_drawn-has a l m (e ∷ own) has =
     cond_both (eqb (link_number e.link) l) (e ∷ own_at l own) (own_at l own) (λ es. Has m (map (own_mark a) es))
@@ -50,10 +50,10 @@ own_drawn-has a l m (e ∷ own) has =
     (λ no. ⊎_elim (λ (is : own_drawn a e ≡ drawn_for l m). absurd (cc (no, eq-eqb (link_number e.link) l (ap (λ (d : Drawn). d.link) is)))) (λ t. own_drawn-has a l m own t) has)
 
 -- one more of this link, and of another
-one_at : (l : ℕ) (own : List OwnEntry) (e : OwnEntry) → link_number e.link ≡ l → own_at l (own ++ e ∷ []) ≡ own_at l own ++ e ∷ []
+pub one_at : (l : ℕ) (own : List OwnEntry) (e : OwnEntry) → link_number e.link ≡ l → own_at l (own ++ e ∷ []) ≡ own_at l own ++ e ∷ []
 one_at l own e is = filter-append (λ (x : OwnEntry). eqb (link_number x.link) l) own (e ∷ []) ∙ ap (λ b. own_at l own ++ cond b (e ∷ []) []) (eq-eqb (link_number e.link) l is)
 
-none_at : (l k : ℕ) (own : List OwnEntry) (e : OwnEntry) → link_number e.link ≡ l → (k ≡ l → ⊥) → own_at k (own ++ e ∷ []) ≡ own_at k own
+pub none_at : (l k : ℕ) (own : List OwnEntry) (e : OwnEntry) → link_number e.link ≡ l → (k ≡ l → ⊥) → own_at k (own ++ e ∷ []) ≡ own_at k own
 none_at l k own e is other =
     filter-append (λ (x : OwnEntry). eqb (link_number x.link) k) own (e ∷ [])
     ∙ cond_both (eqb (link_number e.link) k) (e ∷ []) [] (λ es. own_at k own ++ es ≡ own_at k own) (λ on. absurd (other (sym (eqb-true (link_number e.link) k on) ∙ is))) (λ _. append-nil (own_at k own))

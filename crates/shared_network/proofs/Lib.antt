@@ -1,0 +1,4 @@
+mod CountFacts
+mod OpeningFacts
+mod LinkNumbers
+mod StepFacts

@@ -1,0 +1,45 @@
+-- Links are told apart by their numbers, and a network's locked links stand in the order of theirs.
+use Rattle.std.proofs.Common.{◌≡◌, ℕ, ◌<◌, Some, None, Option, List, length, map, refl, sym, ap, ◌∙◌, subst}
+use Rattle.std.proofs.lemmas.Option.{same_Some, slice_get-map}
+use Rattle.std.proofs.lemmas.List.{length-map}
+use Rattle.std.proofs.Math.Bridge.{le_prop}
+use mathlib.Core.HLevel.{is_prop→PathP}
+use Rattle.std.specs.List.{slice_get}
+use Rattle.std.specs.Prelude.{option_map, Result, Ok, Err, IfOk, OnOk}
+use Rattle.net_units.specs.Numbers.{link_number}
+use Rattle.net_units.specs.declared.numbers.LinkNo.{LinkNo}
+use Rattle.link_steps.specs.Legal.{AskFits}
+use Rattle.link_steps.specs.Split.{Link}
+use Rattle.link_steps.specs.declared.asks.Ask.{Ask}
+use Rattle.link_steps.specs.declared.shape.LinkShape.{LinkShape}
+use Rattle.step_stamp.specs.Lists.{up_to}
+use Rattle.link_ledger.specs.Tokens.{shape_at}
+use Rattle.shared_network.specs.Sight.{FitsAt}
+use Rattle.shared_network.proofs.CountFacts.{up_to-get, up_to-length}
+
+pub same-link : (a b : LinkNo) → link_number a ≡ link_number b → a ≡ b
+same-link a b same = λ i. record { number = same i; small = is_prop→PathP (λ j. same j < 32) (λ j. le_prop) a.small b.small i }
+
+-- as many elements as numbers
+pub numbered-length : {X : Type 0} (number : X → ℕ) (xs : List X) (n : ℕ) → map number xs ≡ up_to n → length xs ≡ n
+numbered-length number xs n are = sym (length-map xs number) ∙ ap length are ∙ up_to-length n
+
+-- the k-th has the number k
+pub numbered-at : {X : Type 0} (number : X → ℕ) (xs : List X) (n k : ℕ) (x : X) → map number xs ≡ up_to n → k < n → slice_get xs k ≡ Some x → number x ≡ k
+numbered-at number xs n k x are below found =
+    same_Some (number x) k (sym (ap (option_map number) found) ∙ sym (slice_get-map number xs k) ∙ ap (λ ns. slice_get ns k) are ∙ up_to-get n k below)
+
+-- the conditions on an ask at the link, said of the shape that is kept beside its lock
+shaped : (found : Option Link) (shape : LinkShape) → option_map (λ (link : Link). link.shape) found ≡ Some shape → (link : Link) × (found ≡ Some link) × (link.shape ≡ shape)
+shaped None shape is = absurd (let clash : None ≡ Some shape = is in cc)
+shaped (Some link) shape is = (link, refl, same_Some link.shape shape is)
+
+pub fits-shape : (links : List Link) (l : ℕ) (shape : LinkShape) (ask : Ask) → shape_at links l ≡ Some shape → FitsAt links l ask → AskFits shape ask
+fits-shape links l shape ask is fits =
+    let found = shaped (slice_get links l) shape is in
+    subst (λ s. AskFits s ask) found.2 (fits found.0 found.1)
+
+-- two facts of an answer
+pub both-ok : {T E : Type 0} (P Q : T → Type 0) (R : Type 0) (r : Result T E) → ((x : T) → P x → Q x → R) → IfOk r P → IfOk r Q → OnOk r R
+both-ok P Q R (Ok x) follows p q = follows x p q
+both-ok P Q R (Err e) follows p q = p

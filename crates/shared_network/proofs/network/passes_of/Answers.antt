@@ -1,0 +1,36 @@
+use Rattle.std.proofs.Common.{ℕ, List, [], ◌∷◌, ◌++◌, length, map, sym, ap, ◌∙◌, subst}
+use Rattle.std.proofs.lemmas.List.{map-append, append_assoc}
+use Rattle.std.specs.Vec.Iter.{into_iter_items}
+use Rattle.net_units.specs.Numbers.{actor_number}
+use Rattle.link_steps.specs.Lists.{Each}
+use Rattle.link_steps.proofs.ListFacts.{Each-append}
+use Rattle.step_stamp.specs.Opening.{IsNewPass}
+use Rattle.step_stamp.specs.Seats.{actor_of}
+use Rattle.shared_network.specs.Ready.{IsNew}
+use Rattle.shared_network.proofs.OpeningFacts.{pass-new, new-knows}
+use Rattle.shared_network.proofs.network.passes_of.Goals as goal
+
+pub new-requires-clause-known : goal.new-requires-clause-known
+new-requires-clause-known g c =
+    let left = subst (Each (IsNewPass g.H.Home.table (length c.args.seats.items))) c.in-Some.ensures.steps.0 c.loop-seat.invariant.left in
+    new-knows g.H.Home.table (length c.args.seats.items) c.in-Some.seat left.0
+
+pub loop-seat-preserved : goal.loop-seat-preserved
+loop-seat-preserved g c =
+    let n = length c.args.seats.items in
+    let left = subst (Each (IsNewPass g.H.Home.table n)) c.in-Some.ensures.steps.0 c.loop-seat.invariant.left in
+    let made = c.new.ensures in
+    let pushed = c.in_ok-push.ensures.items in
+    let rest : List ℕ = map actor_of (into_iter_items c.next.new.self) in
+    record {
+      actors = ap (λ ps. map (λ pass. actor_number pass.actor) ps ++ rest) pushed
+          ∙ ap (λ ns. ns ++ rest) (map-append (λ pass. actor_number pass.actor) c.loop-seat.passes.items (c.new.result ∷ []))
+          ∙ append_assoc (map (λ pass. actor_number pass.actor) c.loop-seat.passes.items) (actor_number c.new.result.actor ∷ []) rest
+          ∙ ap (λ a. map (λ pass. actor_number pass.actor) c.loop-seat.passes.items ++ actor_number a ∷ rest) made.actor
+          ∙ ap (λ ss. map (λ pass. actor_number pass.actor) c.loop-seat.passes.items ++ map actor_of ss) (sym c.in-Some.ensures.steps.0)
+          ∙ c.loop-seat.invariant.actors;
+      made = subst (Each (IsNew g.H.Home.table g.H.Home.owners g.H.Home.links n)) (sym pushed)
+          (Each-append (IsNew g.H.Home.table g.H.Home.owners g.H.Home.links n) c.loop-seat.passes.items (c.new.result ∷ []) c.loop-seat.invariant.made
+          (pass-new g.H.Home.table g.H.Home.owners g.H.Home.links n c.in-Some.seat c.new.result left.0 made.actor made.seat.0 made.seat.1 made.seat.2 made.own made.spent, tt));
+      left = left.1;
+    }
