@@ -1,5 +1,5 @@
 //! Runs that are played by a schedule.
-ghost use Rattle.std.specs.Prelude.{◌≡◌, ◌+◌, ◌<◌, ◌≤◌, [], IfOk, IfErr, OnOk, length, reverse};
+ghost use Rattle.std.specs.Prelude.{◌≡◌, ◌+◌, ◌<◌, ◌≤◌, ◌∷◌, [], IfOk, IfErr, OnOk, length, reverse};
 ghost use Rattle.call_script.specs.Tasks.{network_of};
 ghost use Rattle.interleave_core.specs.Schedules.{Follows, IsActorOf, IsFaultOf, IsMissing, IsPlayed, IsStop, IsWanted, PlayedOut, StepsOut, actor_at, lined_turns, repeated, turn_of, turns_of};
 ghost use Rattle.interleave_core.specs.Standing.{IsGuaranteedRun, Stands, run_in};
@@ -116,7 +116,7 @@ fn make_turn(core: &mut Core, plan: &Plan, actor: ActorNo, line: u64) -> Result<
     requires stands { Stands plan.now core.old }
     requires actor { actor_number actor ≤ length plan.now.callers }
     ensures stands { Stands plan.now core.new }
-    ensures follows { OnOk result (Follows (network_of plan.now) (run_in core.old) (repeated 1 actor) (run_in core.new)) }
+    ensures follows { OnOk result (Follows (network_of plan.now) (run_in core.old) (actor ∷ []) (run_in core.new)) }
     ensures fault { IfErr result (IsMissing (network_of plan.now) (run_in core.old) (record { actor = actor; line = line })) }
 {
     match core.step(plan, actor) {
