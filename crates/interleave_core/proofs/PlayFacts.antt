@@ -1,5 +1,5 @@
 -- What a core has recorded has the whole guarantee; and what its steps make of a schedule.
-use Rattle.std.proofs.Common.{◌≡◌, ℕ, suc, ◌+◌, ◌-◌, ◌<◌, ◌≤◌, Option, Some, None, IsSome, List, [], ◌∷◌, ◌++◌, length, take, drop, get_or, refl, sym, ap, ◌∙◌, subst, arith}
+use Rattle.std.proofs.Common.{◌≡◌, ℕ, suc, ◌+◌, ◌-◌, ◌<◌, ◌≤◌, Bool, true, false, Option, Some, None, IsSome, List, [], ◌∷◌, ◌++◌, length, take, drop, get_or, refl, sym, ap, ◌∙◌, subst, arith}
 use Rattle.std.proofs.lemmas.List.{take-append-drop}
 use Rattle.net_units.specs.Numbers.{actor_number}
 use Rattle.net_units.specs.declared.numbers.ActorNo.{ActorNo}
@@ -12,12 +12,14 @@ use Rattle.call_script.proofs.Walks.{before-at, left-at}
 use Rattle.call_script.specs.Parts.{PlanParts}
 use Rattle.call_script.specs.Tasks.{Network, network_of}
 use Rattle.call_script.specs.declared.schedule.Do.{Do}
-use Rattle.interleave_core.specs.Runs.{next_for, step, run_from}
-use Rattle.interleave_core.specs.Schedules.{Turn, turn_of, repeated, lined_turns, turns_of, HaveSteps, Follows, Stops, IsStop, IsMissing}
+use Rattle.call_script.specs.declared.schedule.Schedule.{Schedule}
+use Rattle.interleave_core.specs.Runs.{plane_no, next_for, step, run_from}
+use Rattle.interleave_core.specs.Schedules.{Turn, turn_of, repeated, lined_turns, turns_of, HaveSteps, Follows, Stops, actor_at, StepsOut, PlayedOut, PlayedBy, IsPlayed, IsStop, IsMissing}
 use Rattle.interleave_core.specs.Standing.{Stands, StepsTo, IsGuaranteedRun, run_in}
 use Rattle.interleave_core.specs.declared.playing.PlayFault.{PlayFault}
 use Rattle.interleave_core.specs.declared.playing.PlayFault.TheVariants.{Memory, Step}
 use Rattle.interleave_core.specs.declared.stepping.Core.{Core}
+use Rattle.interleave_core.proofs.ActorFacts.{plane-number}
 use Rattle.interleave_core.proofs.GuaranteeLaw.{guaranteed-throughout}
 use Rattle.interleave_core.proofs.ScheduleFacts.{follows-none, follows-one, follows-more, repeated-more, repeated-split, repeated-actors, lined-append, lined-one, turns-append, turns-one, stops-behind, stops-before, stops-now}
 use Rattle.interleave_core.specs.Turns.{most_left}
@@ -83,8 +85,8 @@ items-again network mid run items i item within is before one =
 items-stop-at : (network : Network) (mid : List Done) (items : List Do) (i : ℕ) (item : Do) (line made : ℕ) → i < length items → item ≡ get_or items i item → Follows network [] (turns_of (take i items)) mid → Stops network mid (repeated item.count (turn_of item)) line made → Stops network [] (lined_turns items) line made
 items-stop-at network mid items i item line made within is before stop =
     let all : lined_turns items ≡ lined_turns (take i items) ++ (repeated item.count (turn_of item) ++ lined_turns (drop (i + 1) items)) =
-        ap lined_turns (sym (take-append-drop i items) ∙ ap (λ more. take i items ++ more) (left-at items i item within is)) ∙ lined-append (take i items) (item ∷ drop (i + 1) items)
-        ∙ ap (λ more. lined_turns (take i items) ++ more) (lined-append (item ∷ []) (drop (i + 1) items) ∙ ap (λ more. more ++ lined_turns (drop (i + 1) items)) (lined-one item)) in
+    ap lined_turns (sym (take-append-drop i items) ∙ ap (λ more. take i items ++ more) (left-at items i item within is)) ∙ lined-append (take i items) (item ∷ drop (i + 1) items)
+    ∙ ap (λ more. lined_turns (take i items) ++ more) (lined-append (item ∷ []) (drop (i + 1) items) ∙ ap (λ more. more ++ lined_turns (drop (i + 1) items)) (lined-one item)) in
     subst (λ turns. Stops network [] turns line made) (sym all)
     (stops-behind network [] mid (lined_turns (take i items)) (repeated item.count (turn_of item) ++ lined_turns (drop (i + 1) items)) line made before
     (stops-before network mid (repeated item.count (turn_of item)) (lined_turns (drop (i + 1) items)) line made stop))
@@ -96,3 +98,27 @@ items-stop network mid items i item (Step line made) within is before stop = ite
 pub none-played : (network : Network) (run : List Done) → run ≡ [] → Follows network [] (turns_of (take 0 [])) run
 unfolding HaveSteps run_from lined_turns
 none-played network run none = record { served = tt; is = none }
+
+-- ---- each actor to its end
+
+pub none-out : (parts : PlanParts) (run : List Done) → run ≡ [] → PlayedOut (network_of parts) 0 run
+unfolding PlayedOut
+none-out parts run none = none
+
+pub out-again : (parts : PlanParts) (past run : List Done) (n : ℕ) (actor : ActorNo) → actor ≡ actor_at n → PlayedOut (network_of parts) n past → StepsOut (network_of parts) past actor run → PlayedOut (network_of parts) (n + 1) run
+unfolding PlayedOut
+out-again parts past run n actor is before out =
+    let one : suc n ≡ n + 1 = omega arith in
+    let own : PlayedOut (network_of parts) (suc n) run = (past, before, subst (λ (a : ActorNo). StepsOut (network_of parts) past a run) is out) in
+    subst (λ m. PlayedOut (network_of parts) m run) one own
+
+-- ---- a schedule
+
+pub played-written : (parts : PlanParts) (schedule : Schedule) (items : List Do) (run made : List Done) → schedule.written ≡ true → items ≡ schedule.items → Follows (network_of parts) [] (turns_of items) run → run ≡ made → IsPlayed (network_of parts) schedule made
+played-written parts schedule items run made written same follows is =
+    subst (λ w. PlayedBy (network_of parts) w schedule.items made) (sym written) (subst (λ r. Follows (network_of parts) [] (turns_of schedule.items) r) is (subst (λ own. Follows (network_of parts) [] (turns_of own) run) same follows))
+
+pub played-out : (parts : PlanParts) (schedule : Schedule) (run made : List Done) → schedule.written ≡ false → PlayedOut (network_of parts) (length parts.callers + 1) run → run ≡ made → IsPlayed (network_of parts) schedule made
+played-out parts schedule run made written out is =
+    let all : length parts.callers + 1 ≡ suc (plane_no (network_of parts)) = (let same = plane-number parts in omega (arith, same)) in
+    subst (λ w. PlayedBy (network_of parts) w schedule.items made) (sym written) (subst (λ n. PlayedOut (network_of parts) n made) all (subst (λ r. PlayedOut (network_of parts) (length parts.callers + 1) r) is out))

@@ -4,10 +4,13 @@ ghost use Rattle.net_units.specs.Numbers.{link_number, channel_number};
 ghost use Rattle.call_script.specs.OneLink.{IsThatLink, IsThatRequest, IsThatScript};
 
 use super::*;
-use call_script::{CallerEntry, LinkEntry, Op, Ops, Plan, RequestEntry, Version};
+use call_script::{
+    CallerEntry, Do, Dos, LinkEntry, Op, Ops, Plan, RequestEntry, Schedule, Version,
+};
 use hop_reservation::{Hop, Route};
 use link_steps::{LinkShape, Reply};
 use net_units::{ActorNo, Bounds, ChanNo, Level, LinkNo, Name};
+use run_record::Record;
 use setup_protocol::{Control, Request};
 use std::alloc::Global;
 use std::process::Abort;
@@ -113,5 +116,58 @@ fn a_caller_makes_its_steps(rt: HostRuntime) -> Result<(), Fail> {
         Err(CoreRefusal::NoStepLeft { made: 2 })
     );
     assert_eq!(rt; core.finish().entries().len(), 2);
+    Ok(())
+}
+
+// How many steps the run has of a schedule whose line 8 asks for so many of the caller, or where it asks too much.
+fn steps_of_written(
+    alloc: Global,
+    plan: &Plan,
+    count: u64,
+) -> Result<Result<usize, PlayFault>, Fail> {
+    let actor = ActorNo::new(0).ok_or("caller")?;
+    let mut items = Vec::new(alloc);
+    items.push(Do {
+        line: 8,
+        actor,
+        count,
+    })?;
+    let schedule = Schedule {
+        written: true,
+        items: Dos::new(items),
+    };
+    Ok(steps_of_played(play(alloc, plan, &schedule)))
+}
+
+fn steps_of_played(played: Result<Record, PlayFault>) -> Result<usize, PlayFault> {
+    match played {
+        Ok(record) => Ok(record.entries().len()),
+        Err(fault) => Err(fault),
+    }
+}
+
+#[test]
+fn a_written_schedule_is_played_as_far_as_it_asks(rt: HostRuntime) -> Result<(), Fail> {
+    let alloc = rt.alloc();
+    let plan = plan(alloc)?;
+    assert_eq!(rt; steps_of_written(alloc, &plan, 1)?, Ok(1));
+    assert_eq!(rt; steps_of_written(alloc, &plan, 2)?, Ok(2));
+    assert_eq!(rt;
+        steps_of_written(alloc, &plan, 9)?,
+        Err(PlayFault::Step { line: 8, made: 2 })
+    );
+    Ok(())
+}
+
+// The caller's two steps, and then the plane's tick.
+#[test]
+fn without_a_schedule_each_plays_to_its_end(rt: HostRuntime) -> Result<(), Fail> {
+    let alloc = rt.alloc();
+    let plan = plan(alloc)?;
+    let schedule = Schedule {
+        written: false,
+        items: Dos::new(Vec::new(alloc)),
+    };
+    assert_eq!(rt; steps_of_played(play(alloc, &plan, &schedule)), Ok(3));
     Ok(())
 }
