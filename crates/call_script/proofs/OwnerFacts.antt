@@ -252,7 +252,7 @@ caller-off parts c n tasks plan other found =
     (ops-off c (map request_of parts.requests) [] at.from.ops (in-order parts plan.planned) (keeps-order parts n at.from plan at.found).opened
     (λ chan any same. other (subst (IsOpenedBy parts n) same (opened-has parts n chan at.from plan.planned at.found any))))
 
-owned-by : (parts : PlanParts) (c : ℕ) (entry : RequestEntry) → IsPlan parts → slice_get parts.requests c ≡ Some entry → OwnedFully (network_of parts) entry.request (actor_number entry.caller)
+pub owned-by : (parts : PlanParts) (c : ℕ) (entry : RequestEntry) → IsPlan parts → slice_get parts.requests c ≡ Some entry → OwnedFully (network_of parts) entry.request (actor_number entry.caller)
 unfolding network_of
 owned-by parts c entry plan found =
     let number : channel_number entry.request.chan ≡ c = plan.planned.requests c entry found in

@@ -46,3 +46,5 @@ pub mod StepFacts
 pub mod TurnFacts
 pub mod ScheduleFacts
 pub mod PlayFacts
+pub mod RunFronts
+pub mod OwnerVerdict

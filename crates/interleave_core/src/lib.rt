@@ -5,7 +5,7 @@
 //! parts fit. They speak of no calendar, queue or running sum. [`Core`] makes such a run, one step of one actor at a time.
 #![tactic(auto)]
 
-mod actors;
+pub mod actors;
 pub mod laws;
 pub mod linked_laws;
 mod links;
@@ -13,6 +13,7 @@ pub mod playing;
 pub mod refusal;
 pub mod stepping;
 
+pub use actors::{Actors, replay};
 pub use playing::{PlayFault, play};
 pub use refusal::CoreRefusal;
 pub use stepping::Core;

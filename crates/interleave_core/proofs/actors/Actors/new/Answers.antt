@@ -20,8 +20,8 @@ new-requires-clause-links_most c = (let has = has-few c.args.plan.now c.links.en
 pub new-requires-clause-rounds_most : goal.new-requires-clause-rounds_most
 new-requires-clause-rounds_most c = (let has = has-few c.args.plan.now c.links.ensures.valid in omega (arith, has.rounds, c.rounds.ensures.value, c.tail.ensures.value))
 
-pub returns : goal.returns
-returns c =
+pub returns-clause-stand : goal.returns-clause-stand
+returns-clause-stand c =
     let is = c.in_ok-plane.ensures in
     record {
       callers = c.in_ok-callers.ensures;
