@@ -48,3 +48,4 @@ pub mod ScheduleFacts
 pub mod PlayFacts
 pub mod RunFronts
 pub mod OwnerVerdict
+pub mod WorkedSchedules

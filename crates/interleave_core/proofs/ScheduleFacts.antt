@@ -1,5 +1,5 @@
 -- A schedule comes to a run, or asks too much: to exactly one of these, and to one run or one line. What it comes to is a run.
-use Rattle.std.proofs.Common.{◌≡◌, ◌⊎◌, ℕ, zero, suc, ◌+◌, ◌-◌, ◌<◌, ◌≤◌, min, Bool, true, false, Option, Some, None, IsSome, List, [], ◌∷◌, ◌++◌, length, map, take, drop, get_or, refl, sym, ap, ◌∙◌, subst, inl, inr, arith}
+use Rattle.std.proofs.Common.{◌≡◌, ℕ, zero, suc, ◌+◌, ◌-◌, ◌<◌, ◌≤◌, Bool, true, false, Option, Some, None, IsSome, List, [], ◌∷◌, ◌++◌, length, map, drop, get_or, refl, sym, ap, ◌∙◌, subst, arith}
 use Rattle.std.proofs.lemmas.List.{append_assoc, append-nil, map-append}
 use Rattle.net_units.specs.Numbers.{actor_number}
 use Rattle.net_units.specs.declared.numbers.ActorNo.{ActorNo}
@@ -10,7 +10,7 @@ use Rattle.call_script.specs.Tasks.{Network}
 use Rattle.call_script.specs.declared.schedule.Do.{Do}
 use Rattle.call_script.specs.declared.schedule.Schedule.{Schedule}
 use Rattle.interleave_core.specs.Runs.{plane_no, next_for, IsRun, step, run_from}
-use Rattle.interleave_core.specs.Schedules.{Turn, actor_in, turn_of, repeated, lined_turns, turns_of, HaveSteps, Follows, Stops, actor_at, StepsOut, PlayedOut, PlayedBy, IsPlayed, StopsBy, AsksTooMuch, ComesTo, ARun, TooMuch, SchedulesComeToOneEnd}
+use Rattle.interleave_core.specs.Schedules.{Turn, actor_in, turn_of, repeated, lined_turns, turns_of, HaveSteps, Follows, Stops, actor_at, StepsOut, PlayedOut, PlayedBy, StopsBy, ComesTo, ARun, TooMuch, SchedulesComeToOneEnd}
 use Rattle.interleave_core.specs.Turns.{most_left}
 use Rattle.interleave_core.proofs.RunOf.{step-run, none-run}
 use Rattle.interleave_core.proofs.TurnFacts.{makes-one}

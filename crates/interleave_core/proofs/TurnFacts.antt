@@ -1,9 +1,9 @@
 -- An actor's steps come to an end: how many it has left at most falls with each step that it makes.
-use Rattle.std.proofs.Common.{◌≡◌, ◌≢◌, ℕ, zero, suc, ◌+◌, ◌*◌, ◌-◌, ◌<◌, ◌≤◌, Bool, true, Option, Some, None, IsSome, List, [], ◌∷◌, ◌++◌, length, find, refl, sym, ap, ◌∙◌, subst, inl, inr, arith}
+use Rattle.std.proofs.Common.{◌≡◌, ◌≢◌, ℕ, zero, suc, ◌+◌, ◌*◌, ◌-◌, ◌<◌, ◌≤◌, Bool, Option, Some, None, IsSome, List, [], ◌∷◌, ◌++◌, length, find, refl, sym, ap, ◌∙◌, subst, inl, inr, arith}
 use Rattle.std.proofs.Math.Nat.{suc-mul}
 use Rattle.std.proofs.lemmas.Bool.{cases_Bool, cases_lt, cond_both, eqb-true, eqb-false, eq-eqb, ne_eqb}
 use Rattle.std.proofs.lemmas.List.{length-append}
-use Rattle.std.proofs.lemmas.Option.{same_Some, slice_get_within}
+use Rattle.std.proofs.lemmas.Option.{slice_get_within}
 use Rattle.std.specs.List.{slice_get}
 use Rattle.std.specs.Prelude.{nat_eq}
 use Rattle.net_units.specs.Numbers.{link_number, actor_number}
@@ -33,11 +33,11 @@ use Rattle.interleave_core.specs.Runs.{plane_no, plane_at, next_for, IsNext, IsR
 use Rattle.interleave_core.specs.Turns.{most_steps, most_over, caller_most, plane_most, most_left, MakesOne, StepsComeToAnEnd}
 use Rattle.interleave_core.proofs.CallerFacts.{OffersFit, first-fits, StandingFits}
 use Rattle.interleave_core.proofs.LinksAsked.{asks-linked}
-use Rattle.interleave_core.proofs.RunLegal.{RunStands, run-stands, caller-next, plane-next, plane-off, plane-by, replies-by, replies-off}
+use Rattle.interleave_core.proofs.RunLegal.{run-stands, caller-next, plane-next, plane-off, plane-by, replies-by, replies-off}
 use Rattle.interleave_core.proofs.RunOf.{step-is}
 use Rattle.run_record.specs.Runs.{replies_to, part_of}
 use Rattle.run_record.specs.declared.done.Done.{Done}
-use Rattle.tick_plane.specs.Planes.{Plane, is_due, next_due, flight_to, flight_of, flight_in, plane_with, plane_after, plane_of}
+use Rattle.tick_plane.specs.Planes.{Plane, is_due, next_due, flight_to, flight_in, plane_with}
 use Rattle.tick_plane.specs.declared.flight.Flight.{Flight}
 
 -- ---- a setup takes at most two steps a hop

@@ -47,14 +47,14 @@ use Rattle.tick_plane.specs.Planes.{link_at, plane_of}
 
 -- ---- two callers, their channels, and links that carry a unit a tick
 
-abbrev k1 : ActorNo
+abbrev pub k1 : ActorNo
 k1 = record { number = 0; small = lit< tt }
 
-abbrev k2 : ActorNo
+abbrev pub k2 : ActorNo
 k2 = record { number = 1; small = lit< tt }
 
 -- the plane, after two callers
-abbrev plane : ActorNo
+abbrev pub plane : ActorNo
 plane = record { number = 2; small = lit< tt }
 
 abbrev chan0 : ChanNo
@@ -160,10 +160,10 @@ alone-pending = refl
 
 -- ---- two setups over a ring of two links, one way round and the other: each finds the other's reservation at its second hop
 
-abbrev ring : Network
+abbrev pub ring : Network
 ring = network_of (narrow_link 0 ∷ narrow_link 1 ∷ []) ((Opens (request_over chan0 (narrow_link 0 ∷ narrow_link 1 ∷ []) 24) ∷ []) ∷ (Opens (request_over chan1 (narrow_link 1 ∷ narrow_link 0 ∷ []) 24) ∷ []) ∷ []) 0
 
-abbrev in_turn : List ActorNo
+abbrev pub in_turn : List ActorNo
 in_turn = k1 ∷ k2 ∷ k1 ∷ k2 ∷ k1 ∷ k2 ∷ []
 
 ring-replies : played ring in_turn ≡ offer 1 1 ∷ offer 1 1 ∷ Refused (NoLevel 12 10) ∷ Refused (NoLevel 12 10) ∷ Denied ∷ Denied ∷ []

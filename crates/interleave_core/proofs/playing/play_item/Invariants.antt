@@ -1,4 +1,3 @@
-use Rattle.std.proofs.Common.{◌≤◌}
 use Rattle.call_script.specs.Tasks.{network_of}
 use Rattle.interleave_core.specs.Schedules.{Follows, repeated}
 use Rattle.interleave_core.specs.Standing.{Stands, run_in}

@@ -1,5 +1,5 @@
 -- Each step leaves the actor fewer.
-use Rattle.std.proofs.Common.{◌+◌, refl, sym}
+use Rattle.std.proofs.Common.{◌+◌}
 use Rattle.call_script.specs.Tasks.{network_of}
 use Rattle.interleave_core.specs.Standing.{run_in}
 use Rattle.interleave_core.proofs.PlayFacts.{follows-start, follows-again, turn-fewer}
