@@ -30,3 +30,4 @@ pub mod SoundServed
 pub mod SoundTick
 pub mod SoundNumbers
 pub mod SoundServes
+pub mod QuietFacts

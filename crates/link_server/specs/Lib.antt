@@ -12,3 +12,4 @@ pub mod State
 pub mod Held
 pub mod Sound
 pub mod SoundProp
+pub mod Quiet

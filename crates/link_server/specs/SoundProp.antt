@@ -12,7 +12,7 @@ use Rattle.link_steps.specs.Service.{Arrival, Start}
 use Rattle.link_server.specs.Sound.{AreNumbered, IsSoundPacket, IsRunning, HasSize, AreAhead, IsApartFrom, AreApart, IsSoundRow, IsSound}
 
 -- a fact of each element, where it has one proof of each
-Each-prop : {X : Type 0} (P : X → Type 0) → ((x : X) → IsProp (P x)) → (xs : List X) → IsProp (Each P xs)
+pub Each-prop : {X : Type 0} (P : X → Type 0) → ((x : X) → IsProp (P x)) → (xs : List X) → IsProp (Each P xs)
 Each-prop P once [] = Unit-prop
 Each-prop P once (x ∷ xs) = ×_prop (once x) (Each-prop P once xs)
 

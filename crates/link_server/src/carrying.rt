@@ -6,6 +6,7 @@ ghost use Rattle.link_steps.specs.Kept.{kept_reply, kept_after};
 ghost use Rattle.link_steps.specs.Legal.{SubmitFits, PacketFits};
 ghost use Rattle.link_server.specs.State.{kept_in};
 
+use crate::due::{due_after, row_due};
 use crate::expiry::expire;
 use crate::link_state::LinkState;
 use crate::planned::Planned;
@@ -43,6 +44,8 @@ impl LinkState {
             size,
             count,
         });
+        let bounds = self.shape.bounds;
+        self.due = self.due.min(row_due(&self.rows[place], &bounds));
         Reply::Planned { clock: self.clock }
     }
 
@@ -62,6 +65,8 @@ impl LinkState {
         let count = self.rows[place].count_at_release(upstream);
         let cancelled = self.rows[place].cancelled_at_release(upstream);
         self.rows[place].close(count);
+        let bounds = self.shape.bounds;
+        self.due = self.due.min(row_due(&self.rows[place], &bounds));
         Reply::Closing { count, cancelled }
     }
 
@@ -88,6 +93,7 @@ impl LinkState {
         let number = self.packets.taken + 1;
         let taken = self.rows[place].take(packet.size, packet.due, number, clock);
         self.packets.push(taken);
+        self.due = self.due.min(row_due(&self.rows[place], &bounds));
         Reply::Taken {
             clock,
             eligible: taken.eligible,
@@ -134,9 +140,11 @@ impl LinkState {
         let clock = self.clock;
         let shape = self.shape;
         let bounds = shape.bounds;
-        expire(&mut self.rows, &mut self.sums, &bounds, clock);
+        let due = self.due;
+        expire(&mut self.rows, &mut self.sums, &bounds, due, clock);
         let waiting = self.packets.waiting(&bounds);
-        let full = take_source_packets(&mut self.rows, &mut self.packets, &bounds, clock);
+        let full = take_source_packets(&mut self.rows, &mut self.packets, &bounds, due, clock);
+        self.due = due_after(&self.rows, &bounds, due, clock);
         let best_lost = self.packets.take_best(waiting, &shape, clock);
         let left = self.packets.serve(&shape, clock);
         self.clock += 1;

@@ -4,13 +4,22 @@ ghost use Rattle.rcsp_admission.specs.Sums.{AreAdmitted};
 ghost use Rattle.link_steps.specs.Kept.{kept_stays};
 ghost use Rattle.link_server.specs.Rows.{row_in, summed, AreWithin};
 ghost use Rattle.link_server.specs.Sources.{AreReady};
+ghost use Rattle.link_server.specs.Quiet.{AreQuiet};
 
 use crate::served_row::ServedRow;
 use net_units::Bounds;
 use rcsp_admission::LevelSums;
 
 // Takes the rows whose hold has ended by this tick out of the rows and out of the admission sums.
-pub(crate) fn expire(rows: &mut Vec<ServedRow>, sums: &mut LevelSums, bounds: &Bounds, clock: u64)
+// Nothing is due for the rows before the tick `due`: where that is ahead, it looks at none of them.
+pub(crate) fn expire(
+    rows: &mut Vec<ServedRow>,
+    sums: &mut LevelSums,
+    bounds: &Bounds,
+    due: u64,
+    clock: u64,
+)
+    requires quiet { AreQuiet bounds.now due (map row_in rows.old.items) }
     requires ready { AreReady clock rows.old.items }
     requires within { AreWithin (length bounds.now) rows.old.items }
     requires admitted { AreAdmitted sums.old }
@@ -22,7 +31,11 @@ pub(crate) fn expire(rows: &mut Vec<ServedRow>, sums: &mut LevelSums, bounds: &B
     ensures same { sums.new.rows ≡ map summed rows.new.items }
     ensures ready { AreReady clock rows.new.items }
     ensures few { length rows.new.items ≤ length rows.old.items }
+    ensures quiet { clock < due → AreQuiet bounds.now due (map row_in rows.new.items) }
 {
+    if clock < due {
+        return;
+    }
     let mut place = 0;
     while place < rows.len() {
         if rows[place].has_ended(bounds, clock) {

@@ -7,6 +7,7 @@
 
 mod best_effort;
 mod carrying;
+mod due;
 mod expiry;
 mod held_row;
 mod in_line;

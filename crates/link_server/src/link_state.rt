@@ -5,7 +5,8 @@ ghost use Rattle.rcsp_admission.specs.Sums.{AreAdmitted};
 ghost use Rattle.link_steps.specs.Legal.{AskFits};
 ghost use Rattle.link_steps.specs.Shape.{server_of};
 ghost use Rattle.link_server.specs.Account.{account};
-ghost use Rattle.link_server.specs.Rows.{summed, AreWithin};
+ghost use Rattle.link_server.specs.Rows.{row_in, summed, AreWithin};
+ghost use Rattle.link_server.specs.Quiet.{AreQuiet, AreQuiet-prop};
 ghost use Rattle.link_server.specs.Sound.{IsSound};
 ghost use Rattle.link_server.specs.SoundProp.{IsSound-prop};
 ghost use Rattle.link_server.specs.Stood.{IsStood, IsStood-prop};
@@ -31,11 +32,14 @@ pub struct LinkState {
     // How many packets there is room for at least: those of channels that are here, one in each free slot, one more a
     // row, and the best-effort packets that may be here.
     pub(crate) room: u64,
+    // Nothing is due for the rows before this tick. It is 0 where that isn't known.
+    pub(crate) due: u64,
     ghost admitted: { AreAdmitted sums },
     ghost same_server: { sums.server ≡ server_of shape },
     ghost same_rows: { sums.rows ≡ map summed rows.items },
     ghost within: { AreWithin (length shape.bounds) rows.items },
     ghost sound: { IsSound shape room (account clock packets rows.items) } by { IsSound-prop shape room (account clock packets rows.items) },
+    ghost quiet: { AreQuiet shape.bounds due (map row_in rows.items) } by { AreQuiet-prop shape.bounds due (map row_in rows.items) },
     ghost roomy: { room ≤ vec_capacity packets.here },
     ghost stood: { IsStood shape (account clock packets rows.items) } by { IsStood-prop shape (account clock packets rows.items) },
 }
@@ -65,6 +69,7 @@ impl LinkState {
             rows: Vec::new(alloc),
             packets,
             room: u64::from(places),
+            due: u64::MAX,
         })
     }
 

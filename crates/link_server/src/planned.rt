@@ -15,7 +15,8 @@ pub(crate) struct Planned {
 
 impl Planned {
     ghost use Rattle.link_steps.specs.Rows.{is_for, left_at};
-    ghost use Rattle.link_server.specs.Planned.{left_in, size_of, IsAhead};
+    ghost use Rattle.link_steps.specs.Lists.{Each};
+    ghost use Rattle.link_server.specs.Planned.{left_in, size_of, IsFrom, IsAhead};
 
     // None are planned.
     pub(crate) const NONE: Planned = Planned {
@@ -24,6 +25,13 @@ impl Planned {
         size: 1,
         count: 0,
     };
+
+    // A tick before which none is planned.
+    pub(crate) fn due(&self) -> u64
+        ensures { Each (IsFrom result) (left_in self.now) }
+    {
+        if self.count == 0 { u64::MAX } else { self.tick }
+    }
 
     // The size of the packet that is planned for this tick, if there is one. Then it is no longer left.
     pub(crate) fn take_at(&mut self, clock: u64) -> Option<u32>

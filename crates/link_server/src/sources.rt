@@ -4,6 +4,7 @@ ghost use Rattle.std.specs.Vec.{vec_capacity};
 ghost use Rattle.link_steps.specs.Kept.{kept_packet, kept_after_step};
 ghost use Rattle.link_steps.specs.Sources.{taken_by, lost_by};
 ghost use Rattle.link_server.specs.Packets.{here_in};
+ghost use Rattle.link_server.specs.Quiet.{AreQuiet};
 ghost use Rattle.link_server.specs.Rows.{row_in, summed, IsWithin, AreWithin};
 ghost use Rattle.link_server.specs.Sources.{step_in, brought_by, rows_by, lost_by_rows, IsReady, AreReady};
 
@@ -12,13 +13,15 @@ use crate::served_row::ServedRow;
 use net_units::Bounds;
 
 // The rows, in their order, take the packets that are planned for this tick. It answers how many packets found no slot
-// free, and so were dropped.
+// free, and so were dropped. Nothing is due for the rows before the tick `due`: where that is ahead, it looks at none.
 pub(crate) fn take_source_packets(
     rows: &mut [ServedRow],
     packets: &mut Packets,
     bounds: &Bounds,
+    due: u64,
     clock: u64,
 ) -> u32
+    requires quiet { clock < due → AreQuiet bounds.now due (map row_in rows.old) }
     requires early { clock < 2 ^ 61 }
     requires few { length rows.old < 2 ^ 32 }
     requires ready { AreReady clock rows.old }
@@ -34,7 +37,11 @@ pub(crate) fn take_source_packets(
     ensures capacity { vec_capacity packets.new.here ≡ vec_capacity packets.old.here }
     ensures summed { map summed rows.new ≡ map summed rows.old }
     ensures levels { AreWithin (length bounds.now) rows.new }
+    ensures quiet { clock < due → AreQuiet bounds.now due (map row_in rows.new) }
 {
+    if clock < due {
+        return 0;
+    }
     let before = packets.here.len();
     let mut lost = 0;
     for row in rows.iter_mut() {

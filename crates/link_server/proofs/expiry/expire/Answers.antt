@@ -8,10 +8,17 @@ use Rattle.std.specs.List.{remove}
 use Rattle.link_steps.specs.Hold.{hold_ended}
 use Rattle.link_server.specs.Rows.{terms_in, row_in, summed, IsWithin}
 use Rattle.link_server.specs.Sources.{IsReady}
+use Rattle.link_server.proofs.QuietFacts.{quiet-stay}
 use Rattle.link_server.proofs.PlaceFacts.{all-without}
 use Rattle.link_server.proofs.SumsFacts.{place-holds, summed-without}
 use Rattle.link_server.proofs.ExpiryFacts.{staying, staying-without, stays-is, place-distinct, each-without, each-at}
 use Rattle.link_server.proofs.expiry.expire.Goals as goal
+
+pub returns-then-clock-due-clause-rows : goal.returns-then-clock-due-clause-rows
+returns-then-clock-due-clause-rows c = sym (quiet-stay c.args.bounds.now c.args.due c.args.clock (map row_in c.args.rows.now.items) c.requires.quiet c.if-clock-due.true)
+
+pub returns-clause-quiet : goal.returns-clause-quiet
+returns-clause-quiet c = λ before. absurd (omega (arith, before, c.if-clock-due.false))
 
 pub has_ended-requires : goal.has_ended-requires
 has_ended-requires c =

@@ -1,8 +1,8 @@
 -- Each row's step adds to what the rows before it have done.
-use Rattle.std.proofs.Common.{◌≡◌, ◌+◌, ◌++◌, ◌<◌, suc, length, get_or, take, drop, refl, ap, ◌∙◌, subst, arith}
+use Rattle.std.proofs.Common.{◌≡◌, ◌+◌, ◌++◌, ◌<◌, suc, length, get_or, take, drop, map, refl, sym, ap, ◌∙◌, subst, arith}
 use Rattle.std.proofs.Math.Seq.{map-set_same}
 use Rattle.std.specs.Prelude.{if◌then◌else◌}
-use Rattle.std.proofs.lemmas.List.{length-map, length-append, take_all}
+use Rattle.std.proofs.lemmas.List.{append-nil, length-map, length-append, take_all}
 use Rattle.std.proofs.lemmas.List.Elements.{All-set}
 use Rattle.link_steps.specs.Kept.{kept_packet, kept_after_step}
 use Rattle.link_steps.specs.Sources.{taken_by, lost_by}
@@ -10,9 +10,31 @@ use Rattle.link_server.specs.Packets.{arrival_in, here_in}
 use Rattle.link_server.specs.Rows.{row_in, summed, IsWithin}
 use Rattle.link_server.specs.Sources.{step_in, brought_by}
 use Rattle.link_server.proofs.SourceRows.{StandsStepped, none-stepped, one-stepped, all-stepped, ready-now, packets-now, lost-more, lost-same, front-same, front-within, terms-stepped}
+use Rattle.link_server.proofs.QuietFacts.{quiet-lost, quiet-rows, quiet-packets}
 use Rattle.link_server.proofs.SumsFacts.{summed-same, within-same}
 use Rattle.link_server.proofs.sources.take_source_packets.Goals as goal
 use Rattle.link_server.proofs.sources.take_source_packets.Goals.{After-loop-row, then-take_source_packet, else-take_source_packet}
+
+pub returns-then-clock-due-clause-lost : goal.returns-then-clock-due-clause-lost
+returns-then-clock-due-clause-lost c =
+    sym (quiet-lost c.args.bounds.now (here_in c.args.packets.now.here.items) c.args.due c.args.clock (map row_in c.args.rows.now) (c.requires.quiet c.if-clock-due.true) c.if-clock-due.true)
+
+pub returns-then-clock-due-clause-rows : goal.returns-then-clock-due-clause-rows
+returns-then-clock-due-clause-rows c =
+    sym (quiet-rows c.args.bounds.now (here_in c.args.packets.now.here.items) c.args.due c.args.clock c.args.packets.now.taken (map row_in c.args.rows.now) (c.requires.quiet c.if-clock-due.true) c.if-clock-due.true)
+
+pub returns-then-clock-due-clause-here : goal.returns-then-clock-due-clause-here
+returns-then-clock-due-clause-here c =
+    rw (quiet-packets c.args.bounds.now (here_in c.args.packets.now.here.items) c.args.due c.args.clock c.args.packets.now.taken (map row_in c.args.rows.now) (c.requires.quiet c.if-clock-due.true) c.if-clock-due.true)
+    (sym (append-nil (here_in c.args.packets.now.here.items)))
+
+pub returns-then-clock-due-clause-taken : goal.returns-then-clock-due-clause-taken
+returns-then-clock-due-clause-taken c =
+    rw (quiet-packets c.args.bounds.now (here_in c.args.packets.now.here.items) c.args.due c.args.clock c.args.packets.now.taken (map row_in c.args.rows.now) (c.requires.quiet c.if-clock-due.true) c.if-clock-due.true)
+    (omega arith)
+
+pub returns-clause-quiet : goal.returns-clause-quiet
+returns-clause-quiet c = λ before. absurd (omega (arith, before, c.if-clock-due.false))
 
 pub loop-row-init : goal.loop-row-init
 loop-row-init c =

@@ -20,6 +20,7 @@ use Rattle.link_server.specs.State.{kept_in}
 use Rattle.link_server.specs.Strays.{stray}
 use Rattle.link_server.proofs.ArriveFacts.{arrive-absent, arrive-stray, arrive-full, arrive-taken, arrive-same, arrive-kept, next-number, slots-rule, arrive-room}
 use Rattle.link_server.proofs.ExpiryFacts.{each-at}
+use Rattle.link_server.proofs.QuietFacts.{quiet-changed}
 use Rattle.link_server.proofs.PlaceFacts.{at-place}
 use Rattle.link_server.proofs.SumsFacts.{summed-same, within-same}
 use Rattle.link_server.proofs.SoundTaking.{sound-arrive}
@@ -130,6 +131,9 @@ invariant_of-self-2 c =
           (within-same _ c.take-taken.new.self (get_or c.args.self.now.rows.items c.in-Some.place c.index_mut.result.now) (ap (λ row. row.terms) same) (c.args.self.now.within c.in-Some.place c.index_mut.result.now place.inside))
           c.args.self.now.within;
       sound = subst (IsSound c.args.self.now.shape c.args.self.now.room) (sym (kept (goal.at.invariant_of-self-2 c).After-push place)) after;
+      quiet =
+          quiet-changed c.args.self.now.shape.bounds c.args.self.now.due c.row_due.result c.min-self.result c.args.self.now.rows.items c.in-Some.place c.take-taken.new.self c.index-3.result.now c.args.self.now.quiet place.inside c.index-3.ensures c.row_due.ensures
+          (omega (arith, c.min-self.ensures)) (omega (arith, c.min-self.ensures));
       roomy = omega (arith, roomy, c.push.ensures.capacity);
       stood = still-stood c.args.self.now (Arrive c.args.packet.now) (Taken c.args.self.now.clock c.take-taken.result.eligible) _ c.requires.fits (replied (goal.at.invariant_of-self-2 c).After-take-taken place) (kept (goal.at.invariant_of-self-2 c).After-push place);
     }

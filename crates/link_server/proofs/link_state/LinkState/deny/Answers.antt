@@ -7,6 +7,8 @@ use Rattle.link_steps.specs.Refusals.{not_in_phase}
 use Rattle.link_server.specs.Rows.{terms_in, summed, IsAbsent, IsPlaceOf, IsWithin}
 use Rattle.link_server.specs.Account.{account}
 use Rattle.link_server.specs.Sound.{IsSound}
+use Rattle.link_server.specs.Quiet.{IsQuiet}
+use Rattle.link_server.proofs.ExpiryFacts.{each-without}
 use Rattle.link_server.specs.State.{kept_in}
 use Rattle.link_steps.specs.declared.replies.Reply.TheVariants.{Denied}
 use Rattle.link_server.proofs.SoundSetup.{sound-deny}
@@ -67,6 +69,7 @@ invariant_of-self c =
           ∙ ap (map summed) (sym c.remove-2.ensures.items);
       within = rw c.remove-2.ensures.items (all-without (IsWithin _) c.args.self.now.rows.items c.in-Some.place c.args.self.now.within);
       sound = subst (IsSound c.args.self.now.shape c.args.self.now.room) (sym kept) (sound-deny c.args.self.now.shape c.args.self.now.room (kept_in c.args.self.now) c.args.chan Denied c.args.self.now.sound);
+      quiet = rw c.remove-2.ensures.items (each-without (IsQuiet c.args.self.now.shape.bounds c.args.self.now.due) c.args.self.now.rows.items c.in-Some.place c.args.self.now.quiet);
       roomy = c.args.self.now.roomy;
       stood = still-stood c.args.self.now (Deny c.args.chan) Denied _ tt (denied (goal.at.invariant_of-self c).After-remove-2) kept;
     }

@@ -1,13 +1,14 @@
 -- The channel had no row, so its number is new to the sums; the row is put at the end of both, and there is room for its
 -- packets.
-use Rattle.std.proofs.Common.{◌≡◌, map, sym, ap, ◌∙◌, subst}
+use Rattle.std.proofs.Common.{◌≡◌, map, refl, sym, ap, ◌∙◌, subst}
 use Rattle.link_steps.specs.declared.replies.Reply.TheVariants.{Offer}
 use Rattle.link_steps.specs.Kept.{kept_terms, kept_after}
 use Rattle.link_steps.proofs.ReplyFacts.{may-reach}
 use Rattle.link_server.specs.Account.{account}
 use Rattle.link_server.specs.Held.{held_by}
-use Rattle.link_server.specs.Rows.{summed, AreWithin}
+use Rattle.link_server.specs.Rows.{row_in, summed, AreWithin}
 use Rattle.link_server.specs.Sound.{IsSound}
+use Rattle.link_server.specs.Quiet.{IsQuiet, AreQuiet}
 use Rattle.link_server.specs.State.{kept_in}
 use Rattle.link_server.specs.Wants.{ask_for, MayHold}
 use Rattle.link_server.specs.declared.link_state.LinkState.{LinkState}
@@ -16,6 +17,7 @@ use Rattle.link_server.specs.declared.served_row.Wanted.{Wanted}
 use Rattle.link_server.proofs.SumsFacts.{within-reserved}
 use Rattle.link_server.proofs.AnswerFacts.{reserve-kept}
 use Rattle.link_server.proofs.HoldingFacts.{held_terms, sound-held, may-new, may-within, may-passes, summed-pushed, within-pushed}
+use Rattle.link_server.proofs.QuietFacts.{new-quiet, quiet-pushed}
 use Rattle.link_server.specs.Stood.{IsStood}
 use Rattle.link_server.proofs.StepFacts.{rows-have}
 use Rattle.link_server.proofs.StoodFacts.{stood-offered}
@@ -69,6 +71,9 @@ invariant_of-self c =
           ∙ ap (map summed) (sym c.push_reserved.ensures.items);
       within = subst (AreWithin _) (sym c.push_reserved.ensures.items) (within-pushed _ c.make_room.new.self.rows.items c.in_ok-row.row c.make_room.new.self.within (within-reserved _ c.in_ok-row.row (held_terms c.args.wanted.now c.args.offer.now) c.in_ok-row.ensures may.level_most (may-reach c.make_room.new.self.shape (held_by c.make_room.new.self) c.args.wanted.now.chan c.args.wanted.now.contract c.args.wanted.now.delay c.args.wanted.now.up_reach c.args.offer.now.level c.args.offer.now.reach may)));
       sound = subst (IsSound c.make_room.new.self.shape c.make_room.new.self.room) (sym (kept (goal.at.invariant_of-self c).After-add)) held;
+      quiet = subst (λ rows. AreQuiet c.make_room.new.self.shape.bounds c.make_room.new.self.due (map row_in rows)) (sym c.push_reserved.ensures.items)
+          (quiet-pushed c.make_room.new.self.shape.bounds c.make_room.new.self.due c.make_room.new.self.rows.items c.in_ok-row.row c.make_room.new.self.quiet
+          (subst (IsQuiet c.make_room.new.self.shape.bounds c.make_room.new.self.due) (sym c.in_ok-row.ensures) (new-quiet c.make_room.new.self.shape.bounds c.make_room.new.self.due _ refl)));
       roomy = c.make_room.new.self.roomy;
       stood = subst (IsStood c.make_room.new.self.shape) (sym (kept (goal.at.invariant_of-self c).After-add)) (stood-offered c.make_room.new.self.shape (kept_in c.make_room.new.self) c.args.wanted.now c.args.offer.now (rows-have c.make_room.new.self.rows.items) c.requires.fits may c.make_room.new.self.stood);
     }

@@ -3,6 +3,7 @@ use Rattle.std.proofs.Common.{◌≡◌, ◌^◌, ◌<◌, map, length, sym, ap,
 use Rattle.traffic_contract.specs.Admission.{total}
 use Rattle.link_server.specs.Rows.{row_in, summed, AreWithin}
 use Rattle.link_server.specs.Sound.{all_places_of, IsSound}
+use Rattle.link_server.specs.Quiet.{AreQuiet}
 use Rattle.link_server.specs.State.{kept_in}
 use Rattle.link_server.proofs.AccountFacts.{account-same}
 use Rattle.link_server.proofs.RoomFacts.{most_places-are}
@@ -27,6 +28,7 @@ invariant_of-self-2 c =
       same_rows = c.reserve-2.ensures.rows ∙ c.args.self.now.same_rows ∙ ap (map summed) (sym c.reserve.ensures.items);
       within = subst (AreWithin (length c.args.self.now.shape.bounds)) (sym c.reserve.ensures.items) c.args.self.now.within;
       sound = subst (IsSound c.args.self.now.shape c.max-self.result) (sym same) larger;
+      quiet = subst (λ rows. AreQuiet c.args.self.now.shape.bounds c.args.self.now.due (map row_in rows)) (sym c.reserve.ensures.items) c.args.self.now.quiet;
       roomy = omega (arith, c.max-self.ensures, grows, roomy, taken, c.len.ensures, ap length c.reserve-3.ensures.here);
       stood = subst (IsStood c.args.self.now.shape) (sym same) c.args.self.now.stood;
     }

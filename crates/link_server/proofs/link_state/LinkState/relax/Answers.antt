@@ -9,9 +9,12 @@ use Rattle.link_steps.specs.Kept.{kept_relaxed}
 use Rattle.link_steps.proofs.RefusalFacts.{unfit-none}
 use Rattle.link_server.specs.Rows.{terms_in, row_in, summed, IsAbsent, IsPlaceOf, IsWithin}
 use Rattle.link_server.specs.Sound.{IsSound}
+use Rattle.link_server.specs.Quiet.{IsQuiet}
 use Rattle.link_server.specs.State.{kept_in}
 use Rattle.link_steps.specs.declared.replies.Reply.TheVariants.{Relaxed}
 use Rattle.link_server.proofs.SoundSetup.{sound-relax}
+use Rattle.link_server.proofs.ExpiryFacts.{each-at}
+use Rattle.link_server.proofs.QuietFacts.{relaxed-quiet, quiet-set}
 use Rattle.link_server.proofs.PlaceFacts.{at-place}
 use Rattle.link_server.proofs.SumsFacts.{place-holds-upto, summed-moved, summed-committed, within-committed}
 use Rattle.link_server.proofs.AnswerFacts.{relax-absent, relax-phase, relax-unfit, relax-relaxed, relax-same, relax-kept}
@@ -82,6 +85,12 @@ invariant_of-self c =
           (within-committed _ c.commit.new.self (get_or c.args.self.now.rows.items c.in-Some.place c.index_mut.result.now) c.args.level c.args.up_bound same c.requires.fits.level_most (c.args.self.now.within c.in-Some.place c.index_mut.result.now place.inside))
           c.args.self.now.within;
       sound = subst (IsSound c.args.self.now.shape c.args.self.now.room) (sym kept) (sound-relax c.args.self.now.shape c.args.self.now.room (kept_in c.args.self.now) c.args.chan c.args.level c.args.up_bound (Relaxed c.args.self.now.clock) c.requires.fits c.args.self.now.sound reply);
+      quiet =
+          quiet-set c.args.self.now.shape.bounds c.args.self.now.due c.args.self.now.rows.items c.in-Some.place c.commit.new.self
+          (subst (IsQuiet c.args.self.now.shape.bounds c.args.self.now.due) (sym same)
+          (relaxed-quiet c.args.self.now.shape.bounds c.args.self.now.due c.args.level c.args.up_bound (row_in (get_or c.args.self.now.rows.items c.in-Some.place c.index_mut.result.now))
+          (each-at (IsQuiet c.args.self.now.shape.bounds c.args.self.now.due) c.args.self.now.rows.items c.in-Some.place c.index_mut.result.now place.inside c.args.self.now.quiet)))
+          c.args.self.now.quiet;
       roomy = c.args.self.now.roomy;
       stood = still-stood c.args.self.now (Relax c.args.chan c.args.level c.args.up_bound) (Relaxed c.args.self.now.clock) _ c.requires.fits reply kept;
     }

@@ -1,5 +1,5 @@
 -- The row of the channel is found at the hop that is named, judged by its phase, and closed.
-use Rattle.std.proofs.Common.{◌≡◌, length, get_or, set, sym, ap, ◌∙◌, subst}
+use Rattle.std.proofs.Common.{◌≡◌, length, get_or, set, sym, ap, ◌∙◌, subst, arith}
 use Rattle.std.proofs.Math.Seq.{map-set_same}
 use Rattle.std.proofs.lemmas.List.Elements.{All-set}
 use Rattle.link_steps.specs.declared.asks.Ask.TheVariants.{Release}
@@ -16,6 +16,7 @@ use Rattle.link_server.specs.Rows.{terms_in, row_in, is_row_at_hop, summed, HasN
 use Rattle.link_server.specs.Sound.{IsSound}
 use Rattle.link_server.specs.State.{kept_in}
 use Rattle.link_server.proofs.CloseFacts.{names-is, release-absent, release-phase, release-closes, release-same, release-kept, summed-closed, within-closed}
+use Rattle.link_server.proofs.QuietFacts.{quiet-changed}
 use Rattle.link_server.proofs.PlaceFacts.{at-place}
 use Rattle.link_server.proofs.SoundSetup.{sound-release}
 use Rattle.link_server.proofs.StoodFacts.{still-stood}
@@ -79,6 +80,9 @@ invariant_of-self c =
           (within-closed _ c.close.new.self (get_or c.args.self.now.rows.items c.in-Some.place c.index_mut.result.now) c.count_at_release-count.result same (c.args.self.now.within c.in-Some.place c.index_mut.result.now place.inside))
           c.args.self.now.within;
       sound = subst (IsSound c.args.self.now.shape c.args.self.now.room) (sym (kept close place)) (sound-release c.args.self.now.shape c.args.self.now.room (kept_in c.args.self.now) c.args.chan c.args.upstream (Closing c.count_at_release-count.result c.cancelled_at_release-cancelled.result) c.args.self.now.sound (replied close place));
+      quiet =
+          quiet-changed c.args.self.now.shape.bounds c.args.self.now.due c.row_due.result c.min-self.result c.args.self.now.rows.items c.in-Some.place c.close.new.self c.index-4.result.now c.args.self.now.quiet place.inside c.index-4.ensures c.row_due.ensures
+          (omega (arith, c.min-self.ensures)) (omega (arith, c.min-self.ensures));
       roomy = c.args.self.now.roomy;
       stood = still-stood c.args.self.now (Release c.args.chan c.args.upstream) (Closing c.count_at_release-count.result c.cancelled_at_release-cancelled.result) _ tt (replied close place) (kept close place);
     }

@@ -1,5 +1,5 @@
 -- The row of the channel at its first hop is found, judged by its phase, its plan and its contract, and planned for.
-use Rattle.std.proofs.Common.{length, true, get_or, sym, ap, ◌∙◌, subst}
+use Rattle.std.proofs.Common.{length, true, get_or, sym, ap, ◌∙◌, subst, arith}
 use Rattle.std.proofs.Math.Seq.{map-set_same}
 use Rattle.std.proofs.lemmas.List.Elements.{All-set}
 use Rattle.link_steps.specs.declared.replies.Phase.TheVariants.{Committed}
@@ -12,6 +12,7 @@ use Rattle.link_server.specs.State.{kept_in}
 use Rattle.link_steps.specs.declared.replies.Reply.TheVariants.{Planned}
 use Rattle.link_server.proofs.SoundSetup.{sound-submit}
 use Rattle.link_server.proofs.AnswerFacts.{submit-absent, submit-phase, submit-busy, submit-big, submit-planned, submit-same, submit-kept}
+use Rattle.link_server.proofs.QuietFacts.{quiet-changed}
 use Rattle.link_server.proofs.PlaceFacts.{at-place}
 use Rattle.link_server.proofs.SumsFacts.{summed-same, within-same}
 use Rattle.link_server.proofs.PlanFacts.{none-left}
@@ -87,6 +88,9 @@ invariant_of-self c =
           (within-same _ c.plan.new.self (get_or c.args.self.now.rows.items c.in-Some.place c.index_mut.result.now) (ap (λ row. row.terms) same) (c.args.self.now.within c.in-Some.place c.index_mut.result.now place.inside))
           c.args.self.now.within;
       sound = subst (IsSound c.args.self.now.shape c.args.self.now.room) (sym kept) (sound-submit c.args.self.now.shape c.args.self.now.room (kept_in c.args.self.now) c.args.chan c.args.count c.args.gap c.args.size (Planned c.args.self.now.clock) c.requires.fits c.args.self.now.sound reply);
+      quiet =
+          quiet-changed c.args.self.now.shape.bounds c.args.self.now.due c.row_due.result c.min-self.result c.args.self.now.rows.items c.in-Some.place c.plan.new.self c.index-4.result.now c.args.self.now.quiet place.inside c.index-4.ensures c.row_due.ensures
+          (omega (arith, c.min-self.ensures)) (omega (arith, c.min-self.ensures));
       roomy = c.args.self.now.roomy;
       stood = still-stood c.args.self.now (Submit c.args.chan c.args.count c.args.gap c.args.size) (Planned c.args.self.now.clock) _ c.requires.fits reply kept;
     }

@@ -14,10 +14,11 @@ use Rattle.link_steps.specs.Split.{whole}
 use Rattle.link_server.specs.Account.{account}
 use Rattle.link_server.specs.Packets.{arrival_in, here_in, on_in}
 use Rattle.link_server.specs.Rows.{row_in, summed, AreWithin}
+use Rattle.link_server.specs.Quiet.{AreQuiet}
 use Rattle.link_server.specs.Serving.{CanServe}
 use Rattle.link_server.specs.Sound.{IsSound}
 use Rattle.link_server.specs.State.{kept_in}
-use Rattle.link_server.proofs.SoundNumbers.{sources-room, best-room, ahead-from, brought-small}
+use Rattle.link_server.proofs.SoundNumbers.{sources-room, best-room, brought-room, ahead-from, brought-small}
 use Rattle.link_server.proofs.SoundServes.{sound-serves}
 use Rattle.link_server.proofs.SoundTick.{sound-tick}
 use Rattle.link_server.proofs.StoodFacts.{all-ready, rows-few, room-small, still-stood}
@@ -69,6 +70,17 @@ take_best-best_lost-requires-clause-room c = λ free.
     let roomy = c.args.self.now.roomy in
     omega (arith, room, same, all, parts, long, roomy, c.take_source_packets-full.ensures.capacity)
 
+pub take_best-best_lost-requires-clause-countable : goal.take_best-best_lost-requires-clause-countable
+take_best-best_lost-requires-clause-countable c =
+    let all = brought-room c.args.self.now.shape c.args.self.now.room (kept_in c.args.self.now) c.args.self.now.sound in
+    let most = c.args.self.now.sound.taken_most in
+    let few = room-small c.args.self.now in
+    let stays = ap (map row_in) c.deref_mut.ensures.value ∙ c.expire.ensures.rows in
+    let same = ap length (brought-is c.args.self.now.shape (kept_in c.args.self.now) c.deref_mut.result.now stays) in
+    let parts = length-append (from_sources c.args.self.now.shape (kept_in c.args.self.now)) (from_best c.args.self.now.shape (kept_in c.args.self.now)) in
+    let taken = c.take_source_packets-full.ensures.taken in
+    omega (arith, all, most, few, same, parts, taken, c.requires.early)
+
 pub serve-left-requires-clause-serves : goal.serve-left-requires-clause-serves
 serve-left-requires-clause-serves c =
     subst (λ on. CanServe c.args.self.now.shape c.args.self.now.clock on) (sym (ap on_in (c.take_best-best_lost.ensures.on ∙ c.take_source_packets-full.ensures.on)))
@@ -113,6 +125,7 @@ invariant_of-self c =
       same_rows = c.expire.ensures.same ∙ ap (map summed) (sym c.deref_mut.ensures.value) ∙ sym c.take_source_packets-full.ensures.summed ∙ ap (map summed) (sym rows);
       within = subst (AreWithin (length c.args.self.now.shape.bounds)) (sym rows) c.take_source_packets-full.ensures.levels;
       sound = subst (IsSound c.args.self.now.shape c.args.self.now.room) (sym after) (sound-tick c.args.self.now.shape c.args.self.now.room (kept_in c.args.self.now) (Ticked c.args.self.now.clock c.take_source_packets-full.result c.serve-left.result.sent c.serve-left.result.best_sent c.take_best-best_lost.result) c.args.self.now.sound);
+      quiet = subst (λ all. AreQuiet c.args.self.now.shape.bounds c.due_after-self.result (map row_in all)) c.deref.ensures.value c.due_after-self.ensures;
       roomy = omega (arith, roomy, first, second, third);
       stood = still-stood c.args.self.now Tick (Ticked c.args.self.now.clock c.take_source_packets-full.result c.serve-left.result.sent c.serve-left.result.best_sent c.take_best-best_lost.result) _ tt (replied (goal.at.invariant_of-self c).After-serve-left) after;
     }
