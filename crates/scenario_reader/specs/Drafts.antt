@@ -1,0 +1,110 @@
+-- What was read of a scenario so far: the version that its header says; the links, the requests, and the callers with their
+-- operations, as a plan has them; the numbers of rounds, once they were said; and the schedule: whether it was begun, and its
+-- items. When `tail` was said, the first parts are those of the plan. Links, requests and callers have the numbers of their
+-- places, from 0, in the order of their lines. The operations that are read belong to the last caller.
+use Rattle.std.specs.Prelude.{ℕ, ◌-◌, Bool, true, false, nat_eq, if◌then◌else◌, Option, Some, None, List, [], ◌∷◌, ◌++◌, length, find, position, is_some, unwrap_or}
+use Rattle.std.specs.List.{list_any}
+use Rattle.net_units.specs.Numbers.{actor_number, channel_number}
+use Rattle.net_units.specs.declared.numbers.ChanNo.{ChanNo}
+use Rattle.hop_reservation.specs.declared.route.Hop.{Hop}
+use Rattle.call_script.specs.Growing.{new_caller, add_op, last_ops}
+use Rattle.call_script.specs.Parts.{PlanParts, parts_of}
+use Rattle.call_script.specs.Rules.{is_named, caller_names, closes}
+use Rattle.call_script.specs.declared.entries.CallerEntry.{CallerEntry}
+use Rattle.call_script.specs.declared.entries.LinkEntry.{LinkEntry}
+use Rattle.call_script.specs.declared.entries.RequestEntry.{RequestEntry}
+use Rattle.call_script.specs.declared.operations.Op.{Op}
+use Rattle.call_script.specs.declared.operations.Op.TheVariants.{Open}
+use Rattle.call_script.specs.declared.schedule.Do.{Do}
+use Rattle.call_script.specs.declared.schedule.Schedule.{Schedule}
+use Rattle.call_script.specs.declared.version.Version.{Version}
+use Rattle.call_script.specs.declared.version.Version.TheVariants.{One}
+use Rattle.scenario_reader.specs.Entries.{hop_of}
+use Rattle.scenario_reader.specs.declared.item.Item.{Item}
+use Rattle.scenario_reader.specs.declared.item.Item.TheVariants as item
+
+pub record Said : Type 0 where
+  pub version : Option Version
+  pub links : List LinkEntry
+  pub requests : List RequestEntry
+  pub callers : List CallerEntry
+  pub rounds : Option ℕ
+  pub tail : Option ℕ
+  pub written : Bool
+  pub items : List Do
+
+-- before the first line
+abbrev pub nothing_said : Said
+nothing_said = record { version = None; links = []; requests = []; callers = []; rounds = None; tail = None; written = false; items = [] }
+
+-- what was read once this line was, too
+abbrev pub with_item : Item → Said → Said
+with_item item.Nothing said = said
+with_item (item.Header version) said = record said { version = Some version }
+with_item (item.Link entry) said = record said { links = said.links ++ entry ∷ [] }
+with_item (item.Caller name) said = record said { callers = said.callers ++ new_caller name ∷ [] }
+with_item (item.Open entry) said = record said { requests = said.requests ++ entry ∷ []; callers = add_op (Open entry.request.chan) said.callers }
+with_item (item.Op op) said = record said { callers = add_op op said.callers }
+with_item (item.Rounds count) said = record said { rounds = Some count }
+with_item (item.Tail count) said = record said { tail = Some count }
+with_item item.Schedule said = record said { written = true }
+with_item (item.Do what) said = record said { items = said.items ++ what ∷ [] }
+
+-- the last line that a plan needs was read
+abbrev pub is_complete : Said → Bool
+is_complete said = is_some said.tail
+
+-- the rounds of the plane beside the callers, and those after them
+abbrev pub rounds_of : Said → ℕ
+rounds_of said = unwrap_or said.rounds 0
+
+abbrev pub tail_of : Said → ℕ
+tail_of said = unwrap_or said.tail 0
+
+-- the parts of the plan
+abbrev pub parts_said : Said → PlanParts
+parts_said said = parts_of (unwrap_or said.version One) said.links said.requests said.callers (rounds_of said) (tail_of said)
+
+-- its schedule
+abbrev pub schedule_said : Said → Schedule
+schedule_said said = record { written = said.written; items = said.items }
+
+-- ---- what a name stands for
+
+-- the link of this name
+abbrev pub link_named : List LinkEntry → List ℕ → Option LinkEntry
+link_named links name = find (λ (entry : LinkEntry). is_named name entry.name) links
+
+-- the request of this name
+abbrev pub request_named : List RequestEntry → List ℕ → Option RequestEntry
+request_named requests name = find (λ (entry : RequestEntry). is_named name entry.name) requests
+
+-- the number of the caller of this name
+abbrev pub caller_named : List CallerEntry → List ℕ → Option ℕ
+caller_named callers name = position (is_named name) (caller_names callers)
+
+-- the number of the last caller
+abbrev pub last_caller : Said → ℕ
+last_caller said = length said.callers - 1
+
+-- a request, where the caller of this number opened it
+abbrev pub if_own : ℕ → Option RequestEntry → Option RequestEntry
+if_own caller None = None
+if_own caller (Some entry) = if nat_eq (actor_number entry.caller) caller then Some entry else None
+
+-- the request of this name, where the last caller opened it
+abbrev pub own_request : Said → List ℕ → Option RequestEntry
+own_request said name = if_own (last_caller said) (request_named said.requests name)
+
+-- whether the last caller has closed a channel
+abbrev pub is_closed : Said → ChanNo → Bool
+is_closed said chan = list_any (closes (channel_number chan)) (last_ops said.callers)
+
+-- a route over the links of these names
+abbrev pub with_hop : Option LinkEntry → List Hop → List Hop
+with_hop None hops = hops
+with_hop (Some entry) hops = hop_of entry ∷ hops
+
+abbrev pub route_over : List LinkEntry → List (List ℕ) → List Hop
+route_over links [] = []
+route_over links (name ∷ names) = with_hop (link_named links name) (route_over links names)

@@ -1,0 +1,35 @@
+-- A line of a scenario is made of fields, with exactly one space between two of them and none at either end. A
+-- field is one or more bytes from 0x21 to 0x7E. So a line with two spaces in a row, with a tab or with a carriage
+-- return has a part that isn't a field.
+use Rattle.std.specs.Prelude.{ℕ, Bool, nat_eq, nat_le, not, ◌&&◌, List, [], ◌∷◌, ◌++◌, length, slice_index_or}
+use Rattle.std.specs.List.{list_all, slice_split, join_with_byte}
+
+abbrev pub is_space : ℕ → Bool
+is_space b = nat_eq b 32
+
+-- the parts of a line round its spaces; a line with no byte has one part, which is empty
+abbrev pub fields_of : List ℕ → List (List ℕ)
+fields_of line = slice_split is_space line
+
+-- the line of these fields
+abbrev pub line_of : List (List ℕ) → List ℕ
+line_of fields = join_with_byte 32 fields
+
+-- the same with its line feed
+abbrev pub ended_line : List (List ℕ) → List ℕ
+ended_line fields = line_of fields ++ 10 ∷ []
+
+-- a byte that may stand in a field
+abbrev pub is_graphic : ℕ → Bool
+is_graphic b = nat_le 33 b && nat_le b 126
+
+abbrev pub is_field : List ℕ → Bool
+is_field part = not (nat_eq (length part) 0) && list_all is_graphic part
+
+-- each part of the line is a field
+abbrev pub are_fields : List (List ℕ) → Bool
+are_fields fields = list_all is_field fields
+
+-- the field at a place, from 0, or no bytes where there is none
+abbrev pub field_at : List (List ℕ) → ℕ → List ℕ
+field_at fields place = slice_index_or fields place []

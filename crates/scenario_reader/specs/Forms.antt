@@ -1,0 +1,93 @@
+-- The form of a line is a list of parts: fixed words, and fields that hold a name or a number. Two parts take
+-- several fields: the links of a route, 1 to 16 fields up to the word `contract`; and the bounds of a link's
+-- levels, 1 to 8 fields at the end. A line has a form when its fields fit the parts one by one.
+use Rattle.std.specs.Prelude.{ℕ, suc, Bool, true, false, nat_eq, nat_le, not, ◌&&◌, if◌then◌else◌, Option, Some, None, List, [], ◌∷◌, length, drop, codes}
+use Rattle.std.specs.List.{list_any}
+use Rattle.std.specs.Cmp.Lexicographic.{pointwise}
+use Rattle.net_units.specs.Text.{is_name}
+use Rattle.scenario_reader.specs.Causes.{Rule, unless, or_else}
+use Rattle.scenario_reader.specs.Decimal.{is_number, value_of}
+use Rattle.scenario_reader.specs.declared.cause.Cause.TheVariants as cause
+use Rattle.scenario_reader.specs.declared.form.Keyword.{Keyword}
+use Rattle.scenario_reader.specs.declared.form.Keyword.TheVariants as word
+use Rattle.scenario_reader.specs.declared.form.Part.{Part}
+use Rattle.scenario_reader.specs.declared.form.Part.TheVariants as part
+
+-- the bytes of a fixed word
+abbrev pub text_of : Keyword → List ℕ
+text_of word.Link = codes "link"
+text_of word.Caller = codes "caller"
+text_of word.Open = codes "open"
+text_of word.Send = codes "send"
+text_of word.Close = codes "close"
+text_of word.Pour = codes "pour"
+text_of word.Rounds = codes "rounds"
+text_of word.Tail = codes "tail"
+text_of word.Schedule = codes "schedule"
+text_of word.Do = codes "do"
+text_of word.Rate = codes "rate"
+text_of word.Cap = codes "cap"
+text_of word.Prop = codes "prop"
+text_of word.Buffer = codes "buffer"
+text_of word.Best = codes "best"
+text_of word.Levels = codes "levels"
+text_of word.Route = codes "route"
+text_of word.Contract = codes "contract"
+text_of word.Delay = codes "delay"
+text_of word.Jitter = codes "jitter"
+
+-- whether a field is this word
+abbrev pub is_word : Keyword → List ℕ → Bool
+is_word keyword field = pointwise nat_eq field (text_of keyword)
+
+-- how many fields stand before the word `contract`, or before the end
+abbrev pub route_length : List (List ℕ) → ℕ
+route_length [] = 0
+route_length (field ∷ fields) = if is_word word.Contract field then 0 else suc (route_length fields)
+
+-- one field, where the test holds of the first
+abbrev pub one_if : (List ℕ → Bool) → List (List ℕ) → Option ℕ
+one_if test [] = None
+one_if test (field ∷ fields) = if test field then Some 1 else None
+
+-- so many fields, where they are from 1 to `most`
+abbrev pub up_to : ℕ → ℕ → Option ℕ
+up_to most count = if nat_le 1 count && nat_le count most then Some count else None
+
+-- how many of the fields a part takes from the first on, or none where they don't fit it
+abbrev pub taken_by : Part → List (List ℕ) → Option ℕ
+taken_by (part.Word keyword) fields = one_if (is_word keyword) fields
+taken_by part.Field fields = one_if (λ field. true) fields
+taken_by part.Route fields = up_to 16 (route_length fields)
+taken_by part.Bounds fields = up_to 8 (length fields)
+
+-- goes on behind the fields that a part takes
+abbrev pub on_taken : Option ℕ → (ℕ → Bool) → Bool
+on_taken None go_on = false
+on_taken (Some count) go_on = go_on count
+
+-- whether the fields have the form: each part takes some, and none is left
+abbrev pub has_form : List Part → List (List ℕ) → Bool
+has_form [] [] = true
+has_form [] (field ∷ fields) = false
+has_form (part ∷ parts) fields = on_taken (taken_by part fields) (λ count. has_form parts (drop count fields))
+
+-- a field that has to be a name of any kind
+abbrev pub name_rule : List ℕ → Rule
+name_rule field = unless (is_name field) cause.Name
+
+-- whether a name is one of these
+abbrev pub is_among : List (List ℕ) → List ℕ → Bool
+is_among names field = list_any (λ name. pointwise nat_eq name field) names
+
+-- a field that has to be a new name
+abbrev pub new_name_rule : List (List ℕ) → List ℕ → Rule
+new_name_rule known field = or_else (name_rule field) (unless (not (is_among known field)) cause.Known)
+
+-- a field that has to be a used name, which is known here or isn't
+abbrev pub used_name_rule : Bool → List ℕ → Rule
+used_name_rule known field = or_else (name_rule field) (unless known cause.Unknown)
+
+-- a field that has to be a number from `low` to `high`
+abbrev pub number_rule : ℕ → ℕ → List ℕ → Rule
+number_rule low high field = or_else (unless (is_number field) cause.Number) (unless (nat_le low (value_of field) && nat_le (value_of field) high) cause.Range)

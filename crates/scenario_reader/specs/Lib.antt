@@ -1,0 +1,11 @@
+pub mod Causes
+pub mod Words
+pub mod Decimal
+pub mod Fields
+pub mod Forms
+pub mod Entries
+pub mod Drafts
+pub mod LinkLine
+pub mod OpenLine
+pub mod Grammar
+pub mod Reading

@@ -1,0 +1,129 @@
+-- The line of a request: open NAME route LINK1 .. LINKh contract XMIN XAVE I SMAX delay D, and then either rate or jitter J.
+use Rattle.std.specs.Prelude.{ℕ, ◌+◌, Bool, nat_lt, ◌&&◌, ◌||◌, if◌then◌else◌, Option, Some, None, List, [], ◌∷◌, length, map, take, drop, is_some, is_none}
+use Rattle.traffic_contract.specs.Contract.{Terms, terms_of}
+use Rattle.traffic_contract.specs.Refusal.{first_bad}
+use Rattle.hop_reservation.specs.Routes.{fault_in}
+use Rattle.hop_reservation.specs.declared.route.Hop.{Hop}
+use Rattle.setup_protocol.specs.declared.request.Control.{Control}
+use Rattle.setup_protocol.specs.declared.request.Control.TheVariants.{Rate, Jitter}
+use Rattle.call_script.specs.Limits.{most_requests, most_delay}
+use Rattle.call_script.specs.Rules.{request_names, is_joined}
+use Rattle.call_script.specs.declared.entries.RequestEntry.{RequestEntry}
+use Rattle.scenario_reader.specs.Causes.{Rule, unless, first_cause}
+use Rattle.scenario_reader.specs.Decimal.{value_of}
+use Rattle.scenario_reader.specs.Drafts.{Said, last_caller, link_named, route_over}
+use Rattle.scenario_reader.specs.Entries.{actor_at, channel_at}
+use Rattle.scenario_reader.specs.Fields.{field_at}
+use Rattle.scenario_reader.specs.Forms.{is_word, route_length, has_form, new_name_rule, used_name_rule, number_rule}
+use Rattle.scenario_reader.specs.declared.cause.Cause.TheVariants as cause
+use Rattle.scenario_reader.specs.declared.form.Keyword.TheVariants as word
+use Rattle.scenario_reader.specs.declared.form.Part.{Part}
+use Rattle.scenario_reader.specs.declared.form.Part.TheVariants as part
+
+-- the parts up to the delay bound, and then these
+abbrev pub open_front : List Part → List Part
+open_front control = part.Word word.Open ∷ part.Field ∷ part.Word word.Route ∷ part.Route ∷ part.Word word.Contract ∷ part.Field ∷ part.Field
+    ∷ part.Field ∷ part.Field ∷ part.Word word.Delay ∷ part.Field ∷ control
+
+abbrev pub rate_form : List Part
+rate_form = open_front (part.Word word.Rate ∷ [])
+
+abbrev pub jitter_form : List Part
+jitter_form = open_front (part.Word word.Jitter ∷ part.Field ∷ [])
+
+abbrev pub is_open_line : List (List ℕ) → Bool
+is_open_line fields = has_form rate_form fields || has_form jitter_form fields
+
+-- how many links the route has
+abbrev pub route_hops : List (List ℕ) → ℕ
+route_hops fields = route_length (drop 3 fields)
+
+-- the links of the route
+abbrev pub route_fields : List (List ℕ) → List (List ℕ)
+route_fields fields = take (route_hops fields) (drop 3 fields)
+
+-- the field that stands `place` places behind the route, from 0: the word `contract` and what follows it
+abbrev pub behind_route : List (List ℕ) → ℕ → List ℕ
+behind_route fields place = field_at fields (3 + route_hops fields + place)
+
+-- whether a jitter bound stands behind the delay bound
+abbrev pub has_jitter : List (List ℕ) → Bool
+has_jitter fields = is_word word.Jitter (behind_route fields 7)
+
+abbrev pub control_in : List (List ℕ) → Control
+control_in fields = if has_jitter fields then Jitter (value_of (behind_route fields 8)) else Rate
+
+-- the four numbers of the contract
+abbrev pub terms_in : List (List ℕ) → Terms
+terms_in fields = terms_of (value_of (behind_route fields 1)) (value_of (behind_route fields 2)) (value_of (behind_route fields 3)) (value_of (behind_route fields 4))
+
+-- the contract that four numbers are, if they are one
+abbrev pub contract_of : Terms → Option Terms
+contract_of terms = if is_none (first_bad terms) then Some terms else None
+
+-- the hops of the route
+abbrev pub hops_in : Said → List (List ℕ) → List Hop
+hops_in said fields = route_over said.links (route_fields fields)
+
+-- the links of a route are known, each
+abbrev pub route_link_rule : Said → List ℕ → Rule
+route_link_rule said field = used_name_rule (is_some (link_named said.links field)) field
+
+abbrev pub route_names_rule : Said → List (List ℕ) → Rule
+route_names_rule said route = first_cause (map (route_link_rule said) route)
+
+-- the numbers of the contract, each in its range
+abbrev pub terms_rule : List (List ℕ) → Rule
+terms_rule fields = first_cause (
+    number_rule 1 1048576 (behind_route fields 1)
+    ∷ number_rule 1 1048576 (behind_route fields 2)
+    ∷ number_rule 1 16777216 (behind_route fields 3)
+    ∷ number_rule 1 65536 (behind_route fields 4)
+    ∷ [])
+
+-- the jitter bound, where there is one
+abbrev pub jitter_rule : List (List ℕ) → Rule
+jitter_rule fields = if has_jitter fields then number_rule 1 most_delay (behind_route fields 8) else None
+
+-- the fields, from left to right
+abbrev pub open_fields_rule : Said → List (List ℕ) → Rule
+open_fields_rule said fields = first_cause (
+    new_name_rule (request_names said.requests) (field_at fields 1)
+    ∷ route_names_rule said (route_fields fields)
+    ∷ terms_rule fields
+    ∷ number_rule 1 most_delay (behind_route fields 6)
+    ∷ jitter_rule fields
+    ∷ [])
+
+-- no link stands twice in the route, and each begins at the node where the one before it ends
+abbrev pub is_way : Said → List Hop → Bool
+is_way said hops = is_none (fault_in hops) && is_joined said.links hops
+
+-- what is judged once its fields pass
+abbrev pub open_limits_rule : Said → List (List ℕ) → Rule
+open_limits_rule said fields = first_cause (
+    unless (nat_lt (length said.requests) most_requests) cause.Many
+    ∷ unless (is_some (contract_of (terms_in fields))) cause.Contract
+    ∷ unless (is_way said (hops_in said fields)) cause.Route
+    ∷ [])
+
+abbrev pub open_rule : Said → List (List ℕ) → Rule
+open_rule said fields = first_cause (
+    unless (is_open_line fields) cause.Shape
+    ∷ open_fields_rule said fields
+    ∷ open_limits_rule said fields
+    ∷ [])
+
+-- the request that the line says: its channel has the next number, and the last caller opens it
+abbrev pub request_said : Said → List (List ℕ) → RequestEntry
+request_said said fields = record {
+  name = field_at fields 1;
+  caller = actor_at (last_caller said);
+  request = record {
+    chan = channel_at (length said.requests);
+    route = hops_in said fields;
+    contract = terms_in fields;
+    control = control_in fields;
+    delay = value_of (behind_route fields 6);
+  };
+}

@@ -1,0 +1,84 @@
+//! Why a line of a scenario is refused.
+ghost use Rattle.std.specs.Prelude.{◌≡◌, Some};
+ghost use Rattle.scenario_reader.specs.Words.{cause_word};
+
+use std::fmt::{self, Display};
+
+/// Why a line of a scenario is refused. Where several causes apply to a line, the order in which a line is
+/// judged gives the one: bytes and spacing, the header or the first word, the form, the fields from left to right
+/// by `Name` to `Range`, and then the causes from `Many` on in their order.
+#[derive(Clone, Copy, Debug, PartialEq, Eq)]
+pub enum Cause {
+    /// The first line isn't a known header.
+    Header,
+    /// The first field isn't a word that may stand here.
+    Word,
+    /// A byte or a spacing isn't allowed, or the line hasn't the form of its word.
+    Shape,
+    /// A field that has to be a name isn't one.
+    Name,
+    /// A field that has to be a number isn't one.
+    Number,
+    /// A new name is known already.
+    Known,
+    /// A used name isn't known.
+    Unknown,
+    /// A number is out of its range.
+    Range,
+    /// There are too many links, callers or requests.
+    Many,
+    /// The numbers aren't a contract.
+    Contract,
+    /// The bounds don't rise, or the link's largest packet takes longer than the first bound.
+    Levels,
+    /// A link stands twice in a route, or doesn't begin where the one before it ends.
+    Route,
+    /// The request was closed above.
+    Closed,
+    /// The run would have too many packets or ticks.
+    Load,
+    /// The input ended before the `tail` line.
+    End,
+    /// The input ended inside the line.
+    Cut,
+    /// A `do` line asks for a step that isn't left. No line is refused for it when it is read.
+    Step,
+    /// The link takes no best-effort packets.
+    Best,
+}
+
+impl Cause {
+    /// The word that is printed.
+    pub fn word(&self) -> &'static str
+        ensures { result.now ≡ cause_word self.now }
+    {
+        match self {
+            Cause::Header => "header",
+            Cause::Word => "word",
+            Cause::Shape => "shape",
+            Cause::Name => "name",
+            Cause::Number => "number",
+            Cause::Known => "known",
+            Cause::Unknown => "unknown",
+            Cause::Range => "range",
+            Cause::Many => "many",
+            Cause::Contract => "contract",
+            Cause::Levels => "levels",
+            Cause::Route => "route",
+            Cause::Closed => "closed",
+            Cause::Load => "load",
+            Cause::End => "end",
+            Cause::Cut => "cut",
+            Cause::Step => "step",
+            Cause::Best => "best",
+        }
+    }
+}
+
+impl Display for Cause {
+    ghost output = { λ cause. Some (cause_word cause) };
+
+    fn fmt<W: fmt::Write>(&self, f: &mut fmt::Formatter<W>) -> fmt::Result {
+        Display::fmt(self.word(), f)
+    }
+}

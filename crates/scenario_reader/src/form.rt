@@ -1,0 +1,142 @@
+//! The forms of a scenario's lines.
+ghost use Rattle.std.specs.Prelude.{◌≡◌, ◌≤◌, ◌+◌, ◌-◌, if◌then◌else◌, IfSome, Some, None, length, drop};
+ghost use Rattle.scenario_reader.specs.Fields.{fields_of};
+ghost use Rattle.scenario_reader.specs.Forms.{text_of, is_word, route_length, up_to, taken_by, has_form};
+
+use crate::fields::{field, field_count};
+
+/// A fixed word of the grammar.
+#[derive(Clone, Copy, Debug, PartialEq, Eq)]
+pub enum Keyword {
+    Link,
+    Caller,
+    Open,
+    Send,
+    Close,
+    Pour,
+    Rounds,
+    Tail,
+    Schedule,
+    Do,
+    Rate,
+    Cap,
+    Prop,
+    Buffer,
+    Best,
+    Levels,
+    Route,
+    Contract,
+    Delay,
+    Jitter,
+}
+
+impl Keyword {
+    /// The word's bytes.
+    pub fn text(self) -> &'static [u8]
+        ensures { result.now ≡ text_of self }
+    {
+        match self {
+            Keyword::Link => b"link",
+            Keyword::Caller => b"caller",
+            Keyword::Open => b"open",
+            Keyword::Send => b"send",
+            Keyword::Close => b"close",
+            Keyword::Pour => b"pour",
+            Keyword::Rounds => b"rounds",
+            Keyword::Tail => b"tail",
+            Keyword::Schedule => b"schedule",
+            Keyword::Do => b"do",
+            Keyword::Rate => b"rate",
+            Keyword::Cap => b"cap",
+            Keyword::Prop => b"prop",
+            Keyword::Buffer => b"buffer",
+            Keyword::Best => b"best",
+            Keyword::Levels => b"levels",
+            Keyword::Route => b"route",
+            Keyword::Contract => b"contract",
+            Keyword::Delay => b"delay",
+            Keyword::Jitter => b"jitter",
+        }
+    }
+
+    /// Whether the field is this word.
+    pub fn is(self, field: &[u8]) -> bool
+        ensures { result ≡ is_word self field.now }
+    {
+        field == self.text()
+    }
+}
+
+/// A part of a line's form.
+#[derive(Clone, Copy, Debug)]
+pub enum Part {
+    /// A fixed word.
+    Word(Keyword),
+    /// A field with a name or a number.
+    Field,
+    /// The links of a route: 1 to 16 fields up to the word `contract`.
+    Route,
+    /// The bounds of a link's levels: 1 to 8 fields at the end.
+    Bounds,
+}
+
+/// Whether the line has the form: each part takes some of its fields, and none is left.
+pub fn has_form(form: &[Part], line: &[u8]) -> bool
+    ensures { result ≡ has_form form.now (fields_of line.now) }
+{
+    let count = field_count(line);
+    let mut place = 0;
+    for part in form {
+        match part.taken(line, place) {
+            None => return false,
+            Some(taken) => place += taken,
+        }
+    }
+    place == count
+}
+
+impl Part {
+    // How many fields the part takes from a place on, None where they don't fit it.
+    fn taken(&self, line: &[u8], place: usize) -> Option<usize>
+        ensures value { result ≡ taken_by self.now (drop place (fields_of line.now)) }
+        ensures within { IfSome result (λ count. place + count ≤ length (fields_of line.now)) }
+    {
+        let left = field_count(line).saturating_sub(place);
+        match self {
+            Part::Word(word) => one_if(left > 0 && word.is(field(line, place))),
+            Part::Field => one_if(left > 0),
+            Part::Route => up_to(16, route_length(line, place)),
+            Part::Bounds => up_to(8, left),
+        }
+    }
+}
+
+fn one_if(holds: bool) -> Option<usize>
+    ensures { result ≡ (if holds then Some 1 else None) }
+{
+    if holds { Some(1) } else { None }
+}
+
+fn up_to(most: usize, count: usize) -> Option<usize>
+    ensures { result ≡ up_to most count }
+{
+    if 1 <= count && count <= most {
+        Some(count)
+    } else {
+        None
+    }
+}
+
+/// How many fields stand from a place on before the word `contract`, or before the line's end.
+pub fn route_length(line: &[u8], from: usize) -> usize
+    ensures value { result ≡ route_length (drop from (fields_of line.now)) }
+    ensures within { result ≤ length (fields_of line.now) - from }
+{
+    let count = field_count(line);
+    for place in from..count {
+        if Keyword::Contract.is(field(line, place)) {
+            return place - from;
+        }
+    }
+    count.saturating_sub(from)
+}

@@ -1,0 +1,28 @@
+//! What a line of a scenario says.
+use call_script::{Do, LinkEntry, Op, RequestEntry, Version};
+use net_units::Name;
+
+/// What a line says, where no rule refuses it.
+#[derive(Clone, Copy)]
+pub enum Item {
+    /// Nothing: the line is passed over.
+    Nothing,
+    /// The header, with the version of the language.
+    Header(Version),
+    /// A link.
+    Link(LinkEntry),
+    /// A caller begins, by its name.
+    Caller(Name),
+    /// The caller opens a request.
+    Open(RequestEntry),
+    /// The caller sends on a request, closes one, or pours.
+    Op(Op),
+    /// How many rounds the plane makes beside the callers, at most 524,288.
+    Rounds(u64),
+    /// How many rounds the plane makes after them, at most 524,288.
+    Tail(u64),
+    /// A schedule begins.
+    Schedule,
+    /// An item of the schedule.
+    Do(Do),
+}
