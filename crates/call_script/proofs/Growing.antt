@@ -300,7 +300,7 @@ pour-keeps parts link count gap size keep may = op-keeps parts (Pour link count 
 -- ---- an open
 
 -- every channel that operations open has a request
-abbrev HaveRequests : List RequestEntry → List Op → Type 0
+abbrev pub HaveRequests : List RequestEntry → List Op → Type 0
 HaveRequests requests ops = (c : ℕ) → list_any (opens c) ops ≡ true → c < length requests
 
 -- one request more doesn't change the load of operations whose requests are there
@@ -320,7 +320,7 @@ ops-load requests entry above (op ∷ ops) opened have =
     one (Close chan) own all = refl
     one (Pour link count gap size) own all = refl
 
-callers-load : (requests : List RequestEntry) (entry : RequestEntry) (callers : List CallerEntry) → list_all (λ (c : CallerEntry). each_after is_opened [] c.ops) callers ≡ true → Each (λ (c : CallerEntry). HaveRequests requests c.ops) callers
+pub callers-load : (requests : List RequestEntry) (entry : RequestEntry) (callers : List CallerEntry) → list_all (λ (c : CallerEntry). each_after is_opened [] c.ops) callers ≡ true → Each (λ (c : CallerEntry). HaveRequests requests c.ops) callers
     → load_in (requests ++ entry ∷ []) callers ≡ load_in requests callers
 callers-load requests entry [] opened have = refl
 callers-load requests entry (caller ∷ callers) opened have =
@@ -329,7 +329,7 @@ callers-load requests entry (caller ∷ callers) opened have =
     ∙ ap (λ (n : ℕ). total (load_of requests) caller.ops + n) (callers-load requests entry callers split.1 have.1)
 
 -- what the callers of planned parts open has a request
-all-have : (parts : PlanParts) → ArePlanned parts → Each (λ (c : CallerEntry). HaveRequests parts.requests c.ops) parts.callers
+pub all-have : (parts : PlanParts) → ArePlanned parts → Each (λ (c : CallerEntry). HaveRequests parts.requests c.ops) parts.callers
 all-have parts planned = each-by (λ (c : CallerEntry). HaveRequests parts.requests c.ops) parts.callers (λ n caller found c any.
     let has = opened-has parts n c caller planned found any in
     slice_get_within parts.requests c has.entry has.found)

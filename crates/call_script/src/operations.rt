@@ -1,7 +1,7 @@
 //! What a caller does.
-ghost use Rattle.std.specs.Prelude.{◌≡◌};
+ghost use Rattle.std.specs.Prelude.{◌≡◌, ◌++◌, ◌∷◌, [], OnOk, OnErr};
 
-use net_units::{ChanNo, LinkNo};
+use net_units::{ChanNo, LinkNo, OutOfMemory};
 use std::marker::Model;
 
 /// An operation of a caller.
@@ -51,6 +51,15 @@ impl Ops {
         ensures { result ≡ items.items }
     {
         Ops { ops: items }
+    }
+
+    /// Adds an operation at the end. Want of memory changes nothing.
+    pub fn push(&mut self, op: Op) -> Result<(), OutOfMemory>
+        ensures ok { OnOk result (self.new ≡ self.old ++ op ∷ []) }
+        ensures err { OnErr result (self.new ≡ self.old) }
+    {
+        self.ops.push(op)?;
+        Ok(())
     }
 
     /// The operations.
