@@ -33,6 +33,11 @@ pub record Said : Type 0 where
   pub written : Bool
   pub items : List Do
 
+-- the record of its parts
+abbrev pub said_of : Option Version → List LinkEntry → List RequestEntry → List CallerEntry → Option ℕ → Option ℕ → Bool → List Do → Said
+said_of version links requests callers rounds tail written items =
+    record { version = version; links = links; requests = requests; callers = callers; rounds = rounds; tail = tail; written = written; items = items }
+
 -- before the first line
 abbrev pub nothing_said : Said
 nothing_said = record { version = None; links = []; requests = []; callers = []; rounds = None; tail = None; written = false; items = [] }

@@ -192,6 +192,9 @@ actor_rule said field = if is_plane field then None else used_name_rule (is_some
 abbrev pub actor_named : Said → List ℕ → Option ℕ
 actor_named said field = if is_plane field then Some (length said.callers) else caller_named said.callers field
 
+abbrev pub actor_said : Said → List ℕ → Option ActorNo
+actor_said said field = option_map actor_at (actor_named said field)
+
 abbrev pub do_rule : Said → List (List ℕ) → Rule
 do_rule said fields = first_cause (
     unless (has_form do_form fields) cause.Shape
@@ -200,11 +203,11 @@ do_rule said fields = first_cause (
     ∷ [])
 
 -- the steps of an actor on the line of this number
-abbrev pub do_by : ℕ → List (List ℕ) → ℕ → Do
-do_by number fields actor = record { line = number; actor = actor_at actor; count = value_of (field_at fields 2) }
+abbrev pub do_by : ℕ → List (List ℕ) → ActorNo → Do
+do_by number fields actor = record { line = number; actor = actor; count = value_of (field_at fields 2) }
 
 abbrev pub do_said : Said → ℕ → List (List ℕ) → Option Do
-do_said said number fields = option_map (do_by number fields) (actor_named said (field_at fields 1))
+do_said said number fields = option_map (do_by number fields) (actor_said said (field_at fields 1))
 
 -- ---- which lines may come next
 

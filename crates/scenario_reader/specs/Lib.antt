@@ -9,3 +9,6 @@ pub mod LinkLine
 pub mod OpenLine
 pub mod Grammar
 pub mod Reading
+pub mod Kept
+pub mod LinkFields
+pub mod OpenFields

@@ -1,6 +1,7 @@
 -- The line of a link: link NAME NODE NODE rate R cap C prop P buffer U levels D1 .. Dn. From version three on the fields
 -- best K may stand before `levels`.
-use Rattle.std.specs.Prelude.{ℕ, ◌&&◌, ◌||◌, Bool, nat_le, nat_lt, if◌then◌else◌, Option, None, List, [], ◌∷◌, length, map, drop, option_map}
+use Rattle.std.specs.Prelude.{ℕ, ◌&&◌, ◌||◌, Bool, nat_le, nat_lt, if◌then◌else◌, Option, Some, None, List, [], ◌∷◌, length, map, drop, option_map}
+use Rattle.net_units.specs.LevelBounds.{are_bounds}
 use Rattle.call_script.specs.Limits.{most_links}
 use Rattle.call_script.specs.Rules.{link_names}
 use Rattle.call_script.specs.Versions.{test_of, has_best_effort}
@@ -37,9 +38,17 @@ is_link_line version fields = has_form plain_form fields || (has_best_effort ver
 abbrev pub has_best : List (List ℕ) → Bool
 has_best fields = is_word word.Best (field_at fields 12)
 
--- the fields with the bounds of the levels
+-- where the bounds of the levels begin
+abbrev pub bound_start : List (List ℕ) → ℕ
+bound_start fields = if has_best fields then 15 else 13
+
+-- the fields with the bounds
 abbrev pub bound_fields : List (List ℕ) → List (List ℕ)
-bound_fields fields = drop (if has_best fields then 15 else 13) fields
+bound_fields fields = drop (bound_start fields) fields
+
+-- the bounds of levels that numbers are, if they are such
+abbrev pub bounds_of : List ℕ → Option (List ℕ)
+bounds_of numbers = if are_bounds numbers then Some numbers else None
 
 -- how many best-effort packets may wait
 abbrev pub best_in : List (List ℕ) → ℕ

@@ -2,9 +2,17 @@
 #![tactic(auto)]
 
 pub mod cause;
+pub mod draft;
 pub mod fields;
 pub mod form;
+mod hops;
 pub mod item;
+mod judge;
+pub mod link_line;
+pub mod names;
+pub mod open_line;
+pub mod operation_lines;
+pub mod round_lines;
 pub mod values;
 
 pub use cause::Cause;

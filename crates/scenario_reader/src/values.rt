@@ -2,10 +2,11 @@
 ghost use Rattle.std.specs.Prelude.{◌≡◌, ◌≤◌, IfOk, true, length};
 ghost use Rattle.scenario_reader.specs.Causes.{Judges, unless};
 ghost use Rattle.scenario_reader.specs.Decimal.{is_number, value_of};
-ghost use Rattle.scenario_reader.specs.Forms.{name_rule, new_name_rule, number_rule, is_among};
+ghost use Rattle.scenario_reader.specs.Forms.{name_rule, new_name_rule, number_rule};
 ghost use Rattle.std.specs.Str.{all_ascii_digits};
 
 use crate::cause::Cause;
+use crate::names::Names;
 use net_units::Name;
 
 /// Nothing where the condition holds, and else this cause.
@@ -23,11 +24,11 @@ pub fn name(field: &[u8]) -> Result<Name, Cause>
 }
 
 /// The new name that a field holds, or the cause `Name` or `Known`.
-pub fn new_name(field: &[u8], is_known: bool) -> Result<Name, Cause>
-    ensures { (known : _) → is_known ≡ is_among known field.now → Judges result (new_name_rule known field.now) field.now }
+pub fn new_name(field: &[u8], known: &Names) -> Result<Name, Cause>
+    ensures { Judges result (new_name_rule known.now field.now) field.now }
 {
     let name = name(field)?;
-    require(!is_known, Cause::Known)?;
+    require(!known.has(&name), Cause::Known)?;
     Ok(name)
 }
 

@@ -1,0 +1,84 @@
+-- What a name stands for is found by its place among the names.
+use Rattle.std.proofs.Common.{◌≡◌, ℕ, zero, suc, ◌+◌, ◌<◌, ◌≤◌, Bool, true, false, not, cond, List, [], ◌∷◌, Option, Some, None, length, map, position, find, refl, sym, ◌∙◌, ap, subst, arith, inl, inr, nat_eq}
+use Rattle.std.proofs.lemmas.Grind.{common_steps}
+use Rattle.std.proofs.lemmas.Bool.{cases_Bool, eqb-true}
+use Rattle.std.proofs.lemmas.List.{length-map}
+use Rattle.std.proofs.lemmas.List.Folds.{find_at}
+use Rattle.std.proofs.lemmas.Option.{slice_get_past, same_Some}
+use Rattle.std.specs.List.{position_or_len, slice_get}
+use Rattle.net_units.specs.Numbers.{actor_number}
+use Rattle.call_script.specs.Rules.{is_named, link_names, request_names}
+use Rattle.call_script.specs.declared.entries.LinkEntry.{LinkEntry}
+use Rattle.call_script.specs.declared.entries.RequestEntry.{RequestEntry}
+use Rattle.scenario_reader.specs.Drafts.{Said, link_named, request_named, last_caller, if_own, own_request}
+
+-- a place among what is told of things is that among the things
+place_told : {X Y : Type 0} (tell : X → Y) (test : Y → Bool) (xs : List X) → position_or_len test (map tell xs) ≡ position_or_len (λ x. test (tell x)) xs
+place_told tell test [] = refl
+place_told tell test (x ∷ xs) = ap (λ n. cond (not (test (tell x))) (1 + n) 0) (place_told tell test xs)
+
+-- the place where one is found
+place_some : {X : Type 0} (test : X → Bool) (xs : List X) (n : ℕ) → position test xs ≡ Some n → position_or_len test xs ≡ n
+place_some test xs n e = grind (arith, common_steps)
+
+-- where none is found it is behind all
+place_none : {X : Type 0} (test : X → Bool) (xs : List X) → position test xs ≡ None → length xs ≤ position_or_len test xs
+place_none test xs e = grind (arith, common_steps)
+
+-- what stands at the place of a name has that name, and is the first that has it
+pub named_at : {X : Type 0} (name_of : X → List ℕ) (name : List ℕ) (xs : List X) (n : ℕ) → position (is_named name) (map name_of xs) ≡ Some n
+    → slice_get xs n ≡ find (λ x. is_named name (name_of x)) xs
+named_at name_of name xs n e =
+    ap (slice_get xs) (sym (place_some (is_named name) (map name_of xs) n e) ∙ place_told name_of (is_named name) xs) ∙ sym (find_at (λ x. is_named name (name_of x)) xs)
+
+-- a name without a place is that of none
+pub named_none : {X : Type 0} (name_of : X → List ℕ) (name : List ℕ) (xs : List X) → position (is_named name) (map name_of xs) ≡ None
+    → find (λ x. is_named name (name_of x)) xs ≡ None
+named_none name_of name xs e =
+    let past = place_none (is_named name) (map name_of xs) e in
+    find_at (λ x. is_named name (name_of x)) xs
+    ∙ slice_get_past xs (position_or_len (λ x. is_named name (name_of x)) xs) (omega (arith, past, place_told name_of (is_named name) xs, length-map xs name_of))
+
+-- ---- in the words of a scenario
+
+pub link_at_place : (links : List LinkEntry) (names : List (List ℕ)) (name : List ℕ) (n : ℕ) → names ≡ link_names links → Some n ≡ position (is_named name) names
+    → slice_get links n ≡ link_named links name
+link_at_place links names name n same e = named_at (λ (entry : LinkEntry). entry.name) name links n (ap (position (is_named name)) (sym same) ∙ sym e)
+
+pub no_link_there : (links : List LinkEntry) (names : List (List ℕ)) (name : List ℕ) → names ≡ link_names links → None ≡ position (is_named name) names
+    → link_named links name ≡ None
+no_link_there links names name same e = named_none (λ (entry : LinkEntry). entry.name) name links (ap (position (is_named name)) (sym same) ∙ sym e)
+
+pub request_at_place : (requests : List RequestEntry) (names : List (List ℕ)) (name : List ℕ) (n : ℕ) → names ≡ request_names requests → Some n ≡ position (is_named name) names
+    → slice_get requests n ≡ request_named requests name
+request_at_place requests names name n same e = named_at (λ (entry : RequestEntry). entry.name) name requests n (ap (position (is_named name)) (sym same) ∙ sym e)
+
+pub no_request_there : (requests : List RequestEntry) (names : List (List ℕ)) (name : List ℕ) → names ≡ request_names requests → None ≡ position (is_named name) names
+    → request_named requests name ≡ None
+no_request_there requests names name same e = named_none (λ (entry : RequestEntry). entry.name) name requests (ap (position (is_named name)) (sym same) ∙ sym e)
+
+-- ---- own requests
+
+-- a request that the last caller has opened
+pub record IsOwn (said : Said) (entry : RequestEntry) : Type 0 where
+  pub place : ℕ
+  pub found : slice_get said.requests place ≡ Some entry
+  pub by : actor_number entry.caller ≡ last_caller said
+
+own_parts : (caller : ℕ) (found : Option RequestEntry) (entry : RequestEntry) → if_own caller found ≡ Some entry → (found ≡ Some entry) × (actor_number entry.caller ≡ caller)
+own_parts caller None entry e = cc
+own_parts caller (Some other) entry e =
+    elim (cases_Bool (nat_eq (actor_number other.caller) caller)) [
+      | inl own ↦ (let same = rw own at e in (same, ap (λ (r : RequestEntry). actor_number r.caller) (sym (same_Some other entry same)) ∙ eqb-true (actor_number other.caller) caller own))
+      | inr apart ↦ absurd (let none = rw apart at e in cc)
+    ]
+
+pub own_is : (said : Said) (name : List ℕ) (entry : RequestEntry) → own_request said name ≡ Some entry → IsOwn said entry
+own_is said name entry e =
+    let p = own_parts (last_caller said) (request_named said.requests name) entry e in
+    let test = λ (r : RequestEntry). is_named name r.name in
+    record {
+      place = position_or_len (λ (r : RequestEntry). is_named name r.name) said.requests;
+      found = sym (find_at (λ (r : RequestEntry). is_named name r.name) said.requests) ∙ p.0;
+      by = p.1;
+    }

@@ -1,0 +1,123 @@
+-- A send line, a close line and a pour line that pass may add their operations.
+use Rattle.std.proofs.Common.{◌≡◌, ℕ, zero, suc, ◌+◌, ◌-◌, ◌*◌, ◌<◌, ◌≤◌, Bool, true, false, not, ◌&&◌, nat_eq, nat_lt, nat_le, List, [], ◌∷◌, length, Option, Some, None, is_some, is_none, option_map, refl, sym, ◌∙◌, ap, subst, arith, inl, inr}
+use Rattle.std.proofs.lemmas.Bool.{leb-true, le-leb, lt-ltb, and_parts, and_from, not-true}
+use Rattle.std.proofs.lemmas.Option.{same_Some, slice_get_within}
+use Rattle.std.specs.List.{list_any, slice_get}
+use Rattle.std.specs.Prelude.{unwrap_or}
+use Rattle.net_units.specs.Numbers.{link_number, actor_number, channel_number}
+use Rattle.call_script.specs.Growing.{last_ops, IsOpenedThere, MaySend, MayPour}
+use Rattle.call_script.specs.Rules.{closes, hops_of, load_in, is_from, packets_in_range, takes_best_effort}
+use Rattle.call_script.specs.Versions.{has_best_effort}
+use Rattle.call_script.specs.declared.entries.LinkEntry.{LinkEntry}
+use Rattle.call_script.specs.declared.entries.RequestEntry.{RequestEntry}
+use Rattle.call_script.specs.declared.operations.Op.{Op}
+use Rattle.call_script.specs.declared.version.Version.{Version}
+use Rattle.call_script.specs.declared.version.Version.TheVariants.{One}
+use Rattle.scenario_reader.specs.Causes.{Rule, unless}
+use Rattle.scenario_reader.specs.Decimal.{value_of}
+use Rattle.scenario_reader.specs.Drafts.{Said, parts_said, link_named, own_request, is_closed, last_caller}
+use Rattle.scenario_reader.specs.Fields.{field_at}
+use Rattle.scenario_reader.specs.Forms.{has_form, used_name_rule, number_rule}
+use Rattle.scenario_reader.specs.Grammar.{send_form, packets_rule, is_closed_request, load_rule, send_rule, send_on, send_said, close_form, close_rule, close_of, close_said, pour_form, pour_rule, pour_over, pour_said}
+use Rattle.scenario_reader.specs.Kept.{IsDraft, IsBefore, IsLinked, MayPutOp}
+use Rattle.scenario_reader.specs.declared.cause.Cause.TheVariants as cause
+use Rattle.scenario_reader.proofs.LinkMay.{headed_is, some_items, longer_than_none, is_none_said}
+use Rattle.scenario_reader.proofs.NamedFacts.{own_is}
+use Rattle.scenario_reader.proofs.OpenMay.{from_range, link_found}
+use Rattle.scenario_reader.proofs.OwnFacts.{own_opened}
+use Rattle.scenario_reader.proofs.PassFacts.{all_pass, unless_passes, made_some}
+
+-- behind a caller stands a link
+linked_by : (version : Version) (said : Said) → IsDraft said → said.version ≡ Some version → not (nat_eq (length said.callers) 0) ≡ true → is_none said.rounds ≡ true → IsLinked said
+linked_by version said draft v some none = record {
+  before = record { headed = headed_is said version v; unrounded = is_none_said said.rounds none };
+  linked = λ no. some_items said.callers some (draft.unlinked_callers no);
+}
+
+-- the packets of a line are in their ranges
+packets_pass : (fields : List (List ℕ)) → packets_rule fields ≡ None → packets_in_range (value_of (field_at fields 2)) (value_of (field_at fields 3)) (value_of (field_at fields 4)) ≡ true
+packets_pass fields e =
+    let p = all_pass (number_rule 1 262144 (field_at fields 2) ∷ number_rule 1 1048576 (field_at fields 3) ∷ number_rule 1 65536 (field_at fields 4) ∷ []) e in
+    and_from (is_from 1 262144 (value_of (field_at fields 2)) && is_from 1 1048576 (value_of (field_at fields 3))) (is_from 1 65536 (value_of (field_at fields 4)))
+    (and_from (is_from 1 262144 (value_of (field_at fields 2))) (is_from 1 1048576 (value_of (field_at fields 3))) (from_range 1 262144 (field_at fields 2) p.0) (from_range 1 1048576 (field_at fields 3) p.1.0))
+    (from_range 1 65536 (field_at fields 4) p.1.1.0)
+
+-- a request of the last caller that isn't closed may be used
+opened_channel : (said : Said) (name : List ℕ) (entry : RequestEntry) → IsDraft said → 1 ≤ length said.callers → own_request said name ≡ Some entry
+    → unless (not (is_closed_request said (own_request said name))) cause.Closed ≡ None → IsOpenedThere (parts_said said) entry.request.chan
+opened_channel said name entry draft some own rule =
+    let is = own_is said name entry own in
+    let shut : is_closed_request said (own_request said name) ≡ false = not-true (is_closed_request said (own_request said name)) (unless_passes (not (is_closed_request said (own_request said name))) cause.Closed rule) in
+    record {
+      opened = own_opened said.requests said.callers is.place entry draft.keeps.planned.openings is.found some is.by;
+      unclosed = subst (λ (found : Option RequestEntry). is_closed_request said found ≡ false) own shut;
+    }
+
+-- it stands at its number
+own_at : (said : Said) (name : List ℕ) (entry : RequestEntry) → IsDraft said → own_request said name ≡ Some entry → slice_get said.requests (channel_number entry.request.chan) ≡ Some entry
+own_at said name entry draft own =
+    let is = own_is said name entry own in
+    subst (λ n. slice_get said.requests n ≡ Some entry) (sym (draft.keeps.planned.requests is.place entry is.found)) is.found
+
+-- a load that passes is within the limit
+load_passes : (said : Said) (packets : ℕ) → load_rule said packets ≡ None → load_in said.requests said.callers + packets ≤ 262144
+load_passes said packets e = leb-true (load_in said.requests said.callers + packets) 262144 (unless_passes (nat_le (load_in said.requests said.callers + packets) 262144) cause.Load e)
+
+pub send_may : (version : Version) (said : Said) (fields : List (List ℕ)) (what : Op) → IsDraft said → said.version ≡ Some version
+    → (not (nat_eq (length said.callers) 0) && is_none said.rounds) ≡ true → send_rule said fields ≡ None → send_said said fields ≡ Some what → MayPutOp said what
+send_may version said fields what draft v stands rule says =
+    let name = field_at fields 1 in
+    let p = all_pass (unless (has_form send_form fields) cause.Shape ∷ used_name_rule (is_some (own_request said (field_at fields 1))) (field_at fields 1) ∷ packets_rule fields
+    ∷ unless (not (is_closed_request said (own_request said (field_at fields 1)))) cause.Closed
+    ∷ load_rule said (value_of (field_at fields 2) * hops_of (own_request said (field_at fields 1))) ∷ []) rule in
+    let may = and_parts (not (nat_eq (length said.callers) 0)) (is_none said.rounds) stands in
+    let some = longer_than_none said.callers may.0 in
+    let made = made_some (send_on fields) (own_request said (field_at fields 1)) what says in
+    let load = load_passes said (value_of (field_at fields 2) * hops_of (own_request said (field_at fields 1))) p.1.1.1.1.0 in
+    let hops : hops_of (own_request said (field_at fields 1)) ≡ hops_of (slice_get said.requests (channel_number made.0.request.chan)) = ap hops_of (made.1 ∙ sym (own_at said (field_at fields 1) made.0 draft made.1)) in
+    subst (MayPutOp said) made.2 (record {
+      before = linked_by version said draft v may.0 may.1;
+      some = some;
+      op = record {
+        channel = opened_channel said name made.0 draft some made.1 p.1.1.1.0;
+        range = packets_pass fields p.1.1.0;
+        load = subst (λ n. load_in said.requests said.callers + value_of (field_at fields 2) * n ≤ 262144) hops load;
+      };
+    })
+
+pub close_may : (version : Version) (said : Said) (fields : List (List ℕ)) (what : Op) → IsDraft said → said.version ≡ Some version
+    → (not (nat_eq (length said.callers) 0) && is_none said.rounds) ≡ true → close_rule said fields ≡ None → close_said said fields ≡ Some what → MayPutOp said what
+close_may version said fields what draft v stands rule says =
+    let p = all_pass (unless (has_form close_form fields) cause.Shape ∷ used_name_rule (is_some (own_request said (field_at fields 1))) (field_at fields 1)
+    ∷ unless (not (is_closed_request said (own_request said (field_at fields 1)))) cause.Closed ∷ []) rule in
+    let may = and_parts (not (nat_eq (length said.callers) 0)) (is_none said.rounds) stands in
+    let some = longer_than_none said.callers may.0 in
+    let made = made_some close_of (own_request said (field_at fields 1)) what says in
+    subst (MayPutOp said) made.2 (record {
+      before = linked_by version said draft v may.0 may.1;
+      some = some;
+      op = opened_channel said (field_at fields 1) made.0 draft some made.1 p.1.1.0;
+    })
+
+pub pour_may : (version : Version) (said : Said) (fields : List (List ℕ)) (what : Op) → IsDraft said → said.version ≡ Some version
+    → (has_best_effort version && not (nat_eq (length said.callers) 0) && is_none said.rounds) ≡ true → pour_rule said fields ≡ None → pour_said said fields ≡ Some what → MayPutOp said what
+pour_may version said fields what draft v stands rule says =
+    let p = all_pass (unless (has_form pour_form fields) cause.Shape ∷ used_name_rule (is_some (link_named said.links (field_at fields 1))) (field_at fields 1) ∷ packets_rule fields
+    ∷ load_rule said (value_of (field_at fields 2)) ∷ unless (takes_best_effort (link_named said.links (field_at fields 1))) cause.Best ∷ []) rule in
+    let both = and_parts (has_best_effort version && not (nat_eq (length said.callers) 0)) (is_none said.rounds) stands in
+    let first = and_parts (has_best_effort version) (not (nat_eq (length said.callers) 0)) both.0 in
+    let made = made_some (pour_over fields) (link_named said.links (field_at fields 1)) what says in
+    let at = link_found said.links (field_at fields 1) made.0 draft.keeps.planned.links made.1 in
+    let number = link_number made.0.shape.link in
+    subst (MayPutOp said) made.2 (record {
+      before = linked_by version said draft v first.1 both.1;
+      some = longer_than_none said.callers first.1;
+      op = record {
+        some = longer_than_none said.callers first.1;
+        version = subst (λ (w : Version). has_best_effort w ≡ true) (sym (ap (λ o. unwrap_or o One) v)) first.0;
+        there = lt-ltb number (length said.links) (slice_get_within said.links number made.0 at);
+        range = packets_pass fields p.1.1.0;
+        load = load_passes said (value_of (field_at fields 2)) p.1.1.1.0;
+        taken = subst (λ (found : Option LinkEntry). takes_best_effort found ≡ true) (made.1 ∙ sym at) (unless_passes (takes_best_effort (link_named said.links (field_at fields 1))) cause.Best p.1.1.1.1.0);
+      };
+    })

@@ -1,0 +1,115 @@
+-- An open line that passes may open its request.
+use Rattle.std.proofs.Common.{◌≡◌, ℕ, zero, suc, ◌-◌, ◌<◌, ◌≤◌, Bool, true, false, not, ◌&&◌, ◌||◌, nat_eq, nat_lt, nat_le, List, [], ◌∷◌, length, map, Option, Some, None, is_some, is_none, if◌then◌else◌, refl, sym, ◌∙◌, ap, subst, arith, inl, inr}
+use Rattle.std.proofs.lemmas.Bool.{leb-true, le-leb, lt-ltb, ltb-true, and_parts, and_from, cases_Bool}
+use Rattle.std.proofs.lemmas.List.Folds.{find_at}
+use Rattle.std.proofs.lemmas.Option.{same_Some, slice_get_within}
+use Rattle.std.specs.List.{list_all, slice_get, position_or_len}
+use Rattle.net_units.specs.Numbers.{link_number, actor_number, channel_number}
+use Rattle.traffic_contract.specs.Contract.{Terms, IsContract}
+use Rattle.hop_reservation.specs.Routes.{IsRoute, fault_in}
+use Rattle.hop_reservation.specs.declared.route.Hop.{Hop}
+use Rattle.hop_reservation.proofs.RouteFacts.{route-from_none}
+use Rattle.link_steps.specs.Lists.{Each}
+use Rattle.call_script.specs.Growing.{MayOpen}
+use Rattle.call_script.specs.Parts.{FollowsLink}
+use Rattle.call_script.specs.Plans.{HasTerms}
+use Rattle.call_script.specs.Rules.{is_named, request_names, has_link, is_joined, is_from, control_in_range}
+use Rattle.call_script.specs.declared.entries.LinkEntry.{LinkEntry}
+use Rattle.call_script.specs.declared.version.Version.{Version}
+use Rattle.scenario_reader.specs.Causes.{unless}
+use Rattle.scenario_reader.specs.Decimal.{value_of}
+use Rattle.scenario_reader.specs.Drafts.{Said, parts_said, link_named, with_hop, route_over}
+use Rattle.scenario_reader.specs.Entries.{hop_of}
+use Rattle.scenario_reader.specs.Fields.{field_at}
+use Rattle.scenario_reader.specs.Forms.{is_word, new_name_rule, number_rule}
+use Rattle.scenario_reader.specs.Kept.{IsDraft, IsBefore, IsLinked, MayPutOpen}
+use Rattle.scenario_reader.specs.OpenLine.{is_open_line, route_fields, behind_route, has_jitter, control_in, terms_in, contract_of, hops_in, route_names_rule, terms_rule, jitter_rule, open_fields_rule, is_way, open_limits_rule, open_rule, request_said}
+use Rattle.scenario_reader.specs.declared.cause.Cause.TheVariants as cause
+use Rattle.scenario_reader.proofs.LinkMay.{headed_is, some_items, longer_than_none, is_none_said}
+use Rattle.scenario_reader.proofs.OwnFacts.{few_parts}
+use Rattle.scenario_reader.proofs.PassFacts.{all_pass, unless_passes, new_name_passes, number_passes, contract_passes}
+
+-- links with the numbers of their places
+abbrev pub AreNumbered : List LinkEntry → Type 0
+AreNumbered links = (n : ℕ) (entry : LinkEntry) → slice_get links n ≡ Some entry → link_number entry.shape.link ≡ n
+
+-- a link that is found stands at its number
+pub link_found : (links : List LinkEntry) (name : List ℕ) (entry : LinkEntry) → AreNumbered links → link_named links name ≡ Some entry
+    → slice_get links (link_number entry.shape.link) ≡ Some entry
+link_found links name entry numbered found =
+    let place = position_or_len (λ (e : LinkEntry). is_named name e.name) links in
+    let at : slice_get links (position_or_len (λ (e : LinkEntry). is_named name e.name) links) ≡ Some entry = sym (find_at (λ (e : LinkEntry). is_named name e.name) links) ∙ found in
+    subst (λ n. slice_get links n ≡ Some entry) (sym (numbered place entry at)) at
+
+-- the hops of a route are over links that are there
+route_there : (links : List LinkEntry) (names : List (List ℕ)) → AreNumbered links → list_all (λ (hop : Hop). has_link links hop.link) (route_over links names) ≡ true
+route_there links [] numbered = refl
+route_there links (name ∷ names) numbered = by (link_named links name) refl (route_there links names numbered) where
+  by : (found : Option LinkEntry) → link_named links name ≡ found → list_all (λ (hop : Hop). has_link links hop.link) (route_over links names) ≡ true → list_all (λ (hop : Hop). has_link links hop.link) (with_hop found (route_over links names)) ≡ true
+  by None e rest = rest
+  by (Some entry) e rest =
+      let within = slice_get_within links (link_number entry.shape.link) entry (link_found links name entry numbered e) in
+      and_from (nat_lt (link_number entry.shape.link) (length links)) (list_all (λ (hop : Hop). has_link links hop.link) (route_over links names))
+      (lt-ltb (link_number entry.shape.link) (length links) within) rest
+
+-- and have their bounds and propagations
+route_follows : (links : List LinkEntry) (names : List (List ℕ)) → AreNumbered links → Each (FollowsLink links) (route_over links names)
+route_follows links [] numbered = tt
+route_follows links (name ∷ names) numbered = by (link_named links name) refl (route_follows links names numbered) where
+  by : (found : Option LinkEntry) → link_named links name ≡ found → Each (FollowsLink links) (route_over links names) → Each (FollowsLink links) (with_hop found (route_over links names))
+  by None e rest = rest
+  by (Some entry) e rest =
+      let at = link_found links name entry numbered e in
+      (record {
+        bounds = λ other found. ap (λ (l : LinkEntry). l.shape.bounds) (same_Some entry other (sym at ∙ found));
+        prop = λ other found. ap (λ (l : LinkEntry). l.shape.prop) (same_Some entry other (sym at ∙ found));
+      }, rest)
+
+-- a number in its range
+pub from_range : (low high : ℕ) (field : List ℕ) → number_rule low high field ≡ None → is_from low high (value_of field) ≡ true
+from_range low high field e =
+    let n = number_passes low high field e in
+    and_from (nat_le low (value_of field)) (nat_le (value_of field) high) (le-leb low (value_of field) n.least) (le-leb (value_of field) high n.most)
+
+-- the control is in its range
+control_range : (fields : List (List ℕ)) → jitter_rule fields ≡ None → control_in_range (control_in fields) ≡ true
+control_range fields e = by (has_jitter fields) refl where
+  by : (has : Bool) → has_jitter fields ≡ has → control_in_range (control_in fields) ≡ true
+  by true is = rw is (from_range 1 67108864 (behind_route fields 8) (rw is at e))
+  by false is = rw is refl
+
+pub open_may : (version : Version) (said : Said) (fields : List (List ℕ)) → IsDraft said → said.version ≡ Some version
+    → (not (nat_eq (length said.callers) 0) && is_none said.rounds) ≡ true → open_rule said fields ≡ None → MayPutOpen said (request_said said fields)
+open_may version said fields draft v stands rule =
+    let p = all_pass (unless (is_open_line fields) cause.Shape ∷ open_fields_rule said fields ∷ open_limits_rule said fields ∷ []) rule in
+    let q = all_pass (new_name_rule (request_names said.requests) (field_at fields 1) ∷ route_names_rule said (route_fields fields) ∷ terms_rule fields
+    ∷ number_rule 1 67108864 (behind_route fields 6) ∷ jitter_rule fields ∷ []) p.1.0 in
+    let l = all_pass (unless (nat_lt (length said.requests) 1024) cause.Many ∷ unless (is_some (contract_of (terms_in fields))) cause.Contract
+    ∷ unless (is_way said (hops_in said fields)) cause.Route ∷ []) p.1.1.0 in
+    let may = and_parts (not (nat_eq (length said.callers) 0)) (is_none said.rounds) stands in
+    let some = longer_than_none said.callers may.0 in
+    let few = ltb-true (length said.requests) 1024 (unless_passes (nat_lt (length said.requests) 1024) cause.Many l.0) in
+    let way = and_parts (is_none (fault_in (hops_in said fields))) (is_joined said.links (hops_in said fields)) (unless_passes (is_way said (hops_in said fields)) cause.Route l.1.1.0) in
+    let callers = (few_parts (parts_said said) draft.keeps.few).callers in
+    let numbered = draft.keeps.planned.links in
+    record {
+      before = record {
+        before = record { headed = headed_is said version v; unrounded = is_none_said said.rounds may.1 };
+        linked = λ none. some_items said.callers may.0 (draft.unlinked_callers none);
+      };
+      request = record {
+        name = (new_name_passes (request_names said.requests) (field_at fields 1) q.0).1;
+        few = few;
+        number = omega arith;
+        caller = omega arith;
+        there = route_there said.links (route_fields fields) numbered;
+        joined = way.1;
+        range = and_from (is_from 1 67108864 (value_of (behind_route fields 6))) (control_in_range (control_in fields))
+            (from_range 1 67108864 (behind_route fields 6) q.1.1.1.0) (control_range fields q.1.1.1.1.0);
+        hops = route_follows said.links (route_fields fields) numbered;
+        terms = record {
+          contract = contract_passes (terms_in fields) (unless_passes (is_some (contract_of (terms_in fields))) cause.Contract l.1.0);
+          route = route-from_none (hops_in said fields) (is_none_said (fault_in (hops_in said fields)) way.0);
+        };
+      };
+    }

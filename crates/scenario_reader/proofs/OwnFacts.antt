@@ -1,0 +1,80 @@
+-- A request that the last caller is to open is opened in that caller's operations.
+use Rattle.std.proofs.Common.{◌≡◌, ℕ, zero, suc, ◌+◌, ◌-◌, ◌<◌, ◌≤◌, ◌⊎◌, true, List, [], ◌∷◌, ◌++◌, Some, length, map, nat_eq, refl, sym, ap, ◌∙◌, subst, inl, inr, arith}
+use Rattle.std.proofs.lemmas.Bool.{eq-eqb, or_left, or_right, leb-true, and_parts}
+use Rattle.std.proofs.lemmas.Option.{same_Some}
+use Rattle.std.specs.List.{list_any, slice_get}
+use Rattle.std.specs.Prelude.{◌||◌, nat_le, ◌&&◌}
+use Rattle.net_units.specs.Numbers.{actor_number, channel_number}
+use Rattle.link_steps.proofs.ListFacts.{Among}
+use Rattle.call_script.specs.Growing.{last_ops}
+use Rattle.call_script.specs.Parts.{PlanParts, Opening, opened_by, openings_in, openings_of, opening_of, ArePlanned}
+use Rattle.call_script.specs.Rules.{opens, are_few}
+use Rattle.call_script.specs.declared.entries.CallerEntry.{CallerEntry}
+use Rattle.call_script.specs.declared.entries.RequestEntry.{RequestEntry}
+use Rattle.call_script.specs.declared.operations.Op.{Op}
+use Rattle.call_script.specs.declared.operations.Op.TheVariants.{Open, Send, Close, Pour}
+
+-- how many there are
+pub record AreFew (parts : PlanParts) : Type 0 where
+  pub links : length parts.links ≤ 32
+  pub callers : length parts.callers ≤ 64
+  pub requests : length parts.requests ≤ 1024
+
+pub few_parts : (parts : PlanParts) → are_few parts ≡ true → AreFew parts
+unfolding are_few
+few_parts parts few =
+    let first = and_parts (nat_le (length parts.links) 32 && nat_le (length parts.callers) 64) (nat_le (length parts.requests) 1024) few in
+    let second = and_parts (nat_le (length parts.links) 32) (nat_le (length parts.callers) 64) first.0 in
+    record { links = leb-true (length parts.links) 32 second.0; callers = leb-true (length parts.callers) 64 second.1; requests = leb-true (length parts.requests) 1024 first.1 }
+
+-- an opening among two lists is among one of them
+parted : (x : Opening) (xs ys : List Opening) → Among x (xs ++ ys) → Among x xs ⊎ Among x ys
+parted x [] ys among = inr among
+parted x (y ∷ xs) ys (inl same) = inl (inl same)
+parted x (y ∷ xs) ys (inr rest) = later (parted x xs ys rest) where
+  later : Among x xs ⊎ Among x ys → Among x (y ∷ xs) ⊎ Among x ys
+  later (inl own) = inl (inr own)
+  later (inr other) = inr other
+
+-- what a caller opens is its own, and is among what its operations open
+opened_there : (n : ℕ) (ops : List Op) (opening : Opening) → Among opening (openings_in n ops) → (opening.caller ≡ n) × (list_any (opens opening.chan) ops ≡ true)
+unfolding openings_in
+opened_there n [] opening among = absurd among
+opened_there n (Open chan ∷ ops) opening (inl same) =
+    (ap (λ (o : Opening). o.caller) same,
+    or_left (nat_eq (channel_number chan) opening.chan) (list_any (opens opening.chan) ops) (eq-eqb (channel_number chan) opening.chan (sym (ap (λ (o : Opening). o.chan) same))))
+opened_there n (Open chan ∷ ops) opening (inr among) =
+    let rest = opened_there n ops opening among in
+    (rest.0, or_right (nat_eq (channel_number chan) opening.chan) (list_any (opens opening.chan) ops) rest.1)
+opened_there n (Send chan count gap size ∷ ops) opening among = opened_there n ops opening among
+opened_there n (Close chan ∷ ops) opening among = opened_there n ops opening among
+opened_there n (Pour link count gap size ∷ ops) opening among = opened_there n ops opening among
+
+-- what the last caller opens is among what its operations open
+opened_last : (first : ℕ) (caller : CallerEntry) (callers : List CallerEntry) (opening : Opening) → Among opening (openings_of first (caller ∷ callers))
+    → opening.caller ≡ first + length callers → list_any (opens opening.chan) (last_ops (caller ∷ callers)) ≡ true
+unfolding openings_of
+opened_last first caller [] opening among last = by (parted opening (openings_in first caller.ops) [] among) where
+  by : Among opening (openings_in first caller.ops) ⊎ Among opening [] → list_any (opens opening.chan) caller.ops ≡ true
+  by (inl own) = (opened_there first caller.ops opening own).1
+  by (inr none) = absurd none
+opened_last first caller (next ∷ callers) opening among last =
+    by (parted opening (openings_in first caller.ops) (openings_of (suc first) (next ∷ callers)) among) (λ rest. opened_last (suc first) next callers opening rest (omega (arith, last)))
+  where
+    by : Among opening (openings_in first caller.ops) ⊎ Among opening (openings_of (suc first) (next ∷ callers))
+        → (Among opening (openings_of (suc first) (next ∷ callers)) → list_any (opens opening.chan) (last_ops (next ∷ callers)) ≡ true) → list_any (opens opening.chan) (last_ops (next ∷ callers)) ≡ true
+    by (inl own) later = absurd (let same = (opened_there first caller.ops opening own).0 in omega (arith, same, last))
+    by (inr rest) later = later rest
+
+among_map : (requests : List RequestEntry) (n : ℕ) (entry : RequestEntry) → slice_get requests n ≡ Some entry → Among (opening_of entry) (map opening_of requests)
+among_map [] n entry none = cc
+among_map (e ∷ requests) zero entry at = inl (ap opening_of (sym (same_Some e entry at)))
+among_map (e ∷ requests) (suc n) entry at = inr (among_map requests n entry at)
+
+-- a request of the last caller is opened there
+pub own_opened : (requests : List RequestEntry) (callers : List CallerEntry) (n : ℕ) (entry : RequestEntry) → openings_of 0 callers ≡ map opening_of requests
+    → slice_get requests n ≡ Some entry → 1 ≤ length callers → actor_number entry.caller ≡ length callers - 1
+    → list_any (opens (channel_number entry.request.chan)) (last_ops callers) ≡ true
+own_opened requests [] n entry same found some by = absurd (omega arith)
+own_opened requests (caller ∷ callers) n entry same found some by =
+    opened_last 0 caller callers (opening_of entry) (subst (Among (opening_of entry)) (sym same) (among_map requests n entry found)) (omega (arith, by))

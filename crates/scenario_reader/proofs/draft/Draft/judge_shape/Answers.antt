@@ -1,0 +1,18 @@
+use Rattle.std.proofs.Common.{length, ◌∙◌, ap, sym, subst, ◌≡◌, Some, None}
+use Rattle.net_units.specs.declared.numbers.LinkNo.{LinkNo}
+use Rattle.call_script.specs.Versions.{test_of}
+use Rattle.scenario_reader.specs.Causes.{unless}
+use Rattle.scenario_reader.specs.Drafts.{Said}
+use Rattle.scenario_reader.specs.Entries.{link_at, has_bounds, shape_of}
+use Rattle.scenario_reader.specs.LinkFields.{numbers_with}
+use Rattle.scenario_reader.specs.declared.cause.Cause.TheVariants.{Levels}
+use Rattle.scenario_reader.proofs.ShapeFacts.{link_is, made_shape}
+use Rattle.scenario_reader.proofs.draft.Draft.judge_shape.Goals as goal
+
+pub returns-in-Ok : goal.returns-in-Ok
+returns-in-Ok c = λ numbers said.
+    let link = c.args.link.now in
+    let made = made_shape link numbers c.in_ok-bounds.bounds c.unwrap.result c.test.result c.in-Ok.shape c.requires.figures c.requires.best said (c.in_ok-bounds.ensures.ok_part) c.in-Ok.ensures.refusal c.in-Ok.ensures.value in
+    let number = link_is c.unwrap.result (length c.args.self.now.links) c.requires.few
+        ((rw c.unwrap.ensures at c.new.ensures.value) ∙ c.len.ensures ∙ c.self.inside.links.ok.0 ∙ ap (λ (s : Said). length s.links) c.self.view_is) in
+    (made.0, rw (sym number, sym c.test.ensures) made.1)

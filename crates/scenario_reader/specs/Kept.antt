@@ -1,0 +1,129 @@
+-- What was read of a scenario so far, where no line was refused, keeps the rules of a plan, as far as it has come. Its parts
+-- come in order: the header; the links; the callers with their operations; `rounds`; `tail`; and the schedule. Behind a part
+-- that wasn't read nothing was read, but that a scenario needs no callers and no schedule.
+use Rattle.std.specs.Prelude.{◌≡◌, ℕ, ◌+◌, ◌*◌, ◌≤◌, Bool, true, false, None, Some, IfSome, List, [], length}
+use Rattle.std.specs.List.{slice_get, slice_index_or}
+use Rattle.net_units.specs.Numbers.{actor_number, channel_number}
+use Rattle.link_steps.specs.Lists.{Each}
+use Rattle.call_script.specs.Growing.{KeepSoFar, MayAddLink, MayAddCaller, MayOpen, IsOpenedThere, MaySend, MayPour}
+use Rattle.call_script.specs.Parts.{PlanParts}
+use Rattle.call_script.specs.Limits.{most_links, most_callers, most_requests, most_packets, most_rounds}
+use Rattle.call_script.specs.Rules.{link_names, request_names, caller_names, load_in}
+use Rattle.call_script.specs.declared.entries.CallerEntry.{CallerEntry}
+use Rattle.call_script.specs.declared.entries.LinkEntry.{LinkEntry}
+use Rattle.call_script.specs.declared.entries.RequestEntry.{RequestEntry}
+use Rattle.call_script.specs.declared.operations.Op.{Op}
+use Rattle.call_script.specs.declared.operations.Op.TheVariants as op
+use Rattle.call_script.specs.declared.schedule.Do.{Do}
+use Rattle.call_script.specs.declared.schedule.Schedule.{Schedule}
+use Rattle.scenario_reader.specs.Drafts.{Said, nothing_said, rounds_of, parts_said, schedule_said, last_caller, is_closed}
+use Rattle.scenario_reader.specs.declared.item.Item.{Item}
+use Rattle.scenario_reader.specs.declared.item.Item.TheVariants as item
+
+-- an item of a schedule: the actor is a caller or the plane, and the steps are within the limit
+pub record IsDo (callers : List CallerEntry) (what : Do) : Type 0 where
+  pub actor : actor_number what.actor ≤ length callers
+  pub least : 1 ≤ what.count
+  pub most : what.count ≤ 1048576
+
+-- a schedule of these callers and the plane; one that isn't written has no items
+pub record IsScheduleOf (callers : List CallerEntry) (schedule : Schedule) : Type 0 where
+  pub items : Each (IsDo callers) schedule.items
+  pub unwritten : schedule.written ≡ false → schedule.items ≡ []
+
+-- what was read so far
+pub record IsDraft (said : Said) : Type 0 where
+  pub keeps : KeepSoFar (parts_said said)
+  pub unheaded : said.version ≡ None → said ≡ nothing_said
+  pub unlinked_callers : said.links ≡ [] → said.callers ≡ []
+  pub unlinked_rounds : said.links ≡ [] → said.rounds ≡ None
+  pub unrounded : said.rounds ≡ None → said.tail ≡ None
+  pub untailed : said.tail ≡ None → said.written ≡ false
+  pub ticks : IfSome said.tail (λ tail. (rounds_of said + tail) * length said.links ≤ most_rounds)
+  pub schedule : IsScheduleOf said.callers (schedule_said said)
+
+-- what is kept beside it, so that none of it is looked for again: the names, whether each request was closed, the load, and
+-- that there are few parts
+pub record IsKept (said : Said) (links requests callers : List (List ℕ)) (closed : List Bool) (load : ℕ) : Type 0 where
+  pub same_links : links ≡ link_names said.links
+  pub same_requests : requests ≡ request_names said.requests
+  pub same_callers : callers ≡ caller_names said.callers
+  pub all_closed : length closed ≡ length said.requests
+  -- a request of the last caller
+  pub same_closed : (n : ℕ) (entry : RequestEntry) → slice_get said.requests n ≡ Some entry → actor_number entry.caller ≡ last_caller said
+      → slice_index_or closed n false ≡ is_closed said entry.request.chan
+  pub same_load : load ≡ load_in said.requests said.callers
+  pub few_links : length said.links ≤ most_links
+  pub few_requests : length said.requests ≤ most_requests
+  pub few_callers : length said.callers ≤ most_callers
+  pub small_load : load ≤ most_packets
+  pub few_rounds : IfSome said.rounds (λ rounds. rounds ≤ most_rounds)
+
+-- ---- what a line may add
+
+-- the header was read, and no rounds were
+pub record IsBefore (said : Said) : Type 0 where
+  pub headed : said.version ≡ None → ⊥
+  pub unrounded : said.rounds ≡ None
+
+-- a link was read, too
+pub record IsLinked (said : Said) : Type 0 where
+  pub before : IsBefore said
+  pub linked : said.links ≡ [] → ⊥
+
+pub record MayPutLink (said : Said) (entry : LinkEntry) : Type 0 where
+  pub before : IsBefore said
+  pub link : MayAddLink (parts_said said) entry
+
+pub record MayPutCaller (said : Said) (name : List ℕ) : Type 0 where
+  pub before : IsLinked said
+  pub caller : MayAddCaller (parts_said said) name
+
+pub record MayPutOpen (said : Said) (entry : RequestEntry) : Type 0 where
+  pub before : IsLinked said
+  pub request : MayOpen (parts_said said) entry
+
+-- what a send, a close and a pour have to pass
+abbrev pub MayDo : PlanParts → Op → Type 0
+MayDo parts (op.Open chan) = ⊥
+MayDo parts (op.Send chan count gap size) = MaySend parts chan count gap size
+MayDo parts (op.Close chan) = IsOpenedThere parts chan
+MayDo parts (op.Pour link count gap size) = MayPour parts link count gap size
+
+pub record MayPutOp (said : Said) (what : Op) : Type 0 where
+  pub before : IsLinked said
+  pub some : 1 ≤ length said.callers
+  pub op : MayDo (parts_said said) what
+
+pub record MayPutRounds (said : Said) (count : ℕ) : Type 0 where
+  pub before : IsLinked said
+  pub most : count ≤ most_rounds
+
+pub record MayPutTail (said : Said) (count : ℕ) : Type 0 where
+  pub headed : said.version ≡ None → ⊥
+  pub rounded : said.rounds ≡ None → ⊥
+  pub most : count ≤ most_rounds
+  pub ticks : (rounds_of said + count) * length said.links ≤ most_rounds
+
+pub record MayPutSchedule (said : Said) : Type 0 where
+  pub headed : said.version ≡ None → ⊥
+  pub tailed : said.tail ≡ None → ⊥
+  pub unwritten : said.written ≡ false
+
+pub record MayPutDo (said : Said) (what : Do) : Type 0 where
+  pub headed : said.version ≡ None → ⊥
+  pub written : said.written ≡ true
+  pub is : IsDo said.callers what
+
+-- what a line says that is let pass has these
+abbrev pub MayAdd : Said → Item → Type 0
+MayAdd said item.Nothing = Unit {0}
+MayAdd said (item.Header version) = said.version ≡ None
+MayAdd said (item.Link entry) = MayPutLink said entry
+MayAdd said (item.Caller name) = MayPutCaller said name
+MayAdd said (item.Open entry) = MayPutOpen said entry
+MayAdd said (item.Op what) = MayPutOp said what
+MayAdd said (item.Rounds count) = MayPutRounds said count
+MayAdd said (item.Tail count) = MayPutTail said count
+MayAdd said item.Schedule = MayPutSchedule said
+MayAdd said (item.Do what) = MayPutDo said what

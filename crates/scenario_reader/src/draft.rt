@@ -1,0 +1,86 @@
+//! What was read of a scenario so far.
+ghost use Rattle.std.specs.Prelude.{◌≡◌, ◌≤◌, ◌∷◌, [], true, IfOk, IfErr, OnOk, OnErr, IsTrue};
+ghost use Rattle.call_script.specs.Plans.{IsPlan};
+ghost use Rattle.scenario_reader.specs.Drafts.{nothing_said, with_item, is_complete, parts_said, schedule_said, rounds_of, link_named, request_named, caller_named, own_request, is_closed};
+ghost use Rattle.scenario_reader.specs.declared.item.Item.TheVariants as item;
+
+use crate::item::Item;
+use crate::names::Names;
+use call_script::{CallerEntry, Do, Dos, LinkEntry, Op, Ops, Plan, RequestEntry, Schedule, Version};
+use net_units::{Name, OutOfMemory};
+use std::alloc::Global;
+use std::marker::Model;
+
+/// What was read of a scenario so far, where no line was refused.
+///
+/// A contract sees the record `Said`.
+#[derive(Drop)]
+pub struct Draft {
+    pub(crate) version: Option<Version>,
+    pub(crate) links: Vec<LinkEntry>,
+    pub(crate) requests: Vec<RequestEntry>,
+    pub(crate) callers: Vec<CallerEntry>,
+    pub(crate) rounds: Option<u64>,
+    pub(crate) tail: Option<u64>,
+    pub(crate) written: bool,
+    pub(crate) items: Vec<Do>,
+    // What follows is kept so that no line goes over all lines before it.
+    pub(crate) link_names: Names,
+    pub(crate) request_names: Names,
+    pub(crate) caller_names: Names,
+    // Whether each request was closed.
+    pub(crate) closed: Vec<bool>,
+    // How many packets are sent, once for each hop that they cross, and poured.
+    pub(crate) load: u64,
+}
+
+impl Model for Draft {
+    ghost use Rattle.scenario_reader.specs.Drafts.{Said, said_of};
+    ghost use Rattle.scenario_reader.specs.Kept.{IsDraft, IsKept};
+
+    ghost Value = { Said };
+
+    ghost view = { λ d. said_of d.version d.links.items d.requests.items d.callers.items d.rounds d.tail d.written d.items.items };
+
+    ghost invariant = { λ d. IsDraft (said_of d.version d.links.items d.requests.items d.callers.items d.rounds d.tail d.written d.items.items)
+        × IsKept (said_of d.version d.links.items d.requests.items d.callers.items d.rounds d.tail d.written d.items.items)
+        d.link_names d.request_names d.caller_names d.closed.items d.load };
+}
+
+impl Draft {
+    /// Before the first line. An `Err` comes only for want of memory.
+    pub fn new(alloc: Global) -> Result<Draft, OutOfMemory>
+        ensures { IfOk result (λ draft. draft ≡ nothing_said) }
+    {
+        Ok(Draft {
+            version: None,
+            links: Vec::new(alloc),
+            requests: Vec::new(alloc),
+            callers: Vec::new(alloc),
+            rounds: None,
+            tail: None,
+            written: false,
+            items: Vec::new(alloc),
+            link_names: Names::new(alloc)?,
+            request_names: Names::new(alloc)?,
+            caller_names: Names::new(alloc)?,
+            closed: Vec::new(alloc),
+            load: 0,
+        })
+    }
+
+    /// Whether the last line that a plan needs was read.
+    pub fn is_complete(&self) -> bool
+        ensures { result ≡ is_complete self.now }
+    {
+        self.tail.is_some()
+    }
+
+    // How many rounds the plane makes beside the callers.
+    pub(crate) fn rounds(&self) -> u64
+        ensures value { result ≡ rounds_of self.now }
+        ensures most { result ≤ 524288 }
+    {
+        self.rounds.unwrap_or(0)
+    }
+}
