@@ -12,6 +12,7 @@ pub mod link_line;
 pub mod names;
 pub mod open_line;
 pub mod operation_lines;
+mod put;
 pub mod round_lines;
 pub mod values;
 

@@ -1,0 +1,174 @@
+//! Adding what a line says to what was read.
+ghost use Rattle.std.specs.Prelude.{◌≡◌, ◌≤◌, ℕ, false, OnOk, OnErr, length};
+ghost use Rattle.std.specs.List.{slice_get};
+ghost use Rattle.net_units.specs.Numbers.{channel_number};
+ghost use Rattle.call_script.specs.Growing.{add_op};
+ghost use Rattle.call_script.specs.Rules.{closes, hops_of, load_of};
+ghost use Rattle.call_script.specs.declared.operations.Op.TheVariants.{Close};
+ghost use Rattle.scenario_reader.specs.Drafts.{with_item};
+ghost use Rattle.scenario_reader.specs.Kept.{MayAdd};
+ghost use Rattle.scenario_reader.specs.declared.item.Item.TheVariants as item;
+
+use crate::draft::Draft;
+use crate::item::Item;
+use call_script::{CallerEntry, Do, LinkEntry, Op, Ops, RequestEntry, Version};
+use net_units::{ChanNo, Name, OutOfMemory};
+use std::alloc::Global;
+
+impl Draft {
+    /// Adds what a line says that was let pass. Want of memory changes nothing.
+    pub fn put(&mut self, alloc: Global, item: &Item) -> Result<(), OutOfMemory>
+        requires { MayAdd self.old item.now }
+        ensures ok { OnOk result (self.new ≡ with_item item.now self.old) }
+        ensures err { OnErr result (self.new ≡ self.old) }
+    {
+        match item {
+            Item::Nothing => {}
+            Item::Header(version) => self.put_header(*version),
+            Item::Link(entry) => self.put_link(entry)?,
+            Item::Caller(name) => self.put_caller(alloc, name)?,
+            Item::Open(entry) => self.put_open(entry)?,
+            Item::Op(op) => self.put_op(op)?,
+            Item::Rounds(count) => self.put_rounds(*count),
+            Item::Tail(count) => self.put_tail(*count),
+            Item::Schedule => self.put_schedule(),
+            Item::Do(what) => self.put_do(what)?,
+        }
+        Ok(())
+    }
+
+    fn put_header(&mut self, version: Version)
+        requires { MayAdd self.old (item.Header version) }
+        ensures { self.new ≡ with_item (item.Header version) self.old }
+    {
+        self.version = Some(version);
+    }
+
+    fn put_link(&mut self, entry: &LinkEntry) -> Result<(), OutOfMemory>
+        requires { MayAdd self.old (item.Link entry.now) }
+        ensures ok { OnOk result (self.new ≡ with_item (item.Link entry.now) self.old) }
+        ensures err { OnErr result (self.new ≡ self.old) }
+    {
+        self.links.push(*entry)?;
+        self.link_names.add(entry.name);
+        Ok(())
+    }
+
+    fn put_caller(&mut self, alloc: Global, name: &Name) -> Result<(), OutOfMemory>
+        requires { MayAdd self.old (item.Caller name.now) }
+        ensures ok { OnOk result (self.new ≡ with_item (item.Caller name.now) self.old) }
+        ensures err { OnErr result (self.new ≡ self.old) }
+    {
+        self.callers.reserve(1)?;
+        self.callers.push_reserved(CallerEntry {
+            name: *name,
+            ops: Ops::new(Vec::new(alloc)),
+        });
+        self.caller_names.add(*name);
+        Ok(())
+    }
+
+    fn put_open(&mut self, entry: &RequestEntry) -> Result<(), OutOfMemory>
+        requires { MayAdd self.old (item.Open entry.now) }
+        ensures ok { OnOk result (self.new ≡ with_item (item.Open entry.now) self.old) }
+        ensures err { OnErr result (self.new ≡ self.old) }
+    {
+        self.requests.reserve(1)?;
+        self.closed.reserve(1)?;
+        add_op(&mut self.callers, Op::Open(entry.request.chan))?;
+        self.requests.push_reserved(*entry);
+        self.closed.push_reserved(false);
+        self.request_names.add(entry.name);
+        Ok(())
+    }
+
+    fn put_op(&mut self, op: &Op) -> Result<(), OutOfMemory>
+        requires { MayAdd self.old (item.Op op.now) }
+        ensures ok { OnOk result (self.new ≡ with_item (item.Op op.now) self.old) }
+        ensures err { OnErr result (self.new ≡ self.old) }
+    {
+        match op {
+            Op::Open(_) => unreachable!(),
+            Op::Close(chan) => self.put_close(*chan),
+            Op::Send { chan, count, .. } => {
+                let packets = *count * self.hops_of(*chan);
+                self.put_packets(op, packets)
+            }
+            Op::Pour { count, .. } => self.put_packets(op, *count),
+        }
+    }
+
+    // Adds a send or a pour of so many packets, once for each hop that they cross.
+    fn put_packets(&mut self, op: &Op, packets: u64) -> Result<(), OutOfMemory>
+        requires may { MayAdd self.old (item.Op op.now) }
+        requires packets { packets ≡ load_of self.old.requests op.now }
+        requires open_still { (c : ℕ) → closes c op.now ≡ false }
+        ensures ok { OnOk result (self.new ≡ with_item (item.Op op.now) self.old) }
+        ensures err { OnErr result (self.new ≡ self.old) }
+    {
+        add_op(&mut self.callers, *op)?;
+        self.load += packets;
+        Ok(())
+    }
+
+    fn put_close(&mut self, chan: ChanNo) -> Result<(), OutOfMemory>
+        requires { MayAdd self.old (item.Op (Close chan)) }
+        ensures ok { OnOk result (self.new ≡ with_item (item.Op (Close chan)) self.old) }
+        ensures err { OnErr result (self.new ≡ self.old) }
+    {
+        add_op(&mut self.callers, Op::Close(chan))?;
+        self.closed[chan.get() as usize] = true;
+        Ok(())
+    }
+
+    // How many hops the route of a channel has, 0 where it has no request.
+    fn hops_of(&self, chan: ChanNo) -> u64
+        ensures value { result ≡ hops_of (slice_get self.now.requests (channel_number chan)) }
+        ensures most { result ≤ 16 }
+    {
+        match self.requests.get(chan.get() as usize) {
+            Some(entry) => u64::from(entry.request.route.len()),
+            None => 0,
+        }
+    }
+
+    fn put_rounds(&mut self, count: u64)
+        requires { MayAdd self.old (item.Rounds count) }
+        ensures { self.new ≡ with_item (item.Rounds count) self.old }
+    {
+        self.rounds = Some(count);
+    }
+
+    fn put_tail(&mut self, count: u64)
+        requires { MayAdd self.old (item.Tail count) }
+        ensures { self.new ≡ with_item (item.Tail count) self.old }
+    {
+        self.tail = Some(count);
+    }
+
+    fn put_schedule(&mut self)
+        requires { MayAdd self.old item.Schedule }
+        ensures { self.new ≡ with_item item.Schedule self.old }
+    {
+        self.written = true;
+    }
+
+    fn put_do(&mut self, what: &Do) -> Result<(), OutOfMemory>
+        requires { MayAdd self.old (item.Do what.now) }
+        ensures ok { OnOk result (self.new ≡ with_item (item.Do what.now) self.old) }
+        ensures err { OnErr result (self.new ≡ self.old) }
+    {
+        self.items.push(*what)?;
+        Ok(())
+    }
+}
+
+// Adds an operation behind those of the last caller. Want of memory changes nothing.
+fn add_op(callers: &mut Vec<CallerEntry>, op: Op) -> Result<(), OutOfMemory>
+    requires { 1 ≤ length callers.old.items }
+    ensures ok { OnOk result (callers.new.items ≡ add_op op callers.old.items) }
+    ensures err { OnErr result (callers.new.items ≡ callers.old.items) }
+{
+    let last = callers.len() - 1;
+    callers[last].ops.push(op)
+}
