@@ -16,3 +16,13 @@ pub mod LinkMay
 pub mod OpenMay
 pub mod OpMay
 pub mod SayFacts
+pub mod FieldText
+pub mod NumberText
+pub mod LineText
+pub mod RulesBack
+pub mod BackShapes
+pub mod LinkBack
+pub mod LinesBack
+pub mod OpenBack
+pub mod NamedBack
+pub mod SaysBack

@@ -12,3 +12,5 @@ pub mod Reading
 pub mod Kept
 pub mod LinkFields
 pub mod OpenFields
+pub mod PlanText
+pub mod BothWays

@@ -8,6 +8,7 @@ pub mod form;
 mod hops;
 pub mod item;
 mod judge;
+pub mod laws;
 pub mod link_line;
 pub mod names;
 pub mod open_line;

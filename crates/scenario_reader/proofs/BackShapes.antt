@@ -1,0 +1,87 @@
+-- A number determines a link, an actor and a channel, and numbers within the limits of a link its shape.
+use Rattle.std.proofs.Common.{◌≡◌, ◌<◌, ◌≤◌, Bool, true, false, Some, refl, sym, ◌∙◌, ap, arith}
+use Rattle.std.specs.Prelude.{min, ℕ}
+use Rattle.std.proofs.Math.Bridge.{le_prop}
+use mathlib.Core.Bool.{Bool-set}
+use mathlib.Core.HLevel.{is_prop→PathP}
+use Rattle.net_units.specs.Numbers.{link_number, actor_number, channel_number}
+use Rattle.net_units.specs.Quotient.{ceil_quotient}
+use Rattle.net_units.specs.LevelBounds.{are_bounds, bound_at}
+use Rattle.net_units.specs.declared.numbers.ActorNo.{ActorNo}
+use Rattle.net_units.specs.declared.numbers.ChanNo.{ChanNo}
+use Rattle.net_units.specs.declared.numbers.LinkNo.{LinkNo}
+use Rattle.traffic_contract.specs.declared.admission.Test.{Test}
+use Rattle.link_steps.specs.Shape.{IsShapeOf}
+use Rattle.link_steps.specs.declared.shape.LinkShape.{LinkShape}
+use Rattle.scenario_reader.specs.Entries.{LinkNumbers, link_at, actor_at, channel_at, has_rate, has_room, has_bounds, shape_with, shape_where, shape_of}
+pub same_link : (a b : LinkNo) → link_number a ≡ link_number b → a ≡ b
+same_link a b same = λ i. record { number = same i; small = is_prop→PathP (λ j. same j < 32) (λ j. le_prop) a.small b.small i }
+
+pub same_actor : (a b : ActorNo) → actor_number a ≡ actor_number b → a ≡ b
+same_actor a b same = λ i. record { number = same i; small = is_prop→PathP (λ j. same j < 65) (λ j. le_prop) a.small b.small i }
+
+pub same_channel : (a b : ChanNo) → channel_number a ≡ channel_number b → a ≡ b
+same_channel a b same = λ i. record { number = same i; small = is_prop→PathP (λ j. same j < 1048576) (λ j. le_prop) a.small b.small i }
+
+pub link_is : (link : LinkNo) (n : ℕ) → n < 32 → link_number link ≡ n → link ≡ link_at n
+link_is link n h same = same_link link (link_at n) (omega (arith, same))
+
+pub actor_is : (actor : ActorNo) (n : ℕ) → n < 65 → actor_number actor ≡ n → actor ≡ actor_at n
+actor_is actor n h same = same_actor actor (actor_at n) (omega (arith, same))
+
+pub channel_is : (chan : ChanNo) (n : ℕ) → n < 1048576 → channel_number chan ≡ n → chan ≡ channel_at n
+channel_is chan n h same = same_channel chan (channel_at n) (omega (arith, same))
+
+-- ---- shapes
+
+-- shapes of the same numbers are the same
+same_shape : (a b : LinkShape) → a.link ≡ b.link → a.rate ≡ b.rate → a.cap ≡ b.cap → a.prop ≡ b.prop → a.buffer ≡ b.buffer → a.bounds ≡ b.bounds → a.test ≡ b.test → a.best ≡ b.best → a ≡ b
+same_shape a b link rate cap prop buffer bounds test best = λ i. record {
+  link = link i;
+  rate = rate i;
+  cap = cap i;
+  prop = prop i;
+  buffer = buffer i;
+  bounds = bounds i;
+  test = test i;
+  best = best i;
+  rate_least = is_prop→PathP (λ j. 1 ≤ rate j) (λ j. le_prop) a.rate_least b.rate_least i;
+  rate_most = is_prop→PathP (λ j. rate j ≤ 65536) (λ j. le_prop) a.rate_most b.rate_most i;
+  cap_least = is_prop→PathP (λ j. 1 ≤ cap j) (λ j. le_prop) a.cap_least b.cap_least i;
+  cap_most = is_prop→PathP (λ j. cap j ≤ 65536) (λ j. le_prop) a.cap_most b.cap_most i;
+  prop_most = is_prop→PathP (λ j. prop j ≤ 1048576) (λ j. le_prop) a.prop_most b.prop_most i;
+  buffer_most = is_prop→PathP (λ j. buffer j ≤ 262144) (λ j. le_prop) a.buffer_most b.buffer_most i;
+  best_most = is_prop→PathP (λ j. best j ≤ 1024) (λ j. le_prop) a.best_most b.best_most i;
+  bounds_rise = is_prop→PathP (λ j. are_bounds (bounds j) ≡ true) (λ j. Bool-set (are_bounds (bounds j)) true) a.bounds_rise b.bounds_rise i;
+  blocking_fits = is_prop→PathP (λ j. ceil_quotient (cap j) (rate j) ≤ bound_at (bounds j) 1) (λ j. le_prop) a.blocking_fits b.blocking_fits i;
+}
+
+-- the shape with a link's numbers
+abbrev pub IsShape : LinkNo → Test → LinkNumbers → LinkShape → Type 0
+IsShape link test numbers shape = IsShapeOf link numbers.rate numbers.cap numbers.prop numbers.buffer numbers.bounds test numbers.best shape
+
+where-some : (link : LinkNo) (test : Test) (numbers : LinkNumbers) (rates rooms bounds : Bool) (a : has_rate numbers ≡ rates) (b : has_room numbers ≡ rooms) (c : has_bounds numbers ≡ bounds)
+    → rates ≡ true → rooms ≡ true → bounds ≡ true → (shape : LinkShape) × (shape_where link test numbers rates rooms bounds a b c ≡ Some shape) × IsShape link test numbers shape
+where-some link test numbers true true true a b c x y z =
+    (shape_with link test numbers a b c, refl, record { link_is = refl; rate_is = refl; cap_is = refl; prop_is = refl; buffer_is = refl; bounds_are = refl; test_is = refl; best_is = refl })
+where-some link test numbers false rooms bounds a b c x y z = cc
+where-some link test numbers true false bounds a b c x y z = cc
+where-some link test numbers true true false a b c x y z = cc
+
+-- numbers that pass the three tests have a shape
+pub shape_some : (link : LinkNo) (test : Test) (numbers : LinkNumbers) → has_rate numbers ≡ true → has_room numbers ≡ true → has_bounds numbers ≡ true
+    → (shape : LinkShape) × (shape_of link test numbers ≡ Some shape) × IsShape link test numbers shape
+unfolding shape_of
+shape_some link test numbers rate room bounds =
+    where-some link test numbers (has_rate numbers) (has_room numbers) (has_bounds numbers) refl refl refl rate room bounds
+
+-- which is the one with these numbers
+pub shape_is : (link : LinkNo) (test : Test) (numbers : LinkNumbers) (shape : LinkShape) → has_rate numbers ≡ true → has_room numbers ≡ true → has_bounds numbers ≡ true
+    → IsShape link test numbers shape → shape_of link test numbers ≡ Some shape
+shape_is link test numbers shape rate room bounds is =
+    let found = shape_some link test numbers rate room bounds in
+    let its = found.2 in
+    found.1 ∙ ap Some (same_shape found.0 shape (its.link_is ∙ sym is.link_is) (its.rate_is ∙ sym is.rate_is) (its.cap_is ∙ sym is.cap_is)
+    (its.prop_is ∙ sym is.prop_is) (its.buffer_is ∙ sym is.buffer_is) (its.bounds_are ∙ sym is.bounds_are) (its.test_is ∙ sym is.test_is) (its.best_is ∙ sym is.best_is))
+
+-- ---- refused numbers

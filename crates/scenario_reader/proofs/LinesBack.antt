@@ -1,0 +1,148 @@
+-- The lines of a plan but those of links and opens pass, and say what they are of.
+use Rattle.std.proofs.Common.{◌≡◌, ℕ, suc, zero, ◌+◌, ◌*◌, ◌-◌, ◌<◌, ◌≤◌, ◌^◌, ◌⊎◌, Bool, true, false, not, nat_eq, nat_lt, nat_le, List, [], ◌∷◌, ◌++◌, length, map, Option, Some, None, Ok, decimal, codes, refl, sym, ◌∙◌, ap, subst, arith, inl, inr}
+use Rattle.std.specs.Prelude.{◌||◌, ◌&&◌, option_map, is_some, position, find, if◌then◌else◌}
+use Rattle.std.proofs.lemmas.Bool.{le-leb, lt-ltb, eq-eqb, cases_Bool, not-true, not_from_false, and_from}
+use Rattle.std.specs.List.{slice_get, list_any}
+use Rattle.std.specs.Cmp.Lexicographic.{pointwise}
+use Rattle.net_units.specs.Numbers.{link_number, actor_number, channel_number}
+use Rattle.net_units.specs.Text.{is_name}
+use Rattle.net_units.specs.declared.numbers.ActorNo.{ActorNo}
+use Rattle.net_units.specs.declared.numbers.ChanNo.{ChanNo}
+use Rattle.net_units.specs.declared.numbers.LinkNo.{LinkNo}
+use Rattle.call_script.specs.Growing.{last_ops}
+use Rattle.call_script.specs.Rules.{link_names, caller_names, hops_of, load_in, takes_best_effort, packets_in_range, is_named, closes}
+use Rattle.call_script.specs.declared.entries.CallerEntry.{CallerEntry}
+use Rattle.call_script.specs.declared.entries.LinkEntry.{LinkEntry}
+use Rattle.call_script.specs.declared.entries.RequestEntry.{RequestEntry}
+use Rattle.call_script.specs.declared.operations.Op.{Op}
+use Rattle.call_script.specs.declared.operations.Op.TheVariants as op
+use Rattle.call_script.specs.declared.schedule.Do.{Do}
+use Rattle.call_script.proofs.RuleFacts.{packets-fit}
+use Rattle.scenario_reader.specs.Causes.{unless}
+use Rattle.scenario_reader.specs.Decimal.{value_of}
+use Rattle.scenario_reader.specs.Drafts.{Said, rounds_of, link_named, caller_named, own_request, is_closed}
+use Rattle.scenario_reader.specs.Entries.{actor_at}
+use Rattle.scenario_reader.specs.Fields.{field_at}
+use Rattle.scenario_reader.specs.Forms.{is_among, has_form, new_name_rule, used_name_rule, number_rule}
+use Rattle.scenario_reader.specs.Grammar.{caller_form, caller_rule, send_form, packets_rule, is_closed_request, load_rule, send_rule, send_said, close_form, close_rule, close_said, pour_form, pour_rule, pour_said, rounds_form, rounds_rule, are_few_ticks, tail_form, tail_rule, do_form, is_plane, actor_rule, actor_named, do_rule, do_said}
+use Rattle.scenario_reader.specs.PlanText.{caller_fields, send_fields, close_fields, pour_fields, rounds_fields, tail_fields, actor_field, do_fields}
+use Rattle.scenario_reader.specs.declared.cause.Cause.TheVariants as cause
+use Rattle.scenario_reader.proofs.NumberText.{value-decimal, decimal_passes}
+use Rattle.scenario_reader.proofs.RulesBack.{pass_all, unless_holds, new_name_back, used_name_back, name_no_word}
+
+-- ---- callers, rounds and tail
+
+pub caller_back : (said : Said) (name : List ℕ) → is_name name ≡ true → is_among (caller_names said.callers) name ≡ false → length said.callers < 64 → caller_rule said (caller_fields name) ≡ None
+caller_back said name is new few =
+    pass_all (unless (has_form caller_form (caller_fields name)) cause.Shape ∷ new_name_rule (caller_names said.callers) name ∷ unless (nat_lt (length said.callers) 64) cause.Many ∷ [])
+    (refl, (new_name_back (caller_names said.callers) name is new, (unless_holds (nat_lt (length said.callers) 64) cause.Many (lt-ltb (length said.callers) 64 few), tt)))
+
+pub rounds_back : (count : ℕ) → count ≤ 524288 → rounds_rule (rounds_fields count) ≡ None
+rounds_back count few =
+    let fields = rounds_fields count in
+    pass_all (unless (has_form rounds_form fields) cause.Shape ∷ number_rule 0 524288 (field_at fields 1) ∷ [])
+    (refl, (decimal_passes 0 524288 count (omega arith) few (omega arith), tt))
+
+pub tail_back : (said : Said) (count : ℕ) → count ≤ 524288 → (rounds_of said + count) * length said.links ≤ 524288 → tail_rule said (tail_fields count) ≡ None
+tail_back said count few ticks =
+    let fields = tail_fields count in
+    let load : are_few_ticks said (value_of (decimal count)) ≡ true = rw (value-decimal count (omega (arith, few))) (le-leb ((rounds_of said + count) * length said.links) 524288 ticks) in
+    pass_all (unless (has_form tail_form fields) cause.Shape ∷ number_rule 0 524288 (field_at fields 1) ∷ unless (are_few_ticks said (value_of (field_at fields 1))) cause.Load ∷ [])
+    (refl, (decimal_passes 0 524288 count (omega arith) few (omega arith), (unless_holds (are_few_ticks said (value_of (decimal count))) cause.Load load, tt)))
+
+-- ---- packets
+
+pub record ArePackets (count gap size : ℕ) : Type 0 where
+  pub count_least : 1 ≤ count
+  pub count_most : count ≤ 262144
+  pub gap_least : 1 ≤ gap
+  pub gap_most : gap ≤ 1048576
+  pub size_least : 1 ≤ size
+  pub size_most : size ≤ 65536
+
+pub are_packets : (count gap size : ℕ) → packets_in_range count gap size ≡ true → ArePackets count gap size
+are_packets count gap size range =
+    let fit = packets-fit count gap size range in
+    record { count_least = fit.count_least; count_most = fit.count_most; gap_least = fit.gap_least; gap_most = fit.gap_most; size_least = fit.size_least; size_most = fit.size_most }
+
+packets_pass : (first name : List ℕ) (count gap size : ℕ) → ArePackets count gap size → packets_rule (first ∷ name ∷ decimal count ∷ decimal gap ∷ decimal size ∷ []) ≡ None
+packets_pass first name count gap size are =
+    pass_all (number_rule 1 262144 (decimal count) ∷ number_rule 1 1048576 (decimal gap) ∷ number_rule 1 65536 (decimal size) ∷ []) (
+      decimal_passes 1 262144 count are.count_least are.count_most (omega arith),
+      (decimal_passes 1 1048576 gap are.gap_least are.gap_most (omega arith), (decimal_passes 1 65536 size are.size_least are.size_most (omega arith), tt)),
+    )
+
+load_passes : (said : Said) (packets value : ℕ) → value ≡ packets → load_in said.requests said.callers + packets ≤ 262144 → load_rule said value ≡ None
+load_passes said packets value same within = rw same (unless_holds (nat_le (load_in said.requests said.callers + packets) 262144) cause.Load (le-leb (load_in said.requests said.callers + packets) 262144 within))
+
+-- ---- sends and closes
+
+-- the request of this channel is found by its name, as one of the last caller that isn't closed
+pub record IsOpenHere (said : Said) (chan : ChanNo) (entry : RequestEntry) : Type 0 where
+  pub name : is_name entry.name ≡ true
+  pub own : own_request said entry.name ≡ Some entry
+  pub same : chan ≡ entry.request.chan
+  pub unclosed : list_any (closes (channel_number chan)) (last_ops said.callers) ≡ false
+
+not_closed : (said : Said) (chan : ChanNo) (entry : RequestEntry) → IsOpenHere said chan entry → unless (not (is_closed_request said (own_request said entry.name))) cause.Closed ≡ None
+not_closed said chan entry is =
+    ap (λ (found : Option RequestEntry). unless (not (is_closed_request said found)) cause.Closed) is.own
+    ∙ unless_holds (not (is_closed said entry.request.chan)) cause.Closed
+    (not_from_false (is_closed said entry.request.chan) (subst (λ (c : ChanNo). list_any (closes (channel_number c)) (last_ops said.callers) ≡ false) is.same is.unclosed))
+
+pub send_back : (said : Said) (chan : ChanNo) (count gap size : ℕ) (entry : RequestEntry) → IsOpenHere said chan entry → ArePackets count gap size → load_in said.requests said.callers + count * hops_of (Some entry) ≤ 262144
+    → send_rule said (send_fields count gap size entry) ≡ None
+send_back said chan count gap size entry is are load =
+    let fields = send_fields count gap size entry in
+    let counted : value_of (decimal count) * hops_of (own_request said entry.name) ≡ count * hops_of (Some entry) =
+        ap (λ (n : ℕ). n * hops_of (own_request said entry.name)) (value-decimal count (omega (arith, are.count_most))) ∙ ap (λ (found : Option RequestEntry). count * hops_of found) is.own in
+    pass_all (unless (has_form send_form fields) cause.Shape ∷ used_name_rule (is_some (own_request said entry.name)) entry.name ∷ packets_rule fields
+    ∷ unless (not (is_closed_request said (own_request said entry.name))) cause.Closed ∷ load_rule said (value_of (decimal count) * hops_of (own_request said entry.name)) ∷ []) (
+      refl,
+      (
+        used_name_back (is_some (own_request said entry.name)) entry.name is.name (ap is_some is.own),
+        (packets_pass (codes "send") entry.name count gap size are, (not_closed said chan entry is, (load_passes said (count * hops_of (Some entry)) (value_of (decimal count) * hops_of (own_request said entry.name)) counted load, tt))),
+      ),
+    )
+
+pub send_says : (said : Said) (chan : ChanNo) (count gap size : ℕ) (entry : RequestEntry) → IsOpenHere said chan entry → ArePackets count gap size → send_said said (send_fields count gap size entry) ≡ Some (op.Send chan count gap size)
+send_says said chan count gap size entry is are =
+    rw (is.own, value-decimal count (omega (arith, are.count_most)), value-decimal gap (omega (arith, are.gap_most)), value-decimal size (omega (arith, are.size_most))) (ap (λ (c : ChanNo). Some (op.Send c count gap size)) (sym is.same))
+
+pub close_back : (said : Said) (chan : ChanNo) (entry : RequestEntry) → IsOpenHere said chan entry → close_rule said (close_fields entry) ≡ None
+close_back said chan entry is =
+    let fields = close_fields entry in
+    pass_all (unless (has_form close_form fields) cause.Shape ∷ used_name_rule (is_some (own_request said entry.name)) entry.name ∷ unless (not (is_closed_request said (own_request said entry.name))) cause.Closed ∷ [])
+    (refl, (used_name_back (is_some (own_request said entry.name)) entry.name is.name (ap is_some is.own), (not_closed said chan entry is, tt)))
+
+pub close_says : (said : Said) (chan : ChanNo) (entry : RequestEntry) → IsOpenHere said chan entry → close_said said (close_fields entry) ≡ Some (op.Close chan)
+close_says said chan entry is = rw is.own (ap (λ (c : ChanNo). Some (op.Close c)) (sym is.same))
+
+-- ---- pours
+
+-- the link of this number is found by its name
+pub record IsLinkHere (said : Said) (link : LinkNo) (entry : LinkEntry) : Type 0 where
+  pub name : is_name entry.name ≡ true
+  pub found : link_named said.links entry.name ≡ Some entry
+  pub same : link ≡ entry.shape.link
+  pub taken : takes_best_effort (Some entry) ≡ true
+
+pub pour_back : (said : Said) (link : LinkNo) (count gap size : ℕ) (entry : LinkEntry) → IsLinkHere said link entry → ArePackets count gap size → load_in said.requests said.callers + count ≤ 262144
+    → pour_rule said (pour_fields count gap size entry) ≡ None
+pour_back said link count gap size entry is are load =
+    let fields = pour_fields count gap size entry in
+    pass_all (unless (has_form pour_form fields) cause.Shape ∷ used_name_rule (is_some (link_named said.links entry.name)) entry.name ∷ packets_rule fields
+    ∷ load_rule said (value_of (decimal count)) ∷ unless (takes_best_effort (link_named said.links entry.name)) cause.Best ∷ []) (
+      refl,
+      (
+        used_name_back (is_some (link_named said.links entry.name)) entry.name is.name (ap is_some is.found),
+        (
+          packets_pass (codes "pour") entry.name count gap size are,
+          (load_passes said count (value_of (decimal count)) (value-decimal count (omega (arith, are.count_most))) load, (unless_holds (takes_best_effort (link_named said.links entry.name)) cause.Best (ap takes_best_effort is.found ∙ is.taken), tt)),
+        ),
+      ),
+    )
+
+pub pour_says : (said : Said) (link : LinkNo) (count gap size : ℕ) (entry : LinkEntry) → IsLinkHere said link entry → ArePackets count gap size → pour_said said (pour_fields count gap size entry) ≡ Some (op.Pour link count gap size)
+pour_says said link count gap size entry is are =
+    rw (is.found, value-decimal count (omega (arith, are.count_most)), value-decimal gap (omega (arith, are.gap_most)), value-decimal size (omega (arith, are.size_most))) (ap (λ (l : LinkNo). Some (op.Pour l count gap size)) (sym is.same))

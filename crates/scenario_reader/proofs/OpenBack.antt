@@ -1,0 +1,244 @@
+-- The line of a plan's open passes, and says its request.
+use Rattle.std.proofs.Common.{◌≡◌, ℕ, suc, zero, ◌+◌, ◌-◌, ◌<◌, ◌≤◌, ◌^◌, Bool, true, false, not, ◌&&◌, nat_eq, nat_lt, nat_le, List, [], ◌∷◌, ◌++◌, length, map, get_or, take, drop, Option, Some, None, decimal, codes, refl, sym, ◌∙◌, ap, subst, arith}
+use Rattle.std.specs.Prelude.{◌||◌, is_some, is_none, if◌then◌else◌}
+use Rattle.std.proofs.lemmas.Bool.{le-leb, lt-ltb, and_from, and_parts, or_left, or_right, leb-true}
+use Rattle.std.specs.Cmp.Lexicographic.{pointwise}
+use Rattle.std.specs.List.{slice_get}
+use Rattle.net_units.specs.Numbers.{link_number, actor_number, channel_number}
+use Rattle.net_units.specs.Text.{is_name}
+use Rattle.net_units.specs.declared.numbers.ActorNo.{ActorNo}
+use Rattle.net_units.specs.declared.numbers.ChanNo.{ChanNo}
+use Rattle.traffic_contract.specs.Contract.{Terms, IsContract, burst_of}
+use Rattle.traffic_contract.specs.Refusal.{first_bad}
+use Rattle.hop_reservation.specs.Routes.{IsRoute, fault_in}
+use Rattle.hop_reservation.specs.declared.route.Hop.{Hop}
+use Rattle.hop_reservation.proofs.RouteFacts.{none-from_route}
+use Rattle.link_steps.specs.Lists.{Each}
+use Rattle.setup_protocol.specs.declared.request.Control.{Control}
+use Rattle.setup_protocol.specs.declared.request.Control.TheVariants.{Rate, Jitter}
+use Rattle.setup_protocol.specs.declared.request.Request.{Request}
+use Rattle.call_script.specs.Rules.{request_names, is_joined, request_in_range, control_in_range, is_from}
+use Rattle.call_script.specs.declared.entries.LinkEntry.{LinkEntry}
+use Rattle.call_script.specs.declared.entries.RequestEntry.{RequestEntry}
+use Rattle.call_script.proofs.RuleFacts.{from-low}
+use Rattle.scenario_reader.specs.Causes.{Rule, unless, first_cause}
+use Rattle.scenario_reader.specs.Decimal.{value_of}
+use Rattle.scenario_reader.specs.Drafts.{Said, last_caller, link_named, route_over}
+use Rattle.scenario_reader.specs.Entries.{actor_at, channel_at, hop_of}
+use Rattle.scenario_reader.specs.Fields.{field_at}
+use Rattle.scenario_reader.specs.Forms.{is_word, is_among, route_length, has_form, new_name_rule, used_name_rule, number_rule}
+use Rattle.scenario_reader.specs.OpenLine.{rate_form, jitter_form, is_open_line, route_hops, route_fields, behind_route, has_jitter, control_in, terms_in, contract_of, hops_in, route_link_rule, route_names_rule, terms_rule, jitter_rule, open_fields_rule, is_way, open_limits_rule, open_rule, request_said}
+use Rattle.scenario_reader.specs.PlanText.{with_name, route_names, contract_fields, control_fields, bound_fields, open_fields}
+use Rattle.scenario_reader.specs.declared.cause.Cause.TheVariants as cause
+use Rattle.scenario_reader.specs.declared.form.Keyword.TheVariants as word
+use Rattle.scenario_reader.specs.declared.form.Part.{Part}
+use Rattle.scenario_reader.specs.declared.form.Part.TheVariants as part
+use Rattle.scenario_reader.proofs.BackShapes.{actor_is, channel_is}
+use Rattle.scenario_reader.proofs.NumberText.{value-decimal, decimal_passes}
+use Rattle.scenario_reader.proofs.RulesBack.{pass_all, unless_holds, new_name_back, used_name_back, name_no_word}
+
+-- ---- hops over links that are found by their names
+
+pub record IsHopHere (links : List LinkEntry) (hop : Hop) : Type 0 where
+  pub entry : LinkEntry
+  pub found : slice_get links (link_number hop.link) ≡ Some entry
+  pub is : hop_of entry ≡ hop
+  pub name : is_name entry.name ≡ true
+  pub named : link_named links entry.name ≡ Some entry
+
+-- the names of a route, one a hop
+names_of : (links : List LinkEntry) (hop : Hop) (hops : List Hop) (here : IsHopHere links hop) → route_names links (hop ∷ hops) ≡ here.entry.name ∷ route_names links hops
+names_of links hop hops here = ap (λ (found : Option LinkEntry). with_name found (route_names links hops)) here.found
+
+NoWords : List (List ℕ) → Type 0
+NoWords names = Each (λ name. is_word word.Contract name ≡ false) names
+
+no_words : (links : List LinkEntry) (hops : List Hop) → Each (IsHopHere links) hops → NoWords (route_names links hops)
+unfolding NoWords
+no_words links [] here = tt
+no_words links (hop ∷ hops) here = subst (λ (names : List (List ℕ)). Each (λ name. is_word word.Contract name ≡ false) names) (sym (names_of links hop hops here.0)) ((name_no_word here.0.entry.name here.0.name).0, no_words links hops here.1)
+
+names_count : (links : List LinkEntry) (hops : List Hop) → Each (IsHopHere links) hops → length (route_names links hops) ≡ length hops
+names_count links [] here = refl
+names_count links (hop ∷ hops) here = ap length (names_of links hop hops here.0) ∙ ap suc (names_count links hops here.1)
+
+names_pass : (said : Said) (hops : List Hop) → Each (IsHopHere said.links) hops → route_names_rule said (route_names said.links hops) ≡ None
+names_pass said [] here = refl
+names_pass said (hop ∷ hops) here =
+    ap (route_names_rule said) (names_of said.links hop hops here.0)
+    ∙ rw (used_name_back (is_some (link_named said.links here.0.entry.name)) here.0.entry.name here.0.name (ap is_some here.0.named)) (names_pass said hops here.1)
+
+route_again : (links : List LinkEntry) (hops : List Hop) → Each (IsHopHere links) hops → route_over links (route_names links hops) ≡ hops
+route_again links [] here = refl
+route_again links (hop ∷ hops) here =
+    ap (route_over links) (names_of links hop hops here.0) ∙ rw here.0.named (ap (λ (h : Hop). h ∷ route_over links (route_names links hops)) here.0.is ∙ ap (λ (hs : List Hop). hop ∷ hs) (route_again links hops here.1))
+
+-- ---- the fields of an open line
+
+abbrev line_with : List ℕ → List (List ℕ) → List (List ℕ) → List (List ℕ)
+line_with name names behind = codes "open" ∷ name ∷ codes "route" ∷ (names ++ codes "contract" ∷ behind)
+
+hops_count : (names behind : List (List ℕ)) → NoWords names → route_length (names ++ codes "contract" ∷ behind) ≡ length names
+unfolding NoWords
+hops_count [] behind none = refl
+hops_count (name ∷ names) behind none = rw none.0 (ap suc (hops_count names behind none.1))
+
+take_names : (names behind : List (List ℕ)) → take (length names) (names ++ behind) ≡ names
+take_names [] behind = refl
+take_names (name ∷ names) behind = ap (λ (rest : List (List ℕ)). name ∷ rest) (take_names names behind)
+
+drop_names : (names behind : List (List ℕ)) → drop (length names) (names ++ behind) ≡ behind
+drop_names [] behind = refl
+drop_names (name ∷ names) behind = drop_names names behind
+
+at_behind : (names behind : List (List ℕ)) (place k : ℕ) → k ≡ length names + place → field_at (names ++ behind) k ≡ field_at behind place
+at_behind [] behind place k same = ap (field_at behind) (omega (arith, same))
+at_behind (name ∷ names) behind place zero same = absurd (omega (arith, same))
+at_behind (name ∷ names) behind place (suc k) same = at_behind names behind place k (omega (arith, same))
+
+record IsLine (name : List ℕ) (names behind : List (List ℕ)) : Type 0 where
+  hops : route_hops (line_with name names behind) ≡ length names
+  route : route_fields (line_with name names behind) ≡ names
+  fields : (place : ℕ) → behind_route (line_with name names behind) place ≡ field_at (codes "contract" ∷ behind) place
+
+line_is : (name : List ℕ) (names behind : List (List ℕ)) → NoWords names → IsLine name names behind
+line_is name names behind none =
+    let count = hops_count names behind none in
+    record {
+      hops = count;
+      route = ap (λ (n : ℕ). take n (names ++ codes "contract" ∷ behind)) count ∙ take_names names (codes "contract" ∷ behind);
+      fields = λ place.
+          let at : 3 + route_length (names ++ codes "contract" ∷ behind) + place ≡ suc (suc (suc (length names + place))) = omega (arith, count) in
+          ap (field_at (line_with name names behind)) at ∙ at_behind names (codes "contract" ∷ behind) place (length names + place) refl;
+    }
+
+-- a form behind the route
+form_behind : (parts : List Part) (names behind : List (List ℕ)) → NoWords names → 1 ≤ length names → length names ≤ 16 → has_form (part.Route ∷ parts) (names ++ codes "contract" ∷ behind) ≡ has_form parts (codes "contract" ∷ behind)
+form_behind parts names behind none least most =
+    rw (hops_count names behind none, le-leb 1 (length names) least, le-leb (length names) 16 most) (ap (has_form parts) (drop_names names (codes "contract" ∷ behind)))
+
+abbrev end_fields : RequestEntry → List (List ℕ)
+end_fields entry = decimal entry.request.contract.xmin ∷ decimal entry.request.contract.xave ∷ decimal entry.request.contract.interval ∷ decimal entry.request.contract.smax ∷ bound_fields entry.request
+
+-- the parts behind the route
+abbrev end_parts : List Part → List Part
+end_parts control = part.Word word.Contract ∷ part.Field ∷ part.Field ∷ part.Field ∷ part.Field ∷ part.Word word.Delay ∷ part.Field ∷ control
+
+-- ---- what the control says
+
+control_says : (control : Control) (fields : List (List ℕ)) → ((place : ℕ) → behind_route fields (7 + place) ≡ field_at (control_fields control) place) → control_in_range control ≡ true → (control_in fields ≡ control) × (jitter_rule fields ≡ None)
+control_says Rate fields at range =
+    let no : has_jitter fields ≡ false = ap (is_word word.Jitter) (at 0) in
+    (rw no refl, rw no refl)
+control_says (Jitter bound) fields at range =
+    let yes : has_jitter fields ≡ true = ap (is_word word.Jitter) (at 0) in
+    let within = from-low 1 67108864 bound range in
+    (rw yes (ap (λ (field : List ℕ). Jitter (value_of field)) (at 1) ∙ ap Jitter (value-decimal bound (omega (arith, within.1)))),
+    rw yes (ap (number_rule 1 67108864) (at 1) ∙ decimal_passes 1 67108864 bound within.0 within.1 (omega arith)))
+
+form_says : (name : List ℕ) (names : List (List ℕ)) (entry : RequestEntry) → NoWords names → 1 ≤ length names → length names ≤ 16 → is_open_line (line_with name names (end_fields entry)) ≡ true
+form_says name names entry none least most = by entry.request.control refl where
+  with_end : (control : List Part) → has_form (part.Route ∷ end_parts control) (names ++ codes "contract" ∷ end_fields entry) ≡ has_form (end_parts control) (codes "contract" ∷ end_fields entry)
+  with_end control = form_behind (end_parts control) names (end_fields entry) none least most
+  by : (control : Control) → entry.request.control ≡ control → is_open_line (line_with name names (end_fields entry)) ≡ true
+  by Rate is = or_left _ _ (with_end (part.Word word.Rate ∷ []) ∙ ap (λ (c : Control). has_form (part.Word word.Rate ∷ []) (control_fields c)) is)
+  by (Jitter bound) is = or_right _ _ (with_end (part.Word word.Jitter ∷ part.Field ∷ []) ∙ ap (λ (c : Control). has_form (part.Word word.Jitter ∷ part.Field ∷ []) (control_fields c)) is)
+
+-- ---- the contract
+
+good_terms : (terms : Terms) → IsContract terms → first_bad terms ≡ None
+good_terms terms c =
+    rw (
+      le-leb 1 terms.xmin c.xmin_least,
+      le-leb terms.xmin 1048576 (omega (arith, c.xave_least, c.xave_most)),
+      le-leb terms.xmin terms.xave c.xave_least,
+      le-leb terms.xave 1048576 c.xave_most,
+      le-leb terms.xave terms.interval c.interval_least,
+      le-leb terms.interval 16777216 c.interval_most,
+      le-leb (burst_of terms) 256 c.burst_most,
+      le-leb 1 terms.smax c.smax_least,
+      le-leb terms.smax 65536 c.smax_most,
+    ) refl
+
+contract_back : (terms : Terms) → IsContract terms → is_some (contract_of terms) ≡ true
+contract_back terms c = rw (good_terms terms c) refl
+
+-- ---- the line passes
+
+-- a request that may be opened next
+pub record IsNextOpen (said : Said) (entry : RequestEntry) : Type 0 where
+  pub name : is_name entry.name ≡ true
+  pub new : is_among (request_names said.requests) entry.name ≡ false
+  pub few : length said.requests < 1024
+  pub number : channel_number entry.request.chan ≡ length said.requests
+  pub caller : actor_number entry.caller ≡ last_caller said
+  pub callers : last_caller said < 65
+  pub hops : Each (IsHopHere said.links) entry.request.route
+  pub route : IsRoute entry.request.route
+  pub joined : is_joined said.links entry.request.route ≡ true
+  pub contract : IsContract entry.request.contract
+  pub range : request_in_range entry ≡ true
+
+pub record IsOpenRead (said : Said) (entry : RequestEntry) : Type 0 where
+  pub passes : open_rule said (open_fields said.links entry) ≡ None
+  pub says : request_said said (open_fields said.links entry) ≡ entry
+
+pub open_back : (said : Said) (entry : RequestEntry) → IsNextOpen said entry → IsOpenRead said entry
+open_back said entry is =
+    let request = entry.request in
+    let c = is.contract in
+    let names = route_names said.links request.route in
+    let fields = open_fields said.links entry in
+    let none = no_words said.links request.route is.hops in
+    let count = names_count said.links request.route is.hops in
+    let line = line_is entry.name names (end_fields entry) none in
+    let range = and_parts (is_from 1 67108864 request.delay) (control_in_range request.control) is.range in
+    let delay = from-low 1 67108864 request.delay range.0 in
+    let at_control : (place : ℕ) → behind_route fields (7 + place) ≡ field_at (control_fields request.control) place = λ place.
+        line.fields (7 + place) ∙ ap (field_at (codes "contract" ∷ end_fields entry)) (seven place) in
+    let control = control_says request.control fields at_control range.1 in
+    let small : (n : ℕ) → n ≤ 16777216 → value_of (decimal n) ≡ n = λ n h. value-decimal n (omega (arith, h)) in
+    let xmin : value_of (behind_route fields 1) ≡ request.contract.xmin = ap value_of (line.fields 1) ∙ small request.contract.xmin (omega (arith, c.xave_least, c.xave_most)) in
+    let xave : value_of (behind_route fields 2) ≡ request.contract.xave = ap value_of (line.fields 2) ∙ small request.contract.xave (omega (arith, c.xave_most)) in
+    let interval : value_of (behind_route fields 3) ≡ request.contract.interval = ap value_of (line.fields 3) ∙ small request.contract.interval c.interval_most in
+    let smax : value_of (behind_route fields 4) ≡ request.contract.smax = ap value_of (line.fields 4) ∙ small request.contract.smax (omega (arith, c.smax_most)) in
+    let terms : terms_in fields ≡ request.contract = rw (xmin, xave, interval, smax) refl in
+    let wait : value_of (behind_route fields 6) ≡ request.delay = ap value_of (line.fields 6) ∙ value-decimal request.delay (omega (arith, delay.1)) in
+    let route : hops_in said fields ≡ request.route = ap (route_over said.links) line.route ∙ route_again said.links request.route is.hops in
+    let numbers = pass_all (number_rule 1 1048576 (behind_route fields 1) ∷ number_rule 1 1048576 (behind_route fields 2) ∷ number_rule 1 16777216 (behind_route fields 3) ∷ number_rule 1 65536 (behind_route fields 4) ∷ []) (
+      ap (number_rule 1 1048576) (line.fields 1) ∙ decimal_passes 1 1048576 request.contract.xmin c.xmin_least (omega (arith, c.xave_least, c.xave_most)) (omega arith),
+      (
+        ap (number_rule 1 1048576) (line.fields 2) ∙ decimal_passes 1 1048576 request.contract.xave (omega (arith, c.xmin_least, c.xave_least)) c.xave_most (omega arith),
+        (
+          ap (number_rule 1 16777216) (line.fields 3) ∙ decimal_passes 1 16777216 request.contract.interval (omega (arith, c.xmin_least, c.xave_least, c.interval_least)) c.interval_most (omega arith),
+          (ap (number_rule 1 65536) (line.fields 4) ∙ decimal_passes 1 65536 request.contract.smax c.smax_least c.smax_most (omega arith), tt),
+        ),
+      ),
+    ) in
+    let left = pass_all (new_name_rule (request_names said.requests) (field_at fields 1) ∷ route_names_rule said (route_fields fields) ∷ terms_rule fields ∷ number_rule 1 67108864 (behind_route fields 6) ∷ jitter_rule fields ∷ []) (
+      new_name_back (request_names said.requests) entry.name is.name is.new,
+      (
+        ap (route_names_rule said) line.route ∙ names_pass said request.route is.hops,
+        (numbers, (ap (number_rule 1 67108864) (line.fields 6) ∙ decimal_passes 1 67108864 request.delay delay.0 delay.1 (omega arith), (control.1, tt))),
+      ),
+    ) in
+    let way : is_way said (hops_in said fields) ≡ true = ap (is_way said) route ∙ and_from (is_none (fault_in request.route)) (is_joined said.links request.route) (ap is_none (none-from_route request.route is.route)) is.joined in
+    let limits = pass_all (unless (nat_lt (length said.requests) 1024) cause.Many ∷ unless (is_some (contract_of (terms_in fields))) cause.Contract ∷ unless (is_way said (hops_in said fields)) cause.Route ∷ []) (
+      unless_holds (nat_lt (length said.requests) 1024) cause.Many (lt-ltb (length said.requests) 1024 is.few),
+      (unless_holds (is_some (contract_of (terms_in fields))) cause.Contract (ap (λ (t : Terms). is_some (contract_of t)) terms ∙ contract_back request.contract c), (unless_holds (is_way said (hops_in said fields)) cause.Route way, tt)),
+    ) in
+    let form = form_says entry.name names entry none (omega (arith, count, is.route.least)) (omega (arith, count, is.route.most)) in
+    record {
+      passes = pass_all (unless (is_open_line fields) cause.Shape ∷ open_fields_rule said fields ∷ open_limits_rule said fields ∷ []) (unless_holds (is_open_line fields) cause.Shape form, (left, (limits, tt)));
+      says =
+          let caller : actor_at (last_caller said) ≡ entry.caller = sym (actor_is entry.caller (last_caller said) is.callers is.caller) in
+          let chan : channel_at (length said.requests) ≡ entry.request.chan = sym (channel_is entry.request.chan (length said.requests) (omega (arith, is.few)) is.number) in
+          same_entry entry (actor_at (last_caller said)) (channel_at (length said.requests)) (hops_in said fields) (terms_in fields) (control_in fields) (value_of (behind_route fields 6)) caller chan route terms control.0 wait;
+    }
+  where
+    seven : (place : ℕ) → 7 + place ≡ suc (suc (suc (suc (suc (suc (suc place))))))
+    seven place = omega arith
+    same_entry : (e : RequestEntry) (caller : ActorNo) (chan : ChanNo) (route : List Hop) (contract : Terms) (control : Control) (delay : ℕ) → caller ≡ e.caller → chan ≡ e.request.chan → route ≡ e.request.route → contract ≡ e.request.contract
+        → control ≡ e.request.control → delay ≡ e.request.delay
+        → record { name = e.name; caller = caller; request = record { chan = chan; route = route; contract = contract; control = control; delay = delay } } ≡ e
+    same_entry e caller chan route contract control delay a b c d f g = rw (a, b, c, d, f, g) refl

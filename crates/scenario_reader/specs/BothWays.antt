@@ -1,0 +1,59 @@
+-- A plan's text is read as that plan and its schedule, where it has at most 4,194,304 bytes: the items of the schedule then
+-- have the numbers of their lines. So no text is that of two plans. The names of a plan are names, as those of each plan
+-- that is made are; and its schedule is one that a scenario can have.
+use Rattle.std.specs.Prelude.{◌≡◌, ℕ, ◌≤◌, false, List, [], length, map}
+use Rattle.net_units.specs.Numbers.{actor_number}
+use Rattle.net_units.specs.Text.{is_name}
+use Rattle.link_steps.specs.Lists.{Each}
+use Rattle.std.specs.Prelude.{true}
+use Rattle.call_script.specs.Parts.{PlanParts}
+use Rattle.call_script.specs.Plans.{IsPlan}
+use Rattle.call_script.specs.declared.entries.LinkEntry.{LinkEntry}
+use Rattle.call_script.specs.declared.entries.RequestEntry.{RequestEntry}
+use Rattle.call_script.specs.declared.entries.CallerEntry.{CallerEntry}
+use Rattle.call_script.specs.declared.schedule.Do.{Do}
+use Rattle.call_script.specs.declared.schedule.Schedule.{Schedule}
+use Rattle.scenario_reader.specs.PlanText.{plan_text}
+use Rattle.scenario_reader.specs.Reading.{Reading, IsRead, reading}
+
+-- a link and its nodes go by names
+pub record HasNames (entry : LinkEntry) : Type 0 where
+  pub name : is_name entry.name ≡ true
+  pub from : is_name entry.from ≡ true
+  pub to : is_name entry.to ≡ true
+
+pub record AreNamed (parts : PlanParts) : Type 0 where
+  pub links : Each HasNames parts.links
+  pub requests : Each (λ (entry : RequestEntry). is_name entry.name ≡ true) parts.requests
+  pub callers : Each (λ (caller : CallerEntry). is_name caller.name ≡ true) parts.callers
+
+-- an item of the schedule of a plan: an actor of the plan, and a count of steps in its range
+pub record IsItemOf (parts : PlanParts) (item : Do) : Type 0 where
+  pub actor : actor_number item.actor ≤ length parts.callers
+  pub least : 1 ≤ item.count
+  pub most : item.count ≤ 1048576
+
+pub record IsScheduleOf (parts : PlanParts) (schedule : Schedule) : Type 0 where
+  pub items : Each (IsItemOf parts) schedule.items
+  pub unwritten : schedule.written ≡ false → schedule.items ≡ []
+
+-- an item without the number of its line
+abbrev pub unnumbered : Do → Do
+unnumbered item = record { line = 0; actor = item.actor; count = item.count }
+
+-- the same schedule, up to the numbers of lines
+pub record SameSchedule (one other : Schedule) : Type 0 where
+  pub written : one.written ≡ other.written
+  pub items : map unnumbered one.items ≡ map unnumbered other.items
+
+-- what was read is this plan, with this schedule
+pub record ReadsAs (read : Reading) (parts : PlanParts) (schedule : Schedule) : Type 0 where
+  pub again : Schedule
+  pub is : read ≡ IsRead parts again
+  pub same : SameSchedule again schedule
+
+abbrev pub APlansTextIsRead : Type 0
+APlansTextIsRead = (parts : PlanParts) (schedule : Schedule) → IsPlan parts → AreNamed parts → IsScheduleOf parts schedule → length (plan_text parts schedule) ≤ 4194304
+    → ReadsAs (reading 4194304 (plan_text parts schedule)) parts schedule
+
+

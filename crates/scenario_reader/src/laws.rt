@@ -1,0 +1,8 @@
+//! Laws of scenarios, each as the contract of a function that does nothing.
+ghost use Rattle.scenario_reader.specs.BothWays.{APlansTextIsRead};
+
+/// The text of a plan, where it has at most 4,194,304 bytes, is read as that plan and its schedule, whose items then have the
+/// numbers of their lines.
+pub fn a_plans_text_is_read()
+    ensures { APlansTextIsRead }
+{}
