@@ -1,0 +1,16 @@
+-- What is found of a run before it is put into words: what each request has come to, and what each link has done.
+use Rattle.std.specs.Prelude.{◌≡◌, ℕ, List, length, reverse}
+use Rattle.call_script.specs.Parts.{PlanParts}
+use Rattle.call_script.specs.Tasks.{network_of}
+use Rattle.interleave_core.specs.Runs.{IsRun}
+use Rattle.interleave_core.specs.Standing.{ActorsStand}
+use Rattle.run_record.specs.declared.done.Done.{Done}
+use Rattle.channel_report.specs.Tallies.{AreLinkTallies}
+use Rattle.channel_report.specs.declared.findings.Findings.{Findings}
+
+-- found of a run of the plan with these entries, in the order of time
+pub record AreFound (parts : PlanParts) (entries : List Done) (findings : Findings) : Type 0 where
+  pub run : IsRun (network_of parts) (reverse entries)
+  pub actors : ActorsStand parts findings.actors (reverse entries)
+  pub links : AreLinkTallies (length parts.links) (reverse entries) findings.links.items
+  pub steps : findings.steps ≡ length entries

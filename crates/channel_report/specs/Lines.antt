@@ -1,0 +1,7 @@
+-- A line of a report is made of words with one space between two of them, and ends with a line feed.
+use Rattle.std.specs.Prelude.{ℕ, List, [], ◌∷◌, ◌++◌, codes}
+use Rattle.std.specs.List.{join_with_byte}
+
+-- the line of these words
+abbrev pub line_of : List (List ℕ) → List ℕ
+line_of words = join_with_byte 32 words ++ 10 ∷ []

@@ -1,0 +1,26 @@
+-- The report of a run of a plan: a line for each request with what it has come to, a line for each link, and the number of steps. It is a
+-- function of the plan and of the run's entries, which are listed in the order of time.
+use Rattle.std.specs.Prelude.{ℕ, List, [], ◌∷◌, ◌++◌, length, reverse, codes}
+use Rattle.std.specs.List.{flat_map}
+use Rattle.std.specs.Fmt.{decimal}
+use Rattle.call_script.specs.Parts.{PlanParts}
+use Rattle.run_record.specs.declared.done.Done.{Done}
+use Rattle.channel_report.specs.Lines.{line_of}
+use Rattle.channel_report.specs.Links.{link_line}
+use Rattle.channel_report.specs.Verdicts.{request_line}
+
+-- end steps N
+abbrev pub end_line : ℕ → List ℕ
+end_line steps = line_of (codes "end" ∷ codes "steps" ∷ decimal steps ∷ [])
+
+-- the lines of the requests
+abbrev pub request_lines : PlanParts → List Done → List ℕ
+request_lines parts run = flat_map (request_line run) parts.requests
+
+-- those of the links
+abbrev pub link_lines : PlanParts → List Done → List ℕ
+link_lines parts run = flat_map (link_line parts.version run) parts.links
+
+-- the report
+abbrev pub report_of : PlanParts → List Done → List ℕ
+report_of parts entries = request_lines parts (reverse entries) ++ (link_lines parts (reverse entries) ++ end_line (length entries))

@@ -1,0 +1,23 @@
+//! The last line of a report.
+ghost use Rattle.std.specs.Prelude.{length, string_bytes};
+ghost use Rattle.channel_report.specs.Report.{end_line};
+ghost use Rattle.channel_report.specs.Telling.{Tells};
+
+use crate::fault::ReportFault;
+use crate::telling::tell;
+use byte_ends::{Gather, Sink};
+use std::alloc::Global;
+
+// Tells how many steps there were.
+pub(crate) fn tell_end<K: Sink>(
+    alloc: Global,
+    steps: usize,
+    gather: &mut Gather,
+    sink: &mut K,
+) -> Result<(), ReportFault>
+    ensures { Tells result (K.written sink.old) (K.written sink.new) gather.old gather.new (K.faults sink.old) (K.faults sink.new) (end_line steps) }
+{
+    let mut line = String::new(alloc);
+    writeln!(line, "end steps {steps}")?;
+    tell(gather, sink, line.as_bytes())
+}

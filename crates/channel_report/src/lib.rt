@@ -1,0 +1,18 @@
+//! The report of a run, and the text of a schedule.
+//!
+//! [`write_report`] writes what a run of a plan came to: what became of each request, what each established channel has carried, what
+//! each link has done, and the packets hop by hop. The text is a function of the plan and of the run's entries
+//! (`specs/Report.antt`). Times are in ticks.
+#![tactic(auto)]
+
+mod end_line;
+pub mod fault;
+mod findings;
+mod link_lines;
+mod link_tally;
+pub mod report;
+mod request_lines;
+mod telling;
+
+pub use fault::ReportFault;
+pub use report::write_report;

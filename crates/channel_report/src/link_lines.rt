@@ -1,0 +1,103 @@
+//! The lines of the links.
+ghost use Rattle.std.specs.Prelude.{◌≡◌, ◌++◌, ◌<◌, ◌≤◌, ◌^◌, List, IfOk, OnOk, Some, length, reverse, string_bytes};
+ghost use Rattle.std.specs.List.{slice_get};
+ghost use Rattle.net_units.specs.Numbers.{link_number};
+ghost use Rattle.link_steps.specs.declared.replies.Entry.{Entry};
+ghost use Rattle.call_script.specs.Tasks.{network_of};
+ghost use Rattle.interleave_core.specs.Runs.{IsRun};
+ghost use Rattle.run_record.specs.declared.done.Done.{Done as Step};
+ghost use Rattle.channel_report.specs.Links.{takes_best, told_link};
+ghost use Rattle.channel_report.specs.Report.{link_lines};
+ghost use Rattle.channel_report.specs.Tallies.{AreLinkTallies, link_tally_of};
+ghost use Rattle.channel_report.specs.Telling.{Tells};
+
+use crate::fault::ReportFault;
+use crate::link_tally::LinkTally;
+use crate::telling::tell;
+use byte_ends::{Gather, Sink};
+use call_script::{LinkEntry, Plan, Version};
+use net_units::{Name, OutOfMemory};
+use run_record::Record;
+use std::alloc::{AllocError, Global};
+
+// Tells the lines of all links, by these counts.
+pub(crate) fn tell_links<K: Sink>(
+    alloc: Global,
+    plan: &Plan,
+    tallies: &[LinkTally],
+    gather: &mut Gather,
+    sink: &mut K,
+) -> Result<(), ReportFault>
+    requires { (run : List Step) × AreLinkTallies (length plan.now.links) run tallies.now }
+    ensures { (run : List Step) → AreLinkTallies (length plan.now.links) run tallies.now
+        → Tells result (K.written sink.old) (K.written sink.new) gather.old gather.new (K.faults sink.old) (K.faults sink.new) (link_lines plan.now run) }
+{
+    let version = plan.version();
+    for (number, entry) in plan.links().iter().enumerate() {
+        let best = takes_best(version, entry);
+        tell_link(alloc, entry.name, best, &tallies[number], gather, sink)?;
+    }
+    Ok(())
+}
+
+// Tells the line of a link.
+fn tell_link<K: Sink>(
+    alloc: Global,
+    name: Name,
+    best: bool,
+    tally: &LinkTally,
+    gather: &mut Gather,
+    sink: &mut K,
+) -> Result<(), ReportFault>
+    ensures { (h : List Entry) → tally.now ≡ link_tally_of h → Tells result (K.written sink.old) (K.written sink.new) gather.old gather.new (K.faults sink.old) (K.faults sink.new) (told_link name best h) }
+{
+    let mut line = String::new(alloc);
+    push_link(&mut line, name, best, tally)?;
+    tell(gather, sink, line.as_bytes())
+}
+
+// Whether the link takes best-effort packets.
+fn takes_best(version: Version, entry: &LinkEntry) -> bool
+    ensures { result ≡ takes_best version entry.now }
+{
+    version.has_best_effort() && entry.shape.best != 0
+}
+
+// The line of a link.
+fn push_link(text: &mut String, name: Name, best: bool, tally: &LinkTally) -> Result<(), AllocError>
+    ensures { OnOk result ((h : List Entry) → tally.now ≡ link_tally_of h → string_bytes text.new ≡ string_bytes text.old ++ told_link name best h) }
+{
+    let LinkTally {
+        clock,
+        sent,
+        dropped,
+        best_sent,
+        best_lost,
+        pours_refused,
+    } = *tally;
+    write!(text, "link {name} clock {clock} sent {sent} full {dropped}")?;
+    if best {
+        write!(
+            text,
+            " best {best_sent} lost {best_lost} refused {pours_refused}"
+        )?;
+    }
+    writeln!(text)
+}
+
+// The counts of the links of a plan, in a run of it.
+pub(crate) fn count_links(
+    alloc: Global,
+    plan: &Plan,
+    run: &Record,
+) -> Result<Vec<LinkTally>, OutOfMemory>
+    requires { IsRun (network_of plan.now) (reverse run.now.entries) }
+    ensures { IfOk result (λ tallies. AreLinkTallies (length plan.now.links) (reverse run.now.entries) tallies.items) }
+{
+    let mut tallies = vec![in alloc; LinkTally::NOTHING; plan.links().len()]?;
+    for done in run.entries() {
+        let link = usize::from(done.link.get());
+        tallies[link].add(&done.ask, &done.reply);
+    }
+    Ok(tallies)
+}
