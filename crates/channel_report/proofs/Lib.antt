@@ -1,4 +1,5 @@
 pub mod LinkFacts
 pub mod TellingFacts
 pub mod LineFacts
+pub mod TickFacts
 pub mod LinkTallies

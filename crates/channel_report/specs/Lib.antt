@@ -6,3 +6,6 @@ pub mod Schedule
 pub mod Telling
 pub mod Tallies
 pub mod Findings
+pub mod Channels
+pub mod Sources
+pub mod Table

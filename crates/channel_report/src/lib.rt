@@ -5,6 +5,7 @@
 //! (`specs/Report.antt`). Times are in ticks.
 #![tactic(auto)]
 
+mod channel_tally;
 mod end_line;
 pub mod fault;
 mod findings;
@@ -12,7 +13,9 @@ mod link_lines;
 mod link_tally;
 pub mod report;
 mod request_lines;
+pub mod schedule;
 mod telling;
 
 pub use fault::ReportFault;
 pub use report::write_report;
+pub use schedule::write_schedule;

@@ -1,0 +1,8 @@
+use Rattle.channel_report.specs.Schedule.{schedule_of}
+use Rattle.channel_report.proofs.TellingFacts.{ended}
+use Rattle.channel_report.proofs.schedule.write_schedule.Goals as goal
+
+pub returns : goal.returns
+returns g c =
+    ended _ (g.K.Sink.written c.tell_items.new.sink) _ c.tell_items.new.gather _ (g.K.Sink.faults c.tell_items.new.sink) _ (schedule_of c.args.plan.now.callers c.args.schedule.now.items) c.finish.result
+    (rw (c.in_ok-gather.ensures, c.as_slice.ensures) at c.in_ok-tell_items.ensures) c.finish.ensures
