@@ -6,6 +6,4 @@ pub mod Schedule
 pub mod Telling
 pub mod Tallies
 pub mod Findings
-pub mod Channels
-pub mod Sources
 pub mod Table

@@ -5,7 +5,6 @@
 //! (`specs/Report.antt`). Times are in ticks.
 #![tactic(auto)]
 
-mod channel_tally;
 mod end_line;
 pub mod fault;
 mod findings;
@@ -14,6 +13,7 @@ mod link_tally;
 pub mod report;
 mod request_lines;
 pub mod schedule;
+mod table;
 mod telling;
 
 pub use fault::ReportFault;

@@ -1,0 +1,105 @@
+//! The table of a run's packets.
+ghost use Rattle.std.specs.Prelude.{◌≡◌, ◌++◌, ◌<◌, List, Some, OnOk, length, string_bytes};
+ghost use Rattle.std.specs.List.{flat_map, slice_get};
+ghost use Rattle.net_units.specs.Numbers.{channel_number, link_number};
+ghost use Rattle.channel_report.specs.Table.{header, name_of_link, name_of_request, table_of, told_row};
+ghost use Rattle.channel_report.specs.Telling.{Tells};
+
+use crate::fault::ReportFault;
+use crate::telling::tell;
+use byte_ends::{Gather, Sink};
+use call_script::Plan;
+use net_units::{ChanNo, LinkNo};
+use run_record::HopRow;
+use std::alloc::{AllocError, Global};
+
+// Tells the header, and a line for each row.
+pub(crate) fn tell_table<K: Sink>(
+    alloc: Global,
+    plan: &Plan,
+    rows: &[HopRow],
+    gather: &mut Gather,
+    sink: &mut K,
+) -> Result<(), ReportFault>
+    ensures { Tells result (K.written sink.old) (K.written sink.new) gather.old gather.new (K.faults sink.old) (K.faults sink.new) (table_of plan.now rows.now) }
+{
+    tell(gather, sink, b"channel,packet,hop,link,size,at,eligible,departed\n")?;
+    tell_rows(alloc, plan, rows, gather, sink)
+}
+
+// Tells a line for each row.
+fn tell_rows<K: Sink>(
+    alloc: Global,
+    plan: &Plan,
+    rows: &[HopRow],
+    gather: &mut Gather,
+    sink: &mut K,
+) -> Result<(), ReportFault>
+    ensures { Tells result (K.written sink.old) (K.written sink.new) gather.old gather.new (K.faults sink.old) (K.faults sink.new) (flat_map (told_row plan.now) rows.now) }
+{
+    for row in rows {
+        tell_row(alloc, plan, row, gather, sink)?;
+    }
+    Ok(())
+}
+
+// Tells the line of a row.
+fn tell_row<K: Sink>(
+    alloc: Global,
+    plan: &Plan,
+    row: &HopRow,
+    gather: &mut Gather,
+    sink: &mut K,
+) -> Result<(), ReportFault>
+    ensures { Tells result (K.written sink.old) (K.written sink.new) gather.old gather.new (K.faults sink.old) (K.faults sink.new) (told_row plan.now row.now) }
+{
+    let mut line = String::new(alloc);
+    push_row(&mut line, plan, row)?;
+    tell(gather, sink, line.as_bytes())
+}
+
+// The line of a row.
+fn push_row(text: &mut String, plan: &Plan, row: &HopRow) -> Result<(), AllocError>
+    ensures { OnOk result (string_bytes text.new ≡ string_bytes text.old ++ told_row plan.now row.now) }
+{
+    let HopRow {
+        chan,
+        number,
+        hop,
+        link,
+        size,
+        at,
+        eligible,
+        departed,
+    } = *row;
+    push_request(text, plan, chan)?;
+    write!(text, ",{number},{hop},")?;
+    push_link(text, plan, link)?;
+    writeln!(text, ",{size},{at},{eligible},{departed}")
+}
+
+// The name of a channel's request.
+fn push_request(text: &mut String, plan: &Plan, chan: ChanNo) -> Result<(), AllocError>
+    ensures { OnOk result (string_bytes text.new ≡ string_bytes text.old ++ name_of_request (slice_get plan.now.requests (channel_number chan))) }
+{
+    match plan.requests().get(chan.get() as usize) {
+        Some(entry) => {
+            let name = entry.name;
+            write!(text, "{name}")
+        }
+        None => Ok(()),
+    }
+}
+
+// The name of a link.
+fn push_link(text: &mut String, plan: &Plan, link: LinkNo) -> Result<(), AllocError>
+    ensures { OnOk result (string_bytes text.new ≡ string_bytes text.old ++ name_of_link (slice_get plan.now.links (link_number link))) }
+{
+    match plan.links().get(usize::from(link.get())) {
+        Some(entry) => {
+            let name = entry.name;
+            write!(text, "{name}")
+        }
+        None => Ok(()),
+    }
+}
