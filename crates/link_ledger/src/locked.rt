@@ -13,6 +13,7 @@ use crate::entries::{Journal, OwnEntry};
 use crate::held::Held;
 use crate::home::Home;
 use crate::pass::Pass;
+use crate::unlocked::Unlocked;
 use link_steps::{Ask, LinkShape, LinkStep, Reply};
 use net_units::{ActorNo, Gate, LinkNo, OutOfMemory};
 use std::alloc::Global;
@@ -81,17 +82,33 @@ impl<L: LinkStep + Send, H: Home> LockedLink<L, H> {
         ensures marks { marks_in result.0.entries.items ≡ list_of result.1 }
         ensures journal { (rules : Link) × IsLink H.links (link_of result.1) rules × IsLegalJournal rules (map done_in result.0.entries.items) × IsOrdered H.owners (length H.links) (record { number = link_of result.1; rules = rules; entries = result.0.entries.items; list = list_of result.1; seen = (link_view result.1).seen; table = link_table result.1 }) }
     {
-        let LockedLink {
-            held,
-            link: _,
-            shape: _,
-        } = self;
-        let (entries, seat) = held.into_inner().into_parts();
-        let journal = Journal {
-            link: seat.link(),
-            entries,
-        };
-        (journal, seat)
+        self.unlock().into_journal()
+    }
+
+    /// The link out of its lock, once no thread shares it.
+    pub fn unlock(self) -> Unlocked<L, H>
+        ensures link { result.link ≡ self.link }
+        ensures shape { result.shape ≡ self.shape }
+    {
+        let LockedLink { held, link, shape } = self;
+        Unlocked {
+            held: held.into_inner(),
+            link,
+            shape,
+        }
+    }
+
+    // The link behind a lock again.
+    pub(crate) fn of(unlocked: Unlocked<L, H>) -> LockedLink<L, H>
+        ensures link { result.link ≡ unlocked.link }
+        ensures shape { result.shape ≡ unlocked.shape }
+    {
+        let Unlocked { held, link, shape } = unlocked;
+        LockedLink {
+            held: Mutex::new(held),
+            link,
+            shape,
+        }
     }
 
     /// The link's shape. It takes no lock.

@@ -2,3 +2,5 @@ mod CountFacts
 mod OpeningFacts
 mod LinkNumbers
 mod StepFacts
+mod GatherFacts
+mod ClosingFacts

@@ -96,6 +96,7 @@ module _ (table : TableId) (owners : List ActorNo) (links : List Link) (n : ℕ)
     unspent = refl;
     acts = refl;
     exact = record { drawn = refl; known = λ l. refl; placed = tt };
+    linked = tt;
     rises = tt;
     most = tt;
     knows = λ l link is. knows-new actor l link;

@@ -1,9 +1,9 @@
 -- A pass that may step goes on after a step: its entries are exact again, and what it knows of each link is as it was, or, of the
 -- link that was asked, the journal with its new entry.
-use Rattle.std.proofs.Common.{◌≡◌, ℕ, ◌≤◌, List, [], ◌∷◌, ◌++◌, length, map, refl, sym, ap, ◌∙◌, subst, inl, ⊎_elim, arith}
+use Rattle.std.proofs.Common.{◌≡◌, ℕ, ◌<◌, ◌≤◌, List, [], ◌∷◌, ◌++◌, length, map, refl, sym, ap, ◌∙◌, subst, inl, ⊎_elim, arith}
 use Rattle.std.proofs.lemmas.Bool.{cases_eq}
 use Rattle.std.proofs.lemmas.List.{map-append, length-map}
-use Rattle.std.proofs.lemmas.Option.{same_Some}
+use Rattle.std.proofs.lemmas.Option.{same_Some, slice_get_within}
 use Rattle.atomic_table.specs.Seated.{TableId}
 use Rattle.net_units.specs.Numbers.{actor_number, link_number}
 use Rattle.net_units.specs.declared.numbers.ActorNo.{ActorNo}
@@ -60,6 +60,12 @@ module _ (table : TableId) (owners : List ActorNo) (links : List Link) (l : ℕ)
       Each-append (λ (o : OwnEntry). o.stamp ≤ pass'.view.seen) pass.own (e ∷ [])
       (Each-if (λ (o : OwnEntry). o.stamp ≤ pass.view.seen) (λ (o : OwnEntry). o.stamp ≤ pass'.view.seen) pass.own (λ o low. omega (arith, low, above, saw)) may.most) (omega (arith, saw), tt)
 
+  linked : Each (λ (o : OwnEntry). link_number o.link < length links) (pass.own ++ e ∷ [])
+  linked =
+      let within = slice_get_within links l steps.link steps.is_link in
+      let here = steps.acted.link_is in
+      Each-append (λ (o : OwnEntry). link_number o.link < length links) pass.own (e ∷ []) may.linked (omega (arith, within, here), tt)
+
   knows-here : (link : Link) → IsLink links l link → KnowsLink owners (length links) link l pass'
   knows-here link is =
       let same : steps.link ≡ link = same_Some steps.link link (sym steps.is_link ∙ is) in
@@ -86,6 +92,7 @@ module _ (table : TableId) (owners : List ActorNo) (links : List Link) (l : ℕ)
     unspent = steps.unspent;
     acts = steps.acted.actors ∙ may.acts ∙ ap (λ (x : ActorNo). actor_number x ∷ []) (sym actor);
     exact = subst (λ (x : ActorNo × List OwnEntry). IsExact x.0 pass'.view x.1) (λ i. (sym actor i, sym steps.own i)) exact;
+    linked = subst (Each (λ (o : OwnEntry). link_number o.link < length links)) (sym steps.own) linked;
     rises = subst (λ (x : ActorNo × List OwnEntry). Rises (map (own_mark x.0) x.1)) (λ i. (sym actor i, sym steps.own i)) rises;
     most = subst (Each (λ (o : OwnEntry). o.stamp ≤ pass'.view.seen)) (sym steps.own) most;
     knows = λ k link is. ⊎_elim
@@ -112,6 +119,7 @@ seen-goes table owners links top pass pass' least is may =
         unspent = may.unspent;
         acts = may.acts;
         exact = record { drawn = may.exact.drawn; known = may.exact.known; placed = Each-if (IsPlaced pass.actor pass.view) (IsPlaced pass.actor (saw top pass.view)) pass.own (λ e is. record { least = is.least; here = is.here }) may.exact.placed };
+        linked = may.linked;
         rises = may.rises;
         most = Each-if (λ (o : OwnEntry). o.stamp ≤ pass.view.seen) (λ (o : OwnEntry). o.stamp ≤ top) pass.own (λ o low. omega (arith, low, least)) may.most;
         knows = λ l link is. (let knew = may.knows l link is in record { legal = knew.legal; order = knew.order; owns = knew.owns });

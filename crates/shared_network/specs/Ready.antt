@@ -1,9 +1,9 @@
 -- When a pass may step the links of a network: it has its seat, of the network's stamps, and no step of it has met want of
 -- memory. Then its own entries are exact, and their stamps rise. What it knows of each link tells a legal journal, in which
 -- each channel was asked for by its owner and the entries of its actor are its own.
-use Rattle.std.specs.Prelude.{◌≡◌, ℕ, ◌≤◌, true, false, List, [], ◌∷◌, length, map}
+use Rattle.std.specs.Prelude.{◌≡◌, ℕ, ◌<◌, ◌≤◌, true, false, List, [], ◌∷◌, length, map}
 use Rattle.atomic_table.specs.Seated.{TableId}
-use Rattle.net_units.specs.Numbers.{actor_number}
+use Rattle.net_units.specs.Numbers.{actor_number, link_number}
 use Rattle.net_units.specs.declared.numbers.ActorNo.{ActorNo}
 use Rattle.link_steps.specs.Legal.{IsLegal}
 use Rattle.link_steps.specs.Lists.{Each}
@@ -28,6 +28,7 @@ pub record MayStep (table : TableId) (owners : List ActorNo) (links : List Link)
   pub unspent : pass.spent ≡ false
   pub acts : pass.view.actors ≡ actor_number pass.actor ∷ []
   pub exact : IsExact pass.actor pass.view pass.own
+  pub linked : Each (λ (e : OwnEntry). link_number e.link < length links) pass.own
   pub rises : Rises (map (own_mark pass.actor) pass.own)
   pub most : Each (λ (e : OwnEntry). e.stamp ≤ pass.view.seen) pass.own
   pub knows : (l : ℕ) (link : Link) → IsLink links l link → KnowsLink owners (length links) link l pass

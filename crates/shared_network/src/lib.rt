@@ -5,6 +5,8 @@
 //! the asks that it makes, each with its link's reply. Nothing is claimed of waiting, fairness or deadlock.
 #![tactic(auto)]
 
+pub mod closing;
 pub mod network;
 
+pub use closing::{CloseFault, Closed};
 pub use network::Network;
