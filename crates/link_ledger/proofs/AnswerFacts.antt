@@ -20,7 +20,7 @@ use Rattle.link_ledger.specs.declared.entries.OwnEntry.{OwnEntry}
 use Rattle.link_ledger.proofs.JournalFacts.{past_after}
 
 -- the history behind marks is what they tell, turned round, and the history before
-past-told : (link : Link) (past : List Done) (ms : List Mark) → past_after link past ms ≡ reverse (map done_in (told_after link past ms)) ++ past
+pub past-told : (link : Link) (past : List Done) (ms : List Mark) → past_after link past ms ≡ reverse (map done_in (told_after link past ms)) ++ past
 unfolding past_after told_after
 past-told link past [] = refl
 past-told link past (m ∷ ms) =

@@ -2,4 +2,4 @@ pub mod JournalFacts
 pub mod OwnFacts
 mod OrderFacts
 mod StepFacts
-mod AnswerFacts
+pub mod AnswerFacts

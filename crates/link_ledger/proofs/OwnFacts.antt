@@ -61,7 +61,7 @@ none_at l k own e is other =
 -- ---- what the pass didn't know
 
 -- what the link's list has more than the pass knew has no mark of its actor
-rest_none : (a : ActorNo) (l : ℕ) (v : View) (own : List OwnEntry) (rest : List Mark) → IsExact a v own → Has (actor_number a) v.actors → Rises (known_of l v ++ rest)
+pub rest_none : (a : ActorNo) (l : ℕ) (v : View) (own : List OwnEntry) (rest : List Mark) → IsExact a v own → Has (actor_number a) v.actors → Rises (known_of l v ++ rest)
     → ((m : Mark) → Has m (known_of l v ++ rest) → Has (actor_number m.actor) v.actors → Has (drawn_for l m) v.drawn) → marks_of (actor_number a) rest ≡ []
 rest_none a l v own rest exact acts rises drew =
     filter_none (λ (m : Mark). eqb (actor_number m.actor) (actor_number a)) rest

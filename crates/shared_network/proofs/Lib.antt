@@ -4,3 +4,6 @@ mod LinkNumbers
 mod StepFacts
 mod GatherFacts
 mod ClosingFacts
+mod SetupReplies
+mod HoldFacts
+mod HoldSteps

@@ -19,6 +19,8 @@ use Rattle.step_stamp.specs.declared.seats.PassSeat.{PassSeat}
 use Rattle.step_stamp.specs.declared.views.View.{View}
 use Rattle.link_ledger.specs.Journals.{told_after}
 use Rattle.link_ledger.specs.Tokens.{Token, IsLink}
+use Rattle.link_steps.specs.Scan.{scan_of}
+use Rattle.shared_network.specs.Holds.{hold_from}
 use Rattle.shared_network.specs.Ready.{KnowsLink, MayStep, IsNew}
 use Rattle.shared_network.specs.Sight.{IsUnusedLink}
 use Rattle.shared_network.proofs.CountFacts.{up_to-length, up_to-next, get-behind}
@@ -81,11 +83,12 @@ module _ (table : TableId) (owners : List ActorNo) (links : List Link) (n : ℕ)
   token actor = record { actor = actor; has_seat = true; table = table; view = new_pass (actor_number actor) (first_view 0 n); own = []; spent = false }
 
   knows-new : (actor : ActorNo) (l : ℕ) (link : Link) → KnowsLink owners (length links) link l (token actor)
-  unfolding shelf_of told_after IsLegal
+  unfolding shelf_of told_after IsLegal hold_from scan_of
   knows-new actor l link = record {
     legal = tt;
     order = record { rises = tt; owned = tt; next = tt; most = tt };
     owns = refl;
+    holds = λ chan owner. refl;
   }
 
   may-new : (actor : ActorNo) → MayStep table owners links (token actor)

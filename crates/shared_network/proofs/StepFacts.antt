@@ -5,12 +5,12 @@ use Rattle.std.proofs.lemmas.Bool.{cases_eq}
 use Rattle.std.proofs.lemmas.List.{map-append, length-map}
 use Rattle.std.proofs.lemmas.Option.{same_Some, slice_get_within}
 use Rattle.atomic_table.specs.Seated.{TableId}
-use Rattle.net_units.specs.Numbers.{actor_number, link_number}
+use Rattle.net_units.specs.Numbers.{actor_number, channel_number, link_number}
 use Rattle.net_units.specs.declared.numbers.ActorNo.{ActorNo}
 use Rattle.net_units.specs.declared.numbers.LinkNo.{LinkNo}
 use Rattle.link_steps.specs.Legal.{IsLegal}
 use Rattle.link_steps.specs.Lists.{Each}
-use Rattle.link_steps.specs.Split.{Link}
+use Rattle.link_steps.specs.Split.{Link, SplitFits}
 use Rattle.link_steps.specs.declared.asks.Ask.{Ask}
 use Rattle.link_steps.specs.declared.replies.Reply.{Reply}
 use Rattle.link_steps.proofs.ListFacts.{Each-if, Each-append, Each-map}
@@ -23,14 +23,19 @@ use Rattle.link_ledger.specs.Journals.{history_in, journal_of, entries_of}
 use Rattle.link_ledger.specs.Order.{AreInOrder}
 use Rattle.link_ledger.specs.Own.{IsExact, IsPlaced, own_mark, own_entry, own_at}
 use Rattle.link_ledger.specs.Tokens.{Token, IsLink, Steps}
+use Rattle.link_ledger.specs.declared.entries.Entry.{Entry}
 use Rattle.link_ledger.specs.declared.entries.OwnEntry.{OwnEntry}
 use Rattle.link_ledger.proofs.JournalFacts.{marks-more, journal-told}
 use Rattle.link_ledger.proofs.OwnFacts.{exact-after, none_at}
+use Rattle.link_ledger.specs.Owners.{IsOwner}
+use Rattle.channel_laws.specs.Laws.{held_after}
+use Rattle.shared_network.specs.Holds.{hold_of, IsHeld}
 use Rattle.shared_network.specs.Added.{Adds}
 use Rattle.shared_network.specs.Ready.{KnowsLink, MayStep, GoesOn}
+use Rattle.shared_network.proofs.HoldSteps.{hold-after}
 use Rattle.shared_network.proofs.LinkNumbers.{same-link}
 
-module _ (table : TableId) (owners : List ActorNo) (links : List Link) (l : ℕ) (ask : Ask) (pass pass' : Token) (reply : Reply) (may : MayStep table owners links pass) (steps : Steps links l ask pass pass' reply) (order : AreInOrder owners (length links) (known_of l pass'.view)) (actor : pass'.actor ≡ pass.actor) (from : pass'.table ≡ pass.table) where
+module _ (table : TableId) (owners : List ActorNo) (links : List Link) (l : ℕ) (ask : Ask) (pass pass' : Token) (reply : Reply) (splits : Each SplitFits links) (may : MayStep table owners links pass) (steps : Steps links l ask pass pass' reply) (order : AreInOrder owners (length links) (known_of l pass'.view)) (actor : pass'.actor ≡ pass.actor) (from : pass'.table ≡ pass.table) where
   abbrev a : ActorNo
   a = pass.actor
 
@@ -73,6 +78,9 @@ module _ (table : TableId) (owners : List ActorNo) (links : List Link) (l : ℕ)
         legal = subst (λ (x : Link). IsLegal x (history_in (journal_of x (known_of l pass'.view)))) same (subst (λ es. IsLegal steps.link (history_in es)) (sym journal) steps.acted.legal);
         order = order;
         owns = steps.owns link is;
+        holds = λ chan owner. subst (λ (x : Link). IsHeld (hold_of (channel_number chan) (own_at l pass'.own)) (held_after x.shape chan (history_in (journal_of x (known_of l pass'.view))))) same
+            (subst (λ (x : List OwnEntry × List Entry). IsHeld (hold_of (channel_number chan) (own_at l x.0)) (held_after steps.link.shape chan (history_in x.1))) (λ i. (sym steps.own i, sym journal i))
+            (hold-after table owners links l ask pass pass' reply splits may steps order chan (subst (λ (x : ActorNo). IsOwner owners x chan) actor owner)));
       }
 
   knows-there : (k : ℕ) (link : Link) → (k ≡ l → ⊥) → KnowsLink owners (length links) link k pass → KnowsLink owners (length links) link k pass'
@@ -83,6 +91,7 @@ module _ (table : TableId) (owners : List ActorNo) (links : List Link) (l : ℕ)
         legal = subst (λ ms. IsLegal link (history_in (journal_of link ms))) known knew.legal;
         order = subst (AreInOrder owners (length links)) known knew.order;
         owns = subst (λ (x : ActorNo × List Mark × List OwnEntry). entries_of (actor_number x.0) (journal_of link x.1) ≡ map (own_entry x.0) x.2) (λ i. (sym actor i, known i, own i)) knew.owns;
+        holds = λ chan owner. subst (λ (x : List OwnEntry × List Mark). IsHeld (hold_of (channel_number chan) x.0) (held_after link.shape chan (history_in (journal_of link x.1)))) (λ i. (own i, known i)) (knew.holds chan (subst (λ (x : ActorNo). IsOwner owners x chan) actor owner));
       }
 
   pub may-after : MayStep table owners links pass'
@@ -122,7 +131,7 @@ seen-goes table owners links top pass pass' least is may =
         linked = may.linked;
         rises = may.rises;
         most = Each-if (λ (o : OwnEntry). o.stamp ≤ pass.view.seen) (λ (o : OwnEntry). o.stamp ≤ top) pass.own (λ o low. omega (arith, low, least)) may.most;
-        knows = λ l link is. (let knew = may.knows l link is in record { legal = knew.legal; order = knew.order; owns = knew.owns });
+        knows = λ l link is. (let knew = may.knows l link is in record { legal = knew.legal; order = knew.order; owns = knew.owns; holds = knew.holds });
       };
       among = refl;
     })

@@ -1,10 +1,13 @@
 -- When a pass may step the links of a network: it has its seat, of the network's stamps, and no step of it has met want of
 -- memory. Then its own entries are exact, and their stamps rise. What it knows of each link tells a legal journal, in which
--- each channel was asked for by its owner and the entries of its actor are its own.
+-- each channel was asked for by its owner and the entries of its actor are its own. So its own entries tell what the link holds
+-- of its channels.
 use Rattle.std.specs.Prelude.{◌≡◌, ℕ, ◌<◌, ◌≤◌, true, false, List, [], ◌∷◌, length, map}
 use Rattle.atomic_table.specs.Seated.{TableId}
-use Rattle.net_units.specs.Numbers.{actor_number, link_number}
+use Rattle.net_units.specs.Numbers.{actor_number, channel_number, link_number}
 use Rattle.net_units.specs.declared.numbers.ActorNo.{ActorNo}
+use Rattle.net_units.specs.declared.numbers.ChanNo.{ChanNo}
+use Rattle.channel_laws.specs.Laws.{held_after}
 use Rattle.link_steps.specs.Legal.{IsLegal}
 use Rattle.link_steps.specs.Lists.{Each}
 use Rattle.link_steps.specs.Split.{Link}
@@ -12,15 +15,18 @@ use Rattle.step_stamp.specs.Marks.{Rises}
 use Rattle.step_stamp.specs.Views.{known_of}
 use Rattle.link_ledger.specs.Journals.{history_in, journal_of}
 use Rattle.link_ledger.specs.Order.{AreInOrder}
-use Rattle.link_ledger.specs.Own.{IsExact, Owns, own_mark}
+use Rattle.link_ledger.specs.Own.{IsExact, Owns, own_at, own_mark}
+use Rattle.link_ledger.specs.Owners.{IsOwner}
 use Rattle.link_ledger.specs.Tokens.{Token, IsLink}
 use Rattle.link_ledger.specs.declared.entries.OwnEntry.{OwnEntry}
+use Rattle.shared_network.specs.Holds.{hold_of, IsHeld}
 
 -- what a pass knows of a link
 pub record KnowsLink (owners : List ActorNo) (links : ℕ) (link : Link) (l : ℕ) (pass : Token) : Type 0 where
   pub legal : IsLegal link (history_in (journal_of link (known_of l pass.view)))
   pub order : AreInOrder owners links (known_of l pass.view)
   pub owns : Owns link l pass.actor pass.view pass.own
+  pub holds : (chan : ChanNo) → IsOwner owners pass.actor chan → IsHeld (hold_of (channel_number chan) (own_at l pass.own)) (held_after link.shape chan (history_in (journal_of link (known_of l pass.view))))
 
 pub record MayStep (table : TableId) (owners : List ActorNo) (links : List Link) (pass : Token) : Type 0 where
   pub has_seat : pass.has_seat ≡ true

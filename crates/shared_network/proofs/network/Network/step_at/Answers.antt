@@ -39,4 +39,4 @@ returns-clause-ready g c =
     both-ok (λ reply. Steps g.H.Home.links (link_number c.index.result.now.link) c.args.ask.now c.args.pass.now c.step.new.pass reply)
     (λ reply. AreInOrder g.H.Home.owners (length g.H.Home.links) (known_of (link_number c.index.result.now.link) c.step.new.pass.view))
     (GoesOn g.H.Home.table g.H.Home.owners g.H.Home.links c.args.pass.now c.step.new.pass) c.step.result
-    (λ reply steps order. goes-on g.H.Home.table g.H.Home.owners g.H.Home.links (link_number c.index.result.now.link) c.args.ask.now c.args.pass.now c.step.new.pass reply c.requires.pass steps order c.step.ensures.same.0 c.step.ensures.same.2) c.step.ensures.made c.step.ensures.order
+    (λ reply steps order. goes-on g.H.Home.table g.H.Home.owners g.H.Home.links (link_number c.index.result.now.link) c.args.ask.now c.args.pass.now c.step.new.pass reply c.self.invariant.splits c.requires.pass steps order c.step.ensures.same.0 c.step.ensures.same.2) c.step.ensures.made c.step.ensures.order

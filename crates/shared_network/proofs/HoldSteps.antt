@@ -1,0 +1,121 @@
+-- A step at a link, and what the link holds of the channels of the pass's actor: before it, as the own entries tell; the reply
+-- is the one of the rules for that; and after it, as the own entries with the new one tell.
+use Rattle.std.proofs.Common.{◌≡◌, ℕ, List, [], ◌∷◌, ◌++◌, length, refl, sym, ap, ◌∙◌, subst, inl}
+use Rattle.std.proofs.lemmas.Option.{same_Some}
+use Rattle.atomic_table.specs.Seated.{TableId}
+use Rattle.net_units.specs.Numbers.{actor_number, channel_number}
+use Rattle.net_units.specs.declared.numbers.ActorNo.{ActorNo}
+use Rattle.net_units.specs.declared.numbers.ChanNo.{ChanNo}
+use Rattle.link_steps.specs.Admissible.{MayAnswer, IsAdmissible}
+use Rattle.link_steps.specs.Legal.{IsLegal}
+use Rattle.link_steps.specs.Lists.{Each}
+use Rattle.link_steps.specs.Replies.{reply_at, reply_to}
+use Rattle.link_steps.specs.Scan.{Scan, clock_of, scan_of}
+use Rattle.link_steps.specs.Split.{Link, SplitFits}
+use Rattle.link_steps.specs.declared.asks.Ask.{Ask}
+use Rattle.link_steps.specs.declared.replies.Entry.{Entry as Done}
+use Rattle.link_steps.specs.declared.replies.Reply.{Reply}
+use Rattle.link_steps.proofs.LegalAdmissible.{legal-admissible}
+use Rattle.link_steps.proofs.LegalChannels.{legal-channels}
+use Rattle.step_stamp.specs.Lists.{Has}
+use Rattle.step_stamp.specs.Marks.{Rises, marks_of}
+use Rattle.step_stamp.specs.Views.{known_of}
+use Rattle.step_stamp.specs.declared.marks.Mark.{Mark}
+use Rattle.channel_laws.specs.Laws.{held_after}
+use Rattle.channel_laws.specs.Reservations.{held_by}
+use Rattle.channel_laws.proofs.Places.{Each-at}
+use Rattle.link_ledger.specs.Journals.{marks_in, done_in, history_in, journal_of}
+use Rattle.link_ledger.specs.Order.{AreInOrder}
+use Rattle.link_ledger.specs.Own.{own_mark, own_entry, own_at}
+use Rattle.link_ledger.specs.Owners.{OwnsAsk, IsOwner}
+use Rattle.link_ledger.specs.Tokens.{Token, Steps}
+use Rattle.link_ledger.specs.declared.entries.OwnEntry.{OwnEntry}
+use Rattle.link_ledger.proofs.JournalFacts.{past_after, history-more, journal-told}
+use Rattle.link_ledger.proofs.OwnFacts.{one_at, rest_none}
+use Rattle.shared_network.specs.Holds.{Hold, Free, hold_with, hold_of, IsHeld}
+use Rattle.shared_network.specs.Ready.{MayStep}
+use Rattle.shared_network.proofs.HoldFacts.{hold-more, held-next, held-rest, off-marks, past-parts, history-told}
+
+-- the reply is that of the rules where the link holds this
+pub record AnswersOf (link : Link) (chan : ChanNo) (hold : Hold) (ask : Ask) (reply : Reply) : Type 0 where
+  pub clock : ℕ
+  pub scan : Scan
+  pub held : IsHeld hold (held_by chan scan.rows)
+  pub reply_is : reply ≡ reply_at link clock scan ask
+  pub may : MayAnswer link.shape clock scan ask reply
+
+each-right : {X : Type 0} (P : X → Type 0) (xs ys : List X) → Each P (xs ++ ys) → Each P ys
+each-right P [] ys each = each
+each-right P (x ∷ xs) ys each = each-right P xs ys each.1
+
+each-left : {X : Type 0} (P : X → Type 0) (xs ys : List X) → Each P (xs ++ ys) → Each P xs
+each-left P [] ys each = tt
+each-left P (x ∷ xs) ys each = (each.0, each-left P xs ys each.1)
+
+module _ (table : TableId) (owners : List ActorNo) (links : List Link) (l : ℕ) (ask : Ask) (pass pass' : Token) (reply : Reply) (splits : Each SplitFits links) (may : MayStep table owners links pass) (steps : Steps links l ask pass pass' reply) (order : AreInOrder owners (length links) (known_of l pass'.view)) where
+  abbrev a : ActorNo
+  a = pass.actor
+
+  abbrev e : OwnEntry
+  e = steps.entry
+
+  abbrev known : List Mark
+  known = known_of l pass.view
+
+  abbrev rest : List Mark
+  rest = steps.acted.begins.0
+
+  whole : known ++ rest ≡ marks_in steps.entries
+  whole = steps.acted.begins.1
+
+  fits : SplitFits steps.link
+  fits = Each-at SplitFits links l steps.link splits steps.is_link
+
+  more : history_in (steps.entries ++ own_entry a e ∷ []) ≡ done_in (own_entry a e) ∷ history_in steps.entries
+  more = history-more steps.entries (own_entry a e)
+
+  legal_before : IsLegal steps.link (history_in steps.entries)
+  unfolding IsLegal
+  legal_before = (subst (IsLegal steps.link) more steps.acted.legal).0
+
+  -- the journal before the step, told by what the pass knew and the rest
+  before : history_in steps.entries ≡ past_after steps.link (past_after steps.link [] known) rest
+  before =
+      ap history_in (sym (journal-told steps.link steps.entries legal_before) ∙ ap (journal_of steps.link) (sym whole))
+      ∙ history-told steps.link (known ++ rest) ∙ past-parts steps.link [] known rest
+
+  none : marks_of (actor_number a) rest ≡ []
+  none = rest_none a l pass.view pass.own rest may.exact (subst (Has (actor_number a)) (sym may.acts) (inl refl)) (subst Rises (sym whole) steps.acted.rises) (λ m has on. steps.acted.own m (subst (Has m) whole has) on)
+
+  owned : Each (λ (m : Mark). OwnsAsk owners m.actor m.ask) rest
+  owned = each-right (λ (m : Mark). OwnsAsk owners m.actor m.ask) known rest (subst (Each (λ (m : Mark). OwnsAsk owners m.actor m.ask)) (sym whole) (each-left (λ (m : Mark). OwnsAsk owners m.actor m.ask) (marks_in steps.entries) (own_mark a e ∷ []) (subst (Each (λ (m : Mark). OwnsAsk owners m.actor m.ask)) steps.acted.knows order.owned)))
+
+  pub hold-before : (chan : ChanNo) → IsOwner owners a chan → IsHeld (hold_of (channel_number chan) (own_at l pass.own)) (held_after steps.link.shape chan (history_in steps.entries))
+  hold-before chan owner =
+      let hold : Hold = hold_of (channel_number chan) (own_at l pass.own) in
+      let knew = (may.knows l steps.link steps.is_link).holds chan owner in
+      subst (λ h. IsHeld hold (held_after steps.link.shape chan h)) (sym before)
+      (held-rest steps.link chan hold (past_after steps.link [] known) rest fits (subst (IsLegal steps.link) before legal_before) (off-marks owners a chan rest owner none owned) (subst (λ h. IsHeld hold (held_after steps.link.shape chan h)) (history-told steps.link known) knew))
+
+  pub hold-after : (chan : ChanNo) → IsOwner owners a chan → IsHeld (hold_of (channel_number chan) (own_at l (pass.own ++ e ∷ []))) (held_after steps.link.shape chan (history_in (steps.entries ++ own_entry a e ∷ [])))
+  unfolding scan_of
+  hold-after chan owner =
+      let c : ℕ = channel_number chan in
+      let hold : Hold = hold_of c (own_at l pass.own) in
+      let h : List Done = history_in steps.entries in
+      let next : IsHeld (hold_with c hold e.ask e.reply) (held_after steps.link.shape chan (done_in (own_entry a e) ∷ h)) = held-next steps.link.shape chan (clock_of h) (scan_of steps.link.shape h) (legal-channels steps.link.shape h (legal-admissible steps.link h fits legal_before)) hold e.ask e.reply (hold-before chan owner) in
+      let own : hold_of c (own_at l (pass.own ++ e ∷ [])) ≡ hold_with c hold e.ask e.reply = ap (hold_of c) (one_at l pass.own e steps.acted.link_is) ∙ hold-more c Free (own_at l pass.own) e in
+      subst (λ (x : Hold × List Done). IsHeld x.0 (held_after steps.link.shape chan x.1)) (λ i. (sym own i, sym more i)) next
+
+  pub answers : (chan : ChanNo) → IsOwner owners a chan → AnswersOf steps.link chan (hold_of (channel_number chan) (own_at l pass.own)) e.ask e.reply
+  unfolding reply_to IsAdmissible
+  answers chan owner =
+      let h : List Done = history_in steps.entries in
+      let admissible : IsAdmissible steps.link.shape (done_in (own_entry a e) ∷ h) = subst (IsAdmissible steps.link.shape) more (legal-admissible steps.link (history_in (steps.entries ++ own_entry a e ∷ [])) fits steps.acted.legal) in
+      record {
+        clock = clock_of h;
+        scan = scan_of steps.link.shape h;
+        held = hold-before chan owner;
+        reply_is = steps.acted.reply ∙ ap (reply_to steps.link h) (sym steps.acted.ask_is);
+        may = admissible.1.answered;
+      }

@@ -1,0 +1,74 @@
+-- What a setup and a teardown add to the own entries of a pass, and when they may be called. The entries are exactly the asks of
+-- the protocol, each behind the replies of those before it. A setup's verdict is that of its replies; a teardown answers the
+-- count that the first hop has told.
+use Rattle.std.specs.Prelude.{◌≡◌, ℕ, nat_eq, Bool, Option, Some, List, [], ◌∷◌, ◌++◌, length, map}
+use Rattle.std.specs.List.{slice_get}
+use Rattle.net_units.specs.Numbers.{channel_number, link_number}
+use Rattle.net_units.specs.declared.numbers.ChanNo.{ChanNo}
+use Rattle.net_units.specs.declared.numbers.LinkNo.{LinkNo}
+use Rattle.hop_reservation.specs.Routes.{link_of}
+use Rattle.hop_reservation.specs.declared.route.Hop.{Hop}
+use Rattle.link_steps.specs.Lists.{Each}
+use Rattle.link_steps.specs.Reservation.{Reservation}
+use Rattle.link_steps.specs.Split.{Link}
+use Rattle.link_steps.specs.declared.asks.Ask.{Ask}
+use Rattle.link_steps.specs.declared.replies.Phase.TheVariants.{Committed}
+use Rattle.link_steps.specs.declared.replies.Reply.{Reply}
+use Rattle.setup_protocol.specs.Setup.{Outcome, next_ask, verdict_of}
+use Rattle.setup_protocol.specs.Teardown.{first_count, next_release}
+use Rattle.setup_protocol.specs.declared.request.Request.{Request}
+use Rattle.channel_laws.specs.Asks.{IsOff}
+use Rattle.link_ledger.specs.Own.{own_at}
+use Rattle.link_ledger.specs.Tokens.{Token, IsLink}
+use Rattle.link_ledger.specs.declared.entries.OwnEntry.{OwnEntry}
+use Rattle.shared_network.specs.Holds.{Hold, Holds, hold_of}
+
+-- a hop over a link of the network, with its bounds and its propagation
+pub record IsHopOf (links : List Link) (hop : Hop) : Type 0 where
+  pub link : Link
+  pub is_link : IsLink links (link_number hop.link) link
+  pub bounds : hop.bounds ≡ link.shape.bounds
+  pub prop : hop.prop ≡ link.shape.prop
+
+-- no entry names the channel
+abbrev pub HasNone : ChanNo → List OwnEntry → Type 0
+HasNone chan own = Each (λ (e : OwnEntry). IsOff (channel_number chan) e.ask) own
+
+abbrev pub reply_in : OwnEntry → Reply
+reply_in e = e.reply
+
+-- these entries are what a protocol asks behind these replies, one after the other
+unfoldable pub Follows : (List Reply → Option (LinkNo × Ask)) → List Reply → List OwnEntry → Type 0
+Follows next replies [] = Unit {0}
+Follows next replies (e ∷ entries) = (next replies ≡ Some (e.link, e.ask)) × Follows next (replies ++ e.reply ∷ []) entries
+
+-- a setup has come to this
+pub record SetsUp (request : Request) (pass pass' : Token) (outcome : Outcome) : Type 0 where
+  pub entries : List OwnEntry
+  pub own : pass'.own ≡ pass.own ++ entries
+  pub follows : Follows (next_ask request) [] entries
+  pub verdict : verdict_of request (map reply_in entries) ≡ Some outcome
+
+-- what the entries tell of the channel at a hop
+abbrev pub hold_at : ChanNo → Hop → List OwnEntry → Hold
+hold_at chan hop own = hold_of (channel_number chan) (own_at (link_of hop) own)
+
+-- the reservation is committed, at the first hop or at a later one
+pub record IsCommitted (first : Bool) (hold : Hold) : Type 0 where
+  pub terms : Reservation
+  pub is : hold ≡ Holds terms
+  pub phase : terms.phase ≡ Committed
+  pub first_is : terms.first ≡ first
+
+-- the pass's setup of the request was accepted, and it hasn't torn the channel down: by its own entries, each hop of the route
+-- has committed a reservation of the channel and wasn't asked to release it
+abbrev pub IsEstablished : Request → List OwnEntry → Type 0
+IsEstablished request own = (i : ℕ) (hop : Hop) → slice_get request.route i ≡ Some hop → IsCommitted (nat_eq i 0) (hold_at request.chan hop own)
+
+-- a teardown has released all hops, and the first has told this count
+pub record TearsDown (request : Request) (pass pass' : Token) (count : ℕ) : Type 0 where
+  pub entries : List OwnEntry
+  pub own : pass'.own ≡ pass.own ++ entries
+  pub follows : Follows (next_release request.chan request.route) [] entries
+  pub whole : length entries ≡ length request.route
+  pub count_is : first_count (map reply_in entries) ≡ Some count
