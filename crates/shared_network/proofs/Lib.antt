@@ -7,3 +7,6 @@ mod ClosingFacts
 mod SetupReplies
 mod HoldFacts
 mod HoldSteps
+mod SetupHolds
+mod SetupGoes
+mod CallFacts

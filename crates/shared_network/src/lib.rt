@@ -5,6 +5,7 @@
 //! the asks that it makes, each with its link's reply. Nothing is claimed of waiting, fairness or deadlock.
 #![tactic(auto)]
 
+pub mod calls;
 pub mod closing;
 pub mod network;
 

@@ -91,6 +91,7 @@ impl<L: LinkStep + Send, H: Home> Network<L, H> {
         ensures lost { OnErr result (IsLost pass.new) }
         ensures kept { OnErr result (pass.new.own ≡ pass.old.own) }
         ensures same { IsSamePass pass.old pass.new }
+        ensures splits { Each SplitFits H.links }
     {
         self.links[usize::from(link.get())].step(rt, &self.stamps, pass, gate, ask)
     }

@@ -1,0 +1,315 @@
+-- A setup goes on with each step: its entries are what it asks, and fewer asks are left.
+use Rattle.std.proofs.Common.{◌≡◌, ℕ, zero, suc, ◌+◌, ◌-◌, ◌<◌, ◌≤◌, ◌^◌, Bool, true, false, cond, List, [], ◌∷◌, ◌++◌, length, map, Option, Some, None, refl, sym, ap, ◌∙◌, subst, inl, inr, arith}
+use Rattle.std.proofs.lemmas.Bool.{cond_both}
+use Rattle.std.proofs.lemmas.List.{append_assoc, append-nil, length-append, map-append, length_push}
+use Rattle.std.proofs.lemmas.Option.{same_Some, slice_get_within}
+use Rattle.std.specs.List.{slice_get}
+use Rattle.std.specs.Prelude.{nat_eq, nat_lt}
+use Rattle.atomic_table.specs.Seated.{TableId}
+use Rattle.net_units.specs.Numbers.{channel_number, link_number, level_number}
+use Rattle.net_units.specs.declared.numbers.ActorNo.{ActorNo}
+use Rattle.net_units.specs.declared.numbers.ChanNo.{ChanNo}
+use Rattle.net_units.specs.declared.numbers.LinkNo.{LinkNo}
+use Rattle.hop_reservation.specs.Offers.{AreLevels, next_levels, next_bound}
+use Rattle.hop_reservation.specs.Routes.{IsRoute, link_of}
+use Rattle.hop_reservation.specs.declared.route.Hop.{Hop}
+use Rattle.link_steps.specs.Lists.{Each}
+use Rattle.link_steps.specs.Split.{Link, SplitFits}
+use Rattle.link_steps.specs.declared.asks.Ask.{Ask}
+use Rattle.link_steps.specs.declared.replies.Reply.{Reply}
+use Rattle.link_steps.specs.declared.replies.Reply.TheVariants as Is
+use Rattle.relaxation.specs.Allotment.{denial_of, allotted}
+use Rattle.relaxation.specs.declared.EndDenial.{EndDenial}
+use Rattle.setup_protocol.specs.Requests.{jitter_of}
+use Rattle.setup_protocol.specs.Setup.{Progress, Reserving, Undoing, Relaxing, Settled, offers_in, behind_offers, undoing, relaxing, behind_test, at_destination, next_ask, progress_of, is_expected}
+use Rattle.setup_protocol.specs.Standing.{progress_in, Stands}
+use Rattle.setup_protocol.specs.State.{with_offers, after_reserve, advance, progress_at, IsStateOf}
+use Rattle.setup_protocol.specs.declared.request.Request.{Request}
+use Rattle.setup_protocol.specs.declared.setup.Setup.{Setup}
+use Rattle.setup_protocol.specs.declared.setup.State.{State}
+use Rattle.setup_protocol.specs.declared.setup.State.TheVariants as state
+use Rattle.setup_protocol.specs.declared.verdict.Deny.{Deny as Denial}
+use Rattle.setup_protocol.specs.declared.verdict.Deny.TheVariants.{End}
+use Rattle.net_units.specs.Allotted.{levels_of}
+use Rattle.link_ledger.specs.Order.{AreInOrder}
+use Rattle.link_ledger.specs.Own.{own_at}
+use Rattle.link_ledger.specs.Owners.{IsOwner}
+use Rattle.link_ledger.specs.Tokens.{Token, IsLink, Steps}
+use Rattle.link_ledger.specs.declared.entries.OwnEntry.{OwnEntry}
+use Rattle.shared_network.specs.Added.{IsSamePass}
+use Rattle.shared_network.specs.Calls.{Follows, reply_in}
+use Rattle.shared_network.specs.Ready.{MayStep, GoesOn}
+use Rattle.shared_network.proofs.SetupGoes.{IsSound, SetupRows, SetupGoes}
+use Rattle.std.proofs.lemmas.Bool.{ne_eqb}
+use Rattle.std.specs.Option.{option_map}
+use Rattle.std.specs.Prelude.{Result, Ok, Err, IsOk, OnOk}
+use Rattle.std.specs.Result.{is_err}
+use Rattle.net_units.specs.LevelBounds.{are_bounds}
+use Rattle.traffic_contract.specs.Contract.{IsContract}
+use Rattle.link_steps.specs.Reservation.{tentative, committed}
+use Rattle.link_steps.specs.declared.asks.Ask.TheVariants.{Reserve, Relax, Deny, Submit, Release, Arrive, Tick, Pour}
+use Rattle.link_steps.proofs.ListFacts.{Each-filter}
+use Rattle.relaxation.specs.Laws.{HaveBounds}
+use Rattle.setup_protocol.specs.Laws.{AsksHop, is_accepted}
+use Rattle.setup_protocol.specs.Setup.{Outcome, Accepts, Denies, asked, asked_of, link_in, reach_after, relax_of, reserve_of, settled_in}
+use Rattle.setup_protocol.proofs.AskFacts.{ask-fits}
+use Rattle.setup_protocol.proofs.ProgressFacts.{progress-advances, progress-none}
+use Rattle.channel_laws.specs.Asks.{IsOff}
+use Rattle.channel_laws.proofs.Places.{Each-at}
+use Rattle.link_ledger.specs.Owners.{OwnsAsk, NextBelow, IsBelow}
+use Rattle.shared_network.specs.Calls.{HasNone, IsHopOf, IsEstablished, hold_at}
+use Rattle.shared_network.specs.Holds.{Hold, Free, Untold, reserved, relaxed, denied, hold_with, hold_from, hold_of}
+use Rattle.shared_network.specs.Sight.{FitsAt}
+use Rattle.shared_network.proofs.HoldSteps.{AnswersOf, answers}
+use Rattle.shared_network.proofs.LinkNumbers.{same-link}
+use Rattle.shared_network.proofs.SetupGoes.{setup-goes}
+use Rattle.shared_network.proofs.SetupHolds.{HopStands, IsComm}
+
+-- ---- entries that follow a protocol
+
+pub follows-more : (next : List Reply → Option (LinkNo × Ask)) (replies : List Reply) (entries : List OwnEntry) (e : OwnEntry) → Follows next replies entries → next (replies ++ map reply_in entries) ≡ Some (e.link, e.ask) → Follows next replies (entries ++ e ∷ [])
+unfolding Follows
+follows-more next replies [] e follows asks = (ap next (sym (append-nil replies)) ∙ asks, tt)
+follows-more next replies (o ∷ entries) e follows asks = (follows.0, follows-more next (replies ++ o.reply ∷ []) entries e follows.1 (ap next (append_assoc replies (o.reply ∷ []) (map reply_in entries)) ∙ asks))
+
+-- ---- how many asks are left
+
+abbrev asks_left : ℕ → Progress → ℕ
+asks_left hops (Reserving offers reach) = hops + hops - length offers
+asks_left hops (Undoing left deny) = left
+asks_left hops (Relaxing left levels) = left
+asks_left hops (Settled outcome) = 0
+
+abbrev pub setup_left : Setup → ℕ
+setup_left setup = asks_left (length setup.request.route) (progress_in setup)
+
+left-undoing : (hops left : ℕ) (deny : Denial) → asks_left hops (undoing left deny) ≡ left
+left-undoing hops zero deny = refl
+left-undoing hops (suc left) deny = refl
+
+left-relaxing : (hops left : ℕ) (route : List Hop) (levels : List ℕ) → asks_left hops (relaxing route left levels) ≡ left
+left-relaxing hops zero route levels = refl
+left-relaxing hops (suc left) route levels = refl
+
+left-tested : (request : Request) (offers : List ℕ) (denial : Option EndDenial) → asks_left (length request.route) (behind_test request offers 0 denial) ≤ length request.route
+left-tested request offers (Some denial) = (let is = left-undoing (length request.route) (length request.route - 0) (End denial) in omega (arith, is))
+left-tested request offers None = (let is = left-relaxing (length request.route) (length request.route - 0) request.route (allotted request.route offers request.delay (jitter_of request.control)) in omega (arith, is))
+
+left-offered : (request : Request) (offers : List ℕ) (level reach : ℕ) → length offers < length request.route → asks_left (length request.route) (with_offers request (offers ++ level ∷ []) reach) < length request.route + length request.route - length offers
+left-offered request offers level reach few =
+    let more = length_push offers level in
+    let tested = left-tested request (offers ++ level ∷ []) (denial_of request.route (offers ++ level ∷ []) request.delay (jitter_of request.control)) in
+    cond_both (nat_lt (length (offers ++ level ∷ [])) (length request.route)) (Reserving (offers ++ level ∷ []) reach) (at_destination request (offers ++ level ∷ []) 0) (λ p. asks_left (length request.route) p < length request.route + length request.route - length offers)
+    (λ on. omega (arith, more, few)) (λ off. omega (arith, tested, few))
+
+left-refused : (request : Request) (offers : List ℕ) (deny : Denial) → length offers < length request.route → asks_left (length request.route) (undoing (length offers) deny) < length request.route + length request.route - length offers
+left-refused request offers deny few = (let is = left-undoing (length request.route) (length offers) deny in omega (arith, is, few))
+
+left-reserved : (request : Request) (offers : List ℕ) (reply : Reply) → length offers < length request.route → asks_left (length request.route) (after_reserve request offers reply) < length request.route + length request.route - length offers
+left-reserved request offers (Is.Offer level reach) few = left-offered request offers (level_number level) (next_bound request.route offers (level_number reach)) few
+left-reserved request offers (Is.Relaxed clock) few = left-refused request offers _ few
+left-reserved request offers Is.Denied few = left-refused request offers _ few
+left-reserved request offers (Is.Planned clock) few = left-refused request offers _ few
+left-reserved request offers (Is.Closing count cancelled) few = left-refused request offers _ few
+left-reserved request offers (Is.Taken clock eligible) few = left-refused request offers _ few
+left-reserved request offers (Is.Ticked clock full sent best_sent best_lost) few = left-refused request offers _ few
+left-reserved request offers (Is.Refused refusal) few = left-refused request offers _ few
+
+left-state : (request : Request) (offers : List ℕ) (reach : ℕ) (s : State) (reply : Reply) → IsStateOf request.route offers s → is_expected request (progress_at offers reach s) reply ≡ true → asks_left (length request.route) (advance request (progress_at offers reach s) reply) < asks_left (length request.route) (progress_at offers reach s)
+left-state request offers reach state.Reserving reply range expected = left-reserved request offers reply range
+left-state request offers reach (state.Undoing left deny) reply range expected = (let is = left-undoing (length request.route) (left - 1) deny in let least = range.0.least in omega (arith, is, least))
+left-state request offers reach (state.Relaxing left levels) reply range expected = (let is = left-relaxing (length request.route) (left - 1) request.route (levels_of levels) in let least = range.0.least in omega (arith, is, least))
+left-state request offers reach (state.Settled verdict) reply range expected = absurd (let clash : false ≡ true = expected in cc)
+
+pub setup-less : (setup : Setup) (reply : Reply) → is_expected setup.request (progress_in setup) reply ≡ true → asks_left (length setup.request.route) (advance setup.request (progress_in setup) reply) < setup_left setup
+setup-less setup reply expected = left-state setup.request setup.itinerary.levels setup.itinerary.reach setup.state reply setup.in_range expected
+
+-- ---- a setup under way
+
+pub record SettingUp (table : TableId) (owners : List ActorNo) (links : List Link) (request : Request) (pass pass' : Token) (setup : Setup) : Type 0 where
+  pub sound : IsSound links request
+  pub entries : List OwnEntry
+  pub own : pass'.own ≡ pass.own ++ entries
+  pub follows : Follows (next_ask request) [] entries
+  pub request_is : setup.request ≡ request
+  pub stands : Stands setup (map reply_in entries)
+  pub rows : SetupRows request pass'.own (map reply_in entries)
+  pub goes : GoesOn table owners links pass pass'
+  pub same : IsSamePass pass pass'
+  pub few : length entries + setup_left setup ≤ 32
+
+-- ---- at the beginning
+
+-- an entry that names another channel, or none, tells nothing
+off-hold : (c : ℕ) (hold : Hold) (ask : Ask) (reply : Reply) → IsOff c ask → hold_with c hold ask reply ≡ hold
+off-hold c hold (Reserve chan contract kind delay up_reach first next) reply off = ap (λ b. cond b (reserved hold (λ level reach. tentative chan contract kind first next up_reach level reach) reply) hold) (ne_eqb (channel_number chan) c off)
+off-hold c hold (Relax chan level up_bound) reply off = ap (λ b. cond b (relaxed hold (committed level up_bound) reply) hold) (ne_eqb (channel_number chan) c off)
+off-hold c hold (Deny chan) reply off = ap (λ b. cond b (denied hold reply) hold) (ne_eqb (channel_number chan) c off)
+off-hold c hold (Submit chan count gap size) reply off = refl
+off-hold c hold (Release chan upstream) reply off = ap (λ b. cond b Untold hold) (ne_eqb (channel_number chan) c off)
+off-hold c hold (Arrive packet) reply off = refl
+off-hold c hold Tick reply off = refl
+off-hold c hold (Pour count gap size) reply off = refl
+
+none-from : (c : ℕ) (hold : Hold) (own : List OwnEntry) → Each (λ (e : OwnEntry). IsOff c e.ask) own → hold_from c hold own ≡ hold
+unfolding hold_from
+none-from c hold [] off = refl
+none-from c hold (e ∷ own) off = ap (λ h. hold_from c h own) (off-hold c hold e.ask e.reply off.0) ∙ none-from c hold own off.1
+
+pub none-hold : (chan : ChanNo) (hop : Hop) (own : List OwnEntry) → HasNone chan own → hold_at chan hop own ≡ Free
+none-hold chan hop own none = none-from (channel_number chan) Free (own_at (link_of hop) own) (Each-filter (λ (e : OwnEntry). IsOff (channel_number chan) e.ask) (λ (e : OwnEntry). nat_eq (link_number e.link) (link_of hop)) own none)
+
+pub have-bounds : (links : List Link) (hops : List Hop) → Each (IsHopOf links) hops → HaveBounds hops
+unfolding HaveBounds
+have-bounds links [] are = tt
+have-bounds links (hop ∷ hops) are = (ap are_bounds are.0.bounds ∙ are.0.link.shape.bounds_rise, have-bounds links hops are.1)
+
+rows-first : (request : Request) (own : List OwnEntry) → 1 ≤ length request.route → HasNone request.chan own → SetupRows request own []
+unfolding offers_in behind_offers reach_after AreLevels
+rows-first request own some none = record {
+  hops = λ i hop found. subst (λ p. HopStands request [] p i (hold_at request.chan hop own)) (sym (progress-none request some)) (record { tent = λ less. absurd (omega (arith, less)); tail = λ from. none-hold request.chan hop own none });
+  levels = tt;
+  up = λ alone. refl;
+}
+
+pub setting-first : (table : TableId) (owners : List ActorNo) (links : List Link) (request : Request) (pass : Token) (setup : Setup) → IsContract request.contract → IsRoute request.route → Each (IsHopOf links) request.route → MayStep table owners links pass → HasNone request.chan pass.own → setup.request ≡ request → Stands setup [] → SettingUp table owners links request pass pass setup
+unfolding Follows
+setting-first table owners links request pass setup contract route hops may none request_is stands =
+    let at_first : progress_in setup ≡ Reserving [] 0 = stands ∙ ap (λ (r : Request). progress_of r []) request_is ∙ progress-none request route.least in
+    let left : setup_left setup ≡ length request.route + length request.route - 0 = (λ i. asks_left (length (request_is i).route) (at_first i)) in
+    let most = route.most in
+    record {
+      sound = record { contract = contract; bounds = have-bounds links request.route hops; route = route; hops = hops };
+      entries = [];
+      own = sym (append-nil pass.own);
+      follows = tt;
+      request_is = request_is;
+      stands = stands;
+      rows = rows-first request pass.own route.least none;
+      goes = record { may_step = may; among = refl };
+      same = record { actor = refl; table = refl; has_seat = may.has_seat };
+      few = omega (arith, left, most);
+    }
+
+-- ---- one step
+
+-- each ask of a setup names its channel
+owns-hop : (owners : List ActorNo) (a : ActorNo) (found : Option Hop) (own : Hop → Ask) (to : LinkNo) (ask : Ask) → ((hop : Hop) → OwnsAsk owners a (own hop)) → asked_of found own ≡ Some (to, ask) → OwnsAsk owners a ask
+owns-hop owners a None own to ask owns same = absurd (let clash : None ≡ Some (to, ask) = same in cc)
+owns-hop owners a (Some hop) own to ask owns same = subst (OwnsAsk owners a) (ap (λ pair. pair.1) (same_Some (hop.link, own hop) (to, ask) same)) (owns hop)
+
+owns-asked : (owners : List ActorNo) (a : ActorNo) (request : Request) (p : Progress) (to : LinkNo) (ask : Ask) → IsOwner owners a request.chan → asked request p ≡ Some (to, ask) → OwnsAsk owners a ask
+owns-asked owners a request (Reserving offers reach) to ask owner same = owns-hop owners a (slice_get request.route (length offers)) (λ hop. reserve_of request offers reach) to ask (λ hop. owner) same
+owns-asked owners a request (Undoing left deny) to ask owner same = owns-hop owners a (slice_get request.route (left - 1)) (λ hop. Deny request.chan) to ask (λ hop. owner) same
+owns-asked owners a request (Relaxing left levels) to ask owner same = owns-hop owners a (slice_get request.route (left - 1)) (λ hop. relax_of request levels left) to ask (λ hop. owner) same
+owns-asked owners a request (Settled outcome) to ask owner same = absurd (let clash : None ≡ Some (to, ask) = same in cc)
+
+-- and each reserve a next link of the network
+next-found : (links : List Link) (route : List Hop) (i : ℕ) (found : Option Hop) → Each (IsHopOf links) route → slice_get route i ≡ found → IsBelow (length links) (option_map link_in found)
+next-found links route i None hops is = tt
+next-found links route i (Some hop) hops is = (let at = Each-at (IsHopOf links) route i hop hops is in slice_get_within links (link_number hop.link) at.link at.is_link)
+
+next-hop : (links : ℕ) (found : Option Hop) (own : Hop → Ask) (to : LinkNo) (ask : Ask) → ((hop : Hop) → NextBelow links (own hop)) → asked_of found own ≡ Some (to, ask) → NextBelow links ask
+next-hop links None own to ask next same = absurd (let clash : None ≡ Some (to, ask) = same in cc)
+next-hop links (Some hop) own to ask next same = subst (NextBelow links) (ap (λ pair. pair.1) (same_Some (hop.link, own hop) (to, ask) same)) (next hop)
+
+next-asked : (links : List Link) (request : Request) (p : Progress) (to : LinkNo) (ask : Ask) → Each (IsHopOf links) request.route → asked request p ≡ Some (to, ask) → NextBelow (length links) ask
+next-asked links request (Reserving offers reach) to ask hops same =
+    next-hop (length links) (slice_get request.route (length offers)) (λ hop. reserve_of request offers reach) to ask (λ hop. next-found links request.route (suc (length offers)) (slice_get request.route (suc (length offers))) hops refl) same
+next-asked links request (Undoing left deny) to ask hops same = next-hop (length links) (slice_get request.route (left - 1)) (λ hop. Deny request.chan) to ask (λ hop. tt) same
+next-asked links request (Relaxing left levels) to ask hops same = next-hop (length links) (slice_get request.route (left - 1)) (λ hop. relax_of request levels left) to ask (λ hop. tt) same
+next-asked links request (Settled outcome) to ask hops same = absurd (let clash : None ≡ Some (to, ask) = same in cc)
+
+module _ (table : TableId) (owners : List ActorNo) (links : List Link) (request : Request) (pass0 pass : Token) (setup : Setup) (so : SettingUp table owners links request pass0 pass setup) (to : LinkNo) (ask : Ask) (asks : next_ask request (map reply_in so.entries) ≡ Some (to, ask)) where
+  hop-asked : AsksHop request to ask
+  hop-asked = ask-fits request (map reply_in so.entries) to ask so.sound.contract so.sound.bounds so.rows.levels asks
+
+  hop-of : IsHopOf links hop-asked.hop
+  hop-of = Each-at (IsHopOf links) request.route hop-asked.index hop-asked.hop so.sound.hops hop-asked.stands
+
+  at-link : IsLink links (link_number to) hop-of.link
+  at-link = subst (λ (l : LinkNo). IsLink links (link_number l) hop-of.link) (sym hop-asked.is_asked) hop-of.is_link
+
+  pub to-below : link_number to < length links
+  to-below = slice_get_within links (link_number to) hop-of.link at-link
+
+  pub fits-there : FitsAt links (link_number to) ask
+  fits-there link is = hop-asked.fits link.shape (ap (λ (x : Link). x.shape.bounds) (same_Some link hop-of.link (sym is ∙ at-link)) ∙ sym hop-of.bounds)
+
+  pub owned-there : IsOwner owners pass0.actor request.chan → OwnsAsk owners pass.actor ask
+  owned-there owner = owns-asked owners pass.actor request (progress_of request (map reply_in so.entries)) to ask (subst (λ (a : ActorNo). IsOwner owners a request.chan) (sym so.same.actor) owner) asks
+
+  pub next-there : NextBelow (length links) ask
+  next-there = next-asked links request (progress_of request (map reply_in so.entries)) to ask so.sound.hops asks
+
+  module _ (pass' : Token) (reply : Reply) (splits : Each SplitFits links) (owner : IsOwner owners pass0.actor request.chan) (steps : Steps links (link_number to) ask pass pass' reply) (goes : GoesOn table owners links pass pass') (same : IsSamePass pass pass') where
+    abbrev e : OwnEntry
+    e = steps.entry
+
+    asks-entry : next_ask request (map reply_in so.entries) ≡ Some (e.link, e.ask)
+    asks-entry = asks ∙ (λ i. Some (same-link to e.link (sym steps.acted.link_is) i, sym steps.acted.ask_is i))
+
+    goes-one : SetupGoes request pass.own (map reply_in so.entries) e
+    goes-one =
+        setup-goes links request pass.own (map reply_in so.entries) e steps.link so.sound (subst (λ l. IsLink links l steps.link) (sym steps.acted.link_is) steps.is_link)
+        (subst (λ l. AnswersOf steps.link request.chan (hold_of (channel_number request.chan) (own_at l pass.own)) e.ask e.reply) (sym steps.acted.link_is)
+        (answers table owners links (link_number to) ask pass pass' reply splits so.goes.may_step steps (goes.may_step.knows (link_number to) steps.link steps.is_link).order request.chan (subst (λ (a : ActorNo). IsOwner owners a request.chan) (sym so.same.actor) owner)))
+        so.rows asks-entry
+
+    pub expected-there : is_expected setup.request (progress_in setup) reply ≡ true
+    expected-there = (λ i. is_expected (so.request_is i) (so.stands i) reply) ∙ (λ i. is_expected request (progress_of (so.request_is i) (map reply_in so.entries)) (sym steps.reply_is i)) ∙ goes-one.expected
+
+    module _ (setup' : Setup) (request_is : setup'.request ≡ setup.request) (stands : Stands setup' (map reply_in so.entries ++ reply ∷ [])) where
+      pub left-less : setup_left setup' < setup_left setup
+      left-less =
+          let goes_to : progress_in setup' ≡ advance setup.request (progress_in setup) reply =
+          stands ∙ ap (λ (r : Request). progress_of r (map reply_in so.entries ++ reply ∷ [])) request_is
+          ∙ progress-advances setup.request (map reply_in so.entries) reply (ap (λ p. is_expected setup.request p reply) (sym so.stands) ∙ expected-there) ∙ ap (λ p. advance setup.request p reply) (sym so.stands) in
+          let less = setup-less setup reply expected-there in
+          let now : setup_left setup' ≡ asks_left (length setup.request.route) (advance setup.request (progress_in setup) reply) = (λ i. asks_left (length (request_is i).route) (goes_to i)) in
+          omega (arith, less, now)
+
+      pub setting-next : SettingUp table owners links request pass0 pass' setup'
+      setting-next =
+          let told : map reply_in (so.entries ++ e ∷ []) ≡ map reply_in so.entries ++ reply ∷ [] = map-append reply_in so.entries (e ∷ []) ∙ ap (λ r. map reply_in so.entries ++ r ∷ []) steps.reply_is in
+          let less = left-less in
+          let few = so.few in
+          let more = length_push so.entries e in
+          record {
+            sound = so.sound;
+            entries = so.entries ++ e ∷ [];
+            own = steps.own ∙ ap (λ es. es ++ e ∷ []) so.own ∙ append_assoc pass0.own so.entries (e ∷ []);
+            follows = follows-more (next_ask request) [] so.entries e so.follows asks-entry;
+            request_is = request_is ∙ so.request_is;
+            stands = stands ∙ ap (progress_of setup'.request) (sym told);
+            rows = subst (λ (x : List OwnEntry × List Reply). SetupRows request x.0 x.1) (λ i. (sym steps.own i, (ap (λ r. map reply_in so.entries ++ r ∷ []) steps.reply_is ∙ sym told) i)) goes-one.rows;
+            goes = record { may_step = goes.may_step; among = goes.among ∙ so.goes.among };
+            same = record { actor = same.actor ∙ so.same.actor; table = same.table ∙ so.same.table; has_seat = same.has_seat };
+            few = omega (arith, few, more, less);
+          }
+
+-- ---- at the end
+
+settled-is : (p : Progress) (outcome : Outcome) → Some outcome ≡ settled_in p → p ≡ Settled outcome
+settled-is (Reserving offers reach) outcome is = absurd (let clash : Some outcome ≡ None = is in cc)
+settled-is (Undoing left deny) outcome is = absurd (let clash : Some outcome ≡ None = is in cc)
+settled-is (Relaxing left levels) outcome is = absurd (let clash : Some outcome ≡ None = is in cc)
+settled-is (Settled own) outcome is = ap Settled (same_Some own outcome (sym is))
+
+-- an accepted channel is established
+pub setup-established : (table : TableId) (owners : List ActorNo) (links : List Link) (request : Request) (pass0 pass : Token) (setup : Setup) (outcome : Outcome) → SettingUp table owners links request pass0 pass setup → Some outcome ≡ settled_in (progress_in setup) → is_accepted outcome ≡ true → IsEstablished request pass.own
+setup-established table owners links request pass0 pass setup (Denies deny) so is accepted = absurd (let clash : false ≡ true = accepted in cc)
+setup-established table owners links request pass0 pass setup (Accepts levels delay) so is accepted = λ i hop found.
+    (let at_end : progress_of request (map reply_in so.entries) ≡ Settled (Accepts levels delay) = ap (λ (r : Request). progress_of r (map reply_in so.entries)) (sym so.request_is) ∙ sym so.stands ∙ settled-is (progress_in setup) (Accepts levels delay) is in
+    let stands = subst (λ p. HopStands request (offers_in (map reply_in so.entries)) p i (hold_at request.chan hop pass.own)) at_end (so.rows.hops i hop found) in
+    let comm : IsComm request levels i (hold_at request.chan hop pass.own) = stands.tail (omega arith) in
+    record { terms = comm.terms; is = comm.is; phase = comm.phase; first_is = comm.first })
+
+-- an answer that is Ok is no Err
+pub ok-no-err : {T E : Type 0} (r : Result T E) → IsOk r → true ≡ is_err r → ⊥
+ok-no-err (Ok x) ok err = absurd (let clash : true ≡ false = err in cc)
+ok-no-err (Err x) ok err = absurd (let clash : false ≡ true = ok in cc)
+
+pub on-ok : {T E P : Type 0} (r : Result T E) → IsOk r → OnOk r P → P
+on-ok (Ok x) ok p = p
+on-ok (Err x) ok p = absurd (let clash : false ≡ true = ok in cc)

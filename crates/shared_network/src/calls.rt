@@ -1,0 +1,59 @@
+//! Setups and teardowns over a network.
+ghost use Rattle.std.specs.Prelude.{◌≡◌, ℕ, ◌^◌, ◌<◌, ◌-◌, length, IfOk, OnOk, OnErr, true};
+ghost use Rattle.net_units.specs.Numbers.{channel_number};
+ghost use Rattle.link_steps.specs.Lists.{Each};
+ghost use Rattle.setup_protocol.specs.Laws.{is_accepted};
+ghost use Rattle.setup_protocol.specs.State.{outcome_of};
+ghost use Rattle.link_ledger.specs.Owners.{IsOwner};
+ghost use Rattle.shared_network.specs.Added.{IsSamePass, IsLost};
+ghost use Rattle.shared_network.specs.Calls.{HasNone, IsHopOf, IsEstablished, SetsUp, TearsDown};
+ghost use Rattle.shared_network.specs.Ready.{MayStep, GoesOn};
+
+use crate::network::Network;
+use link_ledger::{Home, Pass, StepFault};
+use link_steps::LinkStep;
+use net_units::Gate;
+use setup_protocol::{Request, Setup, Teardown, Verdict};
+use std::sync::Wait;
+
+impl<L: LinkStep + Send, H: Home> Network<L, H> {
+    /// Sets a channel up over its route, from its first reserve to its verdict, which is that of the replies that the pass then
+    /// holds. Each hop of the route is over a link of the network, with its bounds and its propagation (`hops`), the pass's
+    /// actor owns the channel, and the pass has no entry of it (`new`). An accepted channel is then established. It may wait
+    /// for each link.
+    ///
+    /// The pass has its seat, isn't spent (`pass`) and has drawn fewer than 2^40 - 64 stamps. After want of memory it is
+    /// spent, the steps made so far stand in the journals, and nothing further is claimed of the channel.
+    pub fn setup<W: Wait, G: Gate>(
+        &self,
+        rt: &W,
+        pass: &mut Pass,
+        gate: &G,
+        request: &Request,
+    ) -> Result<Verdict, StepFault>
+        requires pass { MayStep H.table H.owners H.links pass.old }
+        requires few { length pass.old.view.drawn < 2 ^ 40 - 64 }
+        requires owned { IsOwner H.owners pass.old.actor request.now.chan }
+        requires new { HasNone request.now.chan pass.old.own }
+        requires hops { Each (IsHopOf H.links) request.now.route }
+        ensures made { IfOk result (λ verdict. SetsUp request.now pass.old pass.new (outcome_of verdict)) }
+        ensures established { IfOk result (λ verdict. is_accepted (outcome_of verdict) ≡ true → IsEstablished request.now pass.new.own) }
+        ensures ready { OnOk result (GoesOn H.table H.owners H.links pass.old pass.new) }
+        ensures lost { OnErr result (IsLost pass.new) }
+        ensures same { IsSamePass pass.old pass.new }
+    {
+        // Read for what they say of every contract and route.
+        let _valid = (request.contract.smax(), request.route.len());
+        let mut setup = Setup::new(request);
+        while let Some((link, ask)) = setup.next_ask() {
+            let reply = self.step_at(rt, pass, gate, link, &ask)?;
+            if setup.take(reply).is_err() {
+                unreachable!()
+            }
+        }
+        match setup.verdict() {
+            Some(verdict) => Ok(verdict),
+            None => unreachable!(),
+        }
+    }
+}
