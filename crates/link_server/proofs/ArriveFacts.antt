@@ -29,7 +29,7 @@ use Rattle.link_server.specs.Rows.{terms_in, row_in, is_row_of, IsAbsent, IsPlac
 use Rattle.link_server.specs.Sound.{IsSound}
 use Rattle.link_server.specs.Strays.{first_rule, stray_rules, stray}
 use Rattle.link_server.specs.declared.served_row.ServedRow.{ServedRow}
-use Rattle.link_server.specs.declared.packets.HeldPacket.{HeldPacket}
+use Rattle.link_server.specs.declared.held_packet.HeldPacket.{HeldPacket}
 use Rattle.link_server.specs.declared.packets.Packets.{Packets}
 use Rattle.link_server.proofs.PlaceFacts.{kept-found, kept-absent, kept-changed}
 use Rattle.link_server.proofs.SoundNumbers.{rows-upto}

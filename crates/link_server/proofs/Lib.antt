@@ -31,3 +31,4 @@ pub mod SoundTick
 pub mod SoundNumbers
 pub mod SoundServes
 pub mod QuietFacts
+pub mod LaterFacts

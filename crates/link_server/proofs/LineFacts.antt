@@ -7,7 +7,7 @@ use Rattle.link_steps.specs.Kept.{is_eligible_by}
 use Rattle.link_steps.specs.Service.{Arrival, first_in_line, sooner}
 use Rattle.link_steps.specs.Buffer.{has_lead, held_packets}
 use Rattle.link_steps.proofs.ListFacts.{Each-from, filter-map}
-use Rattle.link_server.specs.declared.packets.HeldPacket.{HeldPacket}
+use Rattle.link_server.specs.declared.held_packet.HeldPacket.{HeldPacket}
 use Rattle.link_server.specs.Packets.{arrival_in, here_in}
 
 -- the packets that pass a test of the account

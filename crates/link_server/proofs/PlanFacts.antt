@@ -32,7 +32,7 @@ for-none t u gap size zero later = refl
 for-none t u gap size (suc count) later = rw (ne_eqb u t (λ same. omega (arith, later, same))) (for-none t (u + gap) gap size count (omega (arith, later)))
 
 -- packets ahead of the clock, of which the first isn't for its tick, have none for it, and all are left behind it
-none-due : (t u gap size count : ℕ) → Each (IsFrom t) (planned_from u gap size count) → (u ≡ t → ⊥) → find (is_for t) (planned_from u gap size count) ≡ None
+pub none-due : (t u gap size count : ℕ) → Each (IsFrom t) (planned_from u gap size count) → (u ≡ t → ⊥) → find (is_for t) (planned_from u gap size count) ≡ None
 unfolding planned_from
 none-due t u gap size zero ahead other = refl
 none-due t u gap size (suc count) ahead other = for-none t u gap size (suc count) (omega (arith, ahead.0, other))
@@ -49,6 +49,11 @@ pub none-due-left : (t u gap size count : ℕ) → Each (IsFrom t) (planned_from
 none-due-left t u gap size count ahead other = sym (all-behind t u gap size count ahead other)
 
 -- no packets have none for a tick
+pub empty-due : (t u gap size count : ℕ) → count ≡ 0 → find (is_for t) (planned_from u gap size count) ≡ None
+unfolding planned_from
+empty-due t u gap size zero none = refl
+empty-due t u gap size (suc count) none = absurd (omega (arith, none))
+
 pub empty-due-size : (t u gap size count : ℕ) → count ≡ 0 → None ≡ size_of (find (is_for t) (planned_from u gap size count))
 unfolding planned_from
 empty-due-size t u gap size zero none = refl

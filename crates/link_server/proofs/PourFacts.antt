@@ -1,5 +1,5 @@
 -- The answers to a pour, case by case, and the best-effort packet of a tick.
-use Rattle.std.proofs.Common.{◌≡◌, ℕ, suc, ◌<◌, ◌≤◌, true, false, List, length, Option, Some, None, refl, sym, ap, ◌∙◌, subst}
+use Rattle.std.proofs.Common.{◌≡◌, ℕ, suc, ◌<◌, ◌≤◌, Bool, true, false, List, length, Option, Some, None, refl, sym, ap, ◌∙◌, subst}
 use Rattle.std.proofs.lemmas.Bool.{lt-leb, le-leb}
 use Rattle.std.specs.Prelude.{find, filter, nat_lt}
 use Rattle.std.specs.Coded.{le_prop}
@@ -52,37 +52,38 @@ unfolding kept_after
 pour-kept shape t packets rows count gap size clock left =
     ap (with_plan (account t packets rows)) (behind-none (left_in packets.best) (planned_from t gap size count) (left-counted packets ∙ none-left packets.best.count left))
 
--- ---- the step of the best-effort plan
+-- ---- the step of the best-effort plan, where its packet fits or not
 
-pub best-rests : (waiting most t : ℕ) (plan : List SourcePacket) → None ≡ size_of (find (is_for t) plan) → best_step waiting most t plan ≡ Rests
-unfolding best_step
-best-rests waiting most t plan none = by-found (find (is_for t) plan) none where
-  by-found : (found : Option SourcePacket) → None ≡ size_of found → source_step (nat_lt waiting most) found ≡ Rests
-  by-found None same = refl
-  by-found (Some p) same = cc
+pub best-rests : (fits : Bool) (found : Option SourcePacket) → None ≡ size_of found → source_step fits found ≡ Rests
+best-rests fits None none = refl
+best-rests fits (Some p) none = cc
 
-pub best-loses : (waiting most t size : ℕ) (plan : List SourcePacket) → Some size ≡ size_of (find (is_for t) plan) → nat_lt waiting most ≡ false → best_step waiting most t plan ≡ Loses
-unfolding best_step
-best-loses waiting most t size plan some full = rw full (by-found (find (is_for t) plan) some) where
-  by-found : (found : Option SourcePacket) → Some size ≡ size_of found → source_step false found ≡ Loses
-  by-found None same = cc
-  by-found (Some p) same = refl
+pub best-loses : (fits : Bool) (found : Option SourcePacket) (size : ℕ) → Some size ≡ size_of found → fits ≡ false → source_step fits found ≡ Loses
+best-loses fits None size some full = cc
+best-loses fits (Some p) size some full = rw full refl
 
-pub best-brings : (waiting most t size : ℕ) (plan : List SourcePacket) → Some size ≡ size_of (find (is_for t) plan) → nat_lt waiting most ≡ true → best_step waiting most t plan ≡ Brings size
+pub best-brings : (fits : Bool) (found : Option SourcePacket) (size : ℕ) → Some size ≡ size_of found → fits ≡ true → source_step fits found ≡ Brings size
+best-brings fits None size some free = cc
+best-brings fits (Some p) size some free = rw free (let e : size ≡ p.size = cc in ap Brings (sym e))
+
+-- where none is planned it doesn't matter how many wait
+pub best-none : (waiting most t : ℕ) (plan : List SourcePacket) → find (is_for t) plan ≡ None → source_step false (find (is_for t) plan) ≡ best_step waiting most t plan
 unfolding best_step
-best-brings waiting most t size plan some free = rw free (by-found (find (is_for t) plan) some) where
-  by-found : (found : Option SourcePacket) → Some size ≡ size_of found → source_step true found ≡ Brings size
-  by-found None same = cc
-  by-found (Some p) same = (let e : size ≡ p.size = cc in ap Brings (sym e))
+best-none waiting most t plan none = rw none refl
+
+-- else it fits where fewer wait than may
+pub best-some : (fits : Bool) (waiting most t : ℕ) (plan : List SourcePacket) → fits ≡ nat_lt waiting most → source_step fits (find (is_for t) plan) ≡ best_step waiting most t plan
+unfolding best_step
+best-some fits waiting most t plan same = ap (λ b. source_step b (find (is_for t) plan)) same
 
 -- the step that the code finds is that of the account
-pub best-step-is : (shape : LinkShape) (k : Kept) (waiting : ℕ) (plan : List SourcePacket) → waiting ≡ length (filter (waits_here shape.bounds k.on) k.here) → plan ≡ k.best_left → best_step waiting shape.best k.clock plan ≡ kept_best shape k
+pub best-step-is : (shape : LinkShape) (k : Kept) (fits : Bool) (plan : List SourcePacket) → source_step fits (find (is_for k.clock) k.best_left) ≡ best_step (length (filter (waits_here shape.bounds k.on) k.here)) shape.best k.clock k.best_left → plan ≡ k.best_left → source_step fits (find (is_for k.clock) plan) ≡ kept_best shape k
 unfolding kept_best kept_waiting
-best-step-is shape k waiting plan counted left = ap (λ n. best_step n shape.best k.clock plan) counted ∙ ap (best_step (length (filter (waits_here shape.bounds k.on) k.here)) shape.best k.clock) left
+best-step-is shape k fits plan step left = ap (λ p. source_step fits (find (is_for k.clock) p)) left ∙ step
 
-pub waiting-is : (shape : LinkShape) (k : Kept) (waiting : ℕ) → waiting ≡ length (filter (waits_here shape.bounds k.on) k.here) → waiting ≡ kept_waiting shape k
+pub waiting-is : (shape : LinkShape) (k : Kept) → length (filter (waits_here shape.bounds k.on) k.here) ≡ kept_waiting shape k
 unfolding kept_waiting
-waiting-is shape k waiting counted = counted
+waiting-is shape k = refl
 
 -- ---- the channel that a best-effort packet names
 

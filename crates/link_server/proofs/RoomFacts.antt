@@ -8,7 +8,7 @@ use Rattle.link_server.specs.Packets.{arrival_in, here_in}
 use Rattle.link_server.specs.Rows.{terms_in, row_in}
 use Rattle.link_server.specs.Sound.{all_places_of, most_places}
 use Rattle.link_server.specs.declared.served_row.ServedRow.{ServedRow}
-use Rattle.link_server.specs.declared.packets.HeldPacket.{HeldPacket}
+use Rattle.link_server.specs.declared.held_packet.HeldPacket.{HeldPacket}
 
 -- one row more has its places
 pub places-more : (bounds : List ℕ) (rows : List ServedRow) (i : ℕ) (d : ServedRow) → i < length rows

@@ -11,8 +11,8 @@ use Rattle.link_steps.specs.Replies.{sent_of}
 use Rattle.link_steps.specs.Service.{Arrival, Start, leaves_at, first_in_line}
 use Rattle.link_steps.proofs.ServiceFacts.{first_in_line-fact}
 use Rattle.traffic_contract.proofs.LoadFacts.{ceil_quotient-some}
-use Rattle.link_server.specs.declared.packets.HeldPacket.{HeldPacket}
-use Rattle.link_server.specs.declared.packets.Running.{Running}
+use Rattle.link_server.specs.declared.held_packet.HeldPacket.{HeldPacket}
+use Rattle.link_server.specs.declared.held_packet.Running.{Running}
 use Rattle.link_server.specs.Packets.{here_in, on_in, start_in}
 use Rattle.link_server.specs.Serving.{GoesOn, CanServe}
 

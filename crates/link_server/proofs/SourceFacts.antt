@@ -12,7 +12,7 @@ use Rattle.link_server.specs.Planned.{size_of}
 use Rattle.link_server.specs.Packets.{arrival_in, here_in}
 use Rattle.link_server.specs.Rows.{terms_in, row_in}
 use Rattle.link_server.specs.declared.served_row.ServedRow.{ServedRow}
-use Rattle.link_server.specs.declared.packets.HeldPacket.{HeldPacket}
+use Rattle.link_server.specs.declared.held_packet.HeldPacket.{HeldPacket}
 
 rests-where-none : (slot : Bool) (planned : Option SourcePacket) → None ≡ size_of planned → source_step slot planned ≡ Rests
 rests-where-none true None none = refl

@@ -11,7 +11,7 @@ use Rattle.link_server.specs.Rows.{terms_in, row_in}
 use Rattle.link_server.specs.Sources.{step_in, brought_by, rows_by, lost_by_rows, IsReady, AreReady}
 use Rattle.link_server.specs.Packets.{arrival_in, here_in}
 use Rattle.link_server.specs.declared.served_row.ServedRow.{ServedRow}
-use Rattle.link_server.specs.declared.packets.HeldPacket.{HeldPacket}
+use Rattle.link_server.specs.declared.held_packet.HeldPacket.{HeldPacket}
 use Rattle.link_server.proofs.SourceFacts.{packet-length, lost_by-most}
 
 -- the first i of the rows have made their step

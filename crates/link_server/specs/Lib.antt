@@ -13,3 +13,4 @@ pub mod Held
 pub mod Sound
 pub mod SoundProp
 pub mod Quiet
+pub mod Later

@@ -2,8 +2,8 @@
 -- arrival, and the one that occupies it.
 use Rattle.std.specs.Prelude.{Option, Some, None, List, map}
 use Rattle.link_steps.specs.Service.{Arrival, Start}
-use Rattle.link_server.specs.declared.packets.HeldPacket.{HeldPacket}
-use Rattle.link_server.specs.declared.packets.Running.{Running}
+use Rattle.link_server.specs.declared.held_packet.HeldPacket.{HeldPacket}
+use Rattle.link_server.specs.declared.held_packet.Running.{Running}
 
 -- a packet
 abbrev pub arrival_in : HeldPacket → Arrival

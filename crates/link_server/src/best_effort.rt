@@ -3,7 +3,7 @@ ghost use Rattle.std.specs.Prelude.{◌≡◌, ◌≤◌};
 ghost use Rattle.link_steps.specs.BestEffort.{best_arrival};
 ghost use Rattle.link_server.specs.Packets.{arrival_in};
 
-use crate::packets::HeldPacket;
+use crate::held_packet::HeldPacket;
 use net_units::{Bounds, ChanNo};
 
 // A best-effort packet of so many units, with this arrival number, that arrives in this tick.

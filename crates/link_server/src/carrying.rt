@@ -142,10 +142,10 @@ impl LinkState {
         let bounds = shape.bounds;
         let due = self.due;
         expire(&mut self.rows, &mut self.sums, &bounds, due, clock);
-        let waiting = self.packets.waiting(&bounds);
+        let fits = self.packets.best_fits(&shape, clock);
         let full = take_source_packets(&mut self.rows, &mut self.packets, &bounds, due, clock);
         self.due = due_after(&self.rows, &bounds, due, clock);
-        let best_lost = self.packets.take_best(waiting, &shape, clock);
+        let best_lost = self.packets.take_best(fits, &shape, clock);
         let left = self.packets.serve(&shape, clock);
         self.clock += 1;
         Reply::Ticked {

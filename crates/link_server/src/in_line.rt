@@ -7,8 +7,9 @@ ghost use Rattle.link_steps.specs.Buffer.{held_packets};
 ghost use Rattle.link_steps.specs.Kept.{is_eligible_by, is_other, waits_here};
 ghost use Rattle.link_steps.specs.Service.{goes_before, sooner, first_in_line};
 ghost use Rattle.link_server.specs.Packets.{arrival_in, start_in, here_in};
+ghost use Rattle.link_server.specs.Later.{AreLater};
 
-use crate::packets::{HeldPacket, Running};
+use crate::held_packet::{HeldPacket, Running};
 use net_units::Bounds;
 
 // How many of these packets are of the reservation whose first packet had this place.
@@ -52,6 +53,29 @@ pub(crate) fn first_in_line(packets: &[HeldPacket], tick: u64) -> Option<HeldPac
         }
     }
     first
+}
+
+// A tick before which none of these packets is eligible. None was before `from`: where that is behind this tick, it is
+// found anew.
+pub(crate) fn later_after(packets: &[HeldPacket], from: u64, tick: u64) -> u64
+    requires { AreLater from (here_in packets.now) }
+    ensures { AreLater result (here_in packets.now) }
+{
+    if tick < from {
+        return from;
+    }
+    first_eligible(packets)
+}
+
+// The first tick in which one of these packets is eligible.
+fn first_eligible(packets: &[HeldPacket]) -> u64
+    ensures { AreLater result (here_in packets.now) }
+{
+    let mut from = u64::MAX;
+    for packet in packets {
+        from = from.min(packet.eligible);
+    }
+    from
 }
 
 // This packet, or the other where there is one that goes before it.

@@ -9,6 +9,7 @@ mod best_effort;
 mod carrying;
 mod due;
 mod expiry;
+mod held_packet;
 mod held_row;
 mod in_line;
 mod link_state;

@@ -1,43 +1,16 @@
 //! The packets at a link: those that it has taken and that haven't departed, and the one that occupies it.
-ghost use Rattle.std.specs.Prelude.{◌≡◌, ◌+◌, ◌^◌, ◌<◌, ◌≤◌, ◌∷◌, ◌++◌, [], suc, nat_eq, filter, if◌then◌else◌, length, IsOk, OnOk};
+ghost use Rattle.std.specs.Prelude.{◌≡◌, ◌+◌, ◌^◌, ◌<◌, ◌≤◌, ◌∷◌, ◌++◌, [], suc, nat_eq, filter, find, length, IsTrue, IsOk, OnOk};
 ghost use Rattle.std.specs.Vec.{vec_capacity};
+ghost use Rattle.link_server.specs.Packets.{here_in};
+ghost use Rattle.link_server.specs.Later.{AreLater, AreLater-prop};
 
 use crate::best_effort::best_packet;
-use crate::in_line::{best_here, best_here_but, first_in_line, take_out};
+use crate::held_packet::{HeldPacket, Running};
+use crate::in_line::{best_here, best_here_but, first_in_line, later_after, take_out};
 use crate::planned::Planned;
-use link_steps::{LinkShape, Packet, Sent};
-use net_units::{Bounds, ChanNo, Level, LinkNo, OutOfMemory, ceil_div};
+use link_steps::{LinkShape, Sent};
+use net_units::{Bounds, OutOfMemory};
 use std::alloc::Global;
-
-// A packet that the link has taken.
-#[derive(Clone, Copy)]
-pub(crate) struct HeldPacket {
-    // Its arrival number, and that of the first packet of its reservation.
-    pub(crate) place: u64,
-    pub(crate) lead: u64,
-    pub(crate) chan: ChanNo,
-    // Its number among the packets of its reservation.
-    pub(crate) number: u64,
-    // In units.
-    pub(crate) size: u32,
-    // The ticks at which it arrived and is eligible.
-    pub(crate) at: u64,
-    pub(crate) eligible: u64,
-    // The number of its level, or one more than the last level's for a best-effort packet.
-    pub(crate) level: u8,
-    // The link behind this one, where there is one.
-    pub(crate) next: Option<LinkNo>,
-    ghost has_size: { 1 ≤ size },
-    ghost has_level: { 1 ≤ level },
-}
-
-// A packet that has started, and the tick at which it did.
-#[derive(Clone, Copy)]
-pub(crate) struct Running {
-    pub(crate) packet: HeldPacket,
-    pub(crate) tick: u64,
-    ghost early: { tick < 2 ^ 61 },
-}
 
 // The packets at a link.
 #[derive(Drop)]
@@ -46,10 +19,13 @@ pub(crate) struct Packets {
     pub(crate) taken: u64,
     // In the order of their arrival.
     pub(crate) here: Vec<HeldPacket>,
+    // None of these is eligible before this tick.
+    pub(crate) from: u64,
     // The one that occupies the link: it is one of those here.
     pub(crate) on: Option<Running>,
     // The best-effort packets that are planned and left.
     pub(crate) best: Planned,
+    ghost later: { AreLater from (here_in here.items) } by { AreLater-prop from (here_in here.items) },
 }
 
 // What leaves a link at the end of a tick: a packet of a channel, or a best-effort packet, if any.
@@ -59,63 +35,13 @@ pub(crate) struct Left {
     pub(crate) best_sent: bool,
 }
 
-impl Running {
-    ghost use Rattle.std.specs.Prelude.{None, Some};
-    ghost use Rattle.link_steps.specs.BestEffort.{is_best};
-    ghost use Rattle.link_steps.specs.Replies.{sent_of};
-    ghost use Rattle.link_steps.specs.Service.{leaves_at};
-    ghost use Rattle.link_server.specs.Packets.{start_in};
-
-    // The tick at which it departs, on a link of this rate.
-    fn leaves_at(&self, rate: u32) -> u64
-        requires { 1 ≤ rate }
-        ensures value { result ≡ leaves_at rate (start_in self.now) }
-        ensures small { result < 2 ^ 62 }
-    {
-        self.tick + ceil_div(u64::from(self.packet.size), u64::from(rate))
-    }
-
-    // Whether it is a best-effort packet.
-    fn is_best(&self, bounds: &Bounds) -> bool
-        ensures { result ≡ is_best bounds.now (start_in self.now).packet }
-    {
-        self.packet.level > bounds.len()
-    }
-
-    // The packet as it leaves the link, if it is one of a channel.
-    fn sent(&self, shape: &LinkShape) -> Option<Sent>
-        requires early { self.now.packet.eligible < 2 ^ 61 }
-        ensures { result ≡ (if is_best shape.now.bounds (start_in self.now).packet then None else Some (sent_of shape.now (start_in self.now))) }
-    {
-        if self.is_best(&shape.bounds) {
-            return None;
-        }
-        let packet = &self.packet;
-        let level = Level::new(packet.level)?;
-        let bound = u64::from(shape.bounds.at(level));
-        let prop = u64::from(shape.prop);
-        Some(Sent {
-            packet: Packet {
-                chan: packet.chan,
-                number: packet.number,
-                size: packet.size,
-                due: packet.eligible + bound + prop,
-            },
-            at: packet.at,
-            eligible: packet.eligible,
-            arrives: self.leaves_at(shape.rate) + prop,
-            next: packet.next,
-        })
-    }
-}
-
 impl Packets {
     ghost use Rattle.link_steps.specs.BestEffort.{best_packet, best_step};
     ghost use Rattle.link_steps.specs.Kept.{served, departs, best_departs, still_on, still_here, waits_here};
-    ghost use Rattle.link_steps.specs.Rows.{left_at};
-    ghost use Rattle.link_steps.specs.Sources.{taken_by, lost_by};
+    ghost use Rattle.link_steps.specs.Rows.{is_for, left_at};
+    ghost use Rattle.link_steps.specs.Sources.{source_step, taken_by, lost_by};
     ghost use Rattle.link_server.specs.Planned.{left_in, IsAhead};
-    ghost use Rattle.link_server.specs.Packets.{here_in, on_in};
+    ghost use Rattle.link_server.specs.Packets.{on_in};
     ghost use Rattle.link_server.specs.Serving.{CanServe};
 
     // No packet taken yet, and no room for one.
@@ -128,6 +54,7 @@ impl Packets {
         Packets {
             taken: 0,
             here: Vec::new(alloc),
+            from: u64::MAX,
             on: None,
             best: Planned::NONE,
         }
@@ -157,11 +84,13 @@ impl Packets {
         ensures best { self.new.best ≡ self.old.best }
         ensures capacity { vec_capacity self.new.here ≡ vec_capacity self.old.here }
     {
+        self.from = self.from.min(packet.eligible);
         self.here.push_reserved(packet);
         self.taken += 1;
     }
 
-    // The packet that occupies the link in this tick: the one that did, or else the first in line of those here.
+    // The packet that occupies the link in this tick: the one that did, or else the first in line of those here. Where
+    // none is eligible yet it looks at none.
     fn occupant(&self, tick: u64) -> Option<Running>
         requires { tick < 2 ^ 61 }
         ensures { on_in result ≡ served tick (here_in self.now.here.items) (on_in self.now.on) }
@@ -169,12 +98,27 @@ impl Packets {
         if self.on.is_some() {
             return self.on;
         }
+        if tick < self.from {
+            return None;
+        }
         let packet = first_in_line(&self.here, tick)?;
         Some(Running { packet, tick })
     }
 
+    // Whether the best-effort packet that is planned for this tick has a place. Where none is planned it looks at no packet.
+    pub(crate) fn best_fits(&self, shape: &LinkShape, clock: u64) -> bool
+        requires ahead { IsAhead clock self.now.best }
+        ensures step { source_step result (find (is_for clock) (left_in self.now.best)) ≡ best_step (length (filter (waits_here shape.now.bounds (on_in self.now.on)) (here_in self.now.here.items))) shape.now.best clock (left_in self.now.best) }
+        ensures fewer { IsTrue result → length (filter (waits_here shape.now.bounds (on_in self.now.on)) (here_in self.now.here.items)) < shape.now.best }
+    {
+        if !self.best.is_for(clock) {
+            return false;
+        }
+        (self.waiting(&shape.bounds) as u64) < u64::from(shape.best)
+    }
+
     // How many best-effort packets are here and haven't started.
-    pub(crate) fn waiting(&self, bounds: &Bounds) -> usize
+    fn waiting(&self, bounds: &Bounds) -> usize
         ensures { result ≡ length (filter (waits_here bounds.now (on_in self.now.on)) (here_in self.now.here.items)) }
     {
         match &self.on {
@@ -183,15 +127,15 @@ impl Packets {
         }
     }
 
-    // Takes the best-effort packet that is planned for this tick, if there is one, where so many wait already. It answers
-    // whether that one found no place, and so was lost. It takes no memory.
-    pub(crate) fn take_best(&mut self, waiting: usize, shape: &LinkShape, clock: u64) -> bool
+    // Takes the best-effort packet that is planned for this tick, if there is one and it `fits`. It answers whether it
+    // found no place, and so was lost. It takes no memory.
+    pub(crate) fn take_best(&mut self, fits: bool, shape: &LinkShape, clock: u64) -> bool
         requires ahead { IsAhead clock self.old.best }
-        requires room { waiting < shape.now.best → length self.old.here.items < vec_capacity self.old.here }
+        requires room { IsTrue fits → length self.old.here.items < vec_capacity self.old.here }
         requires countable { self.old.taken + 1 < 2 ^ 64 }
-        ensures lost { result ≡ nat_eq (lost_by (best_step waiting shape.now.best clock (left_in self.old.best))) 1 }
-        ensures here { here_in self.new.here.items ≡ here_in self.old.here.items ++ best_packet (best_step waiting shape.now.best clock (left_in self.old.best)) shape.now.bounds (suc self.old.taken) clock }
-        ensures taken { self.new.taken ≡ self.old.taken + taken_by (best_step waiting shape.now.best clock (left_in self.old.best)) }
+        ensures lost { result ≡ nat_eq (lost_by (source_step fits (find (is_for clock) (left_in self.old.best)))) 1 }
+        ensures here { here_in self.new.here.items ≡ here_in self.old.here.items ++ best_packet (source_step fits (find (is_for clock) (left_in self.old.best))) shape.now.bounds (suc self.old.taken) clock }
+        ensures taken { self.new.taken ≡ self.old.taken + taken_by (source_step fits (find (is_for clock) (left_in self.old.best))) }
         ensures best { left_in self.new.best ≡ left_at (clock + 1) (left_in self.old.best) }
         ensures on { self.new.on ≡ self.old.on }
         ensures capacity { vec_capacity self.new.here ≡ vec_capacity self.old.here }
@@ -199,7 +143,7 @@ impl Packets {
         let Some(size) = self.best.take_at(clock) else {
             return false;
         };
-        if waiting as u64 >= u64::from(shape.best) {
+        if !fits {
             return true;
         }
         let place = self.taken + 1;
@@ -223,6 +167,7 @@ impl Packets {
         let occupant = self.occupant(clock);
         self.on = occupant;
         let Some(running) = occupant else {
+            self.from = later_after(&self.here, self.from, clock);
             return Left {
                 sent: None,
                 best_sent: false,

@@ -1,5 +1,5 @@
 //! The packets that are planned and left: those of a row's source, or best-effort packets.
-ghost use Rattle.std.specs.Prelude.{◌≡◌, ◌+◌, ◌*◌, ◌^◌, ◌<◌, ◌≤◌, find, IfSome};
+ghost use Rattle.std.specs.Prelude.{◌≡◌, ◌+◌, ◌*◌, ◌^◌, ◌<◌, ◌≤◌, false, None, find, IfSome};
 
 // The first at `tick`, and then one each `gap` ticks, `count` in all, each of `size` units.
 #[derive(Clone, Copy)]
@@ -31,6 +31,14 @@ impl Planned {
         ensures { Each (IsFrom result) (left_in self.now) }
     {
         if self.count == 0 { u64::MAX } else { self.tick }
+    }
+
+    // Whether one is planned for this tick.
+    pub(crate) fn is_for(&self, clock: u64) -> bool
+        requires ahead { IsAhead clock self.now }
+        ensures { result ≡ false → find (is_for clock) (left_in self.now) ≡ None }
+    {
+        self.count > 0 && self.tick == clock
     }
 
     // The size of the packet that is planned for this tick, if there is one. Then it is no longer left.

@@ -6,8 +6,8 @@ ghost use Rattle.link_steps.specs.Buffer.{units_for};
 ghost use Rattle.link_steps.specs.Refusals.{busy};
 ghost use Rattle.link_steps.specs.Sources.{lead_with};
 
+use crate::held_packet::HeldPacket;
 use crate::in_line::held;
-use crate::packets::HeldPacket;
 use crate::planned::Planned;
 use link_steps::{Packet, Phase, Refusal, Why};
 use net_units::{Bounds, ChanNo, Kind, Level, LinkNo, OutOfMemory};

@@ -113,10 +113,10 @@ kept c place =
     (c.take-taken.ensures.packet ∙ ap (λ row. arrival_at (terms_in row) row.lead (c.args.self.now.packets.taken + 1) (suc row.taken) c.args.packet.now.size c.args.self.now.clock (eligible_next (terms_in row) (row_in row).recent c.args.self.now.clock c.args.packet.now.due)) c.index_mut.ensures.value)
     c.push.ensures.taken c.push.ensures.here c.push.ensures.on c.push.ensures.best
 
-pub invariant_of-self-2 : goal.invariant_of-self-2
-invariant_of-self-2 c =
-    let place = placed (goal.at.invariant_of-self-2 c).In-Some in
-    let after = sound (goal.at.invariant_of-self-2 c).After-take-taken place in
+pub invariant_of-self-3 : goal.invariant_of-self-3
+invariant_of-self-3 c =
+    let place = placed (goal.at.invariant_of-self-3 c).In-Some in
+    let after = sound (goal.at.invariant_of-self-3 c).After-take-taken place in
     let same = c.take-taken.ensures.row ∙ ap (λ row. kept_with (c.args.self.now.packets.taken + 1) (eligible_next (terms_in row) (row_in row).recent c.args.self.now.clock c.args.packet.now.due) (row_in row)) c.index_mut.ensures.value in
     let roomy = c.args.self.now.roomy in
     record {
@@ -130,12 +130,12 @@ invariant_of-self-2 c =
           All-set (IsWithin _) c.args.self.now.rows.items c.in-Some.place c.take-taken.new.self
           (within-same _ c.take-taken.new.self (get_or c.args.self.now.rows.items c.in-Some.place c.index_mut.result.now) (ap (λ row. row.terms) same) (c.args.self.now.within c.in-Some.place c.index_mut.result.now place.inside))
           c.args.self.now.within;
-      sound = subst (IsSound c.args.self.now.shape c.args.self.now.room) (sym (kept (goal.at.invariant_of-self-2 c).After-push place)) after;
+      sound = subst (IsSound c.args.self.now.shape c.args.self.now.room) (sym (kept (goal.at.invariant_of-self-3 c).After-push place)) after;
       quiet =
           quiet-changed c.args.self.now.shape.bounds c.args.self.now.due c.row_due.result c.min-self.result c.args.self.now.rows.items c.in-Some.place c.take-taken.new.self c.index-3.result.now c.args.self.now.quiet place.inside c.index-3.ensures c.row_due.ensures
           (omega (arith, c.min-self.ensures)) (omega (arith, c.min-self.ensures));
       roomy = omega (arith, roomy, c.push.ensures.capacity);
-      stood = still-stood c.args.self.now (Arrive c.args.packet.now) (Taken c.args.self.now.clock c.take-taken.result.eligible) _ c.requires.fits (replied (goal.at.invariant_of-self-2 c).After-take-taken place) (kept (goal.at.invariant_of-self-2 c).After-push place);
+      stood = still-stood c.args.self.now (Arrive c.args.packet.now) (Taken c.args.self.now.clock c.take-taken.result.eligible) _ c.requires.fits (replied (goal.at.invariant_of-self-3 c).After-take-taken place) (kept (goal.at.invariant_of-self-3 c).After-push place);
     }
 
 pub returns-clause-reply : goal.returns-clause-reply

@@ -30,14 +30,11 @@ returns-clause-reply c = pour-planned c.args.self.now.shape c.args.self.now.cloc
 pub returns-clause-kept : goal.returns-clause-kept
 returns-clause-kept c = pour-kept c.args.self.now.shape c.args.self.now.clock c.args.self.now.packets c.args.self.now.rows.items c.args.count c.args.gap c.args.size c.args.self.now.clock c.in_default.ensures
 
-pub invariant_of-self-2-clause-sound : goal.invariant_of-self-2-clause-sound
-invariant_of-self-2-clause-sound c =
-    subst (IsSound c.args.self.now.shape c.args.self.now.room) (sym (pour-kept c.args.self.now.shape c.args.self.now.clock c.args.self.now.packets c.args.self.now.rows.items c.args.count c.args.gap c.args.size c.args.self.now.clock c.in_default.ensures))
-    (sound-pour c.args.self.now.shape c.args.self.now.room (kept_in c.args.self.now) c.args.count c.args.gap c.args.size (Planned c.args.self.now.clock) c.requires.fits c.args.self.now.sound
-    (pour-planned c.args.self.now.shape c.args.self.now.clock c.args.self.now.packets c.args.self.now.rows.items c.args.count c.args.gap c.args.size c.in_default.ensures c.if-size-self.false))
-
-pub invariant_of-self-2-clause-stood : goal.invariant_of-self-2-clause-stood
-invariant_of-self-2-clause-stood c =
-    still-stood c.args.self.now (Pour c.args.count c.args.gap c.args.size) (Planned c.args.self.now.clock) _ (c.requires.some, c.requires.fits)
-    (pour-planned c.args.self.now.shape c.args.self.now.clock c.args.self.now.packets c.args.self.now.rows.items c.args.count c.args.gap c.args.size c.in_default.ensures c.if-size-self.false)
-    (pour-kept c.args.self.now.shape c.args.self.now.clock c.args.self.now.packets c.args.self.now.rows.items c.args.count c.args.gap c.args.size c.args.self.now.clock c.in_default.ensures)
+pub invariant_of-self-2 : goal.invariant_of-self-2
+invariant_of-self-2 c =
+    let planned = pour-planned c.args.self.now.shape c.args.self.now.clock c.args.self.now.packets c.args.self.now.rows.items c.args.count c.args.gap c.args.size c.in_default.ensures c.if-size-self.false in
+    let kept = pour-kept c.args.self.now.shape c.args.self.now.clock c.args.self.now.packets c.args.self.now.rows.items c.args.count c.args.gap c.args.size c.args.self.now.clock c.in_default.ensures in
+    let sound = subst (IsSound c.args.self.now.shape c.args.self.now.room) (sym kept) (sound-pour c.args.self.now.shape c.args.self.now.room (kept_in c.args.self.now) c.args.count c.args.gap c.args.size (Planned c.args.self.now.clock) c.requires.fits c.args.self.now.sound planned) in
+    let stood = still-stood c.args.self.now (Pour c.args.count c.args.gap c.args.size) (Planned c.args.self.now.clock) _ (c.requires.some, c.requires.fits) planned kept in
+    let l = c.args.self.now in
+    ((l.packets.later, tt), (l.admitted, (l.same_server, (l.same_rows, (l.within, (sound, (l.quiet, (l.roomy, (stood, tt)))))))))

@@ -1,8 +1,9 @@
 -- The parts of the tick find what a sound account leaves to count on, and together make what the account says.
 use Rattle.std.proofs.Common.{◌≡◌, ◌+◌, ◌++◌, length, map, take, drop, sym, ap, ◌∙◌, subst, refl, arith}
 use Rattle.std.proofs.lemmas.List.{length-map, length-append}
-use Rattle.link_steps.specs.BestEffort.{best_step}
-use Rattle.link_steps.specs.Rows.{left_at}
+use Rattle.std.specs.Prelude.{find}
+use Rattle.link_steps.specs.Rows.{is_for, left_at}
+use Rattle.link_steps.specs.Sources.{source_step}
 use Rattle.link_server.specs.Planned.{left_in, IsAhead}
 use Rattle.link_server.specs.Sources.{brought_by}
 use Rattle.link_server.proofs.PourFacts.{best-step-is, waiting-is}
@@ -33,6 +34,9 @@ expire-requires-clause-ready c = all-ready c.args.self.now c.requires.early
 stay : (c : After-deref_mut) → map row_in c.deref_mut.result.now ≡ held_rows c.args.self.now.shape (kept_in c.args.self.now)
 stay c = ap (map row_in) c.deref_mut.ensures.value ∙ c.expire.ensures.rows
 
+pub best_fits-fits-requires : goal.best_fits-fits-requires
+best_fits-fits-requires c = record { ahead = ahead-from c.args.self.now.clock c.args.self.now.clock (left_in c.args.self.now.packets.best) (omega arith) c.args.self.now.sound.best_ahead }
+
 pub take_source_packets-full-requires-clause-few : goal.take_source_packets-full-requires-clause-few
 take_source_packets-full-requires-clause-few c =
     let few = rows-few c.args.self.now in
@@ -60,8 +64,8 @@ take_best-best_lost-requires-clause-ahead c =
 
 pub take_best-best_lost-requires-clause-room : goal.take_best-best_lost-requires-clause-room
 take_best-best_lost-requires-clause-room c = λ free.
-    let counted = waiting-is c.args.self.now.shape (kept_in c.args.self.now) c.waiting-waiting.result c.waiting-waiting.ensures in
-    let room = best-room c.args.self.now.shape c.args.self.now.room (kept_in c.args.self.now) c.args.self.now.sound (omega (arith, free, counted)) in
+    let counted = waiting-is c.args.self.now.shape (kept_in c.args.self.now) in
+    let room = best-room c.args.self.now.shape c.args.self.now.room (kept_in c.args.self.now) c.args.self.now.sound (omega (arith, c.best_fits-fits.ensures.fewer free, counted)) in
     let stays = ap (map row_in) c.deref_mut.ensures.value ∙ c.expire.ensures.rows in
     let same = ap length (brought-is c.args.self.now.shape (kept_in c.args.self.now) c.deref_mut.result.now stays) in
     let all = ap length c.take_source_packets-full.ensures.here in
@@ -97,19 +101,19 @@ written c =
 kept : (c : After-serve-left) → account (c.args.self.now.clock + 1) c.serve-left.new.self c.take_source_packets-full.new.rows ≡ kept_after c.args.self.now.shape (kept_in c.args.self.now) Tick (Ticked c.args.self.now.clock c.take_source_packets-full.result c.serve-left.result.sent c.serve-left.result.best_sent c.take_best-best_lost.result)
 kept c =
     let stay = ap (map row_in) c.deref_mut.ensures.value ∙ c.expire.ensures.rows in
-    let here = present-is c.args.self.now.shape (kept_in c.args.self.now) c.deref_mut.result.now c.take_source_packets-full.new.packets c.take_best-best_lost.new.self (best_step c.waiting-waiting.result c.args.self.now.shape.best c.args.self.now.clock (left_in c.take_source_packets-full.new.packets.best)) stay c.take_source_packets-full.ensures.here c.take_source_packets-full.ensures.taken (best-step-is c.args.self.now.shape (kept_in c.args.self.now) c.waiting-waiting.result (left_in c.take_source_packets-full.new.packets.best) c.waiting-waiting.ensures (ap left_in c.take_source_packets-full.ensures.best)) c.take_best-best_lost.ensures.here in
+    let here = present-is c.args.self.now.shape (kept_in c.args.self.now) c.deref_mut.result.now c.take_source_packets-full.new.packets c.take_best-best_lost.new.self (source_step c.best_fits-fits.result (find (is_for c.args.self.now.clock) (left_in c.take_source_packets-full.new.packets.best))) stay c.take_source_packets-full.ensures.here c.take_source_packets-full.ensures.taken (best-step-is c.args.self.now.shape (kept_in c.args.self.now) c.best_fits-fits.result (left_in c.take_source_packets-full.new.packets.best) c.best_fits-fits.ensures.step (ap left_in c.take_source_packets-full.ensures.best)) c.take_best-best_lost.ensures.here in
     let occupant = occupies-is c.args.self.now.shape (kept_in c.args.self.now) c.take_best-best_lost.new.self here (ap on_in (c.take_best-best_lost.ensures.on ∙ c.take_source_packets-full.ensures.on)) in
     tick-kept c.args.self.now.shape (kept_in c.args.self.now) c.deref_mut.result.now c.take_source_packets-full.new.rows c.take_best-best_lost.new.self c.serve-left.new.self (c.args.self.now.clock + 1)
-    (Ticked c.args.self.now.clock c.take_source_packets-full.result c.serve-left.result.sent c.serve-left.result.best_sent c.take_best-best_lost.result) refl stay c.take_source_packets-full.ensures.rows here (taken-is c.args.self.now.shape (kept_in c.args.self.now) c.deref_mut.result.now c.take_source_packets-full.new.packets c.take_best-best_lost.new.self (best_step c.waiting-waiting.result c.args.self.now.shape.best c.args.self.now.clock (left_in c.take_source_packets-full.new.packets.best)) stay c.take_source_packets-full.ensures.taken (best-step-is c.args.self.now.shape (kept_in c.args.self.now) c.waiting-waiting.result (left_in c.take_source_packets-full.new.packets.best) c.waiting-waiting.ensures (ap left_in c.take_source_packets-full.ensures.best)) c.take_best-best_lost.ensures.taken) occupant
+    (Ticked c.args.self.now.clock c.take_source_packets-full.result c.serve-left.result.sent c.serve-left.result.best_sent c.take_best-best_lost.result) refl stay c.take_source_packets-full.ensures.rows here (taken-is c.args.self.now.shape (kept_in c.args.self.now) c.deref_mut.result.now c.take_source_packets-full.new.packets c.take_best-best_lost.new.self (source_step c.best_fits-fits.result (find (is_for c.args.self.now.clock) (left_in c.take_source_packets-full.new.packets.best))) stay c.take_source_packets-full.ensures.taken (best-step-is c.args.self.now.shape (kept_in c.args.self.now) c.best_fits-fits.result (left_in c.take_source_packets-full.new.packets.best) c.best_fits-fits.ensures.step (ap left_in c.take_source_packets-full.ensures.best)) c.take_best-best_lost.ensures.taken) occupant
     c.serve-left.ensures.taken c.serve-left.ensures.here c.serve-left.ensures.on
     (ap left_in c.serve-left.ensures.best ∙ c.take_best-best_lost.ensures.best ∙ ap (λ p. left_at (c.args.self.now.clock + 1) (left_in p)) c.take_source_packets-full.ensures.best)
 
 replied : (c : After-serve-left) → Ticked c.args.self.now.clock c.take_source_packets-full.result c.serve-left.result.sent c.serve-left.result.best_sent c.take_best-best_lost.result ≡ kept_reply (whole c.args.self.now.shape) (kept_in c.args.self.now) Tick
 replied c =
     let stay = ap (map row_in) c.deref_mut.ensures.value ∙ c.expire.ensures.rows in
-    let here = present-is c.args.self.now.shape (kept_in c.args.self.now) c.deref_mut.result.now c.take_source_packets-full.new.packets c.take_best-best_lost.new.self (best_step c.waiting-waiting.result c.args.self.now.shape.best c.args.self.now.clock (left_in c.take_source_packets-full.new.packets.best)) stay c.take_source_packets-full.ensures.here c.take_source_packets-full.ensures.taken (best-step-is c.args.self.now.shape (kept_in c.args.self.now) c.waiting-waiting.result (left_in c.take_source_packets-full.new.packets.best) c.waiting-waiting.ensures (ap left_in c.take_source_packets-full.ensures.best)) c.take_best-best_lost.ensures.here in
+    let here = present-is c.args.self.now.shape (kept_in c.args.self.now) c.deref_mut.result.now c.take_source_packets-full.new.packets c.take_best-best_lost.new.self (source_step c.best_fits-fits.result (find (is_for c.args.self.now.clock) (left_in c.take_source_packets-full.new.packets.best))) stay c.take_source_packets-full.ensures.here c.take_source_packets-full.ensures.taken (best-step-is c.args.self.now.shape (kept_in c.args.self.now) c.best_fits-fits.result (left_in c.take_source_packets-full.new.packets.best) c.best_fits-fits.ensures.step (ap left_in c.take_source_packets-full.ensures.best)) c.take_best-best_lost.ensures.here in
     let occupant = occupies-is c.args.self.now.shape (kept_in c.args.self.now) c.take_best-best_lost.new.self here (ap on_in (c.take_best-best_lost.ensures.on ∙ c.take_source_packets-full.ensures.on)) in
-    tick-replied c.args.self.now.shape (kept_in c.args.self.now) c.deref_mut.result.now c.take_best-best_lost.new.self c.take_source_packets-full.result c.serve-left.result.sent c.serve-left.result.best_sent c.take_best-best_lost.result (best_step c.waiting-waiting.result c.args.self.now.shape.best c.args.self.now.clock (left_in c.take_source_packets-full.new.packets.best)) stay c.take_source_packets-full.ensures.lost occupant c.serve-left.ensures.sent c.serve-left.ensures.best_sent (best-step-is c.args.self.now.shape (kept_in c.args.self.now) c.waiting-waiting.result (left_in c.take_source_packets-full.new.packets.best) c.waiting-waiting.ensures (ap left_in c.take_source_packets-full.ensures.best)) c.take_best-best_lost.ensures.lost
+    tick-replied c.args.self.now.shape (kept_in c.args.self.now) c.deref_mut.result.now c.take_best-best_lost.new.self c.take_source_packets-full.result c.serve-left.result.sent c.serve-left.result.best_sent c.take_best-best_lost.result (source_step c.best_fits-fits.result (find (is_for c.args.self.now.clock) (left_in c.take_source_packets-full.new.packets.best))) stay c.take_source_packets-full.ensures.lost occupant c.serve-left.ensures.sent c.serve-left.ensures.best_sent (best-step-is c.args.self.now.shape (kept_in c.args.self.now) c.best_fits-fits.result (left_in c.take_source_packets-full.new.packets.best) c.best_fits-fits.ensures.step (ap left_in c.take_source_packets-full.ensures.best)) c.take_best-best_lost.ensures.lost
 
 pub invariant_of-self : goal.invariant_of-self
 invariant_of-self c =
