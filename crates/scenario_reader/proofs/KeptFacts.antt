@@ -257,12 +257,12 @@ kept_close said links requests callers closed load chan d k may =
           let old = k.same_closed n e found own in
           elim (cases_Bool (nat_eq (channel_number chan) (channel_number e.request.chan))) [
             | inl same ↦
-              (let at : channel_number chan ≡ n = eqb-true (channel_number chan) (channel_number e.request.chan) same ∙ number in
-              ap (λ m. get_or (set closed m true) n false) at ∙ get_or-set_same closed n true false (omega (arith, at, within))
-              ∙ sym (closed_added said op (channel_number e.request.chan) may.some ∙ ap (λ b. list_any (closes (channel_number e.request.chan)) (last_ops said.callers) || b) same ∙ or-true (list_any (closes (channel_number e.request.chan)) (last_ops said.callers))))
+                (let at : channel_number chan ≡ n = eqb-true (channel_number chan) (channel_number e.request.chan) same ∙ number in
+                ap (λ m. get_or (set closed m true) n false) at ∙ get_or-set_same closed n true false (omega (arith, at, within))
+                ∙ sym (closed_added said op (channel_number e.request.chan) may.some ∙ ap (λ b. list_any (closes (channel_number e.request.chan)) (last_ops said.callers) || b) same ∙ or-true (list_any (closes (channel_number e.request.chan)) (last_ops said.callers))))
             | inr other ↦
-              (get_or-set_other closed (channel_number chan) n true false (λ at. eqb-false (channel_number chan) (channel_number e.request.chan) other (sym at ∙ sym number))
-              ∙ old ∙ sym (closed_same said op (channel_number e.request.chan) may.some other))
+                (get_or-set_other closed (channel_number chan) n true false (λ at. eqb-false (channel_number chan) (channel_number e.request.chan) other (sym at ∙ sym number))
+                ∙ old ∙ sym (closed_same said op (channel_number e.request.chan) may.some other))
           ];
       same_load = omega (arith, k.same_load, more);
       few_links = k.few_links;

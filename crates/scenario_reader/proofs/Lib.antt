@@ -26,3 +26,4 @@ pub mod LinesBack
 pub mod OpenBack
 pub mod NamedBack
 pub mod SaysBack
+pub mod ReadFacts

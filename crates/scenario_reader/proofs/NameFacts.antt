@@ -13,9 +13,9 @@ same_both a b =
     elim (cases_Bool (pointwise nat_eq b a)) [
       | inl same ↦ rw same ((bytes_eq-Decides a b).1 (sym ((bytes_eq-Decides b a).0 same)))
       | inr other ↦ rw other (elim (cases_Bool (pointwise nat_eq a b)) [
-          | inl same ↦ absurd (both_ways (pointwise nat_eq b a) other ((bytes_eq-Decides b a).1 (sym ((bytes_eq-Decides a b).0 same))))
-          | inr apart ↦ apart
-        ])
+        | inl same ↦ absurd (both_ways (pointwise nat_eq b a) other ((bytes_eq-Decides b a).1 (sym ((bytes_eq-Decides a b).0 same))))
+        | inr apart ↦ apart
+      ])
     ]
 
 -- so they are looked for both ways

@@ -59,11 +59,13 @@ route_follows links (name ∷ names) numbered = by (link_named links name) refl 
   by : (found : Option LinkEntry) → link_named links name ≡ found → Each (FollowsLink links) (route_over links names) → Each (FollowsLink links) (with_hop found (route_over links names))
   by None e rest = rest
   by (Some entry) e rest =
-      let at = link_found links name entry numbered e in
-      (record {
-        bounds = λ other found. ap (λ (l : LinkEntry). l.shape.bounds) (same_Some entry other (sym at ∙ found));
-        prop = λ other found. ap (λ (l : LinkEntry). l.shape.prop) (same_Some entry other (sym at ∙ found));
-      }, rest)
+      let at = link_found links name entry numbered e in (
+        record {
+          bounds = λ other found. ap (λ (l : LinkEntry). l.shape.bounds) (same_Some entry other (sym at ∙ found));
+          prop = λ other found. ap (λ (l : LinkEntry). l.shape.prop) (same_Some entry other (sym at ∙ found));
+        },
+        rest,
+      )
 
 -- a number in its range
 pub from_range : (low high : ℕ) (field : List ℕ) → number_rule low high field ≡ None → is_from low high (value_of field) ≡ true

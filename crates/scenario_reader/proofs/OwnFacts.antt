@@ -40,9 +40,10 @@ parted x (y ∷ xs) ys (inr rest) = later (parted x xs ys rest) where
 opened_there : (n : ℕ) (ops : List Op) (opening : Opening) → Among opening (openings_in n ops) → (opening.caller ≡ n) × (list_any (opens opening.chan) ops ≡ true)
 unfolding openings_in
 opened_there n [] opening among = absurd among
-opened_there n (Open chan ∷ ops) opening (inl same) =
-    (ap (λ (o : Opening). o.caller) same,
-    or_left (nat_eq (channel_number chan) opening.chan) (list_any (opens opening.chan) ops) (eq-eqb (channel_number chan) opening.chan (sym (ap (λ (o : Opening). o.chan) same))))
+opened_there n (Open chan ∷ ops) opening (inl same) = (
+  ap (λ (o : Opening). o.caller) same,
+  or_left (nat_eq (channel_number chan) opening.chan) (list_any (opens opening.chan) ops) (eq-eqb (channel_number chan) opening.chan (sym (ap (λ (o : Opening). o.chan) same))),
+)
 opened_there n (Open chan ∷ ops) opening (inr among) =
     let rest = opened_there n ops opening among in
     (rest.0, or_right (nat_eq (channel_number chan) opening.chan) (list_any (opens opening.chan) ops) rest.1)

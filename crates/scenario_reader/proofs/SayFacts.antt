@@ -166,6 +166,7 @@ may_add said number line what draft e = by (is_passed_over line) e where
   by false e = says_after said.version said number (fields_of line) what draft refl (ok_unless (not (are_fields (fields_of line))) (judge_after said.version said number (fields_of line)) cause.Shape what e)
 
 -- the same of the answer of a judge
-pub answer_may : (said : Said) (number : ℕ) (line : List ℕ) (r : Result Item Cause) → IsDraft said → r ≡ judge said number line → IfOk r (MayAdd said)
-answer_may said number line (Ok what) draft e = may_add said number line what draft (sym e)
-answer_may said number line (Err c) draft e = tt
+pub word_may : (keyword : Keyword) (version : Version) (said : Said) (number : ℕ) (fields : List (List ℕ)) (r : Result Item Cause) → IsDraft said → said.version ≡ Some version
+    → r ≡ judge_word (Some keyword) version said number fields → IfOk r (MayAdd said)
+word_may keyword version said number fields (Ok what) draft v e = says_word (Some keyword) version said number fields what draft v (sym e)
+word_may keyword version said number fields (Err c) draft v e = tt

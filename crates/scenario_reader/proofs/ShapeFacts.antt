@@ -135,14 +135,24 @@ made_shape link numbers bounds number test shape are best said some none is =
     let w = within_of link are best in
     let rising = cond_some (are_bounds numbers) numbers bounds (sym said ∙ some) in
     let fits = bounds_fit (nat_le (ceil_quotient link.figures.cap link.figures.rate) (bound_at bounds 1))
-        (sym (bounds_decide link.figures.rate link.figures.cap link.figures.prop link.figures.buffer link.best bounds w) ∙ none) in
+    (sym (bounds_decide link.figures.rate link.figures.cap link.figures.prop link.figures.buffer link.best bounds w) ∙ none) in
     let whole : has_bounds (numbers_with link numbers) ≡ true =
-        and_from (are_bounds numbers) (nat_le (ceil_quotient link.figures.cap link.figures.rate) (bound_at numbers 1)) rising.0
-        (ap (λ (bs : List ℕ). nat_le (ceil_quotient link.figures.cap link.figures.rate) (bound_at bs 1)) rising.1 ∙ fits) in
-    (rw whole refl, shape_is number test (numbers_with link numbers) shape
-        (and_from (is_within 1 65536 link.figures.rate) (is_within 1 65536 link.figures.cap) w.rates w.caps)
-        (and_from (nat_le link.figures.prop 1048576 && nat_le link.figures.buffer 262144) (nat_le link.best 1024)
-        (and_from (nat_le link.figures.prop 1048576) (nat_le link.figures.buffer 262144) w.props w.buffers) w.bests)
-        whole
-        (record { link_is = is.link_is; rate_is = is.rate_is; cap_is = is.cap_is; prop_is = is.prop_is; buffer_is = is.buffer_is;
-            bounds_are = is.bounds_are ∙ sym rising.1; test_is = is.test_is; best_is = is.best_is }))
+    and_from (are_bounds numbers) (nat_le (ceil_quotient link.figures.cap link.figures.rate) (bound_at numbers 1)) rising.0
+    (ap (λ (bs : List ℕ). nat_le (ceil_quotient link.figures.cap link.figures.rate) (bound_at bs 1)) rising.1 ∙ fits) in (
+      rw whole refl,
+      shape_is number test (numbers_with link numbers) shape
+          (and_from (is_within 1 65536 link.figures.rate) (is_within 1 65536 link.figures.cap) w.rates w.caps)
+          (and_from (nat_le link.figures.prop 1048576 && nat_le link.figures.buffer 262144) (nat_le link.best 1024)
+          (and_from (nat_le link.figures.prop 1048576) (nat_le link.figures.buffer 262144) w.props w.buffers) w.bests)
+          whole
+          (record {
+            link_is = is.link_is;
+            rate_is = is.rate_is;
+            cap_is = is.cap_is;
+            prop_is = is.prop_is;
+            buffer_is = is.buffer_is;
+            bounds_are = is.bounds_are ∙ sym rising.1;
+            test_is = is.test_is;
+            best_is = is.best_is;
+          }),
+    )

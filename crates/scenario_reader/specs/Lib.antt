@@ -14,3 +14,4 @@ pub mod LinkFields
 pub mod OpenFields
 pub mod PlanText
 pub mod BothWays
+pub mod ReadSteps

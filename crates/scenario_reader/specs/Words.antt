@@ -1,7 +1,10 @@
 -- The words by which a scenario's refusals are printed.
-use Rattle.std.specs.Prelude.{ℕ, List, codes}
+use Rattle.std.specs.Prelude.{ℕ, List, ◌++◌, codes}
+use Rattle.std.specs.Fmt.{decimal}
 use Rattle.scenario_reader.specs.declared.cause.Cause.{Cause}
 use Rattle.scenario_reader.specs.declared.cause.Cause.TheVariants as cause
+use Rattle.scenario_reader.specs.declared.reader.ReadRefusal.{ReadRefusal}
+use Rattle.scenario_reader.specs.declared.reader.ReadRefusal.TheVariants as refusal
 
 abbrev pub cause_word : Cause → List ℕ
 cause_word cause.Header = codes "header"
@@ -22,3 +25,10 @@ cause_word cause.End = codes "end"
 cause_word cause.Cut = codes "cut"
 cause_word cause.Step = codes "step"
 cause_word cause.Best = codes "best"
+
+-- what a refusal says
+abbrev pub refusal_text : ReadRefusal → List ℕ
+refusal_text refusal.Memory = codes "out of memory"
+refusal_text refusal.ReadFault = codes "the source failed"
+refusal_text (refusal.TooLong taken) = codes "over the limit after " ++ decimal taken ++ codes " bytes"
+refusal_text (refusal.Refused line cause) = codes "refused " ++ decimal line ++ codes " " ++ cause_word cause

@@ -1,13 +1,13 @@
 //! What was read of a scenario so far.
-ghost use Rattle.std.specs.Prelude.{◌≡◌, ◌≤◌, ◌∷◌, [], true, IfOk, IfErr, OnOk, OnErr, IsTrue};
-ghost use Rattle.call_script.specs.Plans.{IsPlan};
-ghost use Rattle.scenario_reader.specs.Drafts.{nothing_said, with_item, is_complete, parts_said, schedule_said, rounds_of, link_named, request_named, caller_named, own_request, is_closed};
-ghost use Rattle.scenario_reader.specs.declared.item.Item.TheVariants as item;
+ghost use Rattle.std.specs.Prelude.{◌≡◌, ◌≤◌, IfOk, IsTrue};
+ghost use Rattle.scenario_reader.specs.Drafts.{nothing_said, is_complete, parts_said, schedule_said, rounds_of};
+ghost use Rattle.scenario_reader.specs.Kept.{IsScheduleOf};
 
-use crate::item::Item;
 use crate::names::Names;
-use call_script::{CallerEntry, Do, Dos, LinkEntry, Op, Ops, Plan, RequestEntry, Schedule, Version};
-use net_units::{Name, OutOfMemory};
+use call_script::{
+    BadPlan, CallerEntry, Do, Dos, LinkEntry, Plan, RequestEntry, Schedule, Version,
+};
+use net_units::OutOfMemory;
 use std::alloc::Global;
 use std::marker::Model;
 
@@ -82,5 +82,36 @@ impl Draft {
         ensures most { result ≤ 524288 }
     {
         self.rounds.unwrap_or(0)
+    }
+
+    /// The plan and the schedule that were read, once the last line that a plan needs was. An `Err` comes only for want of
+    /// memory.
+    pub fn into_plan(self, alloc: Global) -> Result<(Plan, Schedule), OutOfMemory>
+        requires { IsTrue (is_complete self) }
+        ensures plan { IfOk result (λ read. read.0 ≡ parts_said self) }
+        ensures items { IfOk result (λ read. read.1 ≡ schedule_said self) }
+        ensures schedule { IfOk result (λ read. IsScheduleOf read.0.callers read.1) }
+    {
+        let version = self.version.unwrap_or(Version::One);
+        let rounds = self.rounds.unwrap_or(0);
+        let tail = self.tail.unwrap_or(0);
+        let schedule = Schedule {
+            written: self.written,
+            items: Dos::new(self.items),
+        };
+        let made = Plan::new(
+            alloc,
+            version,
+            self.links,
+            self.requests,
+            self.callers,
+            rounds,
+            tail,
+        );
+        match made {
+            Ok(plan) => Ok((plan, schedule)),
+            Err(BadPlan::Memory) => Err(OutOfMemory),
+            Err(BadPlan::Broken { .. }) => unreachable!(),
+        }
     }
 }

@@ -6,6 +6,7 @@ ghost use Rattle.call_script.specs.Rules.{caller_names};
 ghost use Rattle.scenario_reader.specs.Causes.{Judges, States};
 ghost use Rattle.scenario_reader.specs.Decimal.{value_of};
 ghost use Rattle.scenario_reader.specs.Fields.{fields_of, field_at};
+ghost use Rattle.scenario_reader.specs.Kept.{MayAdd};
 ghost use Rattle.scenario_reader.specs.Grammar.{version_in, header_version, header_said, may_stand, line_word, judge_as, judge_word, judge_after, judge, is_passed_over, caller_rule};
 
 use crate::cause::Cause;
@@ -25,7 +26,8 @@ impl Draft {
     /// What the line of this number says after what was read, or the cause by which it is refused.
     #[tactic(auto, unfolding(crate::specs::Grammar::judge))]
     pub fn judge(&self, number: u64, line: &[u8]) -> Result<Item, Cause>
-        ensures { result ≡ judge self.now number line.now }
+        ensures judged { result ≡ judge self.now number line.now }
+        ensures room { IfOk result (MayAdd self.now) }
     {
         if is_passed_over(line) {
             return Ok(Item::Nothing);
@@ -36,8 +38,10 @@ impl Draft {
         self.judge_after(number, line)
     }
 
+    // The first line is the header; behind it each line begins with a word.
     fn judge_after(&self, number: u64, line: &[u8]) -> Result<Item, Cause>
-        ensures { result ≡ judge_after self.now.version self.now number (fields_of line.now) }
+        ensures judged { result ≡ judge_after self.now.version self.now number (fields_of line.now) }
+        ensures room { IfOk result (MayAdd self.now) }
     {
         match self.version {
             None => judge_header(line),

@@ -14,7 +14,9 @@ pub mod names;
 pub mod open_line;
 pub mod operation_lines;
 mod put;
+pub mod reader;
 pub mod round_lines;
 pub mod values;
 
 pub use cause::Cause;
+pub use reader::{MOST_BYTES, ReadRefusal, read_plan};

@@ -1,0 +1,132 @@
+//! Reading a scenario, line by line.
+ghost use Rattle.std.specs.Prelude.{◌≡◌, ◌≤◌, Err, Some, IfOk, OnOk};
+ghost use Rattle.std.specs.Io.KnownBytes.{IsAtEnd};
+ghost use Rattle.byte_ends.specs.Cutting.{IsCutting, IsOf};
+ghost use Rattle.byte_ends.specs.Faults.{Rises};
+ghost use Rattle.scenario_reader.specs.Kept.{IsScheduleOf};
+ghost use Rattle.scenario_reader.specs.ReadSteps.{Adds, ReadsLine, Tells};
+ghost use Rattle.scenario_reader.specs.Reading.{LetsPass};
+ghost use Rattle.scenario_reader.specs.Words.{refusal_text};
+
+use crate::cause::Cause;
+use crate::draft::Draft;
+use byte_ends::{Cut, LineRefusal, Lines, Source};
+use call_script::{Plan, Schedule};
+use net_units::OutOfMemory;
+use std::alloc::Global;
+use std::fmt::{self, Display};
+use thiserror::Error;
+
+/// The bytes that a scenario may have at most.
+pub const MOST_BYTES: u64 = 4_194_304;
+
+/// Why no scenario was read.
+#[derive(Clone, Copy, Debug, PartialEq, Eq, Error)]
+pub enum ReadRefusal {
+    /// Memory was wanted and not there.
+    Memory,
+    /// The source failed, as its count of faults shows.
+    ReadFault,
+    /// There are more than 4,194,304 bytes, and no whole line within the first 4,194,304 is refused.
+    TooLong {
+        /// How many bytes were taken: 4,194,305.
+        taken: u64,
+    },
+    /// A line is refused.
+    Refused {
+        /// The line's number, from 1.
+        line: u64,
+        /// Why.
+        cause: Cause,
+    },
+}
+
+impl From<OutOfMemory> for ReadRefusal {
+    ghost use Rattle.std.specs.Prelude.{◌≡◌};
+    ghost use Rattle.scenario_reader.specs.declared.reader.ReadRefusal.TheVariants.{Memory};
+
+    ghost from_gives = { λ _ refusal. refusal ≡ Memory };
+
+    fn from(_want: OutOfMemory) -> ReadRefusal {
+        ReadRefusal::Memory
+    }
+}
+
+impl Display for ReadRefusal {
+    ghost output = { λ refusal. Some (refusal_text refusal) };
+
+    fn fmt<W: fmt::Write>(&self, f: &mut fmt::Formatter<W>) -> fmt::Result {
+        match self {
+            ReadRefusal::Memory => write!(f, "out of memory"),
+            ReadRefusal::ReadFault => write!(f, "the source failed"),
+            ReadRefusal::TooLong { taken } => write!(f, "over the limit after {taken} bytes"),
+            ReadRefusal::Refused { line, cause } => write!(f, "refused {line} {cause}"),
+        }
+    }
+}
+
+/// Reads a scenario to its end, or up to the line that is refused.
+pub fn read_plan<S: Source>(alloc: Global, source: &mut S) -> Result<(Plan, Schedule), ReadRefusal>
+    // Where the source tells its bytes, they determine the answer.
+    ensures told { Tells result (S.left source.old) }
+    ensures schedule { IfOk result (λ read. IsScheduleOf read.0.callers read.1) }
+    ensures ended { OnOk result (IsAtEnd (S.left source.new)) }
+    ensures fault { result ≡ Err ReadRefusal.ReadFault → Rises (S.faults source.old) (S.faults source.new) }
+    ensures passing { result ≡ Err ReadRefusal.ReadFault → LetsPass MOST_BYTES (S.left source.old) (S.left source.new) }
+    ensures counts { S.faults source.old ≤ S.faults source.new }
+{
+    let mut lines = Lines::new(alloc, MOST_BYTES)?;
+    let mut draft = Draft::new(alloc)?;
+    while read_line(alloc, &mut lines, &mut draft, source)? {}
+    if draft.is_complete() {
+        Ok(draft.into_plan(alloc)?)
+    } else {
+        Err(ReadRefusal::Refused {
+            line: lines.number() + 1,
+            cause: Cause::End,
+        })
+    }
+}
+
+// Reads the next line and adds what it says. It answers whether there was one.
+#[tactic(auto, using(crate::proofs::ReadFacts::passes_line))]
+fn read_line<S: Source>(
+    alloc: Global,
+    lines: &mut Lines,
+    draft: &mut Draft,
+    source: &mut S,
+) -> Result<bool, ReadRefusal>
+    requires cutting { IsCutting lines.old }
+    requires source { IsOf lines.old (S.left source.old) }
+    ensures reads { ReadsLine result lines.old lines.new draft.old draft.new (S.left source.old) (S.left source.new)
+        (S.faults source.old) (S.faults source.new) }
+    ensures counts { S.faults source.old ≤ S.faults source.new }
+{
+    match lines.read_line(source) {
+        Ok(Cut::End) => Ok(false),
+        Ok(Cut::Line) => {
+            add_line(alloc, draft, lines.number(), lines.line())?;
+            Ok(true)
+        }
+        Err(LineRefusal::ReadFault) => Err(ReadRefusal::ReadFault),
+        Err(LineRefusal::Memory) => Err(ReadRefusal::Memory),
+        Err(LineRefusal::TooLong { taken }) => Err(ReadRefusal::TooLong { taken }),
+        Err(LineRefusal::NoLineEnd { line }) => Err(ReadRefusal::Refused {
+            line,
+            cause: Cause::Cut,
+        }),
+    }
+}
+
+// Judges a line and adds what it says.
+fn add_line(alloc: Global, draft: &mut Draft, number: u64, line: &[u8]) -> Result<(), ReadRefusal>
+    ensures { Adds result number line.now draft.old draft.new }
+{
+    match draft.judge(number, line) {
+        Ok(item) => Ok(draft.put(alloc, &item)?),
+        Err(cause) => Err(ReadRefusal::Refused {
+            line: number,
+            cause,
+        }),
+    }
+}
