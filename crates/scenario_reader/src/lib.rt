@@ -20,3 +20,6 @@ pub mod values;
 
 pub use cause::Cause;
 pub use reader::{MOST_BYTES, ReadRefusal, read_plan};
+
+#[cfg(test)]
+mod tests;
