@@ -29,12 +29,12 @@ use Rattle.call_script.proofs.OwnerFacts.{any-later, twice-not}
 -- ---- the rules on names and numbers, in their parts
 
 -- the names of links, callers and requests
-record HasNames (parts : PlanParts) : Type 0 where
-  links : are_distinct (link_names parts.links) ≡ true
-  callers : are_distinct (caller_names parts.callers) ≡ true
-  requests : are_distinct (request_names parts.requests) ≡ true
+pub record HasNames (parts : PlanParts) : Type 0 where
+  pub links : are_distinct (link_names parts.links) ≡ true
+  pub callers : are_distinct (caller_names parts.callers) ≡ true
+  pub requests : are_distinct (request_names parts.requests) ≡ true
 
-names-in : (parts : PlanParts) → have_names parts ≡ true → HasNames parts
+pub names-in : (parts : PlanParts) → have_names parts ≡ true → HasNames parts
 unfolding have_names
 names-in parts names =
     let first = and_parts (are_distinct (link_names parts.links) && are_distinct (caller_names parts.callers)) (are_distinct (request_names parts.requests)) names in
@@ -48,12 +48,12 @@ names-from parts has =
     (and_from (are_distinct (link_names parts.links)) (are_distinct (caller_names parts.callers)) has.links has.callers) has.requests
 
 -- what routes, pours, sends and closes use is there
-record HasUsed (parts : PlanParts) : Type 0 where
-  routes : list_all (route_is_there parts.links) parts.requests ≡ true
-  pours : list_all (λ (c : CallerEntry). list_all (pour_is_there parts.links) c.ops) parts.callers ≡ true
-  opened : list_all (λ (c : CallerEntry). each_after is_opened [] c.ops) parts.callers ≡ true
+pub record HasUsed (parts : PlanParts) : Type 0 where
+  pub routes : list_all (route_is_there parts.links) parts.requests ≡ true
+  pub pours : list_all (λ (c : CallerEntry). list_all (pour_is_there parts.links) c.ops) parts.callers ≡ true
+  pub opened : list_all (λ (c : CallerEntry). each_after is_opened [] c.ops) parts.callers ≡ true
 
-used-in : (parts : PlanParts) → are_there parts ≡ true → HasUsed parts
+pub used-in : (parts : PlanParts) → are_there parts ≡ true → HasUsed parts
 unfolding are_there
 used-in parts there =
     let first = and_parts (list_all (route_is_there parts.links) parts.requests && list_all (λ (c : CallerEntry). list_all (pour_is_there parts.links) c.ops) parts.callers) (are_opened parts.callers) there in
@@ -67,13 +67,13 @@ used-from parts has =
     (and_from (list_all (route_is_there parts.links) parts.requests) (list_all (λ (c : CallerEntry). list_all (pour_is_there parts.links) c.ops) parts.callers) has.routes has.pours) has.opened
 
 -- numbers in their ranges
-record HasRanges (parts : PlanParts) : Type 0 where
-  requests : list_all request_in_range parts.requests ≡ true
-  ops : list_all (λ (c : CallerEntry). list_all op_in_range c.ops) parts.callers ≡ true
-  rounds : parts.rounds ≤ 524288
-  tail : parts.tail ≤ 524288
+pub record HasRanges (parts : PlanParts) : Type 0 where
+  pub requests : list_all request_in_range parts.requests ≡ true
+  pub ops : list_all (λ (c : CallerEntry). list_all op_in_range c.ops) parts.callers ≡ true
+  pub rounds : parts.rounds ≤ 524288
+  pub tail : parts.tail ≤ 524288
 
-ranges-in : (parts : PlanParts) → are_in_range parts ≡ true → HasRanges parts
+pub ranges-in : (parts : PlanParts) → are_in_range parts ≡ true → HasRanges parts
 unfolding are_in_range
 ranges-in parts range =
     let first = and_parts (list_all request_in_range parts.requests && list_all (λ (c : CallerEntry). list_all op_in_range c.ops) parts.callers) (rounds_in_range parts.rounds parts.tail) range in
@@ -89,12 +89,12 @@ ranges-from parts has =
     (and_from (nat_le parts.rounds 524288) (nat_le parts.tail 524288) (le-leb parts.rounds 524288 has.rounds) (le-leb parts.tail 524288 has.tail))
 
 -- how many there are
-record AreFew (parts : PlanParts) : Type 0 where
-  links : length parts.links ≤ 32
-  callers : length parts.callers ≤ 64
-  requests : length parts.requests ≤ 1024
+pub record AreFew (parts : PlanParts) : Type 0 where
+  pub links : length parts.links ≤ 32
+  pub callers : length parts.callers ≤ 64
+  pub requests : length parts.requests ≤ 1024
 
-few-in : (parts : PlanParts) → are_few parts ≡ true → AreFew parts
+pub few-in : (parts : PlanParts) → are_few parts ≡ true → AreFew parts
 unfolding are_few
 few-in parts few =
     let first = and_parts (nat_le (length parts.links) 32 && nat_le (length parts.callers) 64) (nat_le (length parts.requests) 1024) few in

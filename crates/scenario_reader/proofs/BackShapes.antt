@@ -14,6 +14,7 @@ use Rattle.traffic_contract.specs.declared.admission.Test.{Test}
 use Rattle.link_steps.specs.Shape.{IsShapeOf}
 use Rattle.link_steps.specs.declared.shape.LinkShape.{LinkShape}
 use Rattle.scenario_reader.specs.Entries.{LinkNumbers, link_at, actor_at, channel_at, has_rate, has_room, has_bounds, shape_with, shape_where, shape_of}
+
 pub same_link : (a b : LinkNo) → link_number a ≡ link_number b → a ≡ b
 same_link a b same = λ i. record { number = same i; small = is_prop→PathP (λ j. same j < 32) (λ j. le_prop) a.small b.small i }
 

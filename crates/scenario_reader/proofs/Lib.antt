@@ -27,3 +27,9 @@ pub mod OpenBack
 pub mod NamedBack
 pub mod SaysBack
 pub mod ReadFacts
+pub mod LineFields
+pub mod ReadsBack
+pub mod WalkBack
+pub mod PlanBack
+pub mod ScheduleBack
+pub mod TextBack

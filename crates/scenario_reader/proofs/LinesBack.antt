@@ -95,7 +95,7 @@ pub send_back : (said : Said) (chan : ChanNo) (count gap size : ℕ) (entry : Re
 send_back said chan count gap size entry is are load =
     let fields = send_fields count gap size entry in
     let counted : value_of (decimal count) * hops_of (own_request said entry.name) ≡ count * hops_of (Some entry) =
-        ap (λ (n : ℕ). n * hops_of (own_request said entry.name)) (value-decimal count (omega (arith, are.count_most))) ∙ ap (λ (found : Option RequestEntry). count * hops_of found) is.own in
+    ap (λ (n : ℕ). n * hops_of (own_request said entry.name)) (value-decimal count (omega (arith, are.count_most))) ∙ ap (λ (found : Option RequestEntry). count * hops_of found) is.own in
     pass_all (unless (has_form send_form fields) cause.Shape ∷ used_name_rule (is_some (own_request said entry.name)) entry.name ∷ packets_rule fields
     ∷ unless (not (is_closed_request said (own_request said entry.name))) cause.Closed ∷ load_rule said (value_of (decimal count) * hops_of (own_request said entry.name)) ∷ []) (
       refl,

@@ -105,7 +105,6 @@ its_shape version n entry few number test =
 
 -- ---- the line passes
 
-
 -- a link that may be added, of this version
 pub record IsNextLink (version : Version) (links : List LinkEntry) (entry : LinkEntry) : Type 0 where
   pub named : HasNames entry
@@ -127,7 +126,7 @@ line_passes version said entry rest behind is =
     ) in
     let bounds = ap bound_numbers_rule behind.bounds ∙ decimals_pass 1 1048576 entry.shape.bounds b.each (omega arith) in
     let left = pass_all (new_name_rule (link_names said.links) (field_at fields 1) ∷ name_rule (field_at fields 2) ∷ name_rule (field_at fields 3) ∷ link_numbers_rule fields ∷ best_rule fields ∷ bound_numbers_rule (bound_fields fields) ∷ [])
-        (new_name_back (link_names said.links) entry.name is.named.name is.new, (name_back entry.from is.named.from, (name_back entry.to is.named.to, (numbers, (behind.best_passes, (bounds, tt)))))) in
+    (new_name_back (link_names said.links) entry.name is.named.name is.new, (name_back entry.from is.named.from, (name_back entry.to is.named.to, (numbers, (behind.best_passes, (bounds, tt)))))) in
     let levels : has_bounds (link_numbers (front_with entry rest)) ≡ true = ap has_bounds (numbers_again version entry rest behind) ∙ has_its_bounds entry in
     pass_all (unless (is_link_line version fields) cause.Shape ∷ link_fields_rule said fields ∷ unless (nat_lt (length said.links) 32) cause.Many ∷ unless (has_bounds (link_numbers fields)) cause.Levels ∷ [])
     (unless_holds (is_link_line version fields) cause.Shape behind.form, (left, (unless_holds (nat_lt (length said.links) 32) cause.Many (lt-ltb (length said.links) 32 is.few), (unless_holds (has_bounds (link_numbers fields)) cause.Levels levels, tt))))
@@ -148,9 +147,11 @@ pub link_back : (version : Version) (said : Said) (entry : LinkEntry) → IsNext
 link_back version said entry is = by (nat_eq entry.shape.best 0) refl where
   both : (rest : List (List ℕ)) → IsBehind version entry rest → link_fields entry ≡ front_with entry rest → IsRead version said entry
   both rest behind same = record { passes = ap (link_rule version said) same ∙ line_passes version said entry rest behind is; says = ap (link_said version said) same ∙ line_says version said entry rest behind is }
+
   effort : (b : Bool) → (if b then true else nat_eq entry.shape.best 0) ≡ true → nat_eq entry.shape.best 0 ≡ false → b ≡ true
   effort true e f = refl
   effort false e f = cc
+
   by : (none : Bool) → nat_eq entry.shape.best 0 ≡ none → IsRead version said entry
   by true e = both (bounds_fields entry.shape.bounds) (plain_behind version entry (eqb-true entry.shape.best 0 e)) (rw e refl)
   by false e =

@@ -132,14 +132,16 @@ control_says Rate fields at range =
     (rw no refl, rw no refl)
 control_says (Jitter bound) fields at range =
     let yes : has_jitter fields ≡ true = ap (is_word word.Jitter) (at 0) in
-    let within = from-low 1 67108864 bound range in
-    (rw yes (ap (λ (field : List ℕ). Jitter (value_of field)) (at 1) ∙ ap Jitter (value-decimal bound (omega (arith, within.1)))),
-    rw yes (ap (number_rule 1 67108864) (at 1) ∙ decimal_passes 1 67108864 bound within.0 within.1 (omega arith)))
+    let within = from-low 1 67108864 bound range in (
+      rw yes (ap (λ (field : List ℕ). Jitter (value_of field)) (at 1) ∙ ap Jitter (value-decimal bound (omega (arith, within.1)))),
+      rw yes (ap (number_rule 1 67108864) (at 1) ∙ decimal_passes 1 67108864 bound within.0 within.1 (omega arith)),
+    )
 
 form_says : (name : List ℕ) (names : List (List ℕ)) (entry : RequestEntry) → NoWords names → 1 ≤ length names → length names ≤ 16 → is_open_line (line_with name names (end_fields entry)) ≡ true
 form_says name names entry none least most = by entry.request.control refl where
   with_end : (control : List Part) → has_form (part.Route ∷ end_parts control) (names ++ codes "contract" ∷ end_fields entry) ≡ has_form (end_parts control) (codes "contract" ∷ end_fields entry)
   with_end control = form_behind (end_parts control) names (end_fields entry) none least most
+
   by : (control : Control) → entry.request.control ≡ control → is_open_line (line_with name names (end_fields entry)) ≡ true
   by Rate is = or_left _ _ (with_end (part.Word word.Rate ∷ []) ∙ ap (λ (c : Control). has_form (part.Word word.Rate ∷ []) (control_fields c)) is)
   by (Jitter bound) is = or_right _ _ (with_end (part.Word word.Jitter ∷ part.Field ∷ []) ∙ ap (λ (c : Control). has_form (part.Word word.Jitter ∷ part.Field ∷ []) (control_fields c)) is)
@@ -195,7 +197,7 @@ open_back said entry is =
     let range = and_parts (is_from 1 67108864 request.delay) (control_in_range request.control) is.range in
     let delay = from-low 1 67108864 request.delay range.0 in
     let at_control : (place : ℕ) → behind_route fields (7 + place) ≡ field_at (control_fields request.control) place = λ place.
-        line.fields (7 + place) ∙ ap (field_at (codes "contract" ∷ end_fields entry)) (seven place) in
+    line.fields (7 + place) ∙ ap (field_at (codes "contract" ∷ end_fields entry)) (seven place) in
     let control = control_says request.control fields at_control range.1 in
     let small : (n : ℕ) → n ≤ 16777216 → value_of (decimal n) ≡ n = λ n h. value-decimal n (omega (arith, h)) in
     let xmin : value_of (behind_route fields 1) ≡ request.contract.xmin = ap value_of (line.fields 1) ∙ small request.contract.xmin (omega (arith, c.xave_least, c.xave_most)) in
@@ -238,6 +240,7 @@ open_back said entry is =
   where
     seven : (place : ℕ) → 7 + place ≡ suc (suc (suc (suc (suc (suc (suc place))))))
     seven place = omega arith
+
     same_entry : (e : RequestEntry) (caller : ActorNo) (chan : ChanNo) (route : List Hop) (contract : Terms) (control : Control) (delay : ℕ) → caller ≡ e.caller → chan ≡ e.request.chan → route ≡ e.request.route → contract ≡ e.request.contract
         → control ≡ e.request.control → delay ≡ e.request.delay
         → record { name = e.name; caller = caller; request = record { chan = chan; route = route; contract = contract; control = control; delay = delay } } ≡ e

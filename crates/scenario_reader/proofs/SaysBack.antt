@@ -41,6 +41,14 @@ pub Leads : ℕ → List (List (List ℕ)) → Said → ℕ → Said → Type 0
 Leads count [] said end after = (count ≡ end) × (said ≡ after)
 Leads count (fields ∷ lines) said end after = (what : Item) × (are_fields fields ≡ true) × (judge said (suc count) (line_of fields) ≡ Ok what) × Leads (suc count) lines (with_item what said) end after
 
+pub leads_nothing : (count : ℕ) (said : Said) → Leads count [] said count said
+unfolding Leads
+leads_nothing count said = (refl, refl)
+
+pub leads_more : (fields : List (List ℕ)) (lines : List (List (List ℕ))) (count end : ℕ) (said after : Said) (what : Item) → are_fields fields ≡ true → judge said (suc count) (line_of fields) ≡ Ok what → Leads (suc count) lines (with_item what said) end after → Leads count (fields ∷ lines) said end after
+unfolding Leads
+leads_more fields lines count end said after what are says rest = (what, are, says, rest)
+
 pub leads_on : (xs ys : List (List (List ℕ))) (count middle end : ℕ) (said between after : Said) → Leads count xs said middle between → Leads middle ys between end after → Leads count (xs ++ ys) said end after
 unfolding Leads
 leads_on [] ys count middle end said between after first rest = subst (λ (s : Said). Leads count ys s end after) (sym first.1) (subst (λ (n : ℕ). Leads n ys between end after) (sym first.0) rest)

@@ -55,5 +55,3 @@ pub record ReadsAs (read : Reading) (parts : PlanParts) (schedule : Schedule) : 
 abbrev pub APlansTextIsRead : Type 0
 APlansTextIsRead = (parts : PlanParts) (schedule : Schedule) → IsPlan parts → AreNamed parts → IsScheduleOf parts schedule → length (plan_text parts schedule) ≤ 4194304
     → ReadsAs (reading 4194304 (plan_text parts schedule)) parts schedule
-
-

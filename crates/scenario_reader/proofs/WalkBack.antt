@@ -1,0 +1,348 @@
+-- The callers of a plan are read one after another, each with its operations: what was read so far keeps the rules, and what
+-- is left of the plan is behind it.
+use Rattle.std.proofs.Common.{◌≡◌, ℕ, suc, zero, ◌+◌, ◌*◌, ◌-◌, ◌<◌, ◌≤◌, ◌⊎◌, Bool, true, false, not, nat_eq, List, [], ◌∷◌, ◌++◌, length, map, flat_map, Option, Some, None, refl, sym, ◌∙◌, ap, subst, inl, inr, append_assoc, arith}
+use Rattle.std.specs.Prelude.{◌&&◌, option_map, find, if◌then◌else◌}
+use Rattle.std.proofs.lemmas.Bool.{and_parts, and_from, eq-eqb, leb-true, not-true, ltb-true}
+use Rattle.std.proofs.lemmas.List.{append-nil, length-append, map-append}
+use Rattle.std.proofs.lemmas.Option.{same_Some, slice_get_cases, slice_get_within}
+use Rattle.std.specs.List.{slice_get, list_any, list_all}
+use Rattle.net_units.specs.Numbers.{link_number, actor_number, channel_number}
+use Rattle.net_units.specs.Text.{is_name}
+use Rattle.net_units.specs.declared.numbers.ChanNo.{ChanNo}
+use Rattle.net_units.specs.declared.numbers.LinkNo.{LinkNo}
+use Rattle.traffic_contract.specs.Admission.{total}
+use Rattle.hop_reservation.specs.declared.route.Hop.{Hop}
+use Rattle.link_steps.specs.Lists.{Each}
+use Rattle.link_steps.proofs.ListFacts.{Each-append}
+use Rattle.call_script.specs.Growing.{new_caller, with_its_op, add_op, last_ops, MayAddCaller, MayOpen, IsOpenedThere, MaySend, MayPour, KeepSoFar}
+use Rattle.call_script.specs.Parts.{PlanParts, parts_of, Opening, opened_by, openings_in, openings_of, opening_of, FollowsLink}
+use Rattle.call_script.specs.Plans.{HasTerms}
+use Rattle.call_script.specs.Rules.{each_after, is_named, is_new, are_distinct, link_names, caller_names, request_names, have_names, has_link, route_is_there, pour_is_there, opens, is_opened, closes, is_unclosed, op_has_version, op_in_range, request_in_range, is_joined, hops_of, load_of, load_in, takes_best_effort, pour_is_taken}
+use Rattle.call_script.specs.declared.entries.CallerEntry.{CallerEntry}
+use Rattle.call_script.specs.declared.entries.LinkEntry.{LinkEntry}
+use Rattle.call_script.specs.declared.entries.RequestEntry.{RequestEntry}
+use Rattle.call_script.specs.declared.operations.Op.{Op}
+use Rattle.call_script.specs.declared.operations.Op.TheVariants.{Open, Send, Close, Pour}
+use Rattle.call_script.specs.declared.version.Version.{Version}
+use Rattle.call_script.proofs.FitFacts.{each-at}
+use Rattle.call_script.proofs.GrowthFacts.{get-before, added-total, added-length}
+use Rattle.call_script.proofs.Growing.{caller-keeps, open-keeps, send-keeps, close-keeps, pour-keeps}
+use Rattle.call_script.proofs.OpeningFacts.{opened-has}
+use Rattle.call_script.proofs.OwnerFacts.{twice-not}
+use Rattle.scenario_reader.specs.BothWays.{HasNames}
+use Rattle.scenario_reader.specs.Drafts.{Said, link_named, own_request, if_own, request_named}
+use Rattle.scenario_reader.specs.Entries.{hop_of}
+use Rattle.scenario_reader.specs.PlanText.{op_fields, lines_if, op_lines, caller_fields, caller_lines, open_fields, send_fields, close_fields, pour_fields}
+use Rattle.scenario_reader.proofs.BackShapes.{same_link, same_channel}
+use Rattle.scenario_reader.proofs.LinesBack.{ArePackets, are_packets, IsOpenHere, IsLinkHere}
+use Rattle.scenario_reader.proofs.NamedBack.{find_back}
+use Rattle.scenario_reader.proofs.OpenBack.{IsHopHere, IsNextOpen}
+use Rattle.scenario_reader.proofs.ReadsBack.{front, caller_read, open_read, send_read, close_read, pour_read}
+use Rattle.scenario_reader.proofs.SaysBack.{Reads, reads_none, reads_on}
+
+-- ---- the last caller
+
+pub add_last : (op : Op) (callers : List CallerEntry) (caller : CallerEntry) → add_op op (callers ++ caller ∷ []) ≡ callers ++ with_its_op op caller ∷ []
+add_last op [] caller = refl
+add_last op (c ∷ []) caller = refl
+add_last op (c ∷ d ∷ callers) caller = ap (λ (rest : List CallerEntry). c ∷ rest) (add_last op (d ∷ callers) caller)
+
+last_last : (callers : List CallerEntry) (caller : CallerEntry) → last_ops (callers ++ caller ∷ []) ≡ caller.ops
+last_last [] caller = refl
+last_last (c ∷ []) caller = refl
+last_last (c ∷ d ∷ callers) caller = last_last (d ∷ callers) caller
+
+at_seam : {X : Type 0} (xs : List X) (x : X) (ys : List X) (n : ℕ) → n ≡ length xs → slice_get (xs ++ x ∷ ys) n ≡ Some x
+at_seam [] x ys n same = ap (slice_get (x ∷ ys)) same
+at_seam (y ∷ xs) x ys zero same = absurd (omega (arith, same))
+at_seam (y ∷ xs) x ys (suc n) same = at_seam xs x ys n (omega (arith, same))
+
+pub one_more : {X : Type 0} (xs : List X) (x : X) → length (xs ++ x ∷ []) ≡ suc (length xs)
+one_more xs x = (let both : length (xs ++ x ∷ []) ≡ length xs + 1 = length-append xs (x ∷ []) in omega arith)
+
+-- ---- the links, all of which were read
+
+pub record LinksStand (links : List LinkEntry) : Type 0 where
+  pub some : 1 ≤ length links
+  pub named : Each HasNames links
+  pub apart : are_distinct (link_names links) ≡ true
+  pub numbers : (n : ℕ) (entry : LinkEntry) → slice_get links n ≡ Some entry → link_number entry.shape.link ≡ n
+
+-- a link that is there is found by its name
+record IsThere (links : List LinkEntry) (link : LinkNo) : Type 0 where
+  entry : LinkEntry
+  found : slice_get links (link_number link) ≡ Some entry
+  same : link ≡ entry.shape.link
+  name : is_name entry.name ≡ true
+  named : link_named links entry.name ≡ Some entry
+
+is_there : (links : List LinkEntry) (link : LinkNo) → LinksStand links → has_link links link ≡ true → IsThere links link
+is_there links link stand there =
+    elim (slice_get_cases links (link_number link)).1 [
+      | inl at ↦ record {
+        entry = at.0;
+        found = at.2;
+        same = same_link link at.0.shape.link (sym (stand.numbers (link_number link) at.0 at.2));
+        name = (each-at HasNames links (link_number link) at.0 stand.named at.2).name;
+        named = find_back (λ (e : LinkEntry). e.name) [] links (link_number link) at.0 stand.apart at.2;
+      }
+      | inr past ↦ (let within : link_number link < length links = ltb-true (link_number link) (length links) there in absurd (omega (arith, past.0, within)))
+    ]
+
+hop_here : (links : List LinkEntry) (hop : Hop) → LinksStand links → has_link links hop.link ≡ true → FollowsLink links hop → IsHopHere links hop
+hop_here links hop stand there follows =
+    let at = is_there links hop.link stand there in
+    record { entry = at.entry; found = at.found; is = same_hop hop at.entry.shape.link at.entry.shape.bounds at.entry.shape.prop (sym at.same) (sym (follows.bounds at.entry at.found)) (sym (follows.prop at.entry at.found)); name = at.name; named = at.named }
+  where
+    same_hop : (h : Hop) (link : LinkNo) (bounds : List ℕ) (prop : ℕ) → link ≡ h.link → bounds ≡ h.bounds → prop ≡ h.prop → record { link = link; bounds = bounds; prop = prop } ≡ h
+    same_hop h link bounds prop a b c = rw (a, b, c) refl
+
+hops_here : (links : List LinkEntry) (hops : List Hop) → LinksStand links → list_all (λ (hop : Hop). has_link links hop.link) hops ≡ true → Each (FollowsLink links) hops → Each (IsHopHere links) hops
+hops_here links [] stand there follows = tt
+hops_here links (hop ∷ hops) stand there follows =
+    let split = and_parts (has_link links hop.link) (list_all (λ (h : Hop). has_link links h.link) hops) there in
+    (hop_here links hop stand split.0 follows.0, hops_here links hops stand split.1 follows.1)
+
+-- ---- the requests that are left
+
+pub record IsSound (links : List LinkEntry) (entry : RequestEntry) : Type 0 where
+  pub name : is_name entry.name ≡ true
+  pub there : route_is_there links entry ≡ true
+  pub joined : is_joined links entry.request.route ≡ true
+  pub range : request_in_range entry ≡ true
+  pub hops : Each (FollowsLink links) entry.request.route
+  pub terms : HasTerms entry
+
+pub record RestStands (links : List LinkEntry) (requests rest : List RequestEntry) : Type 0 where
+  pub sound : Each (IsSound links) rest
+  pub new : each_after is_new (request_names requests) (request_names rest) ≡ true
+  pub few : length requests + length rest ≤ 1024
+  pub numbers : (k : ℕ) (entry : RequestEntry) → slice_get rest k ≡ Some entry → channel_number entry.request.chan ≡ length requests + k
+
+rest_next : (links : List LinkEntry) (requests : List RequestEntry) (entry : RequestEntry) (rest : List RequestEntry) → RestStands links requests (entry ∷ rest) → RestStands links (requests ++ entry ∷ []) rest
+unfolding each_after
+rest_next links requests entry rest stand =
+    let longer = one_more requests entry in
+    record {
+      sound = stand.sound.1;
+      new = subst (λ (names : List (List ℕ)). each_after is_new names (request_names rest) ≡ true) (sym (map-append (λ (e : RequestEntry). e.name) requests (entry ∷ [])))
+          (and_parts (is_new (request_names requests) entry.name) (each_after is_new (request_names requests ++ entry.name ∷ []) (request_names rest)) stand.new).1;
+      few = omega (arith, stand.few, longer);
+      numbers = λ k e found. stand.numbers (suc k) e found ∙ omega (arith, longer);
+    }
+
+-- ---- the load of what was read is no more than with all requests
+
+load_less : (requests rest : List RequestEntry) (op : Op) → load_of requests op ≤ load_of (requests ++ rest) op
+load_less requests rest (Open chan) = omega arith
+load_less requests rest (Send chan count gap size) =
+    elim (slice_get_cases requests (channel_number chan)).1 [
+      | inl at ↦ (let same : load_of requests (Send chan count gap size) ≡ load_of (requests ++ rest) (Send chan count gap size) = ap (λ (found : Option RequestEntry). count * hops_of found) (sym (get-before requests rest (channel_number chan) at.1)) in omega (arith, same))
+      | inr past ↦ (let none : load_of requests (Send chan count gap size) ≡ count * 0 = ap (λ (found : Option RequestEntry). count * hops_of found) past.1 in let zero_load : count * 0 ≡ 0 = omega arith in omega (arith, none, zero_load))
+    ]
+load_less requests rest (Close chan) = omega arith
+load_less requests rest (Pour link count gap size) = omega arith
+
+ops_less : (requests rest : List RequestEntry) (ops : List Op) → total (load_of requests) ops ≤ total (load_of (requests ++ rest)) ops
+ops_less requests rest [] = omega arith
+ops_less requests rest (op ∷ ops) = (let one = load_less requests rest op in let others = ops_less requests rest ops in omega (arith, one, others))
+
+callers_less : (requests rest : List RequestEntry) (callers : List CallerEntry) → load_in requests callers ≤ load_in (requests ++ rest) callers
+callers_less requests rest [] = omega arith
+callers_less requests rest (caller ∷ callers) = (let one = ops_less requests rest caller.ops in let others = callers_less requests rest callers in omega (arith, one, others))
+
+-- ---- within a caller
+
+-- all callers before one were read, and that one so far; `all` are the requests of the plan
+pub record Stands (version : Version) (links : List LinkEntry) (all requests rest : List RequestEntry) (callers : List CallerEntry) (caller : CallerEntry) : Type 0 where
+  pub keeps : KeepSoFar (parts_of version links requests (callers ++ caller ∷ []) 0 0)
+  pub same : all ≡ requests ++ rest
+  pub stand : RestStands links requests rest
+  pub named : Each (λ (entry : RequestEntry). is_name entry.name ≡ true) requests
+  pub few : length callers < 64
+
+pub record OpSound (version : Version) (links : List LinkEntry) (op : Op) : Type 0 where
+  pub kept : op_has_version version op ≡ true
+  pub there : pour_is_there links op ≡ true
+  pub range : op_in_range op ≡ true
+  pub taken : pour_is_taken links op ≡ true
+
+-- an operation that comes next
+pub record IsNextOp (version : Version) (links : List LinkEntry) (all : List RequestEntry) (callers : List CallerEntry) (caller : CallerEntry) (op : Op) : Type 0 where
+  pub sound : OpSound version links op
+  pub opened : is_opened caller.ops op ≡ true
+  pub unclosed : is_unclosed caller.ops op ≡ true
+  pub load : load_in all (callers ++ caller ∷ []) + load_of all op ≤ 262144
+
+-- the operation was read
+pub record Stepped (version : Version) (links : List LinkEntry) (all requests : List RequestEntry) (callers : List CallerEntry) (caller : CallerEntry) (op : Op) (openings : List Opening) : Type 0 where
+  pub after : List RequestEntry
+  pub rest : List RequestEntry
+  pub stands : Stands version links all after rest callers (with_its_op op caller)
+  pub left : openings ≡ map opening_of rest
+  pub reads : Reads (op_lines links all op) (front version links requests (callers ++ caller ∷ [])) (front version links after (callers ++ with_its_op op caller ∷ []))
+
+distinct_requests : (parts : PlanParts) → have_names parts ≡ true → are_distinct (request_names parts.requests) ≡ true
+unfolding have_names
+distinct_requests parts names = (and_parts (are_distinct (link_names parts.links) && are_distinct (caller_names parts.callers)) (are_distinct (request_names parts.requests)) names).1
+
+some_callers : (callers : List CallerEntry) (caller : CallerEntry) → 1 ≤ length (callers ++ caller ∷ [])
+some_callers callers caller = (let longer = one_more callers caller in omega (arith, longer))
+
+-- the request of a channel that the caller has opened and not closed
+record IsOurs (version : Version) (links : List LinkEntry) (all requests : List RequestEntry) (callers : List CallerEntry) (caller : CallerEntry) (chan : ChanNo) : Type 0 where
+  entry : RequestEntry
+  there : IsOpenedThere (parts_of version links requests (callers ++ caller ∷ []) 0 0) chan
+  here : IsOpenHere (front version links requests (callers ++ caller ∷ [])) chan entry
+  found : slice_get requests (channel_number chan) ≡ Some entry
+  among_all : slice_get all (channel_number chan) ≡ Some entry
+
+is_ours : (version : Version) (links : List LinkEntry) (all requests rest : List RequestEntry) (callers : List CallerEntry) (caller : CallerEntry) (chan : ChanNo) → Stands version links all requests rest callers caller
+    → list_any (opens (channel_number chan)) caller.ops ≡ true → list_any (closes (channel_number chan)) caller.ops ≡ false → IsOurs version links all requests callers caller chan
+is_ours version links all requests rest callers caller chan s opened unclosed =
+    let parts = parts_of version links requests (callers ++ caller ∷ []) 0 0 in
+    let has = opened-has parts (length callers) (channel_number chan) caller s.keeps.planned (at_seam callers caller [] (length callers) refl) opened in
+    let last : list_any (closes (channel_number chan)) (last_ops (callers ++ caller ∷ [])) ≡ false = ap (list_any (closes (channel_number chan))) (last_last callers caller) ∙ unclosed in
+    let find = find_back (λ (e : RequestEntry). e.name) [] requests (channel_number chan) has.entry (distinct_requests parts s.keeps.names) has.found in
+    let longer = one_more callers caller in
+    let ours : nat_eq (actor_number has.entry.caller) (length (callers ++ caller ∷ []) - 1) ≡ true = eq-eqb (actor_number has.entry.caller) (length (callers ++ caller ∷ []) - 1) (omega (arith, has.by, longer)) in
+    record {
+      entry = has.entry;
+      there = record { opened = ap (list_any (opens (channel_number chan))) (last_last callers caller) ∙ opened; unclosed = last };
+      here = record {
+        name = each-at (λ (e : RequestEntry). is_name e.name ≡ true) requests (channel_number chan) has.entry s.named has.found;
+        own = ap (if_own (length (callers ++ caller ∷ []) - 1)) find ∙ rw ours refl;
+        same = same_channel chan has.entry.request.chan (sym (s.keeps.planned.requests (channel_number chan) has.entry has.found));
+        unclosed = last;
+      };
+      found = has.found;
+      among_all = ap (λ (es : List RequestEntry). slice_get es (channel_number chan)) s.same ∙ get-before requests rest (channel_number chan) (slice_get_within requests (channel_number chan) has.entry has.found) ∙ has.found;
+    }
+
+-- nothing is opened, and the last caller has the operation
+plain_step : (version : Version) (links : List LinkEntry) (all requests rest : List RequestEntry) (callers : List CallerEntry) (caller : CallerEntry) (op : Op) (openings : List Opening) (fields : List (List ℕ))
+    → Stands version links all requests rest callers caller → openings ≡ map opening_of rest → op_fields links all op ≡ Some fields → KeepSoFar (parts_of version links requests (add_op op (callers ++ caller ∷ [])) 0 0)
+    → Reads (fields ∷ []) (front version links requests (callers ++ caller ∷ [])) (front version links requests (add_op op (callers ++ caller ∷ []))) → Stepped version links all requests callers caller op openings
+plain_step version links all requests rest callers caller op openings fields s behind is keeps reads = record {
+  after = requests;
+  rest = rest;
+  stands = record { keeps = subst (λ (cs : List CallerEntry). KeepSoFar (parts_of version links requests cs 0 0)) (add_last op callers caller) keeps; same = s.same; stand = s.stand; named = s.named; few = s.few };
+  left = behind;
+  reads = subst (λ (lines : List (List (List ℕ))). Reads lines (front version links requests (callers ++ caller ∷ [])) (front version links requests (callers ++ with_its_op op caller ∷ []))) (sym (ap lines_if is))
+      (subst (λ (cs : List CallerEntry). Reads (fields ∷ []) (front version links requests (callers ++ caller ∷ [])) (front version links requests cs)) (add_last op callers caller) reads);
+}
+
+not-not-true : (b : Bool) → not (not b) ≡ true → b ≡ true
+not-not-true b holds = twice-not b holds
+
+-- the load with one operation more, of what was read
+load_so_far : (version : Version) (links : List LinkEntry) (all requests rest : List RequestEntry) (callers : List CallerEntry) (caller : CallerEntry) (op : Op) → Stands version links all requests rest callers caller
+    → load_in all (callers ++ caller ∷ []) + load_of all op ≤ 262144 → load_in requests (callers ++ caller ∷ []) + load_of requests op ≤ 262144
+load_so_far version links all requests rest callers caller op s load =
+    let whole : load_in (requests ++ rest) (callers ++ caller ∷ []) + load_of (requests ++ rest) op ≤ 262144 = subst (λ (es : List RequestEntry). load_in es (callers ++ caller ∷ []) + load_of es op ≤ 262144) s.same load in
+    let one = load_less requests rest op in
+    let others = callers_less requests rest (callers ++ caller ∷ []) in
+    omega (arith, whole, one, others)
+
+send_step : (version : Version) (links : List LinkEntry) (all requests rest : List RequestEntry) (callers : List CallerEntry) (caller : CallerEntry) (chan : ChanNo) (count gap size : ℕ) (openings : List Opening)
+    → Stands version links all requests rest callers caller → IsNextOp version links all callers caller (Send chan count gap size) → openings ≡ map opening_of rest → Stepped version links all requests callers caller (Send chan count gap size) openings
+send_step version links all requests rest callers caller chan count gap size openings s is behind =
+    let parts = parts_of version links requests (callers ++ caller ∷ []) 0 0 in
+    let ours = is_ours version links all requests rest callers caller chan s (not-not-true (list_any (opens (channel_number chan)) caller.ops) is.opened) (not-true (list_any (closes (channel_number chan)) caller.ops) is.unclosed) in
+    let are = are_packets count gap size is.sound.range in
+    let load = load_so_far version links all requests rest callers caller (Send chan count gap size) s is.load in
+    let here : load_in requests (callers ++ caller ∷ []) + count * hops_of (Some ours.entry) ≤ 262144 = subst (λ (found : Option RequestEntry). load_in requests (callers ++ caller ∷ []) + count * hops_of found ≤ 262144) ours.found load in
+    plain_step version links all requests rest callers caller (Send chan count gap size) openings (send_fields count gap size ours.entry) s behind (ap (option_map (send_fields count gap size)) ours.among_all)
+    (send-keeps parts chan count gap size s.keeps (record { channel = ours.there; range = is.sound.range; load = load }))
+    (send_read version links requests (callers ++ caller ∷ []) chan count gap size ours.entry (some_callers callers caller) ours.here are here)
+
+close_step : (version : Version) (links : List LinkEntry) (all requests rest : List RequestEntry) (callers : List CallerEntry) (caller : CallerEntry) (chan : ChanNo) (openings : List Opening)
+    → Stands version links all requests rest callers caller → IsNextOp version links all callers caller (Close chan) → openings ≡ map opening_of rest → Stepped version links all requests callers caller (Close chan) openings
+close_step version links all requests rest callers caller chan openings s is behind =
+    let parts = parts_of version links requests (callers ++ caller ∷ []) 0 0 in
+    let ours = is_ours version links all requests rest callers caller chan s (not-not-true (list_any (opens (channel_number chan)) caller.ops) is.opened) (not-true (list_any (closes (channel_number chan)) caller.ops) is.unclosed) in
+    plain_step version links all requests rest callers caller (Close chan) openings (close_fields ours.entry) s behind (ap (option_map close_fields) ours.among_all)
+    (close-keeps parts chan s.keeps ours.there)
+    (close_read version links requests (callers ++ caller ∷ []) chan ours.entry (some_callers callers caller) ours.here)
+
+pour_step : (version : Version) (links : List LinkEntry) (all requests rest : List RequestEntry) (callers : List CallerEntry) (caller : CallerEntry) (link : LinkNo) (count gap size : ℕ) (openings : List Opening) → LinksStand links
+    → Stands version links all requests rest callers caller → IsNextOp version links all callers caller (Pour link count gap size) → openings ≡ map opening_of rest → Stepped version links all requests callers caller (Pour link count gap size) openings
+pour_step version links all requests rest callers caller link count gap size openings stand s is behind =
+    let parts = parts_of version links requests (callers ++ caller ∷ []) 0 0 in
+    let at = is_there links link stand is.sound.there in
+    let are = are_packets count gap size is.sound.range in
+    let load = load_so_far version links all requests rest callers caller (Pour link count gap size) s is.load in
+    plain_step version links all requests rest callers caller (Pour link count gap size) openings (pour_fields count gap size at.entry) s behind (ap (option_map (pour_fields count gap size)) at.found)
+    (pour-keeps parts link count gap size s.keeps (record { some = some_callers callers caller; version = is.sound.kept; there = is.sound.there; range = is.sound.range; load = load; taken = is.sound.taken }))
+    (pour_read version links requests (callers ++ caller ∷ []) link count gap size at.entry (some_callers callers caller) is.sound.kept
+    (record { name = at.name; found = at.named; same = at.same; taken = ap takes_best_effort (sym at.found) ∙ is.sound.taken }) are load)
+
+-- the next request is that of the open
+open_step : (version : Version) (links : List LinkEntry) (all requests rest : List RequestEntry) (callers : List CallerEntry) (caller : CallerEntry) (chan : ChanNo) (openings : List Opening) → LinksStand links
+    → Stands version links all requests rest callers caller → record { caller = length callers; chan = channel_number chan } ∷ openings ≡ map opening_of rest → Stepped version links all requests callers caller (Open chan) openings
+unfolding each_after
+open_step version links all requests [] callers caller chan openings stand s behind = cc
+open_step version links all requests (entry ∷ rest) callers caller chan openings stand s behind =
+    let parts = parts_of version links requests (callers ++ caller ∷ []) 0 0 in
+    let first : record { caller = length callers; chan = channel_number chan } ≡ opening_of entry = cc in
+    let others : openings ≡ map opening_of rest = cc in
+    let by : actor_number entry.caller ≡ length callers = sym (ap (λ (o : Opening). o.caller) first) in
+    let chan_is : channel_number chan ≡ channel_number entry.request.chan = ap (λ (o : Opening). o.chan) first in
+    let same = same_channel chan entry.request.chan chan_is in
+    let number : channel_number entry.request.chan ≡ length requests = s.stand.numbers 0 entry refl ∙ omega arith in
+    let sound = s.stand.sound.0 in
+    let longer = one_more callers caller in
+    let new = new_first requests entry rest s.stand.new in
+    let few : length requests < 1024 = (let all_few = s.stand.few in omega (arith, all_few)) in
+    let keeps = open-keeps parts entry s.keeps (record {
+      name = new;
+      few = few;
+      number = number;
+      caller = omega (arith, by, longer);
+      there = sound.there;
+      joined = sound.joined;
+      range = sound.range;
+      hops = sound.hops;
+      terms = sound.terms;
+    }) in
+    let reads = open_read version links requests (callers ++ caller ∷ []) entry (some_callers callers caller) (record {
+      name = sound.name;
+      new = not-true (list_any (is_named entry.name) (request_names requests)) new;
+      few = few;
+      number = number;
+      caller = omega (arith, by, longer);
+      callers = (let before = s.few in omega (arith, before, longer));
+      hops = hops_here links entry.request.route stand sound.there sound.hops;
+      route = sound.terms.route;
+      joined = sound.joined;
+      contract = sound.terms.contract;
+      range = sound.range;
+    }) in
+    let to : add_op (Open entry.request.chan) (callers ++ caller ∷ []) ≡ callers ++ with_its_op (Open chan) caller ∷ [] =
+    ap (λ (c : ChanNo). add_op (Open c) (callers ++ caller ∷ [])) (sym same) ∙ add_last (Open chan) callers caller in
+    let found : slice_get all (channel_number chan) ≡ Some entry = ap (λ (es : List RequestEntry). slice_get es (channel_number chan)) s.same ∙ at_seam requests entry rest (channel_number chan) (chan_is ∙ number) in
+    record {
+      after = requests ++ entry ∷ [];
+      rest = rest;
+      stands = record {
+        keeps = subst (λ (cs : List CallerEntry). KeepSoFar (parts_of version links (requests ++ entry ∷ []) cs 0 0)) to keeps;
+        same = s.same ∙ sym (append_assoc requests (entry ∷ []) rest);
+        stand = rest_next links requests entry rest s.stand;
+        named = Each-append (λ (e : RequestEntry). is_name e.name ≡ true) requests (entry ∷ []) s.named (sound.name, tt);
+        few = s.few;
+      };
+      left = others;
+      reads = subst (λ (lines : List (List (List ℕ))). Reads lines (front version links requests (callers ++ caller ∷ [])) (front version links (requests ++ entry ∷ []) (callers ++ with_its_op (Open chan) caller ∷ []))) (sym (ap (λ (e : Option RequestEntry). lines_if (option_map (open_fields links) e)) found))
+          (subst (λ (cs : List CallerEntry). Reads (open_fields links entry ∷ []) (front version links requests (callers ++ caller ∷ [])) (front version links (requests ++ entry ∷ []) cs)) to reads);
+    }
+  where
+    new_first : (es : List RequestEntry) (e : RequestEntry) (behind_it : List RequestEntry) → each_after is_new (request_names es) (request_names (e ∷ behind_it)) ≡ true → is_new (request_names es) e.name ≡ true
+    new_first es e behind_it each = (and_parts (is_new (request_names es) e.name) (each_after is_new (request_names es ++ e.name ∷ []) (request_names behind_it)) each).0
+
+-- any operation
+pub op_step : (version : Version) (links : List LinkEntry) (all requests rest : List RequestEntry) (callers : List CallerEntry) (caller : CallerEntry) (op : Op) (openings : List Opening) → LinksStand links
+    → Stands version links all requests rest callers caller → IsNextOp version links all callers caller op → opened_by (length callers) op ++ openings ≡ map opening_of rest → Stepped version links all requests callers caller op openings
+op_step version links all requests rest callers caller (Open chan) openings stand s is behind = open_step version links all requests rest callers caller chan openings stand s behind
+op_step version links all requests rest callers caller (Send chan count gap size) openings stand s is behind = send_step version links all requests rest callers caller chan count gap size openings s is behind
+op_step version links all requests rest callers caller (Close chan) openings stand s is behind = close_step version links all requests rest callers caller chan openings s is behind
+op_step version links all requests rest callers caller (Pour link count gap size) openings stand s is behind = pour_step version links all requests rest callers caller link count gap size openings stand s is behind
