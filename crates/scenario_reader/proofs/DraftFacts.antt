@@ -1,5 +1,5 @@
 -- A draft stays one with each line that is let pass, and is a plan once it is complete.
-use Rattle.std.proofs.Common.{◌≡◌, ℕ, ◌+◌, ◌*◌, ◌≤◌, Bool, true, false, List, [], ◌∷◌, ◌++◌, length, Option, Some, None, IfSome, refl, sym, ◌∙◌, ap, subst, arith}
+use Rattle.std.proofs.Common.{◌≡◌, ℕ, ◌+◌, ◌*◌, ◌≤◌, true, List, [], ◌∷◌, ◌++◌, length, Option, Some, None, IfSome, refl, sym, ◌∙◌, subst, arith}
 use Rattle.std.proofs.lemmas.Bool.{true≢false}
 use Rattle.std.specs.Prelude.{is_some, unwrap_or}
 use Rattle.link_steps.specs.Lists.{Each}
@@ -17,7 +17,7 @@ use Rattle.call_script.specs.declared.schedule.Do.{Do}
 use Rattle.call_script.specs.declared.version.Version.{Version}
 use Rattle.call_script.specs.declared.version.Version.TheVariants.{One}
 use Rattle.call_script.proofs.Growing.{nothing-keeps, link-keeps, caller-keeps, open-keeps, send-keeps, close-keeps, pour-keeps, rounds-keep, tail-keeps, grown-is-plan}
-use Rattle.scenario_reader.specs.Drafts.{Said, nothing_said, with_item, is_complete, rounds_of, tail_of, parts_said, schedule_said}
+use Rattle.scenario_reader.specs.Drafts.{Said, nothing_said, with_item, is_complete, rounds_of, parts_said, schedule_said}
 use Rattle.scenario_reader.specs.Kept.{IsDo, IsScheduleOf, IsDraft, MayDo, MayPutLink, MayPutCaller, MayPutOpen, MayPutOp, MayPutRounds, MayPutTail, MayPutSchedule, MayPutDo, MayAdd}
 use Rattle.scenario_reader.specs.declared.item.Item.{Item}
 use Rattle.scenario_reader.specs.declared.item.Item.TheVariants as item

@@ -1,17 +1,17 @@
 -- What is kept beside a draft, with each line more.
-use Rattle.std.proofs.Common.{◌≡◌, ℕ, zero, suc, ◌+◌, ◌-◌, ◌*◌, ◌<◌, ◌≤◌, Bool, true, false, not, ◌||◌, nat_eq, List, [], ◌∷◌, ◌++◌, length, map, Option, Some, None, IfSome, Result, Ok, Err, OnOk, refl, sym, ◌∙◌, ap, subst, arith, inl, inr, set, get_or, append_assoc, get_or-set_same, get_or-set_other, length-set}
+use Rattle.std.proofs.Common.{◌≡◌, ℕ, zero, suc, ◌+◌, ◌-◌, ◌<◌, ◌≤◌, Bool, true, false, ◌||◌, nat_eq, List, [], ◌∷◌, ◌++◌, length, Some, Result, Ok, Err, OnOk, refl, sym, ◌∙◌, ap, subst, arith, inl, inr, set, get_or, append_assoc, get_or-set_same, get_or-set_other, length-set}
 use Rattle.std.proofs.Math.Bool.{or-false, or-true}
-use Rattle.std.proofs.lemmas.Bool.{cases_Bool, eqb-true, eqb-false, not-true, and_parts, or_cases}
-use Rattle.std.proofs.lemmas.List.{length-append, map-append, append-nil}
+use Rattle.std.proofs.lemmas.Bool.{cases_Bool, eqb-true, eqb-false, and_parts, or_cases}
+use Rattle.std.proofs.lemmas.List.{length-append, map-append}
 use Rattle.std.proofs.lemmas.List.Folds.{list_any-append}
-use Rattle.std.proofs.lemmas.Option.{same_Some, slice_get_within}
+use Rattle.std.proofs.lemmas.Option.{same_Some}
 use Rattle.std.specs.List.{list_all, list_any, slice_get, slice_index_or}
 use Rattle.std.specs.Prelude.{◌&&◌}
 use Rattle.net_units.specs.Numbers.{actor_number, channel_number}
 use Rattle.traffic_contract.specs.Admission.{total}
 use Rattle.call_script.specs.Growing.{new_caller, add_op, last_ops}
 use Rattle.call_script.specs.Parts.{PlanParts}
-use Rattle.call_script.specs.Rules.{each_after, link_names, request_names, caller_names, is_opened, opens, are_opened, route_is_there, pour_is_there, are_there, closes, load_of, load_in}
+use Rattle.call_script.specs.Rules.{each_after, is_opened, opens, are_opened, route_is_there, pour_is_there, are_there, closes, load_of, load_in}
 use Rattle.call_script.specs.declared.entries.CallerEntry.{CallerEntry}
 use Rattle.call_script.specs.declared.entries.LinkEntry.{LinkEntry}
 use Rattle.call_script.specs.declared.entries.RequestEntry.{RequestEntry}
@@ -24,7 +24,7 @@ use Rattle.call_script.proofs.OwnerFacts.{any-later, twice-not}
 use Rattle.call_script.proofs.GrowthFacts.{last-passes, get-more, total-more, added-names, added-length}
 use Rattle.call_script.proofs.Growing.{HaveRequests, callers-load, all-have}
 use Rattle.call_script.proofs.OpeningFacts.{owner-inside}
-use Rattle.scenario_reader.specs.Drafts.{Said, nothing_said, with_item, parts_said, last_caller, is_closed}
+use Rattle.scenario_reader.specs.Drafts.{Said, nothing_said, with_item, parts_said}
 use Rattle.scenario_reader.specs.Kept.{IsDraft, IsKept, MayPutLink, MayPutCaller, MayPutOpen, MayPutOp, MayDo}
 use Rattle.scenario_reader.specs.declared.item.Item.TheVariants as item
 

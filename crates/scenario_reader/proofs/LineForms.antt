@@ -1,11 +1,11 @@
 -- What the forms of a link line and of an open line say: how many bounds there are, and how many links in the route.
-use Rattle.std.proofs.Common.{◌≡◌, ℕ, ◌+◌, ◌≤◌, Bool, true, false, cond, ◌&&◌, ◌||◌, List, [], ◌∷◌, length, drop, refl, sym, ◌∙◌, ap, subst, arith, inl, inr}
+use Rattle.std.proofs.Common.{◌≡◌, ℕ, ◌≤◌, true, false, ◌&&◌, List, [], ◌∷◌, length, drop, refl, inl, inr}
 use Rattle.std.proofs.lemmas.Bool.{or_cases, and_parts}
 use Rattle.call_script.specs.Versions.{has_best_effort}
 use Rattle.call_script.specs.declared.version.Version.{Version}
 use Rattle.scenario_reader.specs.Fields.{field_at}
 use Rattle.scenario_reader.specs.Forms.{text_of, is_word, has_form}
-use Rattle.scenario_reader.specs.LinkLine.{link_front, plain_form, best_form, is_link_line, has_best, bound_start, bound_fields}
+use Rattle.scenario_reader.specs.LinkLine.{link_front, plain_form, best_form, is_link_line, has_best, bound_fields}
 use Rattle.scenario_reader.specs.OpenLine.{open_front, rate_form, jitter_form, is_open_line, route_hops}
 use Rattle.scenario_reader.specs.declared.form.Keyword.TheVariants as word
 use Rattle.scenario_reader.specs.declared.form.Part.{Part}

@@ -1,6 +1,6 @@
 -- A link line and a caller line that pass may add a link and a caller.
-use Rattle.std.proofs.Common.{◌≡◌, ℕ, ◌-◌, ◌<◌, ◌≤◌, Bool, true, false, not, ◌&&◌, ◌||◌, nat_eq, nat_lt, nat_le, cond, List, [], ◌∷◌, length, map, Option, Some, None, is_some, is_none, option_map, if◌then◌else◌, refl, sym, ◌∙◌, ap, subst, arith, inl, inr, ◌⊎◌}
-use Rattle.std.proofs.lemmas.Bool.{leb-true, ltb-true, eqb-true, eq-eqb, and_parts, and_from, or_cases, not-true, cases_Bool, both_ways, true≢false}
+use Rattle.std.proofs.Common.{◌≡◌, ℕ, ◌≤◌, Bool, true, false, not, ◌&&◌, nat_eq, nat_lt, List, [], ◌∷◌, length, Option, Some, None, is_some, is_none, if◌then◌else◌, refl, sym, ◌∙◌, ap, subst, arith, inl, inr, ◌⊎◌}
+use Rattle.std.proofs.lemmas.Bool.{ltb-true, eqb-true, and_parts, and_from, or_cases, true≢false}
 use Rattle.std.proofs.lemmas.Option.{same_Some}
 use Rattle.std.specs.Prelude.{unwrap_or}
 use Rattle.net_units.specs.Numbers.{link_number}
@@ -8,8 +8,8 @@ use Rattle.net_units.specs.declared.numbers.LinkNo.{LinkNo}
 use Rattle.traffic_contract.specs.declared.admission.Test.{Test}
 use Rattle.traffic_contract.specs.declared.admission.Test.TheVariants.{Whole, Least}
 use Rattle.link_steps.specs.declared.shape.LinkShape.{LinkShape}
-use Rattle.call_script.specs.Growing.{MayAddLink, MayAddCaller}
-use Rattle.call_script.specs.Rules.{link_names, caller_names, is_new, link_has_version}
+use Rattle.call_script.specs.Growing.{MayAddLink}
+use Rattle.call_script.specs.Rules.{link_names, caller_names, link_has_version}
 use Rattle.call_script.specs.Versions.{test_of, has_best_effort, is_test}
 use Rattle.call_script.specs.declared.entries.LinkEntry.{LinkEntry}
 use Rattle.call_script.specs.declared.version.Version.{Version}
@@ -20,8 +20,8 @@ use Rattle.scenario_reader.specs.Entries.{LinkNumbers, link_at, has_rate, has_ro
 use Rattle.scenario_reader.specs.Fields.{field_at}
 use Rattle.scenario_reader.specs.Forms.{has_form, name_rule, new_name_rule}
 use Rattle.scenario_reader.specs.Grammar.{caller_form, caller_rule}
-use Rattle.scenario_reader.specs.Kept.{IsDraft, IsBefore, IsLinked, MayPutLink, MayPutCaller}
-use Rattle.scenario_reader.specs.LinkLine.{plain_form, best_form, is_link_line, best_in, link_numbers, link_fields_rule, link_numbers_rule, best_rule, bound_numbers_rule, bound_fields, link_rule, link_with, link_said}
+use Rattle.scenario_reader.specs.Kept.{MayPutLink, MayPutCaller}
+use Rattle.scenario_reader.specs.LinkLine.{plain_form, is_link_line, best_in, link_numbers, link_fields_rule, link_numbers_rule, best_rule, bound_numbers_rule, bound_fields, link_rule, link_with, link_said}
 use Rattle.scenario_reader.specs.declared.cause.Cause.TheVariants as cause
 use Rattle.scenario_reader.proofs.LineForms.{plain_best}
 use Rattle.scenario_reader.proofs.PassFacts.{all_pass, unless_passes, new_name_passes, made_some}

@@ -1,25 +1,25 @@
 -- A send line, a close line and a pour line that pass may add their operations.
-use Rattle.std.proofs.Common.{◌≡◌, ℕ, zero, suc, ◌+◌, ◌-◌, ◌*◌, ◌<◌, ◌≤◌, Bool, true, false, not, ◌&&◌, nat_eq, nat_lt, nat_le, List, [], ◌∷◌, length, Option, Some, None, is_some, is_none, option_map, refl, sym, ◌∙◌, ap, subst, arith, inl, inr}
-use Rattle.std.proofs.lemmas.Bool.{leb-true, le-leb, lt-ltb, and_parts, and_from, not-true}
-use Rattle.std.proofs.lemmas.Option.{same_Some, slice_get_within}
-use Rattle.std.specs.List.{list_any, slice_get}
+use Rattle.std.proofs.Common.{◌≡◌, ℕ, ◌+◌, ◌*◌, ◌≤◌, true, false, not, ◌&&◌, nat_eq, nat_le, List, [], ◌∷◌, length, Option, Some, None, is_some, is_none, sym, ◌∙◌, ap, subst}
+use Rattle.std.proofs.lemmas.Bool.{leb-true, lt-ltb, and_parts, and_from, not-true}
+use Rattle.std.proofs.lemmas.Option.{slice_get_within}
+use Rattle.std.specs.List.{slice_get}
 use Rattle.std.specs.Prelude.{unwrap_or}
-use Rattle.net_units.specs.Numbers.{link_number, actor_number, channel_number}
-use Rattle.call_script.specs.Growing.{last_ops, IsOpenedThere, MaySend, MayPour}
-use Rattle.call_script.specs.Rules.{closes, hops_of, load_in, is_from, packets_in_range, takes_best_effort}
+use Rattle.net_units.specs.Numbers.{link_number, channel_number}
+use Rattle.call_script.specs.Growing.{IsOpenedThere}
+use Rattle.call_script.specs.Rules.{hops_of, load_in, is_from, packets_in_range, takes_best_effort}
 use Rattle.call_script.specs.Versions.{has_best_effort}
 use Rattle.call_script.specs.declared.entries.LinkEntry.{LinkEntry}
 use Rattle.call_script.specs.declared.entries.RequestEntry.{RequestEntry}
 use Rattle.call_script.specs.declared.operations.Op.{Op}
 use Rattle.call_script.specs.declared.version.Version.{Version}
 use Rattle.call_script.specs.declared.version.Version.TheVariants.{One}
-use Rattle.scenario_reader.specs.Causes.{Rule, unless}
+use Rattle.scenario_reader.specs.Causes.{unless}
 use Rattle.scenario_reader.specs.Decimal.{value_of}
-use Rattle.scenario_reader.specs.Drafts.{Said, parts_said, link_named, own_request, is_closed, last_caller}
+use Rattle.scenario_reader.specs.Drafts.{Said, parts_said, link_named, own_request}
 use Rattle.scenario_reader.specs.Fields.{field_at}
 use Rattle.scenario_reader.specs.Forms.{has_form, used_name_rule, number_rule}
 use Rattle.scenario_reader.specs.Grammar.{send_form, packets_rule, is_closed_request, load_rule, send_rule, send_on, send_said, close_form, close_rule, close_of, close_said, pour_form, pour_rule, pour_over, pour_said}
-use Rattle.scenario_reader.specs.Kept.{IsDraft, IsBefore, IsLinked, MayPutOp}
+use Rattle.scenario_reader.specs.Kept.{IsDraft, IsLinked, MayPutOp}
 use Rattle.scenario_reader.specs.declared.cause.Cause.TheVariants as cause
 use Rattle.scenario_reader.proofs.LinkMay.{headed_is, some_items, longer_than_none, is_none_said}
 use Rattle.scenario_reader.proofs.NamedFacts.{own_is}

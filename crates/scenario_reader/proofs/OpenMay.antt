@@ -1,28 +1,24 @@
 -- An open line that passes may open its request.
-use Rattle.std.proofs.Common.{◌≡◌, ℕ, zero, suc, ◌-◌, ◌<◌, ◌≤◌, Bool, true, false, not, ◌&&◌, ◌||◌, nat_eq, nat_lt, nat_le, List, [], ◌∷◌, length, map, Option, Some, None, is_some, is_none, if◌then◌else◌, refl, sym, ◌∙◌, ap, subst, arith, inl, inr}
-use Rattle.std.proofs.lemmas.Bool.{leb-true, le-leb, lt-ltb, ltb-true, and_parts, and_from, cases_Bool}
+use Rattle.std.proofs.Common.{◌≡◌, ℕ, Bool, true, false, not, ◌&&◌, nat_eq, nat_lt, nat_le, List, [], ◌∷◌, length, Option, Some, None, is_some, is_none, refl, sym, ◌∙◌, ap, subst, arith}
+use Rattle.std.proofs.lemmas.Bool.{le-leb, lt-ltb, ltb-true, and_parts, and_from}
 use Rattle.std.proofs.lemmas.List.Folds.{find_at}
 use Rattle.std.proofs.lemmas.Option.{same_Some, slice_get_within}
 use Rattle.std.specs.List.{list_all, slice_get, position_or_len}
-use Rattle.net_units.specs.Numbers.{link_number, actor_number, channel_number}
-use Rattle.traffic_contract.specs.Contract.{Terms, IsContract}
-use Rattle.hop_reservation.specs.Routes.{IsRoute, fault_in}
+use Rattle.net_units.specs.Numbers.{link_number}
+use Rattle.hop_reservation.specs.Routes.{fault_in}
 use Rattle.hop_reservation.specs.declared.route.Hop.{Hop}
 use Rattle.hop_reservation.proofs.RouteFacts.{route-from_none}
 use Rattle.link_steps.specs.Lists.{Each}
-use Rattle.call_script.specs.Growing.{MayOpen}
 use Rattle.call_script.specs.Parts.{FollowsLink}
-use Rattle.call_script.specs.Plans.{HasTerms}
 use Rattle.call_script.specs.Rules.{is_named, request_names, has_link, is_joined, is_from, control_in_range}
 use Rattle.call_script.specs.declared.entries.LinkEntry.{LinkEntry}
 use Rattle.call_script.specs.declared.version.Version.{Version}
 use Rattle.scenario_reader.specs.Causes.{unless}
 use Rattle.scenario_reader.specs.Decimal.{value_of}
 use Rattle.scenario_reader.specs.Drafts.{Said, parts_said, link_named, with_hop, route_over}
-use Rattle.scenario_reader.specs.Entries.{hop_of}
 use Rattle.scenario_reader.specs.Fields.{field_at}
-use Rattle.scenario_reader.specs.Forms.{is_word, new_name_rule, number_rule}
-use Rattle.scenario_reader.specs.Kept.{IsDraft, IsBefore, IsLinked, MayPutOpen}
+use Rattle.scenario_reader.specs.Forms.{new_name_rule, number_rule}
+use Rattle.scenario_reader.specs.Kept.{IsDraft, MayPutOpen}
 use Rattle.scenario_reader.specs.OpenLine.{is_open_line, route_fields, behind_route, has_jitter, control_in, terms_in, contract_of, hops_in, route_names_rule, terms_rule, jitter_rule, open_fields_rule, is_way, open_limits_rule, open_rule, request_said}
 use Rattle.scenario_reader.specs.declared.cause.Cause.TheVariants as cause
 use Rattle.scenario_reader.proofs.LinkMay.{headed_is, some_items, longer_than_none, is_none_said}

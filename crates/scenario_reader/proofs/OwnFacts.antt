@@ -1,13 +1,13 @@
 -- A request that the last caller is to open is opened in that caller's operations.
-use Rattle.std.proofs.Common.{◌≡◌, ℕ, zero, suc, ◌+◌, ◌-◌, ◌<◌, ◌≤◌, ◌⊎◌, true, List, [], ◌∷◌, ◌++◌, Some, length, map, nat_eq, refl, sym, ap, ◌∙◌, subst, inl, inr, arith}
+use Rattle.std.proofs.Common.{◌≡◌, ℕ, zero, suc, ◌+◌, ◌-◌, ◌≤◌, ◌⊎◌, true, List, [], ◌∷◌, ◌++◌, Some, length, map, nat_eq, sym, ap, subst, inl, inr, arith}
 use Rattle.std.proofs.lemmas.Bool.{eq-eqb, or_left, or_right, leb-true, and_parts}
 use Rattle.std.proofs.lemmas.Option.{same_Some}
 use Rattle.std.specs.List.{list_any, slice_get}
-use Rattle.std.specs.Prelude.{◌||◌, nat_le, ◌&&◌}
+use Rattle.std.specs.Prelude.{nat_le, ◌&&◌}
 use Rattle.net_units.specs.Numbers.{actor_number, channel_number}
 use Rattle.link_steps.proofs.ListFacts.{Among}
 use Rattle.call_script.specs.Growing.{last_ops}
-use Rattle.call_script.specs.Parts.{PlanParts, Opening, opened_by, openings_in, openings_of, opening_of, ArePlanned}
+use Rattle.call_script.specs.Parts.{PlanParts, Opening, openings_in, openings_of, opening_of}
 use Rattle.call_script.specs.Rules.{opens, are_few}
 use Rattle.call_script.specs.declared.entries.CallerEntry.{CallerEntry}
 use Rattle.call_script.specs.declared.entries.RequestEntry.{RequestEntry}

@@ -1,5 +1,5 @@
 -- Before the first line, what is ahead comes to what all bytes come to, and so it does behind each line.
-use Rattle.std.proofs.Common.{◌≡◌, ◌≢◌, ℕ, suc, false, List, [], ◌∷◌, ◌++◌, length, Option, Some, None, IfSome, Ok, Err, refl, arith, true, ◌+◌, ◌∙◌, ap, ap₂, subst, sym, append_assoc}
+use Rattle.std.proofs.Common.{◌≡◌, ◌≢◌, ℕ, suc, false, List, [], ◌∷◌, ◌++◌, Option, Some, None, IfSome, Ok, Err, refl, arith, true, ◌+◌, ◌∙◌, ap, ap₂, subst, sym, append_assoc}
 use Rattle.std.proofs.KnownBytes.{Consumes-nil, Consumes-trans}
 use Rattle.std.proofs.lemmas.List.{length-append}
 use Rattle.std.proofs.lemmas.List.Elements.{All-take}

@@ -1,22 +1,21 @@
 -- What a line says that is let pass may be added to what was read.
-use Rattle.std.proofs.Common.{◌≡◌, ℕ, ◌+◌, ◌*◌, ◌≤◌, Bool, true, false, not, ◌&&◌, nat_eq, nat_le, List, [], ◌∷◌, length, Option, Some, None, Result, Ok, Err, is_some, is_none, option_map, cond, position, if◌then◌else◌, refl, sym, ◌∙◌, ap, subst, arith, inl, inr, IfOk}
-use Rattle.std.proofs.lemmas.Bool.{leb-true, and_parts, not-true, cases_Bool, true≢false}
+use Rattle.std.proofs.Common.{◌≡◌, ℕ, ◌+◌, ◌*◌, ◌≤◌, Bool, true, false, not, ◌&&◌, nat_eq, List, [], ◌∷◌, length, Option, Some, None, Result, Ok, Err, is_some, is_none, option_map, cond, if◌then◌else◌, refl, sym, ap, subst, arith, IfOk}
+use Rattle.std.proofs.lemmas.Bool.{leb-true, and_parts, not-true}
 use Rattle.std.proofs.lemmas.List.{length-map}
 use Rattle.std.proofs.lemmas.List.Quantifiers.{position-Some}
 use Rattle.net_units.specs.Numbers.{actor_number}
-use Rattle.net_units.specs.declared.numbers.ActorNo.{ActorNo}
 use Rattle.call_script.specs.Rules.{is_named, caller_names}
 use Rattle.call_script.specs.declared.entries.CallerEntry.{CallerEntry}
 use Rattle.call_script.specs.declared.schedule.Do.{Do}
 use Rattle.call_script.specs.declared.version.Version.{Version}
-use Rattle.scenario_reader.specs.Causes.{Rule, unless, judged, stated}
+use Rattle.scenario_reader.specs.Causes.{unless}
 use Rattle.scenario_reader.specs.Decimal.{value_of}
-use Rattle.scenario_reader.specs.Drafts.{Said, rounds_of, parts_said, caller_named}
+use Rattle.scenario_reader.specs.Drafts.{Said, rounds_of, caller_named}
 use Rattle.scenario_reader.specs.Entries.{actor_at}
 use Rattle.scenario_reader.specs.Fields.{fields_of, are_fields, field_at}
 use Rattle.scenario_reader.specs.Forms.{has_form, number_rule}
 use Rattle.scenario_reader.specs.Grammar.{header_version, header_said, caller_rule, send_rule, send_said, close_rule, close_said, pour_rule, pour_said, rounds_form, rounds_rule, are_few_ticks, tail_form, tail_rule, schedule_rule, do_form, is_plane, actor_rule, actor_named, actor_said, do_rule, do_by, do_said, may_stand, line_word, judge_as, judge_word, judge_after, judge_fields, is_passed_over, judge}
-use Rattle.scenario_reader.specs.Kept.{IsDraft, IsBefore, IsLinked, MayPutRounds, MayPutTail, MayPutSchedule, MayPutDo, MayAdd}
+use Rattle.scenario_reader.specs.Kept.{IsDraft, MayPutRounds, MayPutTail, MayPutSchedule, MayPutDo, MayAdd}
 use Rattle.scenario_reader.specs.LinkLine.{link_rule, link_said}
 use Rattle.scenario_reader.specs.OpenLine.{open_rule, request_said}
 use Rattle.scenario_reader.specs.declared.cause.Cause.{Cause}
@@ -28,7 +27,6 @@ use Rattle.scenario_reader.specs.declared.item.Item.TheVariants as item
 use Rattle.scenario_reader.proofs.LinkMay.{headed_is, some_items, is_none_said, is_some_said, link_may, caller_may}
 use Rattle.scenario_reader.proofs.OpMay.{send_may, close_may, pour_may}
 use Rattle.scenario_reader.proofs.OpenMay.{open_may}
-use Rattle.scenario_reader.proofs.OwnFacts.{few_parts}
 use Rattle.scenario_reader.proofs.PassFacts.{judged_ok, stated_ok, made_some, unless_passes, all_pass, number_passes}
 
 -- ---- the lines behind the callers

@@ -1,8 +1,8 @@
 -- Numbers within the limits of a link have a shape, which they determine.
 use Rattle.std.proofs.Common.{◌≡◌, ◌<◌, ◌≤◌, Bool, true, false, Some, None, refl, sym, ◌∙◌, ap, arith}
-use Rattle.std.specs.Prelude.{nat_le, ◌&&◌, min, ℕ, List, if◌then◌else◌}
+use Rattle.std.specs.Prelude.{nat_le, ◌&&◌, ℕ, List, if◌then◌else◌}
 use Rattle.std.proofs.Math.Bridge.{le_prop}
-use Rattle.std.proofs.lemmas.Bool.{le-leb, leb-true, and_from, and_parts}
+use Rattle.std.proofs.lemmas.Bool.{le-leb, and_from}
 use mathlib.Core.Bool.{Bool-set}
 use mathlib.Core.HLevel.{is_prop→PathP}
 use Rattle.net_units.specs.Numbers.{link_number, actor_number, channel_number}

@@ -3,10 +3,10 @@
 -- `tail`; and then a schedule may stand, with its `do` lines. Each kind of line has a form, a list of rules in the order in
 -- which they are judged, and what it says. Best-effort packets have their forms from version three on; before it these
 -- forms don't exist.
-use Rattle.std.specs.Prelude.{ℕ, ◌+◌, ◌*◌, Bool, true, false, nat_eq, nat_lt, nat_le, not, ◌&&◌, ◌||◌, if◌then◌else◌, Option, Some, None, Result, Ok, Err, List, [], ◌∷◌, length, map, option_map, codes, is_some, is_none}
+use Rattle.std.specs.Prelude.{ℕ, ◌+◌, ◌*◌, Bool, true, false, nat_eq, nat_lt, nat_le, not, ◌&&◌, if◌then◌else◌, Option, Some, None, Result, Ok, Err, List, [], ◌∷◌, length, option_map, codes, is_some, is_none}
 use Rattle.std.specs.Cmp.Lexicographic.{pointwise}
-use Rattle.call_script.specs.Limits.{most_links, most_callers, most_packets, most_gap, most_size, most_rounds}
-use Rattle.call_script.specs.Rules.{link_names, caller_names, hops_of, load_in, takes_best_effort}
+use Rattle.call_script.specs.Limits.{most_callers, most_packets, most_gap, most_size, most_rounds}
+use Rattle.call_script.specs.Rules.{caller_names, hops_of, load_in, takes_best_effort}
 use Rattle.call_script.specs.Versions.{has_best_effort}
 use Rattle.call_script.specs.declared.entries.LinkEntry.{LinkEntry}
 use Rattle.call_script.specs.declared.entries.RequestEntry.{RequestEntry}
@@ -16,7 +16,6 @@ use Rattle.call_script.specs.declared.schedule.Do.{Do}
 use Rattle.call_script.specs.declared.version.Version.{Version}
 use Rattle.call_script.specs.declared.version.Version.TheVariants.{One, Two, Three}
 use Rattle.net_units.specs.declared.numbers.ActorNo.{ActorNo}
-use Rattle.net_units.specs.declared.numbers.ChanNo.{ChanNo}
 use Rattle.scenario_reader.specs.Causes.{Rule, unless, first_cause, judged, stated}
 use Rattle.scenario_reader.specs.Decimal.{value_of}
 use Rattle.scenario_reader.specs.Drafts.{Said, rounds_of, link_named, caller_named, own_request, is_closed}

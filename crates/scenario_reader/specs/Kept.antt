@@ -3,7 +3,7 @@
 -- that wasn't read nothing was read, but that a scenario needs no callers and no schedule.
 use Rattle.std.specs.Prelude.{◌≡◌, ℕ, ◌+◌, ◌*◌, ◌≤◌, Bool, true, false, None, Some, IfSome, List, [], length}
 use Rattle.std.specs.List.{slice_get, slice_index_or}
-use Rattle.net_units.specs.Numbers.{actor_number, channel_number}
+use Rattle.net_units.specs.Numbers.{actor_number}
 use Rattle.link_steps.specs.Lists.{Each}
 use Rattle.call_script.specs.Growing.{KeepSoFar, MayAddLink, MayAddCaller, MayOpen, IsOpenedThere, MaySend, MayPour}
 use Rattle.call_script.specs.Parts.{PlanParts}

@@ -1,6 +1,6 @@
 -- The line of a link: link NAME NODE NODE rate R cap C prop P buffer U levels D1 .. Dn. From version three on the fields
 -- best K may stand before `levels`.
-use Rattle.std.specs.Prelude.{ℕ, ◌&&◌, ◌||◌, Bool, nat_le, nat_lt, if◌then◌else◌, Option, Some, None, List, [], ◌∷◌, length, map, drop, option_map}
+use Rattle.std.specs.Prelude.{ℕ, ◌&&◌, ◌||◌, Bool, nat_lt, if◌then◌else◌, Option, Some, None, List, [], ◌∷◌, length, map, drop, option_map}
 use Rattle.net_units.specs.LevelBounds.{are_bounds}
 use Rattle.call_script.specs.Limits.{most_links}
 use Rattle.call_script.specs.Rules.{link_names}

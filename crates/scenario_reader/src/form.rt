@@ -1,5 +1,5 @@
 //! The forms of a scenario's lines.
-ghost use Rattle.std.specs.Prelude.{◌≡◌, ◌≤◌, ◌+◌, ◌-◌, if◌then◌else◌, IfSome, Some, None, length, drop};
+ghost use Rattle.std.specs.Prelude.{◌≡◌, ◌≤◌, ◌+◌, ◌-◌, if◌then◌else◌, IfSome, Some, None, length, drop, min};
 ghost use Rattle.scenario_reader.specs.Fields.{fields_of};
 ghost use Rattle.scenario_reader.specs.Forms.{text_of, is_word, route_length, up_to, taken_by, has_form};
 
@@ -127,16 +127,17 @@ fn up_to(most: usize, count: usize) -> Option<usize>
     }
 }
 
-/// How many fields stand from a place on before the word `contract`, or before the line's end.
+/// How many fields stand from a place on before the word `contract`, or before the line's end; 17 where there are more
+/// than that, so that a long line isn't looked through for each of its fields.
 pub fn route_length(line: &[u8], from: usize) -> usize
-    ensures value { result ≡ route_length (drop from (fields_of line.now)) }
+    ensures value { result ≡ min 17 (route_length (drop from (fields_of line.now))) }
     ensures within { result ≤ length (fields_of line.now) - from }
 {
-    let count = field_count(line);
-    for place in from..count {
+    let end = field_count(line).min(from.saturating_add(17));
+    for place in from..end {
         if Keyword::Contract.is(field(line, place)) {
             return place - from;
         }
     }
-    count.saturating_sub(from)
+    end.saturating_sub(from)
 }

@@ -2,8 +2,11 @@
 use crate::cause::Cause;
 use crate::reader::{ReadRefusal, read_plan};
 use byte_ends::MemSource;
-use call_script::{Op, Version};
+use call_script::{Op, Plan, Schedule, Version};
+use net_units::{ChanNo, LinkNo};
+use setup_protocol::Control;
 use std::alloc::Global;
+use std::process::Abort;
 use std::test::Fail;
 
 // A scenario with every form.
@@ -37,97 +40,108 @@ fn read(alloc: Global, text: &str) -> Result<Result<(), ReadRefusal>, Fail> {
     }
 }
 
-#[test]
-fn a_scenario_with_every_form_is_read(rt: HostRuntime) -> Result<(), Fail> {
-    let alloc = rt.alloc();
+// The plan and the schedule of a text.
+fn planned(alloc: Global, text: &str) -> Result<(Plan, Schedule), Fail> {
     let mut bytes = Vec::new(alloc);
-    bytes.extend_from_slice(WHOLE.as_bytes())?;
+    bytes.extend_from_slice(text.as_bytes())?;
     let mut source = MemSource::new(bytes, 7, Vec::new(alloc));
-    let (plan, schedule) = match read_plan(alloc, &mut source) {
-        Ok(read) => read,
-        Err(_) => return Err(Fail::from("refused")),
-    };
+    match read_plan(alloc, &mut source) {
+        Ok(read) => Ok(read),
+        Err(_) => Err(Fail::from("refused")),
+    }
+}
+
+#[test]
+fn links_and_requests_have_what_their_lines_say(rt: HostRuntime) -> Result<(), Fail> {
+    let (plan, _) = planned(rt.alloc(), WHOLE)?;
     assert!(rt; plan.version() == Version::Three);
     assert_eq!(rt; (plan.rounds(), plan.tail()), (70, 5));
-    for (link, (name, from, to, best)) in plan
-        .links()
-        .iter()
-        .zip([("A", "n1", "n2", 3), ("B", "n2", "n3", 0)])
-    {
-        assert_eq!(rt;
-            (
-                link.name.as_str(),
-                link.from.as_str(),
-                link.to.as_str(),
-                link.shape.best
-            ),
-            (name, from, to, best)
-        );
+    match plan.links() {
+        [first, second] => {
+            assert_eq!(rt;
+                (first.name.as_str(), first.from.as_str(), first.to.as_str()),
+                ("A", "n1", "n2")
+            );
+            assert_eq!(rt;
+                (first.shape.rate, first.shape.buffer, first.shape.best),
+                (1, 100, 3)
+            );
+            assert_eq!(rt; (second.name.as_str(), second.shape.link.get()), ("B", 1));
+            assert_eq!(rt;
+                (second.shape.rate, second.shape.buffer, second.shape.best),
+                (2, 0, 0)
+            );
+        }
+        _ => assert!(rt; false, "other links"),
     }
-    for (request, (name, caller, hops, delay)) in plan
-        .requests()
-        .iter()
-        .zip([("r1", 0, 2, 50), ("r2", 1, 1, 12)])
-    {
-        assert_eq!(rt;
-            (
-                request.name.as_str(),
-                request.caller.get(),
-                request.request.route.len(),
-                request.request.delay
-            ),
-            (name, caller, hops, delay)
-        );
+    match plan.requests() {
+        [first, second] => {
+            assert_eq!(rt; (first.name.as_str(), first.caller.get()), ("r1", 0));
+            assert_eq!(rt; (first.request.route.len(), first.request.delay), (2, 50));
+            assert_eq!(rt; first.request.control, Control::Jitter(15));
+            assert_eq!(rt; (second.name.as_str(), second.caller.get()), ("r2", 1));
+            assert_eq!(rt; (second.request.route.len(), second.request.delay), (1, 12));
+            assert_eq!(rt; second.request.control, Control::Rate);
+        }
+        _ => assert!(rt; false, "other requests"),
     }
-    assert_eq!(rt;
-        (
-            plan.links().len(),
-            plan.requests().len(),
-            plan.callers().len()
-        ),
-        (2, 2, 2)
-    );
+    Ok(())
+}
+
+#[test]
+fn callers_have_their_operations(rt: HostRuntime) -> Result<(), Fail> {
+    let chan = ChanNo::new(0).ok_or("channel")?;
+    let link = LinkNo::new(0).ok_or("link")?;
+    let (plan, _) = planned(rt.alloc(), WHOLE)?;
     match plan.callers() {
         [first, second] => {
             assert_eq!(rt; (first.name.as_str(), second.name.as_str()), ("k1", "k2"));
-            assert_eq!(rt;
-                (first.ops.as_slice().len(), second.ops.as_slice().len()),
-                (4, 1)
-            );
+            assert_eq!(rt; second.ops.as_slice().len(), 1);
             match first.ops.as_slice() {
-                [
-                    Op::Open(opened),
-                    Op::Send {
-                        chan,
-                        count,
-                        gap,
-                        size,
-                    },
-                    Op::Pour { link, .. },
-                    Op::Close(closed),
-                ] => {
-                    assert_eq!(rt; (opened.get(), chan.get(), closed.get()), (0, 0, 0));
-                    assert_eq!(rt; (*count, *gap, *size, link.get()), (3, 10, 2, 0));
+                [opened, sent, poured, closed] => {
+                    assert_eq!(rt; *opened, Op::Open(chan));
+                    assert_eq!(rt;
+                        *sent,
+                        Op::Send {
+                            chan,
+                            count: 3,
+                            gap: 10,
+                            size: 2
+                        }
+                    );
+                    assert_eq!(rt;
+                        *poured,
+                        Op::Pour {
+                            link,
+                            count: 2,
+                            gap: 1,
+                            size: 4
+                        }
+                    );
+                    assert_eq!(rt; *closed, Op::Close(chan));
                 }
                 _ => assert!(rt; false, "another script"),
             }
         }
         _ => assert!(rt; false, "other callers"),
     }
+    Ok(())
+}
+
+#[test]
+fn items_have_the_numbers_of_their_lines(rt: HostRuntime) -> Result<(), Fail> {
+    let (_, schedule) = planned(rt.alloc(), WHOLE)?;
     assert!(rt; schedule.written);
-    let mut items = schedule.items.as_slice().iter();
-    for (line, actor, count) in [(17, 1, 2), (18, 2, 10)] {
-        match items.next() {
-            Some(item) => {
-                assert_eq!(rt;
-                    (item.line, item.actor.get(), item.count),
-                    (line, actor, count)
-                );
-            }
-            None => assert!(rt; false, "too few items"),
+    match schedule.items.as_slice() {
+        [first, second] => {
+            assert_eq!(rt; (first.line, first.actor.get(), first.count), (17, 1, 2));
+            assert_eq!(rt;
+                (second.line, second.actor.get(), second.count),
+                (18, 2, 10)
+            );
         }
+        _ => assert!(rt; false, "other items"),
     }
-    assert!(rt; items.next().is_none());
     Ok(())
 }
 

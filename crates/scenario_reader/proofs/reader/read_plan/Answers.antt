@@ -1,4 +1,4 @@
-use Rattle.std.proofs.Common.{rules, ◌+◌, ◌∙◌, ap, sym, subst, arith}
+use Rattle.std.proofs.Common.{rules, ◌+◌, ◌∙◌, ap, sym, arith}
 use Rattle.std.proofs.lemmas.Bool.{both_ways}
 use Rattle.byte_ends.specs.Cutting.{Cutting}
 use Rattle.scenario_reader.specs.Drafts.{nothing_said}

@@ -1,6 +1,4 @@
-use Rattle.std.proofs.Common.{◌≡◌, None, Some, rules, sym, ◌∙◌, ap, subst}
-use Rattle.call_script.specs.Parts.{parts_of}
-use Rattle.call_script.specs.Rules.{rule_broken}
+use Rattle.std.proofs.Common.{rules, ◌∙◌, ap}
 use Rattle.scenario_reader.specs.Drafts.{Said, is_complete}
 use Rattle.scenario_reader.proofs.DraftFacts.{complete_draft, unbroken}
 use Rattle.scenario_reader.proofs.draft.Draft.into_plan.Goals as goal

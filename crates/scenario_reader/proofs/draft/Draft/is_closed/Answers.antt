@@ -1,5 +1,4 @@
-use Rattle.std.proofs.Common.{◌≡◌, sym, ◌∙◌, ap}
-use Rattle.std.specs.List.{slice_index_or}
+use Rattle.std.proofs.Common.{◌∙◌, ap}
 use Rattle.scenario_reader.specs.Drafts.{Said, own_request, is_closed}
 use Rattle.scenario_reader.proofs.ClosedFacts.{closed_own, mark_at, mark_past}
 use Rattle.scenario_reader.proofs.draft.Draft.is_closed.Goals as goal

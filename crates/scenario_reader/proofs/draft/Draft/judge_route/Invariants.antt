@@ -1,4 +1,4 @@
-use Rattle.std.proofs.Common.{◌≡◌, ◌≤◌, take, length}
+use Rattle.std.proofs.Common.{◌≡◌, take, length}
 use Rattle.scenario_reader.specs.Drafts.{route_over}
 use Rattle.scenario_reader.specs.Fields.{fields_of}
 use Rattle.scenario_reader.specs.OpenLine.{route_fields, route_link_rule}

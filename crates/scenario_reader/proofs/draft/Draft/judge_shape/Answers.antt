@@ -1,11 +1,5 @@
-use Rattle.std.proofs.Common.{length, ◌∙◌, ap, sym, subst, ◌≡◌, Some, None}
-use Rattle.net_units.specs.declared.numbers.LinkNo.{LinkNo}
-use Rattle.call_script.specs.Versions.{test_of}
-use Rattle.scenario_reader.specs.Causes.{unless}
+use Rattle.std.proofs.Common.{length, ◌∙◌, ap, sym}
 use Rattle.scenario_reader.specs.Drafts.{Said}
-use Rattle.scenario_reader.specs.Entries.{link_at, has_bounds, shape_of}
-use Rattle.scenario_reader.specs.LinkFields.{numbers_with}
-use Rattle.scenario_reader.specs.declared.cause.Cause.TheVariants.{Levels}
 use Rattle.scenario_reader.proofs.ShapeFacts.{link_is, made_shape}
 use Rattle.scenario_reader.proofs.draft.Draft.judge_shape.Goals as goal
 
