@@ -20,7 +20,6 @@ pub mod FieldText
 pub mod NumberText
 pub mod LineText
 pub mod RulesBack
-pub mod BackShapes
 pub mod LinkBack
 pub mod LinesBack
 pub mod OpenBack

@@ -27,7 +27,7 @@ use Rattle.scenario_reader.specs.LinkLine.{plain_form, best_form, is_link_line, 
 use Rattle.scenario_reader.specs.PlanText.{best_fields, bounds_fields, link_fields}
 use Rattle.scenario_reader.specs.declared.cause.Cause.TheVariants as cause
 use Rattle.scenario_reader.specs.declared.form.Part.TheVariants as part
-use Rattle.scenario_reader.proofs.BackShapes.{link_is, shape_is}
+use Rattle.scenario_reader.proofs.ShapeFacts.{link_is, shape_is}
 use Rattle.scenario_reader.proofs.NumberText.{value-decimal, decimal_passes, decimals_pass, values-decimals}
 use Rattle.scenario_reader.proofs.RulesBack.{pass_all, unless_holds, name_back, new_name_back}
 

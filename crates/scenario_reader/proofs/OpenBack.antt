@@ -33,7 +33,7 @@ use Rattle.scenario_reader.specs.declared.cause.Cause.TheVariants as cause
 use Rattle.scenario_reader.specs.declared.form.Keyword.TheVariants as word
 use Rattle.scenario_reader.specs.declared.form.Part.{Part}
 use Rattle.scenario_reader.specs.declared.form.Part.TheVariants as part
-use Rattle.scenario_reader.proofs.BackShapes.{actor_is, channel_is}
+use Rattle.scenario_reader.proofs.ShapeFacts.{actor_is, channel_is}
 use Rattle.scenario_reader.proofs.NumberText.{value-decimal, decimal_passes}
 use Rattle.scenario_reader.proofs.RulesBack.{pass_all, unless_holds, new_name_back, used_name_back, name_no_word}
 

@@ -18,7 +18,7 @@ use Rattle.call_script.specs.declared.schedule.Do.{Do}
 use Rattle.call_script.specs.declared.schedule.Schedule.{Schedule}
 use Rattle.call_script.specs.declared.version.Version.{Version}
 use Rattle.call_script.proofs.FitFacts.{each-at}
-use Rattle.scenario_reader.specs.BothWays.{IsItemOf, unnumbered, SameSchedule}
+use Rattle.scenario_reader.specs.BothWays.{unnumbered, SameSchedule}
 use Rattle.scenario_reader.specs.Causes.{unless}
 use Rattle.scenario_reader.specs.Decimal.{value_of}
 use Rattle.scenario_reader.specs.Drafts.{Said, with_item, is_complete, parts_said, schedule_said, caller_named}
@@ -26,12 +26,13 @@ use Rattle.scenario_reader.specs.Entries.{actor_at}
 use Rattle.scenario_reader.specs.Fields.{line_of, is_field, are_fields, field_at}
 use Rattle.scenario_reader.specs.Forms.{has_form, used_name_rule, number_rule}
 use Rattle.scenario_reader.specs.Grammar.{judge, is_plane, actor_rule, actor_named, do_form, do_rule, do_said}
+use Rattle.scenario_reader.specs.Kept.{IsDo}
 use Rattle.scenario_reader.specs.PlanText.{actor_field, do_fields, schedule_fields, schedule_lines}
 use Rattle.scenario_reader.specs.declared.cause.Cause.TheVariants as cause
 use Rattle.scenario_reader.specs.declared.form.Keyword.TheVariants as word
 use Rattle.scenario_reader.specs.declared.item.Item.{Item}
 use Rattle.scenario_reader.specs.declared.item.Item.TheVariants as item
-use Rattle.scenario_reader.proofs.BackShapes.{actor_is}
+use Rattle.scenario_reader.proofs.ShapeFacts.{actor_is}
 use Rattle.scenario_reader.proofs.FieldText.{name_field, number_field}
 use Rattle.scenario_reader.proofs.NamedBack.{position_back}
 use Rattle.scenario_reader.proofs.NumberText.{value-decimal, decimal_passes}
@@ -78,7 +79,7 @@ scheduled parts items = record { version = Some parts.version; links = parts.lin
 abbrev numbered : ℕ → Do → Do
 numbered number it = record { line = number; actor = it.actor; count = it.count }
 
-item_judged : (parts : PlanParts) (done : List Do) (it : Do) (number : ℕ) → Each (λ (caller : CallerEntry). is_name caller.name ≡ true) parts.callers → are_distinct (caller_names parts.callers) ≡ true → length parts.callers ≤ 64 → IsItemOf parts it
+item_judged : (parts : PlanParts) (done : List Do) (it : Do) (number : ℕ) → Each (λ (caller : CallerEntry). is_name caller.name ≡ true) parts.callers → are_distinct (caller_names parts.callers) ≡ true → length parts.callers ≤ 64 → IsDo parts.callers it
     → (are_fields (do_fields parts.callers it) ≡ true) × (judge (scheduled parts done) number (line_of (do_fields parts.callers it)) ≡ Ok (item.Do (numbered number it)))
 item_judged parts done it number names apart few is =
     let said = scheduled parts done in
@@ -117,7 +118,7 @@ record ItemsRead (parts : PlanParts) (done items : List Do) (after : Said) : Typ
   is : after ≡ scheduled parts (done ++ again)
   same : map unnumbered again ≡ map unnumbered items
 
-items_read : (parts : PlanParts) (done items : List Do) (count : ℕ) → Each (λ (caller : CallerEntry). is_name caller.name ≡ true) parts.callers → are_distinct (caller_names parts.callers) ≡ true → length parts.callers ≤ 64 → Each (IsItemOf parts) items
+items_read : (parts : PlanParts) (done items : List Do) (count : ℕ) → Each (λ (caller : CallerEntry). is_name caller.name ≡ true) parts.callers → are_distinct (caller_names parts.callers) ≡ true → length parts.callers ≤ 64 → Each (IsDo parts.callers) items
     → SomeLead (map (do_fields parts.callers) items) (scheduled parts done) (ItemsRead parts done items) count
 items_read parts done [] count names apart few each = record { end = count; after = scheduled parts done; leads = leads_nothing count (scheduled parts done); holds = record { again = []; is = ap (scheduled parts) (sym (append-nil done)); same = refl } }
 items_read parts done (it ∷ items) count names apart few each =
@@ -146,13 +147,13 @@ schedule_read : (parts : PlanParts) → Reads (schedule_fields ∷ []) (whole pa
 schedule_read parts = reads_one schedule_fields (whole parts.version parts.links parts.requests parts.callers parts.rounds parts.tail) item.Schedule refl (λ number.
     judged_as parts.version (whole parts.version parts.links parts.requests parts.callers parts.rounds parts.tail) number schedule_fields word.Schedule item.Schedule refl refl refl refl refl refl)
 
-pub schedule_back : (parts : PlanParts) (schedule : Schedule) → Each (λ (caller : CallerEntry). is_name caller.name ≡ true) parts.callers → are_distinct (caller_names parts.callers) ≡ true → length parts.callers ≤ 64 → Each (IsItemOf parts) schedule.items → (schedule.written ≡ false → schedule.items ≡ [])
+pub schedule_back : (parts : PlanParts) (schedule : Schedule) → Each (λ (caller : CallerEntry). is_name caller.name ≡ true) parts.callers → are_distinct (caller_names parts.callers) ≡ true → length parts.callers ≤ 64 → Each (IsDo parts.callers) schedule.items → (schedule.written ≡ false → schedule.items ≡ [])
     → (n : ℕ) → SomeLead (schedule_lines parts.callers schedule) (whole parts.version parts.links parts.requests parts.callers parts.rounds parts.tail) (IsWhole parts schedule) n
 schedule_back parts schedule names apart few each unwritten = by schedule.written schedule.items each unwritten where
   done : (items : List Do) (after : Said) → ItemsRead parts [] items after → IsWhole parts (record { written = true; items = items }) after
   done items after read = subst (IsWhole parts (record { written = true; items = items })) (sym read.is) (record { complete = refl; parts_are = refl; same = record { written = refl; items = read.same } })
 
-  by : (written : Bool) (items : List Do) → Each (IsItemOf parts) items → (written ≡ false → items ≡ [])
+  by : (written : Bool) (items : List Do) → Each (IsDo parts.callers) items → (written ≡ false → items ≡ [])
       → (n : ℕ) → SomeLead (schedule_lines parts.callers (record { written = written; items = items })) (whole parts.version parts.links parts.requests parts.callers parts.rounds parts.tail) (IsWhole parts (record { written = written; items = items })) n
   by true items all none = then_some (schedule_fields ∷ []) (map (do_fields parts.callers) items) (whole parts.version parts.links parts.requests parts.callers parts.rounds parts.tail) (scheduled parts []) (IsWhole parts (record { written = true; items = items })) (schedule_read parts)
       (λ n. let read = items_read parts [] items n names apart few all in record { end = read.end; after = read.after; leads = read.leads; holds = done items read.after read.holds })

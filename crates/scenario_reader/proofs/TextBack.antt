@@ -20,9 +20,10 @@ use Rattle.call_script.specs.declared.version.Version.{Version}
 use Rattle.call_script.proofs.FitFacts.{each-at, each-by}
 use Rattle.call_script.proofs.Growing.{nothing-keeps, names-in, used-in, ranges-in, few-in}
 use Rattle.call_script.proofs.RuleFacts.{each-of, keeps-rules}
-use Rattle.scenario_reader.specs.BothWays.{HasNames, AreNamed, IsScheduleOf, ReadsAs, APlansTextIsRead}
+use Rattle.scenario_reader.specs.BothWays.{HasNames, AreNamed, ReadsAs, APlansTextIsRead}
 use Rattle.scenario_reader.specs.Drafts.{Said, nothing_said, is_complete, parts_said, schedule_said}
 use Rattle.scenario_reader.specs.Fields.{line_of, ended_line}
+use Rattle.scenario_reader.specs.Kept.{IsScheduleOf}
 use Rattle.scenario_reader.specs.PlanText.{header_fields, link_fields, caller_lines, rounds_fields, tail_fields, schedule_lines, plan_lines, plan_text}
 use Rattle.scenario_reader.specs.Reading.{Reading, IsRead, IsBad, reading_of, reading_on, reading}
 use Rattle.scenario_reader.specs.declared.cause.Cause.TheVariants as cause
@@ -85,7 +86,7 @@ callers_sound version links (caller ∷ callers) kept there range taken =
 
 -- ---- all lines
 
-plan_leads : (parts : PlanParts) (schedule : Schedule) → IsPlan parts → AreNamed parts → IsScheduleOf parts schedule → SomeLead (plan_lines parts schedule) nothing_said (IsWhole parts schedule) 0
+plan_leads : (parts : PlanParts) (schedule : Schedule) → IsPlan parts → AreNamed parts → IsScheduleOf parts.callers schedule → SomeLead (plan_lines parts schedule) nothing_said (IsWhole parts schedule) 0
 plan_leads parts schedule plan named is =
     let rules = keeps-rules parts plan.kept in
     let says = plan_says parts plan in

@@ -33,7 +33,7 @@ use Rattle.scenario_reader.specs.BothWays.{HasNames}
 use Rattle.scenario_reader.specs.Drafts.{Said, link_named, own_request, if_own, request_named}
 use Rattle.scenario_reader.specs.Entries.{hop_of}
 use Rattle.scenario_reader.specs.PlanText.{op_fields, lines_if, op_lines, caller_fields, caller_lines, open_fields, send_fields, close_fields, pour_fields}
-use Rattle.scenario_reader.proofs.BackShapes.{same_link, same_channel}
+use Rattle.scenario_reader.proofs.ShapeFacts.{same_link, same_channel}
 use Rattle.scenario_reader.proofs.LinesBack.{ArePackets, are_packets, IsOpenHere, IsLinkHere}
 use Rattle.scenario_reader.proofs.NamedBack.{find_back}
 use Rattle.scenario_reader.proofs.OpenBack.{IsHopHere, IsNextOpen}

@@ -1,11 +1,9 @@
 -- A plan's text is read as that plan and its schedule, where it has at most 4,194,304 bytes: the items of the schedule then
 -- have the numbers of their lines. So no text is that of two plans. The names of a plan are names, as those of each plan
 -- that is made are; and its schedule is one that a scenario can have.
-use Rattle.std.specs.Prelude.{◌≡◌, ℕ, ◌≤◌, false, List, [], length, map}
-use Rattle.net_units.specs.Numbers.{actor_number}
+use Rattle.std.specs.Prelude.{◌≡◌, ℕ, ◌≤◌, true, List, length, map}
 use Rattle.net_units.specs.Text.{is_name}
 use Rattle.link_steps.specs.Lists.{Each}
-use Rattle.std.specs.Prelude.{true}
 use Rattle.call_script.specs.Parts.{PlanParts}
 use Rattle.call_script.specs.Plans.{IsPlan}
 use Rattle.call_script.specs.declared.entries.LinkEntry.{LinkEntry}
@@ -13,6 +11,7 @@ use Rattle.call_script.specs.declared.entries.RequestEntry.{RequestEntry}
 use Rattle.call_script.specs.declared.entries.CallerEntry.{CallerEntry}
 use Rattle.call_script.specs.declared.schedule.Do.{Do}
 use Rattle.call_script.specs.declared.schedule.Schedule.{Schedule}
+use Rattle.scenario_reader.specs.Kept.{IsScheduleOf}
 use Rattle.scenario_reader.specs.PlanText.{plan_text}
 use Rattle.scenario_reader.specs.Reading.{Reading, IsRead, reading}
 
@@ -26,16 +25,6 @@ pub record AreNamed (parts : PlanParts) : Type 0 where
   pub links : Each HasNames parts.links
   pub requests : Each (λ (entry : RequestEntry). is_name entry.name ≡ true) parts.requests
   pub callers : Each (λ (caller : CallerEntry). is_name caller.name ≡ true) parts.callers
-
--- an item of the schedule of a plan: an actor of the plan, and a count of steps in its range
-pub record IsItemOf (parts : PlanParts) (item : Do) : Type 0 where
-  pub actor : actor_number item.actor ≤ length parts.callers
-  pub least : 1 ≤ item.count
-  pub most : item.count ≤ 1048576
-
-pub record IsScheduleOf (parts : PlanParts) (schedule : Schedule) : Type 0 where
-  pub items : Each (IsItemOf parts) schedule.items
-  pub unwritten : schedule.written ≡ false → schedule.items ≡ []
 
 -- an item without the number of its line
 abbrev pub unnumbered : Do → Do
@@ -53,5 +42,5 @@ pub record ReadsAs (read : Reading) (parts : PlanParts) (schedule : Schedule) : 
   pub same : SameSchedule again schedule
 
 abbrev pub APlansTextIsRead : Type 0
-APlansTextIsRead = (parts : PlanParts) (schedule : Schedule) → IsPlan parts → AreNamed parts → IsScheduleOf parts schedule → length (plan_text parts schedule) ≤ 4194304
+APlansTextIsRead = (parts : PlanParts) (schedule : Schedule) → IsPlan parts → AreNamed parts → IsScheduleOf parts.callers schedule → length (plan_text parts schedule) ≤ 4194304
     → ReadsAs (reading 4194304 (plan_text parts schedule)) parts schedule
