@@ -32,3 +32,6 @@ pub mod WalkBack
 pub mod PlanBack
 pub mod ScheduleBack
 pub mod TextBack
+pub mod LineFacts
+pub mod TextFacts
+pub mod WrittenFacts

@@ -15,3 +15,4 @@ pub mod OpenFields
 pub mod PlanText
 pub mod BothWays
 pub mod ReadSteps
+pub mod Written

@@ -1,25 +1,31 @@
-//! Reading a scenario: from bytes to a plan and its schedule.
+//! Reading a scenario, from bytes to a plan and its schedule, and writing a plan's one text.
 #![tactic(auto)]
 
 pub mod cause;
 pub mod draft;
+pub mod fault;
 pub mod fields;
 pub mod form;
 mod hops;
 pub mod item;
 mod judge;
 pub mod laws;
+mod lines;
 pub mod link_line;
 pub mod names;
 pub mod open_line;
 pub mod operation_lines;
+mod out;
 mod put;
 pub mod reader;
 pub mod round_lines;
 pub mod values;
+pub mod writer;
 
 pub use cause::Cause;
+pub use fault::ReportFault;
 pub use reader::{MOST_BYTES, ReadRefusal, read_plan};
+pub use writer::write_plan;
 
 #[cfg(test)]
 mod tests;

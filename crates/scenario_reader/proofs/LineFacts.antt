@@ -1,0 +1,76 @@
+-- Fields that are added to a line one after another.
+use Rattle.std.proofs.Common.{◌≡◌, ℕ, suc, zero, ◌+◌, ◌<◌, List, [], ◌∷◌, ◌++◌, length, get_or, map, take, drop, decimal, refl, sym, ap, ◌∙◌, subst, append_assoc, arith}
+use Rattle.std.proofs.lemmas.Grind.{flat_map-append}
+use Rattle.std.proofs.lemmas.List.{append-nil}
+use Rattle.std.proofs.lemmas.Option.{same_Some}
+use Rattle.std.specs.List.{slice_get}
+use Rattle.std.specs.Prelude.{Option, Some, None, codes}
+use Rattle.net_units.specs.Numbers.{link_number}
+use Rattle.hop_reservation.specs.declared.route.Hop.{Hop}
+use Rattle.call_script.specs.declared.entries.LinkEntry.{LinkEntry}
+use Rattle.call_script.specs.declared.entries.RequestEntry.{RequestEntry}
+use Rattle.scenario_reader.specs.Fields.{line_of, ended_line}
+use Rattle.scenario_reader.specs.PlanText.{best_fields, bounds_fields, route_names, with_name, contract_fields, bound_fields, open_fields, link_text, spaced, link_front}
+
+-- the bounds from one on: that bound, and those behind it
+pub bounds-next : (bounds : List ℕ) (i j : ℕ) (before after all : List ℕ) → i < length bounds → j ≡ i + 1 → after ≡ before ++ 32 ∷ decimal (get_or bounds i 0) → before ++ spaced (map decimal (drop i bounds)) ≡ all → after ++ spaced (map decimal (drop j bounds)) ≡ all
+bounds-next bounds i j before after all within next is so_far =
+    let at : j ≡ suc i = omega (arith, next) in
+    ap (λ (k : ℕ). after ++ spaced (map decimal (drop k bounds))) at ∙ ap (λ (line : List ℕ). line ++ spaced (map decimal (drop (suc i) bounds))) is
+    ∙ append_assoc before (32 ∷ decimal (get_or bounds i 0)) (spaced (map decimal (drop (suc i) bounds))) ∙ ap (λ (rest : List ℕ). before ++ rest) (sym (behind bounds i within)) ∙ so_far
+  where
+    behind : (xs : List ℕ) (n : ℕ) → n < length xs → spaced (map decimal (drop n xs)) ≡ (32 ∷ decimal (get_or xs n 0)) ++ spaced (map decimal (drop (suc n) xs))
+    behind [] n inside = absurd (omega arith)
+    behind (x ∷ xs) zero inside = refl
+    behind (x ∷ xs) (suc n) inside = behind xs n (omega arith)
+
+-- the hops of a route from one on: the name of its link, if there is one, and those behind it
+pub hops-next : (links : List LinkEntry) (route : List Hop) (i j : ℕ) (hop : Hop) (before after all : List ℕ) → slice_get route i ≡ Some hop → j ≡ i + 1 → after ≡ before ++ spaced (with_name (slice_get links (link_number hop.link)) [])
+    → before ++ spaced (route_names links (drop i route)) ≡ all → after ++ spaced (route_names links (drop j route)) ≡ all
+hops-next links route i j hop before after all found next is so_far =
+    let at : j ≡ suc i = omega (arith, next) in
+    ap (λ (k : ℕ). after ++ spaced (route_names links (drop k route))) at ∙ ap (λ (line : List ℕ). line ++ spaced (route_names links (drop (suc i) route))) is
+    ∙ append_assoc before (spaced (with_name (slice_get links (link_number hop.link)) [])) (spaced (route_names links (drop (suc i) route))) ∙ ap (λ (rest : List ℕ). before ++ rest) (sym (behind route i found)) ∙ so_far
+  where
+    one : (link : Option LinkEntry) (names : List (List ℕ)) → spaced (with_name link names) ≡ spaced (with_name link []) ++ spaced names
+    one None names = refl
+    one (Some entry) names = ap (λ (front : List ℕ). front ++ spaced names) (sym (append-nil (32 ∷ entry.name)))
+
+    behind : (hops : List Hop) (n : ℕ) → slice_get hops n ≡ Some hop → spaced (route_names links (drop n hops)) ≡ spaced (with_name (slice_get links (link_number hop.link)) []) ++ spaced (route_names links (drop (suc n) hops))
+    behind [] n at = cc
+    behind (h ∷ hops) zero at = one (slice_get links (link_number h.link)) (route_names links hops) ∙ ap (λ (x : Hop). spaced (with_name (slice_get links (link_number x.link)) []) ++ spaced (route_names links hops)) (same_Some h hop at)
+    behind (h ∷ hops) (suc n) at = behind hops n at
+
+-- ---- whole lines
+
+spaced-append : (xs ys : List (List ℕ)) → spaced (xs ++ ys) ≡ spaced xs ++ spaced ys
+spaced-append xs ys = flat_map-append (λ (field : List ℕ). 32 ∷ field) xs ys
+
+-- the first field, and then the others each behind a space
+pub line-of-fields : (field : List ℕ) (fields : List (List ℕ)) → line_of (field ∷ fields) ≡ field ++ spaced fields
+line-of-fields field [] = sym (append-nil field)
+line-of-fields field (next ∷ fields) = ap (λ (rest : List ℕ). field ++ 32 ∷ rest) (line-of-fields next fields)
+
+-- a line in three parts
+three-parts : (field : List ℕ) (first second third : List (List ℕ)) → (((field ++ spaced first) ++ spaced second) ++ spaced third) ++ 10 ∷ [] ≡ ended_line (field ∷ (first ++ (second ++ third)))
+three-parts field first second third =
+    ap (λ (line : List ℕ). line ++ 10 ∷ []) (
+    append_assoc (field ++ spaced first) (spaced second) (spaced third) ∙ append_assoc field (spaced first) (spaced second ++ spaced third)
+    ∙ ap (λ (rest : List ℕ). field ++ rest) (ap (λ (rest : List ℕ). spaced first ++ rest) (sym (spaced-append second third)) ∙ sym (spaced-append first (second ++ third)))
+    ∙ sym (line-of-fields field (first ++ (second ++ third)))
+    )
+
+pub link-line : (entry : LinkEntry) → ((link_front entry ++ spaced (best_fields entry.shape.best)) ++ spaced (bounds_fields entry.shape.bounds)) ++ 10 ∷ [] ≡ link_text entry
+unfolding link_text
+link-line entry = three-parts (codes "link")
+    (entry.name ∷ entry.from ∷ entry.to ∷ codes "rate" ∷ decimal entry.shape.rate ∷ codes "cap" ∷ decimal entry.shape.cap ∷ codes "prop" ∷ decimal entry.shape.prop ∷ codes "buffer" ∷ decimal entry.shape.buffer ∷ [])
+    (best_fields entry.shape.best) (bounds_fields entry.shape.bounds)
+
+pub open-line : (links : List LinkEntry) (entry : RequestEntry) (line : List ℕ) → line ≡ codes "open" ++ spaced (entry.name ∷ codes "route" ∷ [])
+    → (((line ++ spaced (route_names links entry.request.route)) ++ spaced (contract_fields entry.request.contract)) ++ spaced (bound_fields entry.request)) ++ 10 ∷ [] ≡ ended_line (open_fields links entry)
+open-line links entry line begins =
+    let front = entry.name ∷ codes "route" ∷ [] in
+    let route = route_names links entry.request.route in
+    ap (λ (l : List ℕ). (((l ++ spaced route) ++ spaced (contract_fields entry.request.contract)) ++ spaced (bound_fields entry.request)) ++ 10 ∷ []) begins
+    ∙ ap (λ (l : List ℕ). ((l ++ spaced (contract_fields entry.request.contract)) ++ spaced (bound_fields entry.request)) ++ 10 ∷ []) (append_assoc (codes "open") (spaced front) (spaced route) ∙ ap (λ (rest : List ℕ). codes "open" ++ rest) (sym (spaced-append front route)))
+    ∙ three-parts (codes "open") (front ++ route) (contract_fields entry.request.contract) (bound_fields entry.request)

@@ -1,0 +1,70 @@
+-- The text of a plan is that of its parts, one behind another.
+use Rattle.std.proofs.Common.{◌≡◌, ℕ, List, [], ◌∷◌, ◌++◌, map, refl, sym, ap, ◌∙◌, append_assoc}
+use Rattle.std.proofs.lemmas.Grind.{flat_map-append}
+use Rattle.std.proofs.lemmas.List.{append-nil}
+use Rattle.std.proofs.lemmas.List.Folds.{flat_map-map}
+use Rattle.std.specs.List.{flat_map, slice_get}
+use Rattle.std.specs.Prelude.{Bool, true, false, Option, Some, None, option_map}
+use Rattle.net_units.specs.Numbers.{link_number, channel_number}
+use Rattle.call_script.specs.Parts.{PlanParts}
+use Rattle.call_script.specs.declared.entries.CallerEntry.{CallerEntry}
+use Rattle.call_script.specs.declared.entries.LinkEntry.{LinkEntry}
+use Rattle.call_script.specs.declared.entries.RequestEntry.{RequestEntry}
+use Rattle.call_script.specs.declared.operations.Op.{Op}
+use Rattle.call_script.specs.declared.schedule.Do.{Do}
+use Rattle.call_script.specs.declared.schedule.Schedule.{Schedule}
+use Rattle.scenario_reader.specs.Fields.{ended_line}
+use Rattle.scenario_reader.specs.PlanText.{header_fields, link_fields, caller_fields, op_fields, op_lines, caller_lines, lines_if, text_if, rounds_fields, tail_fields, do_fields, schedule_fields, schedule_lines, plan_text, link_text, op_text, caller_text, do_text, schedule_text, head_text, rounds_text, end_text}
+use Rattle.scenario_reader.proofs.WrittenFacts.{text-of-lists}
+
+-- a caller's line, and those of its operations
+pub caller-text : (links : List LinkEntry) (requests : List RequestEntry) (caller : CallerEntry) → ended_line (caller_fields caller.name) ++ flat_map (op_text links requests) caller.ops ≡ caller_text links requests caller
+unfolding caller_text op_text
+caller-text links requests caller = ap (λ (rest : List ℕ). ended_line (caller_fields caller.name) ++ rest) (ops caller.ops) where
+  one : (line : Option (List (List ℕ))) → text_if line ≡ flat_map ended_line (lines_if line)
+  one None = refl
+  one (Some fields) = sym (append-nil (ended_line fields))
+
+  ops : (all : List Op) → flat_map (λ op. text_if (op_fields links requests op)) all ≡ flat_map ended_line (flat_map (op_lines links requests) all)
+  ops [] = refl
+  ops (op ∷ all) =
+      ap (λ (first : List ℕ). first ++ flat_map (λ o. text_if (op_fields links requests o)) all) (one (op_fields links requests op)) ∙ ap (λ (rest : List ℕ). flat_map ended_line (op_lines links requests op) ++ rest) (ops all)
+      ∙ sym (flat_map-append ended_line (op_lines links requests op) (flat_map (op_lines links requests) all))
+
+-- the schedule's lines, where it is written
+pub schedule-text : (callers : List CallerEntry) (schedule : Schedule) → schedule.written ≡ true → ended_line schedule_fields ++ flat_map (do_text callers) schedule.items ≡ schedule_text callers schedule
+unfolding schedule_text do_text
+schedule-text callers schedule written = by schedule.written schedule.items written where
+  by : (w : Bool) (items : List Do) → w ≡ true → ended_line schedule_fields ++ flat_map (do_text callers) items ≡ flat_map ended_line (schedule_lines callers (record { written = w; items = items }))
+  by true items is = ap (λ (rest : List ℕ). ended_line schedule_fields ++ rest) (sym (flat_map-map ended_line (do_fields callers) items))
+  by false items is = cc
+
+-- and else no line
+pub no-schedule-text : (callers : List CallerEntry) (schedule : Schedule) → schedule.written ≡ false → [] ≡ schedule_text callers schedule
+unfolding schedule_text
+no-schedule-text callers schedule unwritten = by schedule.written schedule.items unwritten where
+  by : (w : Bool) (items : List Do) → w ≡ false → [] ≡ flat_map ended_line (schedule_lines callers (record { written = w; items = items }))
+  by true items is = cc
+  by false items is = refl
+
+-- all lines
+pub parts-text : (parts : PlanParts) (schedule : Schedule) → head_text parts ++ (flat_map (caller_text parts.links parts.requests) parts.callers ++ end_text parts schedule) ≡ plan_text parts schedule
+unfolding plan_text head_text end_text rounds_text link_text caller_text schedule_text
+parts-text parts schedule =
+    let header = ended_line (header_fields parts.version) in
+    let callers = flat_map (caller_lines parts.links parts.requests) parts.callers in
+    let end = rounds_fields parts.rounds ∷ tail_fields parts.tail ∷ schedule_lines parts.callers schedule in
+    sym (
+    ap (λ (rest : List ℕ). header ++ rest) (
+    flat_map-append ended_line (map link_fields parts.links) (callers ++ end)
+    ∙ ap (λ (first : List ℕ). first ++ flat_map ended_line (callers ++ end)) (flat_map-map ended_line link_fields parts.links)
+    ∙ ap (λ (rest : List ℕ). flat_map (λ entry. ended_line (link_fields entry)) parts.links ++ rest) (
+    flat_map-append ended_line callers end
+    ∙ ap (λ (first : List ℕ). first ++ flat_map ended_line end) (text-of-lists ended_line (caller_lines parts.links parts.requests) parts.callers)
+    ∙ ap (λ (rest : List ℕ). flat_map (λ caller. flat_map ended_line (caller_lines parts.links parts.requests caller)) parts.callers ++ rest)
+    (sym (append_assoc (ended_line (rounds_fields parts.rounds)) (ended_line (tail_fields parts.tail)) (flat_map ended_line (schedule_lines parts.callers schedule))))
+    )
+    )
+    ∙ sym (append_assoc header (flat_map (λ entry. ended_line (link_fields entry)) parts.links)
+    (flat_map (λ caller. flat_map ended_line (caller_lines parts.links parts.requests caller)) parts.callers ++ ((ended_line (rounds_fields parts.rounds) ++ ended_line (tail_fields parts.tail)) ++ flat_map ended_line (schedule_lines parts.callers schedule))))
+    )

@@ -1,0 +1,39 @@
+//! Why a text isn't written whole.
+ghost use Rattle.std.specs.Prelude.{◌≡◌};
+
+use net_units::OutOfMemory;
+use std::alloc::AllocError;
+use thiserror::Error;
+
+/// Why a text isn't written whole. A front of it may have been.
+#[derive(Clone, Copy, Debug, PartialEq, Eq, Error)]
+pub enum ReportFault {
+    /// Memory was wanted and not there.
+    #[error("out of memory")]
+    Memory,
+    /// The sink failed, as its count of faults shows.
+    #[error("a write failed")]
+    WriteFault,
+}
+
+impl From<OutOfMemory> for ReportFault {
+    ghost use Rattle.std.specs.Prelude.{◌≡◌};
+    ghost use Rattle.scenario_reader.specs.declared.fault.ReportFault.TheVariants.{Memory};
+
+    ghost from_gives = { λ _ fault. fault ≡ Memory };
+
+    fn from(_wanted: OutOfMemory) -> ReportFault {
+        ReportFault::Memory
+    }
+}
+
+impl From<byte_ends::WriteFault> for ReportFault {
+    ghost use Rattle.std.specs.Prelude.{◌≡◌};
+    ghost use Rattle.scenario_reader.specs.declared.fault.ReportFault.TheVariants.{WriteFault};
+
+    ghost from_gives = { λ _ fault. fault ≡ WriteFault };
+
+    fn from(_failed: byte_ends::WriteFault) -> ReportFault {
+        ReportFault::WriteFault
+    }
+}

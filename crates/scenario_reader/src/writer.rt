@@ -1,0 +1,215 @@
+//! Writing a plan.
+ghost use Rattle.std.specs.Prelude.{◌≡◌, ◌≤◌, length, Err, OnOk, OnErr};
+ghost use Rattle.std.specs.List.{flat_map};
+ghost use Rattle.std.specs.Io.KnownBytes.{Appends};
+ghost use Rattle.net_units.specs.Numbers.{actor_number};
+ghost use Rattle.byte_ends.specs.Faults.{Rises};
+ghost use Rattle.byte_ends.specs.Gathering.{WritesPart};
+ghost use Rattle.link_steps.specs.Lists.{Each};
+ghost use Rattle.call_script.specs.declared.schedule.Do.{Do as Item};
+ghost use Rattle.scenario_reader.specs.PlanText.{plan_text, head_text, link_text, op_text, caller_text, do_text, rounds_text, schedule_text, end_text};
+ghost use Rattle.scenario_reader.specs.Written.{Adds};
+
+use crate::fault::ReportFault;
+use crate::lines::{
+    caller_line, do_line, header_line, link_line, op_line, rounds_line, schedule_line, tail_line,
+};
+use crate::out::write_line;
+use byte_ends::{Gather, Sink};
+use call_script::{CallerEntry, Do, LinkEntry, Op, Plan, RequestEntry, Schedule};
+use std::alloc::Global;
+
+/// Writes the one text of the plan: the header, the links, the callers each with its operations in their order, `rounds` and
+/// `tail`, and, where the schedule is written, `schedule` and its `do` lines. The schedule's actors are those of the plan.
+///
+/// The text is gathered and written in pieces of at most 65,536 bytes. `WriteFault` comes only where the sink's count of
+/// faults rose in this call. After a refusal a front of the text was written.
+pub fn write_plan<K: Sink>(
+    alloc: Global,
+    plan: &Plan,
+    schedule: &Schedule,
+    sink: &mut K,
+) -> Result<(), ReportFault>
+    requires actors { Each (λ (item : Item). actor_number item.actor ≤ length plan.now.callers) schedule.now.items }
+    ensures text { OnOk result (Appends (K.written sink.old) (K.written sink.new) (plan_text plan.now schedule.now)) }
+    ensures fault { result ≡ Err ReportFault.WriteFault → Rises (K.faults sink.old) (K.faults sink.new) }
+    ensures front { OnErr result (WritesPart (K.written sink.old) (K.written sink.new) (plan_text plan.now schedule.now)) }
+    ensures counts { K.faults sink.old ≤ K.faults sink.new }
+{
+    let mut out = Gather::new(alloc)?;
+    write_lines(alloc, &mut out, sink, plan, schedule)?;
+    out.finish(sink)?;
+    Ok(())
+}
+
+// All lines.
+fn write_lines<K: Sink>(
+    alloc: Global,
+    out: &mut Gather,
+    sink: &mut K,
+    plan: &Plan,
+    schedule: &Schedule,
+) -> Result<(), ReportFault>
+    ensures { Adds result (K.written sink.old) (K.written sink.new) out.old out.new (K.faults sink.old) (K.faults sink.new) (plan_text plan.now schedule.now) }
+{
+    write_head(alloc, out, sink, plan)?;
+    write_callers(
+        alloc,
+        out,
+        sink,
+        plan.links(),
+        plan.requests(),
+        plan.callers(),
+    )?;
+    write_end(alloc, out, sink, plan, schedule)
+}
+
+// The header and the links.
+fn write_head<K: Sink>(
+    alloc: Global,
+    out: &mut Gather,
+    sink: &mut K,
+    plan: &Plan,
+) -> Result<(), ReportFault>
+    ensures { Adds result (K.written sink.old) (K.written sink.new) out.old out.new (K.faults sink.old) (K.faults sink.new) (head_text plan.now) }
+{
+    write_line(out, sink, header_line(alloc, plan.version()))?;
+    write_links(alloc, out, sink, plan.links())
+}
+
+// What stands behind the callers.
+fn write_end<K: Sink>(
+    alloc: Global,
+    out: &mut Gather,
+    sink: &mut K,
+    plan: &Plan,
+    schedule: &Schedule,
+) -> Result<(), ReportFault>
+    ensures { Adds result (K.written sink.old) (K.written sink.new) out.old out.new (K.faults sink.old) (K.faults sink.new) (end_text plan.now schedule.now) }
+{
+    write_rounds(alloc, out, sink, plan.rounds(), plan.tail())?;
+    write_schedule(alloc, out, sink, plan.callers(), schedule)
+}
+
+fn write_links<K: Sink>(
+    alloc: Global,
+    out: &mut Gather,
+    sink: &mut K,
+    links: &[LinkEntry],
+) -> Result<(), ReportFault>
+    ensures { Adds result (K.written sink.old) (K.written sink.new) out.old out.new (K.faults sink.old) (K.faults sink.new) (flat_map link_text links.now) }
+{
+    for entry in links {
+        write_line(out, sink, link_line(alloc, entry))?;
+    }
+    Ok(())
+}
+
+fn write_callers<K: Sink>(
+    alloc: Global,
+    out: &mut Gather,
+    sink: &mut K,
+    links: &[LinkEntry],
+    requests: &[RequestEntry],
+    callers: &[CallerEntry],
+) -> Result<(), ReportFault>
+    ensures { Adds result (K.written sink.old) (K.written sink.new) out.old out.new (K.faults sink.old) (K.faults sink.new) (flat_map (caller_text links.now requests.now) callers.now) }
+{
+    for caller in callers {
+        write_caller(alloc, out, sink, links, requests, caller)?;
+    }
+    Ok(())
+}
+
+fn write_caller<K: Sink>(
+    alloc: Global,
+    out: &mut Gather,
+    sink: &mut K,
+    links: &[LinkEntry],
+    requests: &[RequestEntry],
+    caller: &CallerEntry,
+) -> Result<(), ReportFault>
+    ensures { Adds result (K.written sink.old) (K.written sink.new) out.old out.new (K.faults sink.old) (K.faults sink.new) (caller_text links.now requests.now caller.now) }
+{
+    write_line(out, sink, caller_line(alloc, caller.name))?;
+    write_ops(alloc, out, sink, links, requests, caller.ops.as_slice())
+}
+
+fn write_ops<K: Sink>(
+    alloc: Global,
+    out: &mut Gather,
+    sink: &mut K,
+    links: &[LinkEntry],
+    requests: &[RequestEntry],
+    ops: &[Op],
+) -> Result<(), ReportFault>
+    ensures { Adds result (K.written sink.old) (K.written sink.new) out.old out.new (K.faults sink.old) (K.faults sink.new) (flat_map (op_text links.now requests.now) ops.now) }
+{
+    for op in ops {
+        write_op(alloc, out, sink, links, requests, op)?;
+    }
+    Ok(())
+}
+
+fn write_op<K: Sink>(
+    alloc: Global,
+    out: &mut Gather,
+    sink: &mut K,
+    links: &[LinkEntry],
+    requests: &[RequestEntry],
+    op: &Op,
+) -> Result<(), ReportFault>
+    ensures { Adds result (K.written sink.old) (K.written sink.new) out.old out.new (K.faults sink.old) (K.faults sink.new) (op_text links.now requests.now op.now) }
+{
+    match op_line(alloc, links, requests, op) {
+        Some(line) => write_line(out, sink, line),
+        None => Ok(()),
+    }
+}
+
+fn write_rounds<K: Sink>(
+    alloc: Global,
+    out: &mut Gather,
+    sink: &mut K,
+    rounds: u64,
+    tail: u64,
+) -> Result<(), ReportFault>
+    ensures { Adds result (K.written sink.old) (K.written sink.new) out.old out.new (K.faults sink.old) (K.faults sink.new) (rounds_text rounds tail) }
+{
+    write_line(out, sink, rounds_line(alloc, rounds))?;
+    write_line(out, sink, tail_line(alloc, tail))
+}
+
+fn write_schedule<K: Sink>(
+    alloc: Global,
+    out: &mut Gather,
+    sink: &mut K,
+    callers: &[CallerEntry],
+    schedule: &Schedule,
+) -> Result<(), ReportFault>
+    ensures { Adds result (K.written sink.old) (K.written sink.new) out.old out.new (K.faults sink.old) (K.faults sink.new) (schedule_text callers.now schedule.now) }
+{
+    if !schedule.written {
+        return Ok(());
+    }
+    write_line(out, sink, schedule_line(alloc))?;
+    write_items(alloc, out, sink, callers, schedule.items.as_slice())
+}
+
+fn write_items<K: Sink>(
+    alloc: Global,
+    out: &mut Gather,
+    sink: &mut K,
+    callers: &[CallerEntry],
+    items: &[Do],
+) -> Result<(), ReportFault>
+    ensures { Adds result (K.written sink.old) (K.written sink.new) out.old out.new (K.faults sink.old) (K.faults sink.new) (flat_map (do_text callers.now) items.now) }
+{
+    for item in items {
+        write_line(out, sink, do_line(alloc, callers, item))?;
+    }
+    Ok(())
+}
+
+#[cfg(test)]
+mod tests;
