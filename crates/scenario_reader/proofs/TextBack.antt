@@ -20,7 +20,7 @@ use Rattle.call_script.specs.declared.version.Version.{Version}
 use Rattle.call_script.proofs.FitFacts.{each-at, each-by}
 use Rattle.call_script.proofs.Growing.{nothing-keeps, names-in, used-in, ranges-in, few-in}
 use Rattle.call_script.proofs.RuleFacts.{each-of, keeps-rules}
-use Rattle.scenario_reader.specs.BothWays.{HasNames, AreNamed, ReadsAs, APlansTextIsRead}
+use Rattle.scenario_reader.specs.BothWays.{HasNames, AreNamed, unnumbered, ReadsAs, APlansTextIsRead, AreOne, ATextIsOfOnePlan}
 use Rattle.scenario_reader.specs.Drafts.{Said, nothing_said, is_complete, parts_said, schedule_said}
 use Rattle.scenario_reader.specs.Fields.{line_of, ended_line}
 use Rattle.scenario_reader.specs.Kept.{IsScheduleOf}
@@ -148,3 +148,20 @@ text_is_read parts schedule plan named is few =
   where
     at_its_end : (end : ℕ) (after : Said) → is_complete after ≡ true → (if is_complete after then IsRead (parts_said after) (schedule_said after) else IsBad (suc end) cause.End) ≡ IsRead (parts_said after) (schedule_said after)
     at_its_end end after complete = rw complete refl
+
+-- what was read of one text is the same
+one_read : (parts other : PlanParts) (schedule its : Schedule) → IsRead parts schedule ≡ IsRead other its → (parts ≡ other) × (schedule ≡ its)
+one_read parts other schedule its same = (cc, cc)
+
+pub text_of_one : ATextIsOfOnePlan
+text_of_one parts other schedule its plan its_plan named its_named is its_is few same =
+    let first = text_is_read parts schedule plan named is few in
+    let second = text_is_read other its its_plan its_named its_is (subst (λ (text : List ℕ). length text ≤ 4194304) same few) in
+    let one = one_read parts other first.again second.again (sym first.is ∙ ap (reading 4194304) same ∙ second.is) in
+    record {
+      parts_same = one.0;
+      schedule_same = record {
+        written = sym first.same.written ∙ ap (λ (s : Schedule). s.written) one.1 ∙ second.same.written;
+        items = sym first.same.items ∙ ap (λ (s : Schedule). map unnumbered s.items) one.1 ∙ second.same.items;
+      };
+    }

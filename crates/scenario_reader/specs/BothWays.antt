@@ -44,3 +44,12 @@ pub record ReadsAs (read : Reading) (parts : PlanParts) (schedule : Schedule) : 
 abbrev pub APlansTextIsRead : Type 0
 APlansTextIsRead = (parts : PlanParts) (schedule : Schedule) → IsPlan parts → AreNamed parts → IsScheduleOf parts.callers schedule → length (plan_text parts schedule) ≤ 4194304
     → ReadsAs (reading 4194304 (plan_text parts schedule)) parts schedule
+
+-- two plans with one text are one plan, with one schedule up to the numbers of lines
+pub record AreOne (parts other : PlanParts) (schedule its : Schedule) : Type 0 where
+  pub parts_same : parts ≡ other
+  pub schedule_same : SameSchedule schedule its
+
+abbrev pub ATextIsOfOnePlan : Type 0
+ATextIsOfOnePlan = (parts other : PlanParts) (schedule its : Schedule) → IsPlan parts → IsPlan other → AreNamed parts → AreNamed other → IsScheduleOf parts.callers schedule → IsScheduleOf other.callers its
+    → length (plan_text parts schedule) ≤ 4194304 → plan_text parts schedule ≡ plan_text other its → AreOne parts other schedule its

@@ -1,8 +1,13 @@
 //! Laws of scenarios, each as the contract of a function that does nothing.
-ghost use Rattle.scenario_reader.specs.BothWays.{APlansTextIsRead};
+ghost use Rattle.scenario_reader.specs.BothWays.{APlansTextIsRead, ATextIsOfOnePlan};
 
 /// The text of a plan, where it has at most 4,194,304 bytes, is read as that plan and its schedule, whose items then have the
 /// numbers of their lines.
 pub fn a_plans_text_is_read()
     ensures { APlansTextIsRead }
+{}
+
+/// A text of at most 4,194,304 bytes is that of one plan, with one schedule up to the numbers of lines.
+pub fn a_text_is_of_one_plan()
+    ensures { ATextIsOfOnePlan }
 {}
