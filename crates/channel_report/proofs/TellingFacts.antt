@@ -102,3 +102,4 @@ pub ended : (a b c : Option (List ℕ)) (gathered : List ℕ) (f f' f'' : ℕ) (
 ended a b c gathered f f' f'' text (Ok done) told last = (subst (λ t. Appends a c t) (sym (append-nil _) ∙ (gathers-on a b c [] gathered [] text [] told.0 last.0).joined ∙ append-nil text) (gathers-on a b c [] gathered [] text [] told.0 last.0).appends, omega (arith, told.1, last.1))
 ended a b c gathered f f' f'' text (Err why) told last =
     (subst (WritesPart a c) (append-nil text) (gathers-then-part a b c [] gathered text [] told.0 last.0), why-later why f f' f'' told.1 last.1)
+

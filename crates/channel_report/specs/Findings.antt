@@ -1,9 +1,11 @@
--- What is found of a run before it is put into words: what each request has come to, and what each link has done.
+-- What is found of a run before it is put into words: what each request has come to, what each link has
+-- done, and the rows of its packets.
 use Rattle.std.specs.Prelude.{◌≡◌, ℕ, List, length, reverse}
 use Rattle.call_script.specs.Parts.{PlanParts}
 use Rattle.call_script.specs.Tasks.{network_of}
 use Rattle.interleave_core.specs.Runs.{IsRun}
 use Rattle.interleave_core.specs.Standing.{ActorsStand}
+use Rattle.run_record.specs.Rows.{rows_of}
 use Rattle.run_record.specs.declared.done.Done.{Done}
 use Rattle.channel_report.specs.Tallies.{AreLinkTallies}
 use Rattle.channel_report.specs.declared.findings.Findings.{Findings}
@@ -13,4 +15,5 @@ pub record AreFound (parts : PlanParts) (entries : List Done) (findings : Findin
   pub run : IsRun (network_of parts) (reverse entries)
   pub actors : ActorsStand parts findings.actors (reverse entries)
   pub links : AreLinkTallies (length parts.links) (reverse entries) findings.links.items
+  pub rows : findings.rows ≡ rows_of entries
   pub steps : findings.steps ≡ length entries

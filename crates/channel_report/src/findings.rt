@@ -2,6 +2,7 @@
 ghost use Rattle.std.specs.Prelude.{◌≡◌, IfOk, length, reverse};
 ghost use Rattle.call_script.specs.Tasks.{network_of};
 ghost use Rattle.interleave_core.specs.Runs.{IsRun};
+ghost use Rattle.run_record.specs.Rows.{rows_of};
 ghost use Rattle.channel_report.specs.Findings.{AreFound};
 
 use crate::link_lines::count_links;
@@ -9,7 +10,7 @@ use crate::link_tally::LinkTally;
 use call_script::Plan;
 use interleave_core::{Actors, replay};
 use net_units::OutOfMemory;
-use run_record::Record;
+use run_record::{HopRows, Record};
 use std::alloc::Global;
 
 // What was found of a run.
@@ -19,6 +20,8 @@ pub(crate) struct Findings {
     pub(crate) actors: Actors,
     // The counts of the links, by their numbers.
     pub(crate) links: Vec<LinkTally>,
+    // Its rows, in their order.
+    pub(crate) rows: HopRows,
     // How many steps it has.
     pub(crate) steps: usize,
 }
@@ -32,7 +35,19 @@ impl Findings {
         Ok(Findings {
             actors: replay(alloc, plan, run)?,
             links: count_links(alloc, plan, run)?,
+            rows: rows_of_run(alloc, plan, run)?,
             steps: run.entries().len(),
         })
     }
+}
+
+// The rows of a run of this plan.
+fn rows_of_run(alloc: Global, plan: &Plan, run: &Record) -> Result<HopRows, OutOfMemory>
+    requires { IsRun (network_of plan.now) (reverse run.now.entries) }
+    ensures { IfOk result (λ rows. rows ≡ rows_of run.now.entries) }
+{
+    // what these two know of their values is what the rows want
+    let _links = plan.links();
+    let _entries = run.entries();
+    run.rows(alloc)
 }

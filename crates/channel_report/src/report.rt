@@ -4,7 +4,7 @@ ghost use Rattle.call_script.specs.Tasks.{network_of};
 ghost use Rattle.interleave_core.specs.Runs.{IsRun};
 ghost use Rattle.run_record.specs.declared.done.Done.{Done as Step};
 ghost use Rattle.channel_report.specs.Findings.{AreFound};
-ghost use Rattle.channel_report.specs.Report.{end_line, link_lines, report_of, request_lines};
+ghost use Rattle.channel_report.specs.Report.{end_line, link_lines, report_of, request_lines, table_if};
 ghost use Rattle.channel_report.specs.Telling.{Tells, Writes};
 
 use crate::end_line::tell_end;
@@ -12,26 +12,29 @@ use crate::fault::ReportFault;
 use crate::findings::Findings;
 use crate::link_lines::tell_links;
 use crate::request_lines::tell_requests;
+use crate::table::tell_table;
 use crate::telling::finish;
 use byte_ends::{Gather, Sink};
 use call_script::Plan;
 use run_record::Record;
 use std::alloc::Global;
 
-/// Writes the report of a run of this plan: its requests, its links, and the number of its steps. A write fault comes only where
+/// Writes the report of a run of this plan: its requests, its links, the number of its steps, and, where it is asked for, the
+/// table of its packets. A write fault comes only where
 /// the sink's count of faults rose in this call. Where the report isn't written whole, a front of it is.
 pub fn write_report<K: Sink>(
     alloc: Global,
     plan: &Plan,
     run: &Record,
+    packets: bool,
     sink: &mut K,
 ) -> Result<(), ReportFault>
     requires { IsRun (network_of plan.now) (reverse run.now.entries) }
-    ensures { Writes result (K.written sink.old) (K.written sink.new) (K.faults sink.old) (K.faults sink.new) (report_of plan.now run.now.entries) }
+    ensures { Writes result (K.written sink.old) (K.written sink.new) (K.faults sink.old) (K.faults sink.new) (report_of plan.now run.now.entries packets) }
 {
     let findings = Findings::new(alloc, plan, run)?;
     let mut gather = Gather::new(alloc)?;
-    tell_report(alloc, plan, &findings, &mut gather, sink)?;
+    tell_report(alloc, plan, &findings, packets, &mut gather, sink)?;
     finish(gather, sink)
 }
 
@@ -40,27 +43,48 @@ fn tell_report<K: Sink>(
     alloc: Global,
     plan: &Plan,
     findings: &Findings,
+    packets: bool,
     gather: &mut Gather,
     sink: &mut K,
 ) -> Result<(), ReportFault>
     requires { (entries : List Step) × AreFound plan.now entries findings.now }
-    ensures { (entries : List Step) → AreFound plan.now entries findings.now → Tells result (K.written sink.old) (K.written sink.new) gather.old gather.new (K.faults sink.old) (K.faults sink.new) (report_of plan.now entries) }
+    ensures { (entries : List Step) → AreFound plan.now entries findings.now → Tells result (K.written sink.old) (K.written sink.new) gather.old gather.new (K.faults sink.old) (K.faults sink.new) (report_of plan.now entries packets) }
 {
     tell_requests(alloc, plan, &findings.actors, gather, sink)?;
-    tell_network(alloc, plan, findings, gather, sink)
+    tell_network(alloc, plan, findings, packets, gather, sink)
 }
 
-// Tells the lines of the links, and the last one.
+// Tells the lines of the links, and those behind them.
 fn tell_network<K: Sink>(
     alloc: Global,
     plan: &Plan,
     findings: &Findings,
+    packets: bool,
     gather: &mut Gather,
     sink: &mut K,
 ) -> Result<(), ReportFault>
     requires { (entries : List Step) × AreFound plan.now entries findings.now }
-    ensures { (entries : List Step) → AreFound plan.now entries findings.now → Tells result (K.written sink.old) (K.written sink.new) gather.old gather.new (K.faults sink.old) (K.faults sink.new) (link_lines plan.now (reverse entries) ++ end_line (length entries)) }
+    ensures { (entries : List Step) → AreFound plan.now entries findings.now → Tells result (K.written sink.old) (K.written sink.new) gather.old gather.new (K.faults sink.old) (K.faults sink.new) (link_lines plan.now (reverse entries) ++ (end_line (length entries) ++ table_if packets plan.now entries)) }
 {
     tell_links(alloc, plan, findings.links.as_slice(), gather, sink)?;
-    tell_end(alloc, findings.steps, gather, sink)
+    tell_steps(alloc, plan, findings, packets, gather, sink)
+}
+
+// Tells how many steps there were, and the table where it is asked for.
+fn tell_steps<K: Sink>(
+    alloc: Global,
+    plan: &Plan,
+    findings: &Findings,
+    packets: bool,
+    gather: &mut Gather,
+    sink: &mut K,
+) -> Result<(), ReportFault>
+    ensures { (entries : List Step) → AreFound plan.now entries findings.now → Tells result (K.written sink.old) (K.written sink.new) gather.old gather.new (K.faults sink.old) (K.faults sink.new) (end_line (length entries) ++ table_if packets plan.now entries) }
+{
+    tell_end(alloc, findings.steps, gather, sink)?;
+    if packets {
+        tell_table(alloc, plan, findings.rows.as_slice(), gather, sink)
+    } else {
+        Ok(())
+    }
 }

@@ -5,5 +5,5 @@ use Rattle.channel_report.proofs.report.write_report.Goals as goal
 pub returns : goal.returns
 returns g c =
     let entries = c.args.run.now.entries in
-    ended _ (g.K.Sink.written c.tell_report.new.sink) _ c.tell_report.new.gather _ (g.K.Sink.faults c.tell_report.new.sink) _ (report_of c.args.plan.now entries) c.finish.result
+    ended _ (g.K.Sink.written c.tell_report.new.sink) _ c.tell_report.new.gather _ (g.K.Sink.faults c.tell_report.new.sink) _ (report_of c.args.plan.now entries c.args.packets) c.finish.result
     (rw c.in_ok-gather.ensures at (c.in_ok-tell_report.ensures entries c.in_ok-findings.ensures)) c.finish.ensures

@@ -1,0 +1,82 @@
+-- Each tick of a run is told early: its clock is at most the number of the entries before it.
+use Rattle.std.proofs.Common.{◌≡◌, ℕ, suc, ◌+◌, ◌^◌, ◌<◌, ◌≤◌, List, [], ◌∷◌, ◌++◌, length, reverse, refl, sym, ap, ◌∙◌, subst, arith}
+use Rattle.std.proofs.lemmas.List.{length-reverse, reverse-append}
+use Rattle.net_units.specs.Numbers.{link_number}
+use Rattle.link_steps.specs.Lists.{Each}
+use Rattle.link_steps.specs.Replies.{reply_to, tick_reply}
+use Rattle.link_steps.specs.Scan.{clock_of, scan_of}
+use Rattle.link_steps.specs.Split.{Link}
+use Rattle.link_steps.specs.declared.asks.Ask.{Ask}
+use Rattle.link_steps.specs.declared.asks.Ask.TheVariants.{Reserve, Relax, Deny, Submit, Release, Arrive, Tick, Pour}
+use Rattle.link_steps.specs.declared.replies.Entry.{Entry}
+use Rattle.link_steps.specs.declared.replies.Reply.{Reply}
+use Rattle.link_steps.specs.declared.replies.Reply.TheVariants as Is
+use Rattle.channel_laws.specs.Reservations.{IsSendReply, IsReleased, IsArriveReply}
+use Rattle.call_script.proofs.FitFacts.{plan-fits}
+use Rattle.call_script.proofs.OwnerFacts.{all-owned}
+use Rattle.call_script.specs.Parts.{PlanParts}
+use Rattle.call_script.specs.Plans.{IsPlan}
+use Rattle.call_script.specs.Tasks.{network_of}
+use Rattle.interleave_core.specs.Answers.{IsAnswered, IsReserveReply, IsRelaxed}
+use Rattle.interleave_core.specs.Runs.{IsNext, IsRun}
+use Rattle.interleave_core.proofs.Replying.{asks-answered}
+use Rattle.interleave_core.proofs.RunLegal.{tick-answer}
+use Rattle.run_record.specs.Rows.{IsEarly}
+use Rattle.run_record.specs.Runs.{part_of}
+use Rattle.run_record.specs.declared.done.Done.{Done}
+use Rattle.channel_report.proofs.LinkFacts.{clock-most}
+use Rattle.channel_report.proofs.LinkTallies.{part-short}
+
+reserve-early : (reply : Reply) → IsReserveReply reply → IsEarly reply
+reserve-early (Is.Ticked clock full sent best_sent best_lost) is = absurd is
+reserve-early _ is = tt
+
+relax-early : (reply : Reply) → IsRelaxed reply → IsEarly reply
+relax-early (Is.Ticked clock full sent best_sent best_lost) is = absurd is
+relax-early _ is = tt
+
+send-early : (reply : Reply) → IsSendReply reply → IsEarly reply
+send-early (Is.Ticked clock full sent best_sent best_lost) is = absurd is
+send-early _ is = tt
+
+release-early : (reply : Reply) → IsReleased reply → IsEarly reply
+release-early (Is.Ticked clock full sent best_sent best_lost) is = absurd is
+release-early _ is = tt
+
+arrive-early : (reply : Reply) → IsArriveReply reply → IsEarly reply
+arrive-early (Is.Ticked clock full sent best_sent best_lost) is = absurd is
+arrive-early _ is = tt
+
+answer-early : (link : Link) (h : List Entry) (ask : Ask) (reply : Reply) → IsAnswered ask reply → reply ≡ reply_to link h ask → clock_of h < 2 ^ 63 → IsEarly reply
+answer-early link h (Reserve chan contract kind delay up_reach first next) reply answered is small = reserve-early reply answered
+answer-early link h (Relax chan level up_bound) reply answered is small = relax-early reply answered
+answer-early link h (Deny chan) reply answered is small = subst IsEarly (sym answered) tt
+answer-early link h (Submit chan count gap size) reply answered is small = send-early reply answered
+answer-early link h (Release chan upstream) reply answered is small = release-early reply answered
+answer-early link h (Arrive packet) reply answered is small = arrive-early reply answered
+answer-early link h Tick reply answered is small = subst IsEarly (sym (is ∙ tick-answer link h)) small
+answer-early link h (Pour count gap size) reply answered is small = send-early reply answered
+
+abbrev early : Done → Type 0
+early done = IsEarly done.reply
+
+run-early : (parts : PlanParts) (run : List Done) → IsPlan parts → IsRun (network_of parts) run → length run < 2 ^ 63 → Each early run
+unfolding IsRun
+run-early parts [] plan is short = tt
+run-early parts (done ∷ past) plan is short =
+    let next = is.1 in
+    let h = part_of (link_number done.link) past in
+    (answer-early next.link h done.ask done.reply (asks-answered (network_of parts) past done (plan-fits parts plan) (all-owned parts plan) is.0 next) next.answered (omega (arith, clock-most h, part-short (link_number done.link) past, short)),
+    run-early parts past plan is.0 (omega arith))
+
+each-front : {X : Type 0} (P : X → Type 0) (xs ys : List X) → Each P (xs ++ ys) → Each P xs × Each P ys
+each-front P [] ys all = (tt, all)
+each-front P (x ∷ xs) ys all = (let rest = each-front P xs ys all.1 in ((all.0, rest.0), rest.1))
+
+each-reverse : {X : Type 0} (P : X → Type 0) (xs : List X) → Each P (reverse xs) → Each P xs
+each-reverse P [] all = tt
+each-reverse P (x ∷ xs) all = (let parts = each-front P (reverse xs) (x ∷ []) (subst (Each P) (reverse-append (x ∷ []) xs) all) in (parts.1.0, each-reverse P xs parts.0))
+
+-- in the order of time
+pub entries-early : (parts : PlanParts) (entries : List Done) → IsPlan parts → IsRun (network_of parts) (reverse entries) → length entries < 2 ^ 63 → Each early entries
+entries-early parts entries plan is short = each-reverse early entries (run-early parts (reverse entries) plan is (omega (arith, length-reverse entries, short)))
