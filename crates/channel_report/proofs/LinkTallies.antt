@@ -27,6 +27,9 @@ part-short n (done ∷ past) =
       | inr off ↦ rw off (omega (arith, part-short n past))
     ]
 
+pub past-short : (entries : List Done) (i : ℕ) → length (reverse (take i entries)) ≤ length entries
+past-short entries i = omega (arith, length-reverse (take i entries), length-take i entries)
+
 pub front-short : (n : ℕ) (entries : List Done) (i : ℕ) → length (part_of n (reverse (take i entries))) ≤ length entries
 front-short n entries i = omega (arith, part-short n (reverse (take i entries)), length-reverse (take i entries), length-take i entries)
 

@@ -7,3 +7,7 @@ pub mod Telling
 pub mod Tallies
 pub mod Findings
 pub mod Table
+pub mod Sources
+pub mod ChannelTallies
+pub mod Delays
+pub mod DelayTallies

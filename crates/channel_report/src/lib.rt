@@ -5,6 +5,9 @@
 //! (`specs/Report.antt`). Times are in ticks.
 #![tactic(auto)]
 
+mod channel_tally;
+mod counts;
+mod delay_tally;
 mod end_line;
 pub mod fault;
 mod findings;
@@ -13,6 +16,7 @@ mod link_tally;
 pub mod report;
 mod request_lines;
 pub mod schedule;
+mod source_act;
 mod table;
 mod telling;
 
