@@ -4,5 +4,6 @@ pub mod LineFacts
 pub mod TickFacts
 pub mod SourceFacts
 pub mod ChannelTallies
+pub mod DelayFacts
 pub mod LinkTallies
 pub mod EarlyTicks

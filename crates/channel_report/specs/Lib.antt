@@ -11,3 +11,4 @@ pub mod Sources
 pub mod ChannelTallies
 pub mod Delays
 pub mod DelayTallies
+pub mod Channels

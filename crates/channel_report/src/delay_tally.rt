@@ -2,9 +2,10 @@
 ghost use Rattle.std.specs.Prelude.{◌≡◌, ℕ, ◌∷◌, ◌<◌, ◌^◌, [], List, IfOk, IfSome, IfNone, Some, length, reverse};
 ghost use Rattle.std.specs.List.{slice_get};
 ghost use Rattle.net_units.specs.Numbers.{channel_number};
+ghost use Rattle.call_script.specs.Plans.{IsPlan};
 ghost use Rattle.call_script.specs.declared.entries.RequestEntry.{RequestEntry as Asked};
 ghost use Rattle.run_record.specs.declared.rows.HopRow.{HopRow as Row};
-ghost use Rattle.channel_report.specs.Delays.{delay_by, first_in, nearer};
+ghost use Rattle.channel_report.specs.Delays.{delay_by, delay_from, first_in, is_same_packet, nearer};
 ghost use Rattle.channel_report.specs.DelayTallies.{AreDelayTallies};
 
 use call_script::Plan;
@@ -60,6 +61,7 @@ pub(crate) fn tally_delays(
     plan: &Plan,
     rows: &[HopRow],
 ) -> Result<Vec<DelayTally>, OutOfMemory>
+    requires { length rows.now < 2 ^ 62 }
     ensures { IfOk result (λ tallies. AreDelayTallies plan.now.requests (reverse rows.now) tallies.items) }
 {
     let mut tallies = vec![in alloc; DelayTally::NOTHING; plan.requests().len()]?;
@@ -92,6 +94,7 @@ fn deliver(plan: &Plan, tallies: &mut Vec<DelayTally>, first: &Option<HopRow>, r
 
 // The delay of the packet of a row, where it is delivered.
 fn delay_of(plan: &Plan, first: &Option<HopRow>, row: &HopRow) -> Option<u128>
+    ensures valid { IsPlan plan.now }
     ensures inside { IfSome result (λ delay. channel_number row.now.chan < length plan.now.requests) }
     ensures some { IfSome result (λ delay. (entry : Asked) → slice_get plan.now.requests (channel_number row.now.chan) ≡ Some entry → delay_by entry.request first.now row.now ≡ delay ∷ []) }
     ensures none { IfNone result ((entry : Asked) → slice_get plan.now.requests (channel_number row.now.chan) ≡ Some entry → delay_by entry.request first.now row.now ≡ []) }
@@ -101,10 +104,36 @@ fn delay_of(plan: &Plan, first: &Option<HopRow>, row: &HopRow) -> Option<u128>
     if row.hop != route.len() {
         return None;
     }
-    let first = first.as_ref()?;
-    if first.chan.get() != row.chan.get() || first.number != row.number {
-        return None;
+    delay_from(first, row, route.hop(route.len()).prop)
+}
+
+// The delay of the packet of a row, behind this row of a first hop, with the last link's propagation.
+fn delay_from(first: &Option<HopRow>, row: &HopRow, prop: u32) -> Option<u128>
+    ensures some { IfSome result (λ delay. delay_from prop row.now first.now ≡ delay ∷ []) }
+    ensures none { IfNone result (delay_from prop row.now first.now ≡ []) }
+{
+    match first {
+        Some(first) => delay_behind(first, row, prop),
+        None => None,
     }
-    let arrived = u128::from(row.departed) + u128::from(route.hop(route.len()).prop);
-    Some(arrived.saturating_sub(u128::from(first.at)))
+}
+
+// The same, where there is such a row.
+fn delay_behind(first: &HopRow, row: &HopRow, prop: u32) -> Option<u128>
+    ensures some { IfSome result (λ delay. delay_from prop row.now (Some first.now) ≡ delay ∷ []) }
+    ensures none { IfNone result (delay_from prop row.now (Some first.now) ≡ []) }
+{
+    if is_same_packet(row, first) {
+        let arrived = u128::from(row.departed) + u128::from(prop);
+        Some(arrived.saturating_sub(u128::from(first.at)))
+    } else {
+        None
+    }
+}
+
+// Whether two rows are of one packet.
+fn is_same_packet(row: &HopRow, other: &HopRow) -> bool
+    ensures { result ≡ is_same_packet row.now other.now }
+{
+    row.chan.get() == other.chan.get() && row.number == other.number
 }
