@@ -10,3 +10,4 @@ mod HoldSteps
 mod SetupHolds
 mod SetupGoes
 mod CallFacts
+mod TeardownFacts

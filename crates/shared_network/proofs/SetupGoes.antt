@@ -70,7 +70,7 @@ abbrev hop-at : (links : List Link) (request : Request) (i : ℕ) (hop : Hop) �
 hop-at links request i hop sound found = (let is = Each-at (IsHopOf links) request.route i hop sound.hops found in record { hop = hop; stands = found; link = is.link; is_link = is.is_link; bounds = is.bounds })
 
 -- two hops over one link are the same
-index-apart : (hops : List Hop) (a b : ℕ) (one other : Hop) → IsRoute hops → slice_get hops a ≡ Some one → slice_get hops b ≡ Some other → link_of one ≡ link_of other → a ≡ b
+pub index-apart : (hops : List Hop) (a b : ℕ) (one other : Hop) → IsRoute hops → slice_get hops a ≡ Some one → slice_get hops b ≡ Some other → link_of one ≡ link_of other → a ≡ b
 index-apart hops a b one other route first second same =
     elim (cases_lt a b) [
       | inl less ↦ absurd (clash a b one other less first second same)
@@ -97,7 +97,7 @@ hold-elsewhere chan hop own e other = ap (hold_of (channel_number chan)) (none_a
 pub hold-here : (chan : ChanNo) (hop : Hop) (own : List OwnEntry) (e : OwnEntry) → link_number e.link ≡ link_of hop → hold_at chan hop (own ++ e ∷ []) ≡ hold_with (channel_number chan) (hold_at chan hop own) e.ask e.reply
 hold-here chan hop own e on = ap (hold_of (channel_number chan)) (one_at (link_of hop) own e on) ∙ hold-more (channel_number chan) Free (own_at (link_of hop) own) e
 
-on-own : (chan : ChanNo) (one other : Hold) → cond (eqb (channel_number chan) (channel_number chan)) one other ≡ one
+pub on-own : (chan : ChanNo) (one other : Hold) → cond (eqb (channel_number chan) (channel_number chan)) one other ≡ one
 on-own chan one other = ap (λ b. cond b one other) (eq-eqb (channel_number chan) (channel_number chan) refl)
 
 -- ---- the ask goes to a hop

@@ -4,6 +4,7 @@ ghost use Rattle.net_units.specs.Numbers.{channel_number};
 ghost use Rattle.link_steps.specs.Lists.{Each};
 ghost use Rattle.setup_protocol.specs.Laws.{is_accepted};
 ghost use Rattle.setup_protocol.specs.State.{outcome_of};
+ghost use Rattle.setup_protocol.specs.Teardown.{count_in};
 ghost use Rattle.link_ledger.specs.Owners.{IsOwner};
 ghost use Rattle.shared_network.specs.Added.{IsSamePass, IsLost};
 ghost use Rattle.shared_network.specs.Calls.{HasNone, IsHopOf, IsEstablished, SetsUp, TearsDown};
@@ -11,7 +12,7 @@ ghost use Rattle.shared_network.specs.Ready.{MayStep, GoesOn};
 
 use crate::network::Network;
 use link_ledger::{Home, Pass, StepFault};
-use link_steps::LinkStep;
+use link_steps::{LinkStep, Reply};
 use net_units::Gate;
 use setup_protocol::{Request, Setup, Teardown, Verdict};
 use std::sync::Wait;
@@ -55,5 +56,55 @@ impl<L: LinkStep + Send, H: Home> Network<L, H> {
             Some(verdict) => Ok(verdict),
             None => unreachable!(),
         }
+    }
+
+    /// Releases an established channel at all hops of its route, in their order, and answers the count of packets that the
+    /// first hop has taken or still takes. The pass's actor owns the channel, this pass's setup of the request was accepted,
+    /// and it hasn't torn it down (`established`). It may wait for each link.
+    ///
+    /// The pass has its seat, isn't spent (`pass`) and has drawn fewer than 2^40 - 64 stamps. After want of memory it is
+    /// spent, the steps made so far stand in the journals, and nothing further is claimed of the channel.
+    pub fn teardown<W: Wait, G: Gate>(
+        &self,
+        rt: &W,
+        pass: &mut Pass,
+        gate: &G,
+        request: &Request,
+    ) -> Result<u64, StepFault>
+        requires pass { MayStep H.table H.owners H.links pass.old }
+        requires few { length pass.old.view.drawn < 2 ^ 40 - 64 }
+        requires owned { IsOwner H.owners pass.old.actor request.now.chan }
+        requires hops { Each (IsHopOf H.links) request.now.route }
+        requires established { IsEstablished request.now pass.old.own }
+        ensures torn { IfOk result (λ count. TearsDown request.now pass.old pass.new count) }
+        ensures ready { OnOk result (GoesOn H.table H.owners H.links pass.old pass.new) }
+        ensures lost { OnErr result (IsLost pass.new) }
+        ensures same { IsSamePass pass.old pass.new }
+    {
+        // Read for what it says of every route.
+        let _valid = request.route.len();
+        let mut teardown = Teardown::new(request.chan, request.route);
+        let mut count = None;
+        while let Some((link, ask)) = teardown.next_ask() {
+            let reply = self.step_at(rt, pass, gate, link, &ask)?;
+            count = Some(count.unwrap_or(count_told(&reply)));
+            if teardown.take(reply).is_err() {
+                unreachable!()
+            }
+        }
+        match count {
+            Some(count) => Ok(count),
+            None => unreachable!(),
+        }
+    }
+}
+
+// The count of packets that a release was answered with.
+fn count_told(reply: &Reply) -> u64
+    ensures { result ≡ count_in reply.now }
+{
+    match reply {
+        Reply::Closing { count, .. } => *count,
+        _ => 0,
     }
 }

@@ -1,0 +1,60 @@
+use Rattle.std.proofs.Common.{◌≡◌, ℕ, ◌∷◌, ◌++◌, true, map, sym, ap, ◌∙◌, subst}
+use Rattle.net_units.specs.declared.numbers.ChanNo.{ChanNo}
+use Rattle.std.specs.Prelude.{Some}
+use Rattle.std.specs.Option.{unwrap_or}
+use Rattle.hop_reservation.specs.declared.route.Hop.{Hop}
+use Rattle.setup_protocol.specs.Teardown.{next_release}
+use Rattle.shared_network.specs.Calls.{reply_in}
+use Rattle.shared_network.proofs.CallFacts.{ok-no-err, on-ok}
+use Rattle.shared_network.proofs.TeardownFacts.{tearing-first, to-below, fits-there, owned-there, next-there, closing-there, made-more, tearing-next, torn-down, some-told}
+use Rattle.shared_network.proofs.network.Network.teardown.Goals as goal
+
+pub loop-link-init : goal.loop-link-init
+loop-link-init g c = tearing-first g.H.Home.table g.H.Home.owners g.H.Home.links c.args.request.now c.args.pass.now c.new-teardown.result c.len-valid.ensures.valid c.requires.hops c.requires.pass c.requires.established c.new-teardown.ensures.chan c.new-teardown.ensures.route c.new-teardown.ensures.stands
+
+pub step_at-requires-clause-link : goal.step_at-requires-clause-link
+step_at-requires-clause-link g c κs within =
+    let so = c.loop-link.invariant in
+    let asks = (λ i. next_release (sym so.chan_is i) (sym so.route_is i) (map reply_in so.entries)) ∙ sym (c.in-Some.ensures.next (map reply_in so.entries) so.releases) in
+    to-below _ _ _ _ _ _ _ _ so c.in-Some.link c.in-Some.ask asks
+
+pub step_at-requires-clause-fits : goal.step_at-requires-clause-fits
+step_at-requires-clause-fits g c κs within =
+    let so = c.loop-link.invariant in
+    let asks = (λ i. next_release (sym so.chan_is i) (sym so.route_is i) (map reply_in so.entries)) ∙ sym (c.in-Some.ensures.next (map reply_in so.entries) so.releases) in
+    fits-there _ _ _ _ _ _ _ _ so c.in-Some.link c.in-Some.ask asks
+
+pub step_at-requires-clause-owned : goal.step_at-requires-clause-owned
+step_at-requires-clause-owned g c κs within =
+    let so = c.loop-link.invariant in
+    let asks = (λ i. next_release (sym so.chan_is i) (sym so.route_is i) (map reply_in so.entries)) ∙ sym (c.in-Some.ensures.next (map reply_in so.entries) so.releases) in
+    owned-there _ _ _ _ _ _ _ _ so c.in-Some.link c.in-Some.ask asks c.requires.owned
+
+pub step_at-requires-clause-next : goal.step_at-requires-clause-next
+step_at-requires-clause-next g c κs within =
+    let so = c.loop-link.invariant in
+    let asks = (λ i. next_release (sym so.chan_is i) (sym so.route_is i) (map reply_in so.entries)) ∙ sym (c.in-Some.ensures.next (map reply_in so.entries) so.releases) in
+    next-there _ _ _ _ _ _ _ _ so c.in-Some.link c.in-Some.ask asks
+
+pub unreachable-requires : goal.unreachable-requires
+unreachable-requires g c =
+    let so = c.loop-link.invariant in
+    let asks = (λ i. next_release (sym so.chan_is i) (sym so.route_is i) (map reply_in so.entries)) ∙ sym (c.in-Some.ensures.next (map reply_in so.entries) so.releases) in
+    let expected = closing-there _ _ _ _ _ _ _ _ so c.in-Some.link c.in-Some.ask asks _ c.in_ok-reply.reply c.in_ok-reply.ensures.splits c.requires.owned c.in_ok-reply.ensures.made c.in_ok-reply.ensures.ready c.in_ok-reply.ensures.same in
+    ok-no-err c.take.result (c.take.ensures.expected.1 expected) c.if-is_err.ensures.value
+
+pub loop-link-smaller : goal.loop-link-smaller
+loop-link-smaller g c =
+    let so = c.loop-link.invariant in
+    let asks = (λ i. next_release (sym so.chan_is i) (sym so.route_is i) (map reply_in so.entries)) ∙ sym (c.in-Some.ensures.next (map reply_in so.entries) so.releases) in
+    let expected = closing-there _ _ _ _ _ _ _ _ so c.in-Some.link c.in-Some.ask asks _ c.in_ok-reply.reply c.in_ok-reply.ensures.splits c.requires.owned c.in_ok-reply.ensures.made c.in_ok-reply.ensures.ready c.in_ok-reply.ensures.same in
+    let stands = on-ok c.take.result (c.take.ensures.expected.1 expected) c.take.ensures.taken (map reply_in so.entries) so.releases in
+    made-more _ _ _ _ _ _ _ _ so c.in-Some.link c.in-Some.ask asks _ c.in_ok-reply.reply c.in_ok-reply.ensures.splits c.requires.owned c.in_ok-reply.ensures.made c.in_ok-reply.ensures.ready c.in_ok-reply.ensures.same c.take.new.self c.take.ensures.chan c.take.ensures.route stands
+
+pub loop-link-preserved : goal.loop-link-preserved
+loop-link-preserved g c =
+    let so = c.loop-link.invariant in
+    let asks = (λ i. next_release (sym so.chan_is i) (sym so.route_is i) (map reply_in so.entries)) ∙ sym (c.in-Some.ensures.next (map reply_in so.entries) so.releases) in
+    let expected = closing-there _ _ _ _ _ _ _ _ so c.in-Some.link c.in-Some.ask asks _ c.in_ok-reply.reply c.in_ok-reply.ensures.splits c.requires.owned c.in_ok-reply.ensures.made c.in_ok-reply.ensures.ready c.in_ok-reply.ensures.same in
+    let stands = on-ok c.take.result (c.take.ensures.expected.1 expected) c.take.ensures.taken (map reply_in so.entries) so.releases in
+    tearing-next _ _ _ _ _ _ _ _ so c.in-Some.link c.in-Some.ask asks _ c.in_ok-reply.reply c.in_ok-reply.ensures.splits c.requires.owned c.in_ok-reply.ensures.made c.in_ok-reply.ensures.ready c.in_ok-reply.ensures.same c.take.new.self c.take.ensures.chan c.take.ensures.route stands _ (ap (λ n. Some n) (c.unwrap_or.ensures ∙ ap (unwrap_or c.loop-link.count) c.count_told.ensures))
