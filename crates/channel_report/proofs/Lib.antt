@@ -5,5 +5,6 @@ pub mod TickFacts
 pub mod SourceFacts
 pub mod ChannelTallies
 pub mod DelayFacts
+pub mod ChannelFacts
 pub mod LinkTallies
 pub mod EarlyTicks

@@ -1,10 +1,12 @@
 -- The line of a channel that was established: the packets that its source has offered, whether these keep the contract, the packets
 -- delivered, the least and the greatest of their delays, and the sends that were refused.
 use Rattle.std.specs.Prelude.{ℕ, Bool, true, false, if◌then◌else◌, Option, Some, None, List, [], ◌∷◌, length, codes}
+use Rattle.std.specs.List.{flat_map}
 use Rattle.std.specs.Fmt.{decimal}
 use Rattle.traffic_contract.specs.Keeping.{keeps}
 use Rattle.net_units.specs.Numbers.{channel_number}
 use Rattle.setup_protocol.specs.Setup.{Outcome, Accepts, Denies}
+use Rattle.call_script.specs.Parts.{PlanParts}
 use Rattle.call_script.specs.declared.entries.RequestEntry.{RequestEntry}
 use Rattle.run_record.specs.Runs.{part_of}
 use Rattle.run_record.specs.declared.done.Done.{Done}
@@ -62,3 +64,7 @@ is_accepted (Some (Denies deny)) = false
 abbrev pub channel_line : List HopRow → List Done → RequestEntry → List ℕ
 channel_line rows run entry = if is_accepted (verdict_in run entry) then established_line rows run entry else []
 
+
+-- those of all requests of a plan
+abbrev pub channel_lines : PlanParts → List HopRow → List Done → List ℕ
+channel_lines parts rows run = flat_map (channel_line rows run) parts.requests

@@ -1,12 +1,14 @@
 -- What is found of a run before it is put into words: what each request has come to, what each link has
--- done, and the rows of its packets.
-use Rattle.std.specs.Prelude.{◌≡◌, ℕ, List, length, reverse}
+-- done, what the sources of the channels have planned, the rows of the packets, and their delays.
+use Rattle.std.specs.Prelude.{◌≡◌, ℕ, ◌^◌, ◌<◌, List, length, reverse}
 use Rattle.call_script.specs.Parts.{PlanParts}
 use Rattle.call_script.specs.Tasks.{network_of}
 use Rattle.interleave_core.specs.Runs.{IsRun}
 use Rattle.interleave_core.specs.Standing.{ActorsStand}
 use Rattle.run_record.specs.Rows.{rows_of}
 use Rattle.run_record.specs.declared.done.Done.{Done}
+use Rattle.channel_report.specs.ChannelTallies.{AreChannelTallies}
+use Rattle.channel_report.specs.DelayTallies.{AreDelayTallies}
 use Rattle.channel_report.specs.Tallies.{AreLinkTallies}
 use Rattle.channel_report.specs.declared.findings.Findings.{Findings}
 
@@ -16,4 +18,7 @@ pub record AreFound (parts : PlanParts) (entries : List Done) (findings : Findin
   pub actors : ActorsStand parts findings.actors (reverse entries)
   pub links : AreLinkTallies (length parts.links) (reverse entries) findings.links.items
   pub rows : findings.rows ≡ rows_of entries
+  pub channels : AreChannelTallies parts.requests (reverse entries) findings.channels.items
+  pub delays : AreDelayTallies parts.requests (reverse (rows_of entries)) findings.delays.items
+  pub short : length entries < 2 ^ 60
   pub steps : findings.steps ≡ length entries

@@ -5,7 +5,9 @@ ghost use Rattle.interleave_core.specs.Runs.{IsRun};
 ghost use Rattle.run_record.specs.Rows.{rows_of};
 ghost use Rattle.channel_report.specs.Findings.{AreFound};
 
-use crate::link_lines::count_links;
+use crate::channel_tally::ChannelTally;
+use crate::counts::count_run;
+use crate::delay_tally::{DelayTally, tally_delays};
 use crate::link_tally::LinkTally;
 use call_script::Plan;
 use interleave_core::{Actors, replay};
@@ -20,6 +22,10 @@ pub(crate) struct Findings {
     pub(crate) actors: Actors,
     // The counts of the links, by their numbers.
     pub(crate) links: Vec<LinkTally>,
+    // What is kept of the sources of the requests' channels, by their numbers.
+    pub(crate) channels: Vec<ChannelTally>,
+    // The delays of the requests' channels, by their numbers.
+    pub(crate) delays: Vec<DelayTally>,
     // Its rows, in their order.
     pub(crate) rows: HopRows,
     // How many steps it has.
@@ -32,10 +38,15 @@ impl Findings {
         requires { IsRun (network_of plan.now) (reverse run.now.entries) }
         ensures { IfOk result (AreFound plan.now run.now.entries) }
     {
+        let counts = count_run(alloc, plan, run)?;
+        let rows = rows_of_run(alloc, plan, run)?;
+        let delays = tally_delays(alloc, plan, rows.as_slice())?;
         Ok(Findings {
             actors: replay(alloc, plan, run)?,
-            links: count_links(alloc, plan, run)?,
-            rows: rows_of_run(alloc, plan, run)?,
+            links: counts.links,
+            channels: counts.channels,
+            delays,
+            rows,
             steps: run.entries().len(),
         })
     }

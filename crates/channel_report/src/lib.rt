@@ -5,6 +5,7 @@
 //! (`specs/Report.antt`). Times are in ticks.
 #![tactic(auto)]
 
+mod channel_lines;
 mod channel_tally;
 mod counts;
 mod delay_tally;
@@ -19,6 +20,7 @@ pub mod schedule;
 mod source_act;
 mod table;
 mod telling;
+mod words;
 
 pub use fault::ReportFault;
 pub use report::write_report;

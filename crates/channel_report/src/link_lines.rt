@@ -3,8 +3,6 @@ ghost use Rattle.std.specs.Prelude.{◌≡◌, ◌++◌, ◌<◌, ◌≤◌, ◌
 ghost use Rattle.std.specs.List.{slice_get};
 ghost use Rattle.net_units.specs.Numbers.{link_number};
 ghost use Rattle.link_steps.specs.declared.replies.Entry.{Entry};
-ghost use Rattle.call_script.specs.Tasks.{network_of};
-ghost use Rattle.interleave_core.specs.Runs.{IsRun};
 ghost use Rattle.run_record.specs.declared.done.Done.{Done as Step};
 ghost use Rattle.channel_report.specs.Links.{takes_best, told_link};
 ghost use Rattle.channel_report.specs.Report.{link_lines};
@@ -16,8 +14,7 @@ use crate::link_tally::LinkTally;
 use crate::telling::tell;
 use byte_ends::{Gather, Sink};
 use call_script::{LinkEntry, Plan, Version};
-use net_units::{Name, OutOfMemory};
-use run_record::Record;
+use net_units::Name;
 use std::alloc::{AllocError, Global};
 
 // Tells the lines of all links, by these counts.
@@ -83,21 +80,4 @@ fn push_link(text: &mut String, name: Name, best: bool, tally: &LinkTally) -> Re
         )?;
     }
     writeln!(text)
-}
-
-// The counts of the links of a plan, in a run of it.
-pub(crate) fn count_links(
-    alloc: Global,
-    plan: &Plan,
-    run: &Record,
-) -> Result<Vec<LinkTally>, OutOfMemory>
-    requires { IsRun (network_of plan.now) (reverse run.now.entries) }
-    ensures { IfOk result (λ tallies. AreLinkTallies (length plan.now.links) (reverse run.now.entries) tallies.items) }
-{
-    let mut tallies = vec![in alloc; LinkTally::NOTHING; plan.links().len()]?;
-    for done in run.entries() {
-        let link = usize::from(done.link.get());
-        tallies[link].add(&done.ask, &done.reply);
-    }
-    Ok(tallies)
 }
