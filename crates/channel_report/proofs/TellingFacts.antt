@@ -103,3 +103,7 @@ ended a b c gathered f f' f'' text (Ok done) told last = (subst (λ t. Appends a
 ended a b c gathered f f' f'' text (Err why) told last =
     (subst (WritesPart a c) (append-nil text) (gathers-then-part a b c [] gathered text [] told.0 last.0), why-later why f f' f'' told.1 last.1)
 
+-- want of memory before anything is written
+pub nothing-written : (result : Result (Unit {0}) ReportFault) (a : Option (List ℕ)) (f : ℕ) (text : List ℕ) → IsErrAnd result (λ fault. fault ≡ Memory) → Writes result a a f f text
+nothing-written (Ok done) a f text is = absurd is
+nothing-written (Err fault) a f text is = (record { front = []; rest = text; appends = Appends-nil a; joined = refl }, subst (λ (e : ReportFault). IsWhy e f f) (sym is) (omega arith))

@@ -25,3 +25,6 @@ mod words;
 pub use fault::ReportFault;
 pub use report::write_report;
 pub use schedule::write_schedule;
+
+#[cfg(test)]
+mod tests;

@@ -3,10 +3,13 @@ ghost use Rattle.std.specs.Prelude.{◌++◌, List, length, reverse};
 ghost use Rattle.call_script.specs.Tasks.{network_of};
 ghost use Rattle.interleave_core.specs.Runs.{IsRun};
 ghost use Rattle.run_record.specs.declared.done.Done.{Done as Step};
+ghost use Rattle.run_record.specs.Rows.{rows_of};
+ghost use Rattle.channel_report.specs.Channels.{channel_lines};
 ghost use Rattle.channel_report.specs.Findings.{AreFound};
 ghost use Rattle.channel_report.specs.Report.{end_line, link_lines, report_of, request_lines, table_if};
 ghost use Rattle.channel_report.specs.Telling.{Tells, Writes};
 
+use crate::channel_lines::tell_channels;
 use crate::end_line::tell_end;
 use crate::fault::ReportFault;
 use crate::findings::Findings;
@@ -19,7 +22,7 @@ use call_script::Plan;
 use run_record::Record;
 use std::alloc::Global;
 
-/// Writes the report of a run of this plan: its requests, its links, the number of its steps, and, where it is asked for, the
+/// Writes the report of a run of this plan: its requests, its established channels, its links, the number of its steps, and, where it is asked for, the
 /// table of its packets. A write fault comes only where
 /// the sink's count of faults rose in this call. Where the report isn't written whole, a front of it is.
 pub fn write_report<K: Sink>(
@@ -51,6 +54,22 @@ fn tell_report<K: Sink>(
     ensures { (entries : List Step) → AreFound plan.now entries findings.now → Tells result (K.written sink.old) (K.written sink.new) gather.old gather.new (K.faults sink.old) (K.faults sink.new) (report_of plan.now entries packets) }
 {
     tell_requests(alloc, plan, &findings.actors, gather, sink)?;
+    tell_carried(alloc, plan, findings, packets, gather, sink)
+}
+
+// Tells the lines of the channels, and those behind them.
+fn tell_carried<K: Sink>(
+    alloc: Global,
+    plan: &Plan,
+    findings: &Findings,
+    packets: bool,
+    gather: &mut Gather,
+    sink: &mut K,
+) -> Result<(), ReportFault>
+    requires { (entries : List Step) × AreFound plan.now entries findings.now }
+    ensures { (entries : List Step) → AreFound plan.now entries findings.now → Tells result (K.written sink.old) (K.written sink.new) gather.old gather.new (K.faults sink.old) (K.faults sink.new) (channel_lines plan.now (rows_of entries) (reverse entries) ++ (link_lines plan.now (reverse entries) ++ (end_line (length entries) ++ table_if packets plan.now entries))) }
+{
+    tell_channels(alloc, plan, findings, gather, sink)?;
     tell_network(alloc, plan, findings, packets, gather, sink)
 }
 
