@@ -16,6 +16,7 @@ pub mod LinkMay
 pub mod OpenMay
 pub mod OpMay
 pub mod SayFacts
+pub mod ReadFacts
 pub mod FieldText
 pub mod NumberText
 pub mod LineText
@@ -25,7 +26,6 @@ pub mod LinesBack
 pub mod OpenBack
 pub mod NamedBack
 pub mod SaysBack
-pub mod ReadFacts
 pub mod LineFields
 pub mod ReadsBack
 pub mod WalkBack

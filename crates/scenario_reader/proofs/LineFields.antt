@@ -1,5 +1,5 @@
 -- The lines of a plan are made of fields.
-use Rattle.std.proofs.Common.{◌≡◌, ℕ, suc, zero, ◌+◌, ◌<◌, ◌≤◌, ◌^◌, Bool, true, false, ◌&&◌, nat_eq, List, [], ◌∷◌, ◌++◌, length, map, get_or, Option, Some, None, decimal, codes, refl, sym, ◌∙◌, ap, arith}
+use Rattle.std.proofs.Common.{◌≡◌, ℕ, suc, ◌<◌, ◌≤◌, ◌^◌, Bool, true, false, nat_eq, List, [], ◌∷◌, ◌++◌, length, map, get_or, Option, decimal, codes, refl, ◌∙◌, ap, arith}
 use Rattle.std.specs.Prelude.{if◌then◌else◌}
 use Rattle.std.proofs.lemmas.Bool.{and_from, and_parts}
 use Rattle.std.proofs.lemmas.List.Folds.{list_all-append}
@@ -16,7 +16,7 @@ use Rattle.call_script.specs.declared.entries.RequestEntry.{RequestEntry}
 use Rattle.call_script.proofs.RuleFacts.{from-low}
 use Rattle.scenario_reader.specs.BothWays.{HasNames}
 use Rattle.scenario_reader.specs.Fields.{is_field, are_fields}
-use Rattle.scenario_reader.specs.PlanText.{best_fields, bounds_fields, link_fields, caller_fields, with_name, route_names, contract_fields, control_fields, bound_fields, open_fields, send_fields, close_fields, pour_fields, rounds_fields, tail_fields, do_fields}
+use Rattle.scenario_reader.specs.PlanText.{best_fields, bounds_fields, link_fields, caller_fields, with_name, route_names, contract_fields, control_fields, bound_fields, open_fields, send_fields, close_fields, pour_fields, rounds_fields, tail_fields}
 use Rattle.scenario_reader.proofs.FieldText.{name_field, number_field}
 use Rattle.scenario_reader.proofs.LinesBack.{ArePackets}
 use Rattle.scenario_reader.proofs.OpenBack.{IsHopHere}

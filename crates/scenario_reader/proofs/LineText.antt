@@ -1,10 +1,9 @@
 -- Lines of fields are the whole lines of their bytes.
-use Rattle.std.proofs.Common.{◌≡◌, ◌≢◌, ℕ, zero, suc, ◌+◌, ◌-◌, ◌≤◌, ◌==◌, Bool, true, false, not, List, [], ◌∷◌, ◌++◌, length, map, flat_map, refl, sym, ◌∙◌, ap, inl, inr, arith, append_assoc, length-append}
-use Rattle.std.proofs.lemmas.Bool.{cases_Bool, cases_lt, eqb-true}
-use Rattle.byte_ends.specs.WholeLines.{feed, with_front, whole_lines, all_given, ending_from, ending, Outlook, outlook}
+use Rattle.std.proofs.Common.{◌≡◌, ℕ, ◌+◌, ◌-◌, ◌≤◌, true, false, List, [], ◌∷◌, ◌++◌, length, map, flat_map, refl, ◌∙◌, ap, arith, append_assoc, length-append}
+use Rattle.byte_ends.specs.WholeLines.{feed, whole_lines, all_given, ending, Outlook, outlook}
 use Rattle.link_steps.specs.Lists.{Each}
 use Rattle.scenario_reader.specs.Fields.{line_of, are_fields, ended_line}
-use Rattle.byte_ends.proofs.Outlooks.{whole_lines-line, ending_from-line, ending_from-too_long}
+use Rattle.byte_ends.proofs.Outlooks.{whole_lines-line, ending_from-line}
 use Rattle.scenario_reader.proofs.FieldText.{line_no_feed}
 
 -- each line is made of fields

@@ -1,34 +1,28 @@
 -- The lines of a plan but those of links and opens pass, and say what they are of.
-use Rattle.std.proofs.Common.{◌≡◌, ℕ, suc, zero, ◌+◌, ◌*◌, ◌-◌, ◌<◌, ◌≤◌, ◌^◌, ◌⊎◌, Bool, true, false, not, nat_eq, nat_lt, nat_le, List, [], ◌∷◌, ◌++◌, length, map, Option, Some, None, Ok, decimal, codes, refl, sym, ◌∙◌, ap, subst, arith, inl, inr}
-use Rattle.std.specs.Prelude.{◌||◌, ◌&&◌, option_map, is_some, position, find, if◌then◌else◌}
-use Rattle.std.proofs.lemmas.Bool.{le-leb, lt-ltb, eq-eqb, cases_Bool, not-true, not_from_false, and_from}
-use Rattle.std.specs.List.{slice_get, list_any}
-use Rattle.std.specs.Cmp.Lexicographic.{pointwise}
-use Rattle.net_units.specs.Numbers.{link_number, actor_number, channel_number}
+use Rattle.std.proofs.Common.{◌≡◌, ℕ, ◌+◌, ◌*◌, ◌<◌, ◌≤◌, true, false, not, nat_lt, nat_le, List, [], ◌∷◌, length, Option, Some, None, decimal, codes, refl, sym, ◌∙◌, ap, subst, arith}
+use Rattle.std.specs.Prelude.{is_some}
+use Rattle.std.proofs.lemmas.Bool.{le-leb, lt-ltb, not_from_false}
+use Rattle.std.specs.List.{list_any}
+use Rattle.net_units.specs.Numbers.{channel_number}
 use Rattle.net_units.specs.Text.{is_name}
-use Rattle.net_units.specs.declared.numbers.ActorNo.{ActorNo}
 use Rattle.net_units.specs.declared.numbers.ChanNo.{ChanNo}
 use Rattle.net_units.specs.declared.numbers.LinkNo.{LinkNo}
 use Rattle.call_script.specs.Growing.{last_ops}
-use Rattle.call_script.specs.Rules.{link_names, caller_names, hops_of, load_in, takes_best_effort, packets_in_range, is_named, closes}
-use Rattle.call_script.specs.declared.entries.CallerEntry.{CallerEntry}
+use Rattle.call_script.specs.Rules.{caller_names, hops_of, load_in, takes_best_effort, packets_in_range, closes}
 use Rattle.call_script.specs.declared.entries.LinkEntry.{LinkEntry}
 use Rattle.call_script.specs.declared.entries.RequestEntry.{RequestEntry}
-use Rattle.call_script.specs.declared.operations.Op.{Op}
 use Rattle.call_script.specs.declared.operations.Op.TheVariants as op
-use Rattle.call_script.specs.declared.schedule.Do.{Do}
 use Rattle.call_script.proofs.RuleFacts.{packets-fit}
 use Rattle.scenario_reader.specs.Causes.{unless}
 use Rattle.scenario_reader.specs.Decimal.{value_of}
-use Rattle.scenario_reader.specs.Drafts.{Said, rounds_of, link_named, caller_named, own_request, is_closed}
-use Rattle.scenario_reader.specs.Entries.{actor_at}
+use Rattle.scenario_reader.specs.Drafts.{Said, rounds_of, link_named, own_request, is_closed}
 use Rattle.scenario_reader.specs.Fields.{field_at}
 use Rattle.scenario_reader.specs.Forms.{is_among, has_form, new_name_rule, used_name_rule, number_rule}
-use Rattle.scenario_reader.specs.Grammar.{caller_form, caller_rule, send_form, packets_rule, is_closed_request, load_rule, send_rule, send_said, close_form, close_rule, close_said, pour_form, pour_rule, pour_said, rounds_form, rounds_rule, are_few_ticks, tail_form, tail_rule, do_form, is_plane, actor_rule, actor_named, do_rule, do_said}
-use Rattle.scenario_reader.specs.PlanText.{caller_fields, send_fields, close_fields, pour_fields, rounds_fields, tail_fields, actor_field, do_fields}
+use Rattle.scenario_reader.specs.Grammar.{caller_form, caller_rule, send_form, packets_rule, is_closed_request, load_rule, send_rule, send_said, close_form, close_rule, close_said, pour_form, pour_rule, pour_said, rounds_form, rounds_rule, are_few_ticks, tail_form, tail_rule}
+use Rattle.scenario_reader.specs.PlanText.{caller_fields, send_fields, close_fields, pour_fields, rounds_fields, tail_fields}
 use Rattle.scenario_reader.specs.declared.cause.Cause.TheVariants as cause
 use Rattle.scenario_reader.proofs.NumberText.{value-decimal, decimal_passes}
-use Rattle.scenario_reader.proofs.RulesBack.{pass_all, unless_holds, new_name_back, used_name_back, name_no_word}
+use Rattle.scenario_reader.proofs.RulesBack.{pass_all, unless_holds, new_name_back, used_name_back}
 
 -- ---- callers, rounds and tail
 

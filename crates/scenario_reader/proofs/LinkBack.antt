@@ -1,18 +1,14 @@
 -- The line of a plan's link passes, and says that link.
-use Rattle.std.proofs.Common.{◌≡◌, ℕ, ◌+◌, ◌<◌, ◌≤◌, ◌^◌, Bool, true, false, not, ◌&&◌, nat_eq, nat_lt, nat_le, List, [], ◌∷◌, ◌++◌, length, map, get_or, drop, Option, Some, None, decimal, codes, refl, sym, ◌∙◌, ap, arith, inl, inr}
-use Rattle.std.specs.Prelude.{◌||◌, option_map, if◌then◌else◌}
-use Rattle.std.proofs.lemmas.Bool.{le-leb, lt-ltb, and_from, and_parts, cases_Bool, eqb-true, eqb-false, not-true, or_right}
+use Rattle.std.proofs.Common.{◌≡◌, ℕ, ◌<◌, ◌≤◌, Bool, true, false, nat_eq, nat_lt, List, [], ◌∷◌, length, map, Some, None, decimal, codes, refl, sym, ◌∙◌, ap, arith}
+use Rattle.std.specs.Prelude.{if◌then◌else◌}
+use Rattle.std.proofs.lemmas.Bool.{le-leb, lt-ltb, and_parts, eqb-true, eqb-false}
 use Rattle.std.proofs.lemmas.List.{drop_all, length-map}
 use Rattle.net_units.specs.Numbers.{link_number}
 use Rattle.net_units.specs.Quotient.{ceil_quotient}
 use Rattle.net_units.specs.LevelBounds.{bound_at}
-use Rattle.net_units.specs.Text.{is_name}
 use Rattle.net_units.proofs.BoundFacts.{AreBounds, bounds_parts}
 use Rattle.traffic_contract.specs.declared.admission.Test.{Test}
 use Rattle.traffic_contract.specs.declared.admission.Test.TheVariants.{Whole, Least}
-use Rattle.link_steps.specs.Shape.{is_within}
-use Rattle.link_steps.specs.declared.shape.LinkShape.{LinkShape}
-use Rattle.call_script.specs.Growing.{MayAddLink}
 use Rattle.call_script.specs.Rules.{link_has_version, link_names}
 use Rattle.call_script.specs.Versions.{test_of, has_best_effort, is_test}
 use Rattle.call_script.specs.declared.entries.LinkEntry.{LinkEntry}
@@ -20,11 +16,11 @@ use Rattle.call_script.specs.declared.version.Version.{Version}
 use Rattle.scenario_reader.specs.BothWays.{HasNames}
 use Rattle.scenario_reader.specs.Causes.{unless}
 use Rattle.scenario_reader.specs.Drafts.{Said}
-use Rattle.scenario_reader.specs.Entries.{LinkNumbers, link_at, has_rate, has_room, has_bounds, shape_of}
+use Rattle.scenario_reader.specs.Entries.{LinkNumbers, link_at, has_bounds, shape_of}
 use Rattle.scenario_reader.specs.Fields.{field_at}
-use Rattle.scenario_reader.specs.Forms.{is_word, is_among, has_form, name_rule, new_name_rule, number_rule}
-use Rattle.scenario_reader.specs.LinkLine.{plain_form, best_form, is_link_line, has_best, bound_fields, best_in, link_numbers, link_numbers_rule, best_rule, bound_numbers_rule, link_fields_rule, link_rule, link_said}
-use Rattle.scenario_reader.specs.PlanText.{best_fields, bounds_fields, link_fields}
+use Rattle.scenario_reader.specs.Forms.{is_among, has_form, name_rule, new_name_rule, number_rule}
+use Rattle.scenario_reader.specs.LinkLine.{is_link_line, bound_fields, best_in, link_numbers, link_numbers_rule, best_rule, bound_numbers_rule, link_fields_rule, link_rule, link_said}
+use Rattle.scenario_reader.specs.PlanText.{bounds_fields, link_fields}
 use Rattle.scenario_reader.specs.declared.cause.Cause.TheVariants as cause
 use Rattle.scenario_reader.specs.declared.form.Part.TheVariants as part
 use Rattle.scenario_reader.proofs.ShapeFacts.{link_is, shape_is}

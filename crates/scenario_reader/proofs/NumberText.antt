@@ -1,7 +1,7 @@
 -- A number's decimal form is a number, which stands for it.
 use Rattle.std.proofs.Common.{◌≡◌, ℕ, suc, ◌^◌, ◌<◌, ◌≤◌, ◌⊎◌, true, not, None, ◌&&◌, ◌||◌, nat_eq, nat_le, List, [], ◌∷◌, length, map, get_or, decimal, refl, ap, ap₂, arith, inl, inr}
-use Rattle.std.proofs.lemmas.Bool.{leb-true, le-leb, eqb-true, eqb-false, eq-eqb, ne_eqb, and_parts, and_from, or_cases, or_left, or_right, not-true, not_from_false, cases_lt}
-use Rattle.std.proofs.lemmas.Fmt.{decimal-digits_value, digits_decimal, digits_value-decimal, decimal_nonempty, decimal_digit, first_decimal, length-decimal-le}
+use Rattle.std.proofs.lemmas.Bool.{le-leb, eq-eqb, ne_eqb, and_from, or_left, or_right, not_from_false, cases_lt}
+use Rattle.std.proofs.lemmas.Fmt.{digits_decimal, digits_value-decimal, decimal_nonempty, decimal_digit, first_decimal, length-decimal-le}
 use Rattle.std.specs.Str.{all_ascii_digits}
 use Rattle.scenario_reader.specs.Causes.{first_cause}
 use Rattle.scenario_reader.specs.Decimal.{is_number, value_of}

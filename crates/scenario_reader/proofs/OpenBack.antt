@@ -1,8 +1,7 @@
 -- The line of a plan's open passes, and says its request.
-use Rattle.std.proofs.Common.{◌≡◌, ℕ, suc, zero, ◌+◌, ◌-◌, ◌<◌, ◌≤◌, ◌^◌, Bool, true, false, not, ◌&&◌, nat_eq, nat_lt, nat_le, List, [], ◌∷◌, ◌++◌, length, map, get_or, take, drop, Option, Some, None, decimal, codes, refl, sym, ◌∙◌, ap, subst, arith}
-use Rattle.std.specs.Prelude.{◌||◌, is_some, is_none, if◌then◌else◌}
-use Rattle.std.proofs.lemmas.Bool.{le-leb, lt-ltb, and_from, and_parts, or_left, or_right, leb-true}
-use Rattle.std.specs.Cmp.Lexicographic.{pointwise}
+use Rattle.std.proofs.Common.{◌≡◌, ℕ, suc, zero, ◌+◌, ◌<◌, ◌≤◌, true, false, nat_lt, List, [], ◌∷◌, ◌++◌, length, take, drop, Option, Some, None, decimal, codes, refl, sym, ◌∙◌, ap, subst, arith}
+use Rattle.std.specs.Prelude.{is_some, is_none}
+use Rattle.std.proofs.lemmas.Bool.{le-leb, lt-ltb, and_from, and_parts, or_left, or_right}
 use Rattle.std.specs.List.{slice_get}
 use Rattle.net_units.specs.Numbers.{link_number, actor_number, channel_number}
 use Rattle.net_units.specs.Text.{is_name}
@@ -16,19 +15,18 @@ use Rattle.hop_reservation.proofs.RouteFacts.{none-from_route}
 use Rattle.link_steps.specs.Lists.{Each}
 use Rattle.setup_protocol.specs.declared.request.Control.{Control}
 use Rattle.setup_protocol.specs.declared.request.Control.TheVariants.{Rate, Jitter}
-use Rattle.setup_protocol.specs.declared.request.Request.{Request}
 use Rattle.call_script.specs.Rules.{request_names, is_joined, request_in_range, control_in_range, is_from}
 use Rattle.call_script.specs.declared.entries.LinkEntry.{LinkEntry}
 use Rattle.call_script.specs.declared.entries.RequestEntry.{RequestEntry}
 use Rattle.call_script.proofs.RuleFacts.{from-low}
-use Rattle.scenario_reader.specs.Causes.{Rule, unless, first_cause}
+use Rattle.scenario_reader.specs.Causes.{unless}
 use Rattle.scenario_reader.specs.Decimal.{value_of}
 use Rattle.scenario_reader.specs.Drafts.{Said, last_caller, link_named, route_over}
 use Rattle.scenario_reader.specs.Entries.{actor_at, channel_at, hop_of}
 use Rattle.scenario_reader.specs.Fields.{field_at}
-use Rattle.scenario_reader.specs.Forms.{is_word, is_among, route_length, has_form, new_name_rule, used_name_rule, number_rule}
-use Rattle.scenario_reader.specs.OpenLine.{rate_form, jitter_form, is_open_line, route_hops, route_fields, behind_route, has_jitter, control_in, terms_in, contract_of, hops_in, route_link_rule, route_names_rule, terms_rule, jitter_rule, open_fields_rule, is_way, open_limits_rule, open_rule, request_said}
-use Rattle.scenario_reader.specs.PlanText.{with_name, route_names, contract_fields, control_fields, bound_fields, open_fields}
+use Rattle.scenario_reader.specs.Forms.{is_word, is_among, route_length, has_form, new_name_rule, number_rule}
+use Rattle.scenario_reader.specs.OpenLine.{is_open_line, route_hops, route_fields, behind_route, has_jitter, control_in, terms_in, contract_of, hops_in, route_names_rule, terms_rule, jitter_rule, open_fields_rule, is_way, open_limits_rule, open_rule, request_said}
+use Rattle.scenario_reader.specs.PlanText.{with_name, route_names, control_fields, bound_fields, open_fields}
 use Rattle.scenario_reader.specs.declared.cause.Cause.TheVariants as cause
 use Rattle.scenario_reader.specs.declared.form.Keyword.TheVariants as word
 use Rattle.scenario_reader.specs.declared.form.Part.{Part}

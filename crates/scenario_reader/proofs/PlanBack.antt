@@ -1,32 +1,28 @@
 -- The lines of a plan are read, one after another, to the plan.
-use Rattle.std.proofs.Common.{◌≡◌, ℕ, suc, zero, ◌+◌, ◌*◌, ◌-◌, ◌<◌, ◌≤◌, ◌⊎◌, Bool, true, false, not, nat_eq, List, [], ◌∷◌, ◌++◌, length, map, flat_map, Option, Some, None, refl, sym, ◌∙◌, ap, subst, inl, inr, append_assoc, arith}
-use Rattle.std.specs.Prelude.{◌&&◌, nat_le}
-use Rattle.std.proofs.lemmas.Bool.{and_parts, and_from, leb-true, not-true}
-use Rattle.std.proofs.lemmas.Grind.{flat_map-append}
-use Rattle.std.proofs.lemmas.List.{append-nil, length-append, map-append}
+use Rattle.std.proofs.Common.{◌≡◌, ℕ, suc, ◌+◌, ◌<◌, ◌≤◌, true, List, [], ◌∷◌, ◌++◌, length, map, flat_map, Some, refl, sym, ◌∙◌, ap, subst, append_assoc, arith}
+use Rattle.std.proofs.lemmas.Bool.{and_parts, not-true}
+use Rattle.std.proofs.lemmas.List.{append-nil, map-append}
 use Rattle.std.specs.List.{slice_get, list_all}
-use Rattle.net_units.specs.Numbers.{link_number, actor_number, channel_number}
+use Rattle.net_units.specs.Numbers.{link_number}
 use Rattle.net_units.specs.Text.{is_name}
 use Rattle.traffic_contract.specs.Admission.{total}
 use Rattle.link_steps.specs.Lists.{Each}
-use Rattle.call_script.specs.Growing.{new_caller, with_its_op, nothing_of, MayAddLink, MayAddCaller, KeepSoFar}
-use Rattle.call_script.specs.Parts.{PlanParts, parts_of, Opening, opened_by, openings_in, openings_of, opening_of, FollowsLink, ArePlanned}
-use Rattle.call_script.specs.Plans.{HasTerms, IsPlan}
-use Rattle.call_script.specs.Rules.{each_after, is_named, is_new, are_distinct, link_names, caller_names, request_names, link_has_version, route_is_there, pour_is_there, is_opened, is_unclosed, op_has_version, op_in_range, request_in_range, is_joined, load_of, load_in, pour_is_taken}
+use Rattle.call_script.specs.Growing.{new_caller, with_its_op, KeepSoFar}
+use Rattle.call_script.specs.Parts.{parts_of, Opening, opened_by, openings_in, openings_of, opening_of}
+use Rattle.call_script.specs.Rules.{each_after, is_new, link_names, caller_names, link_has_version, is_opened, is_unclosed, load_of, load_in}
 use Rattle.call_script.specs.declared.entries.CallerEntry.{CallerEntry}
 use Rattle.call_script.specs.declared.entries.LinkEntry.{LinkEntry}
 use Rattle.call_script.specs.declared.entries.RequestEntry.{RequestEntry}
 use Rattle.call_script.specs.declared.operations.Op.{Op}
 use Rattle.call_script.specs.declared.version.Version.{Version}
 use Rattle.call_script.proofs.GrowthFacts.{added-total}
-use Rattle.call_script.proofs.Growing.{nothing-keeps, link-keeps, caller-keeps}
+use Rattle.call_script.proofs.Growing.{link-keeps, caller-keeps}
 use Rattle.traffic_contract.proofs.AdmissionFacts.{total-append}
 use Rattle.scenario_reader.specs.BothWays.{HasNames}
-use Rattle.scenario_reader.specs.PlanText.{header_fields, link_fields, op_lines, caller_fields, caller_lines}
-use Rattle.scenario_reader.proofs.LinkBack.{IsNextLink}
+use Rattle.scenario_reader.specs.PlanText.{link_fields, op_lines, caller_fields, caller_lines}
 use Rattle.scenario_reader.proofs.ReadsBack.{front, link_read, caller_read}
 use Rattle.scenario_reader.proofs.SaysBack.{Reads, reads_none, reads_on}
-use Rattle.scenario_reader.proofs.WalkBack.{LinksStand, IsSound, RestStands, Stands, OpSound, IsNextOp, Stepped, op_step, add_last, one_more}
+use Rattle.scenario_reader.proofs.WalkBack.{LinksStand, RestStands, Stands, OpSound, op_step, add_last, one_more}
 
 -- ---- links
 

@@ -1,6 +1,6 @@
 -- Each line of a plan is read, behind those before it.
-use Rattle.std.proofs.Common.{◌≡◌, ℕ, suc, zero, ◌+◌, ◌*◌, ◌-◌, ◌<◌, ◌≤◌, Bool, true, false, not, nat_eq, List, [], ◌∷◌, ◌++◌, length, map, Option, Some, None, Ok, refl, sym, ◌∙◌, ap, subst, arith}
-use Rattle.std.specs.Prelude.{◌&&◌, option_map, is_none}
+use Rattle.std.proofs.Common.{◌≡◌, ℕ, ◌+◌, ◌*◌, ◌<◌, ◌≤◌, true, false, not, nat_eq, List, [], ◌∷◌, ◌++◌, length, Some, None, Ok, refl, ◌∙◌, ap, arith}
+use Rattle.std.specs.Prelude.{◌&&◌, option_map}
 use Rattle.std.proofs.lemmas.Bool.{and_from, ne_eqb, not_from_false}
 use Rattle.net_units.specs.Text.{is_name}
 use Rattle.net_units.specs.declared.numbers.ChanNo.{ChanNo}
@@ -11,20 +11,16 @@ use Rattle.call_script.specs.Versions.{has_best_effort}
 use Rattle.call_script.specs.declared.entries.CallerEntry.{CallerEntry}
 use Rattle.call_script.specs.declared.entries.LinkEntry.{LinkEntry}
 use Rattle.call_script.specs.declared.entries.RequestEntry.{RequestEntry}
-use Rattle.call_script.specs.declared.operations.Op.{Op}
 use Rattle.call_script.specs.declared.operations.Op.TheVariants as op
 use Rattle.call_script.specs.declared.version.Version.{Version}
 use Rattle.call_script.specs.declared.version.Version.TheVariants.{One, Two, Three}
-use Rattle.scenario_reader.specs.BothWays.{HasNames}
-use Rattle.scenario_reader.specs.Drafts.{Said, nothing_said, with_item, rounds_of}
-use Rattle.scenario_reader.specs.Fields.{line_of}
+use Rattle.scenario_reader.specs.Drafts.{Said, nothing_said, with_item}
 use Rattle.scenario_reader.specs.Forms.{is_among}
 use Rattle.scenario_reader.specs.Grammar.{judge, caller_rule, send_rule, send_said, close_rule, close_said, pour_rule, pour_said, rounds_rule, tail_rule}
 use Rattle.scenario_reader.specs.LinkLine.{link_rule, link_said}
 use Rattle.scenario_reader.specs.OpenLine.{open_rule, request_said}
-use Rattle.scenario_reader.specs.PlanText.{header_fields, link_fields, caller_fields, open_fields, send_fields, close_fields, pour_fields, rounds_fields, tail_fields, schedule_fields}
+use Rattle.scenario_reader.specs.PlanText.{header_fields, link_fields, caller_fields, open_fields, send_fields, close_fields, pour_fields, rounds_fields, tail_fields}
 use Rattle.scenario_reader.specs.declared.form.Keyword.TheVariants as word
-use Rattle.scenario_reader.specs.declared.item.Item.{Item}
 use Rattle.scenario_reader.specs.declared.item.Item.TheVariants as item
 use Rattle.scenario_reader.proofs.LineFields.{link_is_line, caller_is_line, open_is_line, send_is_line, close_is_line, pour_is_line, rounds_is_line, tail_is_line}
 use Rattle.scenario_reader.proofs.LinesBack.{caller_back, rounds_back, tail_back, ArePackets, IsOpenHere, send_back, send_says, close_back, close_says, IsLinkHere, pour_back, pour_says}

@@ -1,14 +1,13 @@
 -- What is judged of a line, the other way round: names, numbers and conditions that are so pass their rules.
-use Rattle.std.proofs.Common.{◌≡◌, ℕ, Bool, true, false, not, ◌&&◌, nat_le, List, [], ◌∷◌, length, Option, Some, None, Ok, codes, refl, ap, ◌∙◌}
+use Rattle.std.proofs.Common.{◌≡◌, ℕ, Bool, true, false, not, ◌&&◌, nat_le, List, [], ◌∷◌, length, Option, Some, None, Ok, codes, refl}
 use Rattle.std.proofs.lemmas.Bool.{and_parts, or_parts, not-true}
 use Rattle.std.specs.Cmp.Lexicographic.{pointwise}
 use Rattle.std.specs.Prelude.{nat_eq}
 use Rattle.net_units.specs.Text.{begins_as_name, is_kept_word, is_name}
 use Rattle.scenario_reader.specs.Causes.{Rule, unless, first_cause, judged, stated}
-use Rattle.scenario_reader.specs.Forms.{is_word, is_among, name_rule, new_name_rule, used_name_rule}
+use Rattle.scenario_reader.specs.Forms.{is_among, name_rule, new_name_rule, used_name_rule}
 use Rattle.scenario_reader.specs.declared.cause.Cause.{Cause}
 use Rattle.scenario_reader.specs.declared.cause.Cause.TheVariants as cause
-use Rattle.scenario_reader.specs.declared.form.Keyword.TheVariants as word
 
 -- each rule lets the line pass
 abbrev pub AllPass : List Rule → Type 0

@@ -1,12 +1,12 @@
 -- Lines that say what they are of, one after another.
-use Rattle.std.proofs.Common.{◌≡◌, ℕ, suc, zero, ◌+◌, ◌<◌, ◌≤◌, ◌^◌, Bool, true, false, not, ◌&&◌, List, [], ◌∷◌, ◌++◌, length, map, Option, Some, None, Ok, Result, decimal, codes, refl, sym, ◌∙◌, ap, subst, arith}
-use Rattle.std.proofs.lemmas.Bool.{cond-false, cond-true, and_from}
-use Rattle.byte_ends.specs.WholeLines.{Ending, all_given}
+use Rattle.std.proofs.Common.{◌≡◌, ℕ, suc, true, false, not, List, [], ◌∷◌, ◌++◌, map, Option, Some, Ok, Result, refl, sym, ◌∙◌, ap, subst}
+use Rattle.std.proofs.lemmas.Bool.{cond-false}
+use Rattle.byte_ends.specs.WholeLines.{all_given}
 use Rattle.call_script.specs.declared.version.Version.{Version}
 use Rattle.scenario_reader.specs.Drafts.{Said, with_item}
-use Rattle.scenario_reader.specs.Fields.{fields_of, line_of, is_field, are_fields, field_at}
+use Rattle.scenario_reader.specs.Fields.{fields_of, line_of, are_fields, field_at}
 use Rattle.scenario_reader.specs.Grammar.{may_stand, line_word, judge_as, judge_word, judge_after, judge_fields, is_passed_over, judge}
-use Rattle.scenario_reader.specs.Reading.{Reading, at_end, on_judged, reading_of}
+use Rattle.scenario_reader.specs.Reading.{at_end, on_judged, reading_of}
 use Rattle.scenario_reader.specs.declared.cause.Cause.{Cause}
 use Rattle.scenario_reader.specs.declared.form.Keyword.{Keyword}
 use Rattle.scenario_reader.specs.declared.item.Item.{Item}

@@ -1,6 +1,6 @@
 -- The lines of a schedule are read, each with the number of its line.
-use Rattle.std.proofs.Common.{◌≡◌, ℕ, suc, zero, ◌+◌, ◌<◌, ◌≤◌, ◌⊎◌, Bool, true, false, not, nat_eq, List, [], ◌∷◌, ◌++◌, length, map, Option, Some, None, Ok, decimal, codes, refl, sym, ◌∙◌, ap, subst, inl, inr, append_assoc, arith}
-use Rattle.std.specs.Prelude.{option_map, is_some, if◌then◌else◌}
+use Rattle.std.proofs.Common.{◌≡◌, ℕ, suc, ◌<◌, ◌≤◌, Bool, true, false, List, [], ◌∷◌, ◌++◌, length, map, Option, Some, None, Ok, decimal, refl, sym, ◌∙◌, ap, subst, inl, inr, append_assoc, arith}
+use Rattle.std.specs.Prelude.{option_map, is_some}
 use Rattle.std.proofs.lemmas.Bool.{cond-false}
 use Rattle.std.proofs.lemmas.List.{append-nil}
 use Rattle.std.proofs.lemmas.Option.{slice_get_cases}
@@ -9,35 +9,30 @@ use Rattle.net_units.specs.Numbers.{actor_number}
 use Rattle.net_units.specs.Text.{is_name}
 use Rattle.net_units.specs.declared.numbers.ActorNo.{ActorNo}
 use Rattle.link_steps.specs.Lists.{Each}
-use Rattle.call_script.specs.Parts.{PlanParts, parts_of}
+use Rattle.call_script.specs.Parts.{PlanParts}
 use Rattle.call_script.specs.Rules.{are_distinct, caller_names}
 use Rattle.call_script.specs.declared.entries.CallerEntry.{CallerEntry}
-use Rattle.call_script.specs.declared.entries.LinkEntry.{LinkEntry}
-use Rattle.call_script.specs.declared.entries.RequestEntry.{RequestEntry}
 use Rattle.call_script.specs.declared.schedule.Do.{Do}
 use Rattle.call_script.specs.declared.schedule.Schedule.{Schedule}
-use Rattle.call_script.specs.declared.version.Version.{Version}
 use Rattle.call_script.proofs.FitFacts.{each-at}
 use Rattle.scenario_reader.specs.BothWays.{unnumbered, SameSchedule}
 use Rattle.scenario_reader.specs.Causes.{unless}
-use Rattle.scenario_reader.specs.Decimal.{value_of}
-use Rattle.scenario_reader.specs.Drafts.{Said, with_item, is_complete, parts_said, schedule_said, caller_named}
+use Rattle.scenario_reader.specs.Drafts.{Said, is_complete, parts_said, schedule_said, caller_named}
 use Rattle.scenario_reader.specs.Entries.{actor_at}
-use Rattle.scenario_reader.specs.Fields.{line_of, is_field, are_fields, field_at}
+use Rattle.scenario_reader.specs.Fields.{line_of, is_field, are_fields}
 use Rattle.scenario_reader.specs.Forms.{has_form, used_name_rule, number_rule}
 use Rattle.scenario_reader.specs.Grammar.{judge, is_plane, actor_rule, actor_named, do_form, do_rule, do_said}
 use Rattle.scenario_reader.specs.Kept.{IsDo}
 use Rattle.scenario_reader.specs.PlanText.{actor_field, do_fields, schedule_fields, schedule_lines}
 use Rattle.scenario_reader.specs.declared.cause.Cause.TheVariants as cause
 use Rattle.scenario_reader.specs.declared.form.Keyword.TheVariants as word
-use Rattle.scenario_reader.specs.declared.item.Item.{Item}
 use Rattle.scenario_reader.specs.declared.item.Item.TheVariants as item
 use Rattle.scenario_reader.proofs.ShapeFacts.{actor_is}
 use Rattle.scenario_reader.proofs.FieldText.{name_field, number_field}
 use Rattle.scenario_reader.proofs.NamedBack.{position_back}
 use Rattle.scenario_reader.proofs.NumberText.{value-decimal, decimal_passes}
 use Rattle.scenario_reader.proofs.ReadsBack.{whole}
-use Rattle.scenario_reader.proofs.RulesBack.{pass_all, unless_holds, name_no_word, used_name_back, stated_back}
+use Rattle.scenario_reader.proofs.RulesBack.{pass_all, name_no_word, used_name_back, stated_back}
 use Rattle.scenario_reader.proofs.SaysBack.{judged_as, Leads, leads_on, leads_more, leads_nothing, Reads, reads_one}
 
 -- ---- actors

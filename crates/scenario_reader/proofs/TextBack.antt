@@ -1,16 +1,13 @@
 -- The text of a plan is read as that plan and its schedule.
-use Rattle.std.proofs.Common.{◌≡◌, ℕ, suc, zero, ◌+◌, ◌*◌, ◌<◌, ◌≤◌, Bool, true, false, not, nat_eq, List, [], ◌∷◌, ◌++◌, length, map, flat_map, Option, Some, None, refl, sym, ◌∙◌, ap, subst, append_assoc, arith}
-use Rattle.std.specs.Prelude.{◌&&◌, nat_le, if◌then◌else◌}
-use Rattle.std.proofs.lemmas.Bool.{and_parts, leb-true, cond-true}
-use Rattle.std.specs.List.{slice_get, list_all}
-use Rattle.net_units.specs.Numbers.{link_number, channel_number}
+use Rattle.std.proofs.Common.{◌≡◌, ℕ, suc, ◌+◌, ◌*◌, ◌≤◌, true, List, [], ◌∷◌, ◌++◌, length, map, flat_map, refl, sym, ◌∙◌, ap, subst, arith}
+use Rattle.std.specs.Prelude.{nat_le, if◌then◌else◌}
+use Rattle.std.proofs.lemmas.Bool.{and_parts, leb-true}
+use Rattle.std.specs.List.{list_all}
 use Rattle.net_units.specs.Text.{is_name}
-use Rattle.byte_ends.specs.WholeLines.{all_given}
 use Rattle.link_steps.specs.Lists.{Each}
-use Rattle.call_script.specs.Growing.{nothing_of}
-use Rattle.call_script.specs.Parts.{PlanParts, parts_of, openings_of, opening_of, FollowsLink}
+use Rattle.call_script.specs.Parts.{PlanParts}
 use Rattle.call_script.specs.Plans.{HasTerms, IsPlan}
-use Rattle.call_script.specs.Rules.{each_after, is_new, are_distinct, link_names, caller_names, request_names, link_has_version, have_version, have_links, route_is_there, pour_is_there, is_opened, is_unclosed, op_has_version, op_in_range, request_in_range, is_joined, are_joined, are_unclosed, load_in, are_within_load, pour_is_taken, pours_are_taken}
+use Rattle.call_script.specs.Rules.{each_after, link_has_version, have_version, have_links, route_is_there, pour_is_there, is_unclosed, op_has_version, op_in_range, request_in_range, is_joined, are_joined, are_unclosed, load_in, are_within_load, pour_is_taken, pours_are_taken}
 use Rattle.call_script.specs.declared.entries.CallerEntry.{CallerEntry}
 use Rattle.call_script.specs.declared.entries.LinkEntry.{LinkEntry}
 use Rattle.call_script.specs.declared.entries.RequestEntry.{RequestEntry}
@@ -20,21 +17,20 @@ use Rattle.call_script.specs.declared.version.Version.{Version}
 use Rattle.call_script.proofs.FitFacts.{each-at, each-by}
 use Rattle.call_script.proofs.Growing.{nothing-keeps, names-in, used-in, ranges-in, few-in}
 use Rattle.call_script.proofs.RuleFacts.{each-of, keeps-rules}
-use Rattle.scenario_reader.specs.BothWays.{HasNames, AreNamed, unnumbered, ReadsAs, APlansTextIsRead, AreOne, ATextIsOfOnePlan}
+use Rattle.scenario_reader.specs.BothWays.{AreNamed, unnumbered, APlansTextIsRead, ATextIsOfOnePlan}
 use Rattle.scenario_reader.specs.Drafts.{Said, nothing_said, is_complete, parts_said, schedule_said}
-use Rattle.scenario_reader.specs.Fields.{line_of, ended_line}
 use Rattle.scenario_reader.specs.Kept.{IsScheduleOf}
 use Rattle.scenario_reader.specs.PlanText.{header_fields, link_fields, caller_lines, rounds_fields, tail_fields, schedule_lines, plan_lines, plan_text}
-use Rattle.scenario_reader.specs.Reading.{Reading, IsRead, IsBad, reading_of, reading_on, reading}
+use Rattle.scenario_reader.specs.Reading.{IsRead, IsBad, reading_on, reading}
 use Rattle.scenario_reader.specs.declared.cause.Cause.TheVariants as cause
 use Rattle.scenario_reader.specs.declared.item.Item.TheVariants as item
 use Rattle.scenario_reader.specs.Drafts.{with_item}
 use Rattle.scenario_reader.proofs.LineText.{lines_of_text}
-use Rattle.scenario_reader.proofs.PlanBack.{LinksLeft, LinksRead, links_read, CallersLeft, RequestsStand, CallersRead, callers_read}
+use Rattle.scenario_reader.proofs.PlanBack.{links_read, callers_read}
 use Rattle.scenario_reader.proofs.ReadsBack.{front, whole, header_read, rounds_read, tail_read}
-use Rattle.scenario_reader.proofs.SaysBack.{Reads, leads_reading, leads_lines}
+use Rattle.scenario_reader.proofs.SaysBack.{leads_reading, leads_lines}
 use Rattle.scenario_reader.proofs.ScheduleBack.{SomeLead, then_some, IsWhole, schedule_back}
-use Rattle.scenario_reader.proofs.WalkBack.{LinksStand, IsSound, RestStands, OpSound}
+use Rattle.scenario_reader.proofs.WalkBack.{LinksStand, IsSound, OpSound}
 
 -- ---- what a plan's rules say of its parts
 

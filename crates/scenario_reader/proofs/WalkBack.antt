@@ -1,10 +1,10 @@
 -- The callers of a plan are read one after another, each with its operations: what was read so far keeps the rules, and what
 -- is left of the plan is behind it.
-use Rattle.std.proofs.Common.{◌≡◌, ℕ, suc, zero, ◌+◌, ◌*◌, ◌-◌, ◌<◌, ◌≤◌, ◌⊎◌, Bool, true, false, not, nat_eq, List, [], ◌∷◌, ◌++◌, length, map, flat_map, Option, Some, None, refl, sym, ◌∙◌, ap, subst, inl, inr, append_assoc, arith}
-use Rattle.std.specs.Prelude.{◌&&◌, option_map, find, if◌then◌else◌}
-use Rattle.std.proofs.lemmas.Bool.{and_parts, and_from, eq-eqb, leb-true, not-true, ltb-true}
-use Rattle.std.proofs.lemmas.List.{append-nil, length-append, map-append}
-use Rattle.std.proofs.lemmas.Option.{same_Some, slice_get_cases, slice_get_within}
+use Rattle.std.proofs.Common.{◌≡◌, ℕ, suc, zero, ◌+◌, ◌*◌, ◌-◌, ◌<◌, ◌≤◌, Bool, true, false, not, nat_eq, List, [], ◌∷◌, ◌++◌, length, map, Option, Some, refl, sym, ◌∙◌, ap, subst, inl, inr, append_assoc, arith}
+use Rattle.std.specs.Prelude.{◌&&◌, option_map}
+use Rattle.std.proofs.lemmas.Bool.{and_parts, eq-eqb, not-true, ltb-true}
+use Rattle.std.proofs.lemmas.List.{length-append, map-append}
+use Rattle.std.proofs.lemmas.Option.{slice_get_cases, slice_get_within}
 use Rattle.std.specs.List.{slice_get, list_any, list_all}
 use Rattle.net_units.specs.Numbers.{link_number, actor_number, channel_number}
 use Rattle.net_units.specs.Text.{is_name}
@@ -14,8 +14,8 @@ use Rattle.traffic_contract.specs.Admission.{total}
 use Rattle.hop_reservation.specs.declared.route.Hop.{Hop}
 use Rattle.link_steps.specs.Lists.{Each}
 use Rattle.link_steps.proofs.ListFacts.{Each-append}
-use Rattle.call_script.specs.Growing.{new_caller, with_its_op, add_op, last_ops, MayAddCaller, MayOpen, IsOpenedThere, MaySend, MayPour, KeepSoFar}
-use Rattle.call_script.specs.Parts.{PlanParts, parts_of, Opening, opened_by, openings_in, openings_of, opening_of, FollowsLink}
+use Rattle.call_script.specs.Growing.{with_its_op, add_op, last_ops, IsOpenedThere, KeepSoFar}
+use Rattle.call_script.specs.Parts.{PlanParts, parts_of, Opening, opened_by, opening_of, FollowsLink}
 use Rattle.call_script.specs.Plans.{HasTerms}
 use Rattle.call_script.specs.Rules.{each_after, is_named, is_new, are_distinct, link_names, caller_names, request_names, have_names, has_link, route_is_there, pour_is_there, opens, is_opened, closes, is_unclosed, op_has_version, op_in_range, request_in_range, is_joined, hops_of, load_of, load_in, takes_best_effort, pour_is_taken}
 use Rattle.call_script.specs.declared.entries.CallerEntry.{CallerEntry}
@@ -25,20 +25,19 @@ use Rattle.call_script.specs.declared.operations.Op.{Op}
 use Rattle.call_script.specs.declared.operations.Op.TheVariants.{Open, Send, Close, Pour}
 use Rattle.call_script.specs.declared.version.Version.{Version}
 use Rattle.call_script.proofs.FitFacts.{each-at}
-use Rattle.call_script.proofs.GrowthFacts.{get-before, added-total, added-length}
-use Rattle.call_script.proofs.Growing.{caller-keeps, open-keeps, send-keeps, close-keeps, pour-keeps}
+use Rattle.call_script.proofs.GrowthFacts.{get-before}
+use Rattle.call_script.proofs.Growing.{open-keeps, send-keeps, close-keeps, pour-keeps}
 use Rattle.call_script.proofs.OpeningFacts.{opened-has}
 use Rattle.call_script.proofs.OwnerFacts.{twice-not}
 use Rattle.scenario_reader.specs.BothWays.{HasNames}
-use Rattle.scenario_reader.specs.Drafts.{Said, link_named, own_request, if_own, request_named}
-use Rattle.scenario_reader.specs.Entries.{hop_of}
-use Rattle.scenario_reader.specs.PlanText.{op_fields, lines_if, op_lines, caller_fields, caller_lines, open_fields, send_fields, close_fields, pour_fields}
+use Rattle.scenario_reader.specs.Drafts.{link_named, if_own}
+use Rattle.scenario_reader.specs.PlanText.{op_fields, lines_if, op_lines, open_fields, send_fields, close_fields, pour_fields}
 use Rattle.scenario_reader.proofs.ShapeFacts.{same_link, same_channel}
-use Rattle.scenario_reader.proofs.LinesBack.{ArePackets, are_packets, IsOpenHere, IsLinkHere}
+use Rattle.scenario_reader.proofs.LinesBack.{are_packets, IsOpenHere}
 use Rattle.scenario_reader.proofs.NamedBack.{find_back}
-use Rattle.scenario_reader.proofs.OpenBack.{IsHopHere, IsNextOpen}
-use Rattle.scenario_reader.proofs.ReadsBack.{front, caller_read, open_read, send_read, close_read, pour_read}
-use Rattle.scenario_reader.proofs.SaysBack.{Reads, reads_none, reads_on}
+use Rattle.scenario_reader.proofs.OpenBack.{IsHopHere}
+use Rattle.scenario_reader.proofs.ReadsBack.{front, open_read, send_read, close_read, pour_read}
+use Rattle.scenario_reader.proofs.SaysBack.{Reads}
 
 -- ---- the last caller
 

@@ -1,14 +1,14 @@
 -- Texts that are added one behind another, and the items of a list each with its text.
-use Rattle.std.proofs.Common.{◌≡◌, ℕ, suc, zero, ◌+◌, ◌<◌, ◌≤◌, List, [], ◌∷◌, ◌++◌, length, get_or, take, drop, refl, sym, ap, ◌∙◌, subst, append_assoc, arith}
+use Rattle.std.proofs.Common.{◌≡◌, ℕ, suc, zero, ◌+◌, ◌<◌, List, [], ◌∷◌, ◌++◌, length, get_or, take, drop, refl, sym, ap, ◌∙◌, subst, append_assoc, arith}
 use Rattle.std.proofs.lemmas.Grind.{flat_map-append}
 use Rattle.std.proofs.lemmas.List.{append-nil}
 use Rattle.std.specs.List.{flat_map}
 use Rattle.std.specs.Prelude.{Option, Result, Ok, Err}
 use Rattle.std.proofs.KnownBytes.{Appends-trans}
 use Rattle.byte_ends.specs.Faults.{Rises}
-use Rattle.byte_ends.proofs.Gathering.{gathers-nothing, gathers-on, gathers-part, gathers-then-part, part-of-longer, rises-later}
+use Rattle.byte_ends.proofs.Gathering.{gathers-nothing, gathers-on, gathers-then-part, part-of-longer, rises-later}
 use Rattle.byte_ends.specs.Gathering.{WritesPart}
-use Rattle.scenario_reader.specs.Written.{AddsAll, StopsThere, FailsThere, Adds}
+use Rattle.scenario_reader.specs.Written.{AddsAll, Adds}
 use Rattle.scenario_reader.specs.declared.fault.ReportFault.{ReportFault}
 use Rattle.scenario_reader.specs.declared.fault.ReportFault.TheVariants.{Memory, WriteFault}
 

@@ -1,7 +1,7 @@
 -- A plan's text is read as that plan and its schedule, where it has at most 4,194,304 bytes: the items of the schedule then
 -- have the numbers of their lines. So no text is that of two plans. The names of a plan are names, as those of each plan
 -- that is made are; and its schedule is one that a scenario can have.
-use Rattle.std.specs.Prelude.{◌≡◌, ℕ, ◌≤◌, true, List, length, map}
+use Rattle.std.specs.Prelude.{◌≡◌, ◌≤◌, true, length, map}
 use Rattle.net_units.specs.Text.{is_name}
 use Rattle.link_steps.specs.Lists.{Each}
 use Rattle.call_script.specs.Parts.{PlanParts}

@@ -12,7 +12,7 @@ pub mod Reading
 pub mod Kept
 pub mod LinkFields
 pub mod OpenFields
+pub mod ReadSteps
 pub mod PlanText
 pub mod BothWays
-pub mod ReadSteps
 pub mod Written

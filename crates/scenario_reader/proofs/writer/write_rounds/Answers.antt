@@ -1,4 +1,4 @@
-use Rattle.std.proofs.Common.{rules, subst}
+use Rattle.std.proofs.Common.{rules}
 use Rattle.scenario_reader.specs.Fields.{ended_line}
 use Rattle.scenario_reader.specs.PlanText.{rounds_fields, tail_fields, rounds_text}
 use Rattle.scenario_reader.proofs.WrittenFacts.{adds-on, fails-longer}
