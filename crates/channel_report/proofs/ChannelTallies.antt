@@ -72,20 +72,20 @@ pub sources-more : (requests : List RequestEntry) (past : List Done) (done : Don
 sources-more requests past done old place was new own are at of number first goes = record {
   all = length-set old place new ∙ are.all;
   tells = λ n entry tally found put. elim (cases_eq n place) [
-      | inl here ↦
-          (let here_entry : slice_get requests place ≡ Some entry = ap (slice_get requests) (sym here) ∙ found in
-          let on = first entry here_entry in
-          let is : tally ≡ new = get-set-same old place new tally (ap (slice_get (set old place new)) (sym here) ∙ put) in
-          let kept = goes (planned_in place (part_of (link_number done.link) past)) (refused_in place (part_of (link_number done.link) past))
-              (subst (λ l. Keeps (planned_in place (part_of l past)) (refused_in place (part_of l past)) was) on (are.tells place entry was here_entry at)) in
-          subst (λ m. Keeps (planned_in m (part_of (first_link entry.request.route) (done ∷ past))) (refused_in m (part_of (first_link entry.request.route) (done ∷ past))) tally) (sym here)
-          (subst (Keeps (planned_in place (part_of (first_link entry.request.route) (done ∷ past))) (refused_in place (part_of (first_link entry.request.route) (done ∷ past)))) (sym is)
-          (own-source place (first_link entry.request.route) done past new on
-          (subst (λ l. Keeps (planned_after place (clock_of (part_of l past)) (planned_in place (part_of l past)) (act_of done.ask done.reply)) (refused_by place (act_of done.ask done.reply) + refused_in place (part_of l past)) new) (sym on) kept))))
-      | inr apart ↦
-          same-source n (first_link entry.request.route) done past tally (λ on chan of' own'. apart (sym own' ∙ ap channel_number (same_Some chan own (sym of' ∙ of)) ∙ number))
-          (are.tells n entry tally found (sym (get-set-other old place n new apart) ∙ put))
-    ];
+    | inl here ↦
+        (let here_entry : slice_get requests place ≡ Some entry = ap (slice_get requests) (sym here) ∙ found in
+        let on = first entry here_entry in
+        let is : tally ≡ new = get-set-same old place new tally (ap (slice_get (set old place new)) (sym here) ∙ put) in
+        let kept = goes (planned_in place (part_of (link_number done.link) past)) (refused_in place (part_of (link_number done.link) past))
+        (subst (λ l. Keeps (planned_in place (part_of l past)) (refused_in place (part_of l past)) was) on (are.tells place entry was here_entry at)) in
+        subst (λ m. Keeps (planned_in m (part_of (first_link entry.request.route) (done ∷ past))) (refused_in m (part_of (first_link entry.request.route) (done ∷ past))) tally) (sym here)
+        (subst (Keeps (planned_in place (part_of (first_link entry.request.route) (done ∷ past))) (refused_in place (part_of (first_link entry.request.route) (done ∷ past)))) (sym is)
+        (own-source place (first_link entry.request.route) done past new on
+        (subst (λ l. Keeps (planned_after place (clock_of (part_of l past)) (planned_in place (part_of l past)) (act_of done.ask done.reply)) (refused_by place (act_of done.ask done.reply) + refused_in place (part_of l past)) new) (sym on) kept))))
+    | inr apart ↦
+        same-source n (first_link entry.request.route) done past tally (λ on chan of' own'. apart (sym own' ∙ ap channel_number (same_Some chan own (sym of' ∙ of)) ∙ number))
+        (are.tells n entry tally found (sym (get-set-other old place n new apart) ∙ put))
+  ];
 }
 
 -- ---- before the first entry
@@ -104,7 +104,7 @@ fresh-more tallies new bare keeps n tally at =
 -- few sends are refused
 refused-few : (n : ℕ) (act : Act) → refused_by n act ≤ 1
 refused-few n (Plans chan tick gap count) = omega arith
-refused-few n (Refuses chan) = elim (cases_eq (channel_number chan) n) [ | inl is ↦ rw (eq-eqb (channel_number chan) n is) (omega arith) | inr not ↦ rw (ne_eqb (channel_number chan) n not) (omega arith) ]
+refused-few n (Refuses chan) = elim (cases_eq (channel_number chan) n) [ inl is ↦ rw (eq-eqb (channel_number chan) n is) (omega arith) | inr not ↦ rw (ne_eqb (channel_number chan) n not) (omega arith) ]
 refused-few n (Cancels chan) = omega arith
 refused-few n Nothing = omega arith
 

@@ -50,13 +50,13 @@ delays-more parts row before old was new delay plan are at is some =
     record {
       all = length-set old place new ∙ are.all;
       tells = λ n entry tally found put. elim (cases_eq n place) [
-          | inl here ↦
-              (let here_entry : slice_get parts.requests place ≡ Some entry = ap (slice_get parts.requests) (sym here) ∙ found in
-              get-set-same old place new tally (ap (slice_get (set old place new)) (sym here) ∙ put) ∙ (is ∙ (ap (with_delay delay) (are.tells place entry was here_entry at) ∙ sym (delay-more entry.request row before delay (some entry here_entry)))))
-          | inr apart ↦
-              are.tells n entry tally found (sym (get-set-other old place n new apart) ∙ put)
-              ∙ ap delay_tally_of (sym (delay-same entry.request row before (by-other entry.request (first_in (row ∷ before)) row (λ same. apart (sym (plan.planned.requests n entry found) ∙ sym same)))))
-        ];
+        | inl here ↦
+            (let here_entry : slice_get parts.requests place ≡ Some entry = ap (slice_get parts.requests) (sym here) ∙ found in
+            get-set-same old place new tally (ap (slice_get (set old place new)) (sym here) ∙ put) ∙ (is ∙ (ap (with_delay delay) (are.tells place entry was here_entry at) ∙ sym (delay-more entry.request row before delay (some entry here_entry)))))
+        | inr apart ↦
+            are.tells n entry tally found (sym (get-set-other old place n new apart) ∙ put)
+            ∙ ap delay_tally_of (sym (delay-same entry.request row before (by-other entry.request (first_in (row ∷ before)) row (λ same. apart (sym (plan.planned.requests n entry found) ∙ sym same)))))
+      ];
     }
 
 -- ---- few delays
@@ -69,7 +69,7 @@ by-few request first row =
     ] where
       from : (found : Option HopRow) → length (delay_from (last_prop request.route) row found) ≤ 1
       from None = omega arith
-      from (Some other) = elim (cases_Bool (is_same_packet row other)) [ | inl same ↦ rw same (omega arith) | inr not ↦ rw not (omega arith) ]
+      from (Some other) = elim (cases_Bool (is_same_packet row other)) [ inl same ↦ rw same (omega arith) | inr not ↦ rw not (omega arith) ]
 
 delays-few : (request : Request) (rows : List HopRow) → length (delays_of request rows) ≤ length rows
 unfolding delays_of
@@ -92,7 +92,7 @@ by-last request first row prop delays own last props is = rw (eq-eqb (channel_nu
 
 -- one at another hop
 pub by-earlier : (request : Request) (first : Option HopRow) (row : HopRow) → (row.hop ≡ length request.route → ⊥) → delay_by request first row ≡ []
-by-earlier request first row earlier = elim (cases_Bool (nat_eq (channel_number row.chan) (channel_number request.chan))) [ | inl own ↦ rw (own, ne_eqb row.hop (length request.route) earlier) refl | inr other ↦ rw other refl ]
+by-earlier request first row earlier = elim (cases_Bool (nat_eq (channel_number row.chan) (channel_number request.chan))) [ inl own ↦ rw (own, ne_eqb row.hop (length request.route) earlier) refl | inr other ↦ rw other refl ]
 
 pub prop-at : (route : List Hop) (hop : Hop) → slice_get route (length route - 1) ≡ Some hop → last_prop route ≡ hop.prop
 prop-at route hop found = ap prop_of found

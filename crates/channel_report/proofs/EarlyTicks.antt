@@ -65,9 +65,10 @@ unfolding IsRun
 run-early parts [] plan is short = tt
 run-early parts (done ∷ past) plan is short =
     let next = is.1 in
-    let h = part_of (link_number done.link) past in
-    (answer-early next.link h done.ask done.reply (asks-answered (network_of parts) past done (plan-fits parts plan) (all-owned parts plan) is.0 next) next.answered (omega (arith, clock-most h, part-short (link_number done.link) past, short)),
-    run-early parts past plan is.0 (omega arith))
+    let h = part_of (link_number done.link) past in (
+      answer-early next.link h done.ask done.reply (asks-answered (network_of parts) past done (plan-fits parts plan) (all-owned parts plan) is.0 next) next.answered (omega (arith, clock-most h, part-short (link_number done.link) past, short)),
+      run-early parts past plan is.0 (omega arith),
+    )
 
 each-front : {X : Type 0} (P : X → Type 0) (xs ys : List X) → Each P (xs ++ ys) → Each P xs × Each P ys
 each-front P [] ys all = (tt, all)

@@ -28,9 +28,9 @@ made-next ticks clock tick gap next count m all left made small is so_far =
   where
     same : filter (is_made clock) (ticks_from next gap (count - (m + 1))) ≡ filter (is_made clock) (ticks_from (tick + gap) gap (count - (m + 1)))
     same = elim (cases_lt (tick + gap) (2 ^ 64)) [
-        | inl fits ↦ (let e : next ≡ tick + gap = omega arith in rw e refl)
-        | inr over ↦ same-late clock next (tick + gap) gap (count - (m + 1)) (omega arith) (omega arith)
-      ]
+      | inl fits ↦ (let e : next ≡ tick + gap = omega arith in rw e refl)
+      | inr over ↦ same-late clock next (tick + gap) gap (count - (m + 1)) (omega arith) (omega arith)
+    ]
 
 -- a tick that isn't below the clock, and so none behind it
 pub made-end : (ticks : List ℕ) (clock tick gap left : ℕ) (all : List ℕ) → clock ≤ tick → ticks ++ filter (is_made clock) (ticks_from tick gap left) ≡ all → ticks ≡ all
@@ -43,8 +43,8 @@ made-both clock bound [] = refl
 made-both clock bound (tick ∷ ticks) =
     let rest = made-both clock bound ticks in
     elim (cases_Bool (is_made clock tick)) [
-      | inl made ↦ elim (cases_Bool (is_made bound tick)) [ | inl early ↦ simp (made, early, rest) | inr late ↦ simp (made, late, rest) ]
-      | inr not ↦ elim (cases_Bool (is_made bound tick)) [ | inl early ↦ simp (not, early, rest) | inr late ↦ simp (not, late, rest) ]
+      | inl made ↦ elim (cases_Bool (is_made bound tick)) [ inl early ↦ simp (made, early, rest) | inr late ↦ simp (made, late, rest) ]
+      | inr not ↦ elim (cases_Bool (is_made bound tick)) [ inl early ↦ simp (not, early, rest) | inr late ↦ simp (not, late, rest) ]
     ]
 
 -- those below a clock are among those below a later one
@@ -53,6 +53,6 @@ made-within clock bound [] small = refl
 made-within clock bound (tick ∷ ticks) small =
     let rest = made-within clock bound ticks small in
     elim (cases_lt tick bound) [
-      | inl early ↦ (let e : is_made bound tick ≡ true = lt-ltb tick bound early in elim (cases_Bool (is_made clock tick)) [ | inl made ↦ simp (e, made, rest) | inr not ↦ simp (e, not, rest) ])
+      | inl early ↦ (let e : is_made bound tick ≡ true = lt-ltb tick bound early in elim (cases_Bool (is_made clock tick)) [ inl made ↦ simp (e, made, rest) | inr not ↦ simp (e, not, rest) ])
       | inr late ↦ (let e : is_made bound tick ≡ false = le-ltb tick bound late in let not : is_made clock tick ≡ false = le-ltb tick clock (omega arith) in simp (e, not, rest))
     ]

@@ -64,7 +64,6 @@ is_accepted (Some (Denies deny)) = false
 abbrev pub channel_line : List HopRow → List Done → RequestEntry → List ℕ
 channel_line rows run entry = if is_accepted (verdict_in run entry) then established_line rows run entry else []
 
-
 -- those of all requests of a plan
 abbrev pub channel_lines : PlanParts → List HopRow → List Done → List ℕ
 channel_lines parts rows run = flat_map (channel_line rows run) parts.requests

@@ -41,7 +41,10 @@ impl ChannelTally {
     {
         match act {
             Act::Plans {
-                tick, gap, count, ..
+                tick,
+                gap,
+                count,
+                ..
             } => self.plan(*tick, *gap, *count),
             Act::Refuses { .. } => {
                 self.refused += 1;

@@ -16,9 +16,13 @@ pub(crate) enum Act {
         count: u64,
     },
     // A send is refused.
-    Refuses { chan: ChanNo },
+    Refuses {
+        chan: ChanNo,
+    },
     // The packets are cancelled whose tick isn't made yet.
-    Cancels { chan: ChanNo },
+    Cancels {
+        chan: ChanNo,
+    },
     // Nothing.
     Nothing,
 }
@@ -30,7 +34,10 @@ pub(crate) fn act_of(ask: &Ask, reply: &Reply) -> Act
     match (ask, reply) {
         (
             Ask::Submit {
-                chan, count, gap, ..
+                chan,
+                count,
+                gap,
+                ..
             },
             Reply::Planned { clock },
         ) => Act::Plans {

@@ -23,7 +23,11 @@ pub(crate) fn tell_table<K: Sink>(
 ) -> Result<(), ReportFault>
     ensures { Tells result (K.written sink.old) (K.written sink.new) gather.old gather.new (K.faults sink.old) (K.faults sink.new) (table_of plan.now rows.now) }
 {
-    tell(gather, sink, b"channel,packet,hop,link,size,at,eligible,departed\n")?;
+    tell(
+        gather,
+        sink,
+        b"channel,packet,hop,link,size,at,eligible,departed\n",
+    )?;
     tell_rows(alloc, plan, rows, gather, sink)
 }
 

@@ -7,14 +7,15 @@ ghost use Rattle.interleave_core.specs.Runs.{IsRun};
 ghost use Rattle.interleave_core.specs.Standing.{Stands};
 
 use super::*;
-use call_script::{CallerEntry, LinkEntry, Op, Ops, Plan, RequestEntry, Version};
-use hop_reservation::{Hop, Route};
 use byte_ends::MemSink;
+use call_script::{
+    CallerEntry, Do, Dos, LinkEntry, Op, Ops, Plan, RequestEntry, Schedule, Version,
+};
+use hop_reservation::{Hop, Route};
 use interleave_core::Core;
 use link_steps::LinkShape;
-use run_record::Record;
-use call_script::{Do, Dos, Schedule};
 use net_units::{ActorNo, Bounds, ChanNo, LinkNo, Name};
+use run_record::Record;
 use setup_protocol::{Control, Request};
 use std::alloc::Global;
 use std::process::Abort;
@@ -152,5 +153,34 @@ fn a_setup_that_has_not_ended(rt: HostRuntime) -> Result<(), Fail> {
     assert_eq!(rt; write_report(alloc, &plan, &run, false, &mut sink), Ok(()));
     let text = "pending r1\nlink A clock 0 sent 0 full 0\nend steps 1\n";
     assert_eq!(rt; sink.bytes(), text.as_bytes());
+    Ok(())
+}
+
+#[test]
+fn the_text_of_a_schedule(rt: HostRuntime) -> Result<(), Fail> {
+    let alloc = rt.alloc();
+    let plan = plan(alloc)?;
+    let caller = ActorNo::new(0).ok_or("caller")?;
+    let plane = ActorNo::new(1).ok_or("plane")?;
+    assert!(rt; usize::from(caller.get()) <= plan.callers().len());
+    assert!(rt; usize::from(plane.get()) <= plan.callers().len());
+    let mut items = Vec::new(alloc);
+    items.push(Do {
+        line: 0,
+        actor: caller,
+        count: 3,
+    })?;
+    items.push(Do {
+        line: 0,
+        actor: plane,
+        count: 30,
+    })?;
+    let schedule = Schedule {
+        written: true,
+        items: Dos::new(items),
+    };
+    let mut sink = MemSink::new(alloc, 65_536, 65_536, Vec::new(alloc))?;
+    assert_eq!(rt; write_schedule(alloc, &plan, &schedule, &mut sink), Ok(()));
+    assert_eq!(rt; sink.bytes(), "do k1 3\ndo plane 30\n".as_bytes());
     Ok(())
 }

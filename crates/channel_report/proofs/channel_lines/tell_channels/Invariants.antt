@@ -12,5 +12,5 @@ abbrev pub invariant-loop-number : goal.invariant-loop-number
 invariant-loop-number g l = record {
   counts : g.K.Sink.faults l.fn.sink ≤ g.K.Sink.faults l.sink;
   told : (entries : List Done) → AreFound l.plan entries l.findings
-      → Gathers (g.K.Sink.written l.fn.sink) (g.K.Sink.written l.sink) l.fn.gather l.gather (flat_map (channel_line (rows_of entries) (reverse entries)) (take l.number l.plan.requests))
+      → Gathers (g.K.Sink.written l.fn.sink) (g.K.Sink.written l.sink) l.fn.gather l.gather (flat_map (channel_line (rows_of entries) (reverse entries)) (take l.number l.plan.requests));
 }

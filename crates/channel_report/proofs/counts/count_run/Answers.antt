@@ -17,7 +17,7 @@ loop-done-init c =
     let items : c.in_ok-links.links.items ≡ replicate (length c.links.result.now) nothing = c.in_ok-links.ensures.items_if_clones_equal (λ y same. same) in
     record {
       links = none-counted (length c.args.plan.now.links) c.in_ok-links.links.items (ap length items ∙ length-replicate (length c.links.result.now) nothing ∙ ap length c.links.ensures.value)
-    (λ n d within. rw items (get_or-replicate (length c.links.result.now) n nothing d (rw c.links.ensures.value within)));
+          (λ n d within. rw items (get_or-replicate (length c.links.result.now) n nothing d (rw c.links.ensures.value within)));
       channels = c.in_ok-channels.ensures c.args.plan.now.requests (sym (ap length c.requests.ensures.value));
     }
 

@@ -7,5 +7,5 @@ use Rattle.channel_report.proofs.counts.count_run.Given as goal
 abbrev pub invariant-loop-done : goal.invariant-loop-done
 invariant-loop-done l = record {
   links : AreLinkTallies (length l.plan.links) (reverse (take l.done-index l.run.entries)) l.links.items;
-  channels : AreChannelTallies l.plan.requests (reverse (take l.done-index l.run.entries)) l.channels.items
+  channels : AreChannelTallies l.plan.requests (reverse (take l.done-index l.run.entries)) l.channels.items;
 }

@@ -8,5 +8,5 @@ use Rattle.channel_report.proofs.counts.new_tallies.Given as goal
 abbrev pub invariant-loop-channel : goal.invariant-loop-channel
 invariant-loop-channel l = record {
   count : length l.tallies.items ≡ l._channel;
-  bare : (n : ℕ) (tally : ChannelTally) → slice_get l.tallies.items n ≡ Some tally → Keeps [] 0 tally
+  bare : (n : ℕ) (tally : ChannelTally) → slice_get l.tallies.items n ≡ Some tally → Keeps [] 0 tally;
 }

@@ -7,5 +7,5 @@ use Rattle.channel_report.proofs.delay_tally.tally_delays.Given as goal
 abbrev pub invariant-loop-row : goal.invariant-loop-row
 invariant-loop-row l = record {
   tallies : AreDelayTallies l.plan.requests (reverse (take l.row-index l.rows)) l.tallies.items;
-  first : l.first ≡ first_in (reverse (take l.row-index l.rows))
+  first : l.first ≡ first_in (reverse (take l.row-index l.rows));
 }

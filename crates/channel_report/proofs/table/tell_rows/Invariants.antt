@@ -8,5 +8,5 @@ use Rattle.channel_report.proofs.table.tell_rows.Given as goal
 abbrev pub invariant-loop-row : goal.invariant-loop-row
 invariant-loop-row g l = record {
   counts : g.K.Sink.faults l.fn.sink ≤ g.K.Sink.faults l.sink;
-  told : Gathers (g.K.Sink.written l.fn.sink) (g.K.Sink.written l.sink) l.fn.gather l.gather (flat_map (told_row l.plan) (take l.row-index l.rows))
+  told : Gathers (g.K.Sink.written l.fn.sink) (g.K.Sink.written l.sink) l.fn.gather l.gather (flat_map (told_row l.plan) (take l.row-index l.rows));
 }

@@ -9,14 +9,16 @@ pub take-requires : goal.take-requires
 take-requires c =
     let entries = c.args.run.now.entries in
     let inside : c.loop-done.done-index < length entries = rw (← c.entries-done-items.ensures) c.loop-done-test.true in
-    let at : c.done-item.result ≡ get_or entries c.loop-done.done-index c.done-item.result = rw (← c.entries-done-items.ensures) c.done-item.is in
-    (reverse (take c.loop-done.done-index entries), record {
-      plan = c.loop-done.invariant.plan;
-      run = front-run (network_of c.args.plan.now) entries c.loop-done.done-index c.requires;
-      next = front-next (network_of c.args.plan.now) entries c.loop-done.done-index c.done-item.result inside at c.requires;
-      stand = c.ready.ensures.stand c.args.plan.now (reverse (take c.loop-done.done-index entries)) c.loop-done.invariant.stand;
-      room = c.in_ok-ready.ensures.room;
-    })
+    let at : c.done-item.result ≡ get_or entries c.loop-done.done-index c.done-item.result = rw (← c.entries-done-items.ensures) c.done-item.is in (
+      reverse (take c.loop-done.done-index entries),
+      record {
+        plan = c.loop-done.invariant.plan;
+        run = front-run (network_of c.args.plan.now) entries c.loop-done.done-index c.requires;
+        next = front-next (network_of c.args.plan.now) entries c.loop-done.done-index c.done-item.result inside at c.requires;
+        stand = c.ready.ensures.stand c.args.plan.now (reverse (take c.loop-done.done-index entries)) c.loop-done.invariant.stand;
+        room = c.in_ok-ready.ensures.room;
+      },
+    )
 
 pub loop-done-preserved : goal.loop-done-preserved
 loop-done-preserved c =

@@ -8,5 +8,5 @@ use Rattle.channel_report.proofs.channel_tally.ChannelTally.plan.Given as goal
 abbrev pub invariant-loop-planned : goal.invariant-loop-planned
 invariant-loop-planned l = record {
   ticks : l.self.ticks.items ++ filter (is_made never) (ticks_from l.next l.gap (l.count - l._planned)) ≡ l.fn.self.ticks.items ++ filter (is_made never) (ticks_from l.fn.tick l.gap l.count);
-  refused : l.self.refused ≡ l.fn.self.refused
+  refused : l.self.refused ≡ l.fn.self.refused;
 }
