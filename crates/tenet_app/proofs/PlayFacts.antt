@@ -1,94 +1,58 @@
--- What is written for a plan, and what the status then says.
-use Rattle.std.proofs.Common.{◌≡◌, ◌⊎◌, inl, inr, refl, ℕ, ◌≤◌, List, [], ◌∷◌, Option, Some, None, length, subst, sym, ◌∙◌, ap}
-use Rattle.std.specs.Prelude.{Ok, IfSome}
-use Rattle.std.specs.Io.KnownBytes.{Appends, IsAtEnd}
-use Rattle.byte_ends.specs.Writing.{WritesFront}
-use Rattle.tenet_app.specs.PlanText.{plan_text}
-use Rattle.tenet_app.specs.Plans.{Said, requests_of, IsPlan}
-use Rattle.tenet_app.specs.Reading.{Reading, IsRead, IsBad, IsOver, reading}
-use Rattle.tenet_app.specs.ReadSteps.{Tells}
-use Rattle.tenet_app.specs.Playing.{Ends, ComesTo, Plays, MeetsNoFault, due_status, WritesAll, AllWritten, FrontWritten, plan_report, due_text}
-use Rattle.tenet_app.specs.declared.scenario.cause.Cause.{Cause}
-use Rattle.tenet_app.specs.declared.scenario.plan.Link.{Link}
-use Rattle.tenet_app.specs.declared.scenario.reader.TheConstants.{MOST_BYTES}
+-- What is due for the bytes is one status and one text, and an answer without a fault is due for them.
+use Rattle.std.proofs.Common.{◌≡◌, ◌⊎◌, inl, inr, refl, ℕ, ◌≤◌, Bool, List, [], ◌∷◌, Option, Some, None, IfSome, subst, sym, ◌∙◌, ap, reverse}
+use Rattle.std.specs.Io.KnownBytes.{Appends, Keeps, IsAtEnd}
+use Rattle.call_script.specs.Parts.{PlanParts}
+use Rattle.call_script.specs.Tasks.{network_of}
+use Rattle.call_script.specs.declared.schedule.Schedule.{Schedule}
+use Rattle.channel_report.specs.Report.{report_of}
+use Rattle.interleave_core.proofs.ScheduleFacts.{one-end}
+use Rattle.run_record.specs.declared.done.Done.{Done}
+use Rattle.scenario_reader.specs.Reading.{Reading, IsRead, IsBad, IsOver, reading}
+use Rattle.scenario_reader.specs.declared.cause.Cause.{Cause}
+use Rattle.scenario_reader.specs.declared.cause.Cause.TheVariants as cause
+use Rattle.scenario_reader.specs.declared.reader.TheConstants.{MOST_BYTES}
+use Rattle.tenet_app.specs.Playing.{Ends, refusal_line, DueOfPlan, Reports, Misses, IsDue, ComesTo, PlaysDone, Plays, MeetsNoFault, DueFor, BytesDetermine}
 use Rattle.tenet_app.specs.declared.status.Status.{Status}
 use Rattle.tenet_app.specs.declared.status.Status.TheVariants as status
-use Rattle.tenet_app.proofs.ScriptFacts.{script_requests}
-use Rattle.tenet_app.proofs.TextRead.{read_text}
-use Rattle.tenet_app.proofs.RunLegal.{run-passes, run-guaranteed, run-serves}
-use Rattle.tenet_app.proofs.RunPromises.{run-keeps}
-use Rattle.tenet_app.proofs.RunSettled.{run-settled}
-use Rattle.tenet_app.proofs.ShapeFacts.{shape-some}
 
--- a plan has at most 1,024 requests
-pub plan_few : (said : Said) → IsPlan said → length (requests_of said) ≤ 1024
-plan_few said plan = script_requests said.script plan.plan.script
+-- ---- one status and one text
 
--- what was read is what the bytes come to
-read_as : (left : Option (List ℕ)) (said : Said) → Tells (Ok said) left → ComesTo left (λ r. r ≡ IsRead said)
-read_as None said t = tt
-read_as (Some bytes) said t = t
+one-of-plan : (packets : Bool) (parts : PlanParts) (schedule : Schedule) (answer other : Status) (text text_other : List ℕ) → DueOfPlan packets parts schedule answer text → DueOfPlan packets parts schedule other text_other → (answer ≡ other) × (text ≡ text_other)
+one-of-plan packets parts schedule answer other text text_other (Reports run played is told) (Reports again played_again is_other told_other) =
+    (is ∙ sym is_other, told ∙ ap (λ r. report_of parts (reverse r) packets) (one-end.one_run (network_of parts) schedule run again played played_again) ∙ sym told_other)
+one-of-plan packets parts schedule answer other text text_other (Reports run played is told) (Misses line made missing is_other told_other) = absurd (one-end.not_both (network_of parts) schedule run line made played missing)
+one-of-plan packets parts schedule answer other text text_other (Misses line made missing is told) (Reports run played is_other told_other) = absurd (one-end.not_both (network_of parts) schedule run line made played missing)
+one-of-plan packets parts schedule answer other text text_other (Misses line made missing is told) (Misses again made_again missing_again is_other told_other) =
+    let same = one-end.one_line (network_of parts) schedule line made again made_again missing missing_again in
+    (is ∙ ap (λ l. status.Refused l cause.Step) same.0 ∙ sym is_other, told ∙ ap (λ l. refusal_line l cause.Step) same.0 ∙ sym told_other)
 
--- plans of the same over their links have one text
-same_text : (said : Said) (plan its : IsPlan said) → plan_text its.link said ≡ plan_text plan.link said
-unfolding plan_text
-same_text said plan its =
-    ap (λ links. text_over links) (sym its.plan.links ∙ plan.plan.links)
-  where
-    text_over : List Link → List ℕ
-    text_over [] = []
-    text_over (link ∷ links) = plan_text link said
+one-due : (packets : Bool) (r : Reading) (answer other : Status) (text text_other : List ℕ) → IsDue packets answer text r → IsDue packets other text_other r → (answer ≡ other) × (text ≡ text_other)
+one-due packets (IsRead parts schedule) answer other text text_other one two = one-of-plan packets parts schedule answer other text text_other one two
+one-due packets (IsBad line why) answer other text text_other one two = (one.0 ∙ sym two.0, one.1 ∙ sym two.1)
+one-due packets IsOver answer other text text_other one two = (one.0 ∙ sym two.0, one.1 ∙ sym two.1)
 
--- bytes that were read as a plan are its text
-text_as : (left : Option (List ℕ)) (said : Said) (plan : IsPlan said) → Tells (Ok said) left → IfSome left (λ bytes. bytes ≡ plan_text plan.link said)
-text_as None said plan t = tt
-text_as (Some bytes) said plan t =
-    let p = read_text MOST_BYTES bytes said t in
-    p.1 ∙ same_text said plan p.0
+-- ---- an answer without a fault
 
--- a front of the plan's report is a front of the text due
-front_due : (left : Option (List ℕ)) (said : Said) (text : List ℕ) (written written' : Option (List ℕ)) → Tells (Ok said) left → text ≡ plan_report said
-    → WritesFront written written' text → ComesTo left (λ r. WritesFront written written' (due_text r))
-front_due None said text written written' t e front = tt
-front_due (Some bytes) said text written written' t e front =
-    let P : List ℕ → Type 0 = λ due. WritesFront written written' due in
-    rw t (subst P e front)
+at-bytes : (left : Option (List ℕ)) (bytes : List ℕ) (P : Reading → Type 0) → left ≡ Some bytes → ComesTo left P → P (reading MOST_BYTES bytes)
+at-bytes left bytes P is come = subst (λ given. ComesTo given P) is come
 
--- the status of a plan whose report was written, or a front of it
-pub plays_plan : (before after : Ends) (answer : Status) (said : Said) (text : List ℕ) → IsPlan said → Tells (Ok said) before.left → IsAtEnd after.left → text ≡ plan_report said
-    → WritesAll answer status.Done text before.written after.written before.write_faults after.write_faults → Plays answer before after
-plays_plan before after answer said text plan told ended e (AllWritten a w) =
-    rw a (record {
-      said = said;
-      plan = plan;
-      read = read_as before.left said told;
-      text = text_as before.left said plan told;
-      ended = ended;
-      written = (let P : List ℕ → Type 0 = λ due. Appends before.written after.written due in subst P e w);
-      shape = (shape-some plan.link plan.plan.sound).0;
-      of_link = (shape-some plan.link plan.plan.sound).1;
-      settled = run-settled (shape-some plan.link plan.plan.sound).0 said plan.plan.script;
-      passes = run-passes (shape-some plan.link plan.plan.sound).0 said plan.plan.script;
-      in_time = run-guaranteed (shape-some plan.link plan.plan.sound).0 said plan.plan.script;
-      sources = run-serves (shape-some plan.link plan.plan.sound).0 said plan.plan.script;
-      promised = run-keeps (shape-some plan.link plan.plan.sound).0 said plan.plan.script;
-    })
-plays_plan before after answer said text plan told ended e (FrontWritten a r w) =
-    rw a (record { rises = r; written = front_due before.left said text before.written after.written told e w })
+due-done : (packets : Bool) (before after : Ends) (bytes : List ℕ) → before.left ≡ Some bytes → PlaysDone packets before after → DueFor packets status.Done bytes
+due-done packets before after bytes is plays =
+    let read : reading MOST_BYTES bytes ≡ IsRead plays.parts plays.schedule = at-bytes before.left bytes (λ r. r ≡ IsRead plays.parts plays.schedule) is plays.read in
+    let text = report_of plays.parts (reverse plays.run) packets in
+    record { text = text; due = subst (IsDue packets status.Done text) (sym read) (Reports plays.run plays.played refl refl) }
 
--- a status that is due for what the bytes come to
-of_reading : (answer : Status) (left : Option (List ℕ)) (bytes : List ℕ) → left ≡ Some bytes → (P : Reading → Type 0) → ((r : Reading) → P r → answer ≡ due_status r)
-    → ComesTo left P → answer ≡ due_status (reading MOST_BYTES bytes)
-of_reading answer left bytes e P due come = due (reading MOST_BYTES bytes) (subst (λ given. ComesTo given P) e come)
+answers-due : (packets : Bool) (before after : Ends) (answer : Status) (bytes : List ℕ) → before.left ≡ Some bytes → MeetsNoFault before after → Plays packets answer before after → (answer ≡ status.Memory) ⊎ DueFor packets answer bytes
+answers-due packets before after status.Done bytes is none plays = inr (due-done packets before after bytes is plays)
+answers-due packets before after status.Memory bytes is none plays = inl refl
+answers-due packets before after status.Words bytes is none plays = absurd plays
+answers-due packets before after status.ReadFault bytes is none plays = absurd (none.read plays.rises)
+answers-due packets before after status.WriteFault bytes is none plays = absurd (none.write plays.rises)
+answers-due packets before after (status.Refused line told) bytes is none plays =
+    inr (record { text = refusal_line line told; due = at-bytes before.left bytes (IsDue packets (status.Refused line told) (refusal_line line told)) is plays.due })
+answers-due packets before after status.TooLong bytes is none plays =
+    let over : reading MOST_BYTES bytes ≡ IsOver = at-bytes before.left bytes (λ r. r ≡ IsOver) is plays.over in
+    inr (record { text = []; due = subst (IsDue packets status.TooLong []) (sym over) (refl, refl) })
 
--- without a fault the status is that of what the bytes come to, or memory was wanted
-pub due_for : (before after : Ends) (answer : Status) (bytes : List ℕ) → before.left ≡ Some bytes → MeetsNoFault before after → Plays answer before after
-    → (answer ≡ status.Memory) ⊎ (answer ≡ due_status (reading MOST_BYTES bytes))
-due_for before after status.Done bytes e none plays = inr (of_reading status.Done before.left bytes e (λ r. r ≡ IsRead plays.said) (λ r same. ap due_status (sym same)) plays.read)
-due_for before after status.Memory bytes e none plays = inl refl
-due_for before after status.Words bytes e none plays = absurd plays
-due_for before after status.ReadFault bytes e none plays = absurd (none.read plays.rises)
-due_for before after status.WriteFault bytes e none plays = absurd (none.write plays.rises)
-due_for before after (status.Refused line told) bytes e none plays =
-    inr (of_reading (status.Refused line told) before.left bytes e (λ r. (why : Cause) × (r ≡ IsBad line why)) (λ r why. ap (status.Refused line) plays.one_word ∙ ap due_status (sym why.1)) plays.bad)
-due_for before after status.TooLong bytes e none plays = inr (of_reading status.TooLong before.left bytes e (λ r. r ≡ IsOver) (λ r same. ap due_status (sym same)) plays.over)
+pub bytes-determine : BytesDetermine
+bytes-determine = record { answers = answers-due; one = one-due }

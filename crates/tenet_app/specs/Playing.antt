@@ -1,30 +1,27 @@
--- What the word `play` answers. The bytes of the source determine the text that is due: the report of the plan that
--- they are the text of; one line, where a line is refused; or nothing, where there are too many bytes. The status
--- says how far that came. A fault of reading or writing is answered only where the count of faults of the source or
--- the sink rose. What is said of bytes is said where the source and the sink tell them.
-use Rattle.std.specs.Prelude.{◌≡◌, ℕ, ◌≤◌, Bool, false, nat_eq, ◌&&◌, Option, Some, None, IfSome, List, [], ◌∷◌, length, codes}
-use Rattle.std.specs.List.{AllByRecursion}
+-- What the word `play` answers. The bytes of the source determine what is due: the report of a run of the plan and the schedule
+-- that they read as; one line, where a line is refused or asks for a step that isn't left; or nothing, where there are too
+-- many bytes. The status says how far that came. A fault of reading or writing is answered only where the count of faults of
+-- the source or the sink rose. What is said of bytes is said where the source and the sink tell them.
+use Rattle.std.specs.Prelude.{◌≡◌, ℕ, ◌≤◌, Bool, true, false, ◌&&◌, ◌||◌, nat_eq, if◌then◌else◌, ◌⊎◌, Option, Some, None, IfSome, List, [], ◌∷◌, ◌++◌, reverse, codes}
 use Rattle.std.specs.Cmp.Lexicographic.{pointwise}
 use Rattle.std.specs.Fmt.{decimal}
 use Rattle.std.specs.Io.KnownBytes.{Appends, Keeps, IsAtEnd}
 use Rattle.byte_ends.specs.Faults.{Rises}
-use Rattle.byte_ends.specs.Writing.{WritesFront}
-use Rattle.link_steps.specs.HopGuarantee.{AfterEach, HeldRowsPass, HopGuarantee}
-use Rattle.link_steps.specs.SourceGuarantee.{SourceGuarantee}
-use Rattle.link_steps.specs.declared.shape.LinkShape.{LinkShape}
-use Rattle.tenet_app.specs.Establishment.{IsSettled}
-use Rattle.tenet_app.specs.Fields.{ended_line}
-use Rattle.tenet_app.specs.PlanText.{plan_text}
-use Rattle.tenet_app.specs.Plans.{Said, requests_of, IsPlan}
-use Rattle.tenet_app.specs.Promises.{KeepsPromises}
-use Rattle.tenet_app.specs.Reading.{Reading, IsRead, IsBad, IsOver, reading, LetsPass}
-use Rattle.tenet_app.specs.Report.{report_of}
-use Rattle.tenet_app.specs.Run.{run_of}
-use Rattle.tenet_app.specs.Shapes.{shape_of}
-use Rattle.tenet_app.specs.declared.scenario.cause.Cause.{Cause}
-use Rattle.tenet_app.specs.declared.scenario.cause.Cause.TheVariants as cause
-use Rattle.tenet_app.specs.declared.scenario.plan.Link.{Link}
-use Rattle.tenet_app.specs.declared.scenario.reader.TheConstants.{MOST_BYTES}
+use Rattle.call_script.specs.Parts.{PlanParts}
+use Rattle.call_script.specs.Plans.{IsPlan}
+use Rattle.call_script.specs.Tasks.{network_of}
+use Rattle.call_script.specs.declared.schedule.Schedule.{Schedule}
+use Rattle.byte_ends.specs.Gathering.{WritesPart}
+use Rattle.channel_report.specs.Lines.{line_of}
+use Rattle.channel_report.specs.Report.{report_of}
+use Rattle.interleave_core.specs.Schedules.{IsPlayed, AsksTooMuch}
+use Rattle.interleave_core.specs.Standing.{IsGuaranteedRun}
+use Rattle.run_record.specs.declared.done.Done.{Done}
+use Rattle.scenario_reader.specs.Reading.{Reading, IsRead, IsBad, IsOver, reading, LetsPass}
+use Rattle.scenario_reader.specs.Words.{cause_word}
+use Rattle.scenario_reader.specs.declared.cause.Cause.{Cause}
+use Rattle.scenario_reader.specs.declared.cause.Cause.TheVariants as cause
+use Rattle.scenario_reader.specs.declared.reader.TheConstants.{MOST_BYTES}
 use Rattle.tenet_app.specs.declared.status.Status.{Status}
 use Rattle.tenet_app.specs.declared.status.Status.TheVariants as status
 
@@ -35,59 +32,54 @@ pub record Ends : Type 0 where
   pub written : Option (List ℕ)
   pub write_faults : ℕ
 
--- the report of a plan's run over a link of this shape and name
-abbrev pub report_at : Option LinkShape → List ℕ → Said → List ℕ
-report_at None name said = []
-report_at (Some shape) name said = report_of name (requests_of said) (run_of shape said)
+-- ---- what is due
 
--- that over the first of these links
-abbrev pub report_over : List Link → Said → List ℕ
-report_over [] said = []
-report_over (link ∷ links) said = report_at (shape_of link) link.name said
+-- refused LINE CAUSE
+abbrev pub refusal_line : ℕ → Cause → List ℕ
+refusal_line line why = line_of (codes "refused" ∷ decimal line ∷ cause_word why ∷ [])
 
--- the report of a plan
-abbrev pub plan_report : Said → List ℕ
-plan_report said = report_over said.links said
+-- a plan and a schedule come to the report of a run, with or without the table of packets, or to the line that asks for a step
+-- that isn't left
+pub data DueOfPlan (packets : Bool) (parts : PlanParts) (schedule : Schedule) (answer : Status) (text : List ℕ) : Type 0 where
+  Reports : (run : List Done) → IsPlayed (network_of parts) schedule run → answer ≡ status.Done → text ≡ report_of parts (reverse run) packets → DueOfPlan packets parts schedule answer text
+  Misses : (line made : ℕ) → AsksTooMuch (network_of parts) schedule line made → answer ≡ status.Refused line cause.Step → text ≡ refusal_line line cause.Step → DueOfPlan packets parts schedule answer text
 
--- the line that tells which line is refused; until the whole language is built, by one word for every cause
-abbrev pub refusal_line : ℕ → List ℕ
-refusal_line line = ended_line (codes "refused" ∷ decimal line ∷ codes "later" ∷ [])
-
--- the text that is due for a reading
-abbrev pub due_text : Reading → List ℕ
-due_text (IsRead said) = plan_report said
-due_text (IsBad line cause) = refusal_line line
-due_text IsOver = []
+-- the status and the text that are due for what the bytes come to
+abbrev pub IsDue : Bool → Status → List ℕ → Reading → Type 0
+IsDue packets answer text (IsRead parts schedule) = DueOfPlan packets parts schedule answer text
+IsDue packets answer text (IsBad line why) = (answer ≡ status.Refused line why) × (text ≡ refusal_line line why)
+IsDue packets answer text IsOver = (answer ≡ status.TooLong) × (text ≡ [])
 
 -- the bytes that the source had, where it tells them, come to this
 abbrev pub ComesTo : Option (List ℕ) → (Reading → Type 0) → Type 0
 ComesTo left P = IfSome left (λ bytes. P (reading MOST_BYTES bytes))
 
--- the scenario was read to its end and the report of its plan's run was written; in the run each request is settled;
--- after every step the rows that the link holds pass the admission test; each packet leaves the link within the bound
--- of its level of its eligible tick; a source that keeps its contract loses none, and each of its packets leaves within
--- that bound of its arrival; and so each request that was accepted is served as its `accept` line tells, while its
--- source keeps its contract, and the delay that the line tells is within the one asked for
-pub record PlaysDone (before after : Ends) : Type 0 where
-  pub said : Said
-  pub plan : IsPlan said
-  pub read : ComesTo before.left (λ r. r ≡ IsRead said)
-  pub text : IfSome before.left (λ bytes. bytes ≡ plan_text plan.link said)
-  pub ended : IsAtEnd after.left
-  pub written : Appends before.written after.written (plan_report said)
-  pub shape : LinkShape
-  pub of_link : shape_of plan.link ≡ Some shape
-  pub settled : AllByRecursion IsSettled (run_of shape said).verdicts
-  pub passes : AfterEach (HeldRowsPass shape) (run_of shape said).history
-  pub in_time : HopGuarantee shape (run_of shape said).history
-  pub sources : SourceGuarantee shape (run_of shape said).history
-  pub promised : KeepsPromises shape said
+-- a front of a text that is due was written
+pub record FrontOfDue (packets : Bool) (written written' : Option (List ℕ)) (r : Reading) : Type 0 where
+  pub answer : Status
+  pub text : List ℕ
+  pub due : IsDue packets answer text r
+  pub front : WritesPart written written' text
 
--- the line is refused, and one line that tells it was written
-pub record PlaysRefused (line : ℕ) (told : Cause) (before after : Ends) : Type 0 where
-  pub one_word : told ≡ cause.Later
-  pub bad : ComesTo before.left (λ r. (why : Cause) × (r ≡ IsBad line why))
-  pub written : Appends before.written after.written (refusal_line line)
+-- ---- what a status says
+
+-- the scenario was read to its end; its schedule was played; the run is one of the plan, with the whole guarantee at its beginning
+-- and after each of its entries; and the report of that run was written
+pub record PlaysDone (packets : Bool) (before after : Ends) : Type 0 where
+  pub parts : PlanParts
+  pub schedule : Schedule
+  pub run : List Done
+  pub plan : IsPlan parts
+  pub read : ComesTo before.left (λ r. r ≡ IsRead parts schedule)
+  pub ended : IsAtEnd after.left
+  pub played : IsPlayed (network_of parts) schedule run
+  pub guaranteed : IsGuaranteedRun parts run
+  pub written : Appends before.written after.written (report_of parts (reverse run) packets)
+
+-- that is due for the bytes, and one line that tells it was written
+pub record PlaysRefused (packets : Bool) (line : ℕ) (told : Cause) (before after : Ends) : Type 0 where
+  pub due : ComesTo before.left (IsDue packets (status.Refused line told) (refusal_line line told))
+  pub written : Appends before.written after.written (refusal_line line told)
 
 -- there are too many bytes, and nothing was written
 pub record PlaysTooLong (before after : Ends) : Type 0 where
@@ -101,25 +93,67 @@ pub record PlaysReadFault (before after : Ends) : Type 0 where
   pub written : Keeps before.written after.written
 
 -- the sink failed, and a front of the text due was written
-pub record PlaysWriteFault (before after : Ends) : Type 0 where
+pub record PlaysWriteFault (packets : Bool) (before after : Ends) : Type 0 where
   pub rises : Rises before.write_faults after.write_faults
-  pub written : ComesTo before.left (λ r. WritesFront before.written after.written (due_text r))
+  pub written : ComesTo before.left (FrontOfDue packets before.written after.written)
 
--- what a status says
-abbrev pub Plays : Status → Ends → Ends → Type 0
-Plays status.Done before after = PlaysDone before after
-Plays status.Memory before after = Keeps before.written after.written
-Plays status.Words before after = ⊥
-Plays status.ReadFault before after = PlaysReadFault before after
-Plays status.WriteFault before after = PlaysWriteFault before after
-Plays (status.Refused line told) before after = PlaysRefused line told before after
-Plays status.TooLong before after = PlaysTooLong before after
+-- memory was wanted before anything was written, or behind a front of the text due
+abbrev pub PlaysMemory : Bool → Ends → Ends → Type 0
+PlaysMemory packets before after = Keeps before.written after.written ⊎ ComesTo before.left (FrontOfDue packets before.written after.written)
 
--- the status that is due for a reading
-abbrev pub due_status : Reading → Status
-due_status (IsRead said) = status.Done
-due_status (IsBad line why) = status.Refused line cause.Later
-due_status IsOver = status.TooLong
+abbrev pub Plays : Bool → Status → Ends → Ends → Type 0
+Plays packets status.Done before after = PlaysDone packets before after
+Plays packets status.Memory before after = PlaysMemory packets before after
+Plays packets status.Words before after = ⊥
+Plays packets status.ReadFault before after = PlaysReadFault before after
+Plays packets status.WriteFault before after = PlaysWriteFault packets before after
+Plays packets (status.Refused line told) before after = PlaysRefused packets line told before after
+Plays packets status.TooLong before after = PlaysTooLong before after
+
+-- ---- the parts of an answer
+
+-- a front of a text that is due for a plan and its schedule was written
+pub record FrontOfPlan (packets : Bool) (parts : PlanParts) (schedule : Schedule) (written written' : Option (List ℕ)) : Type 0 where
+  pub answer : Status
+  pub text : List ℕ
+  pub due : DueOfPlan packets parts schedule answer text
+  pub front : WritesPart written written' text
+
+-- the schedule was played, and the report of its run was written
+pub record ReportsRun (packets : Bool) (parts : PlanParts) (schedule : Schedule) (written written' : Option (List ℕ)) : Type 0 where
+  pub run : List Done
+  pub played : IsPlayed (network_of parts) schedule run
+  pub guaranteed : IsGuaranteedRun parts run
+  pub appends : Appends written written' (report_of parts (reverse run) packets)
+
+-- a step isn't left, and one line that tells it was written
+pub record TellsMissing (parts : PlanParts) (schedule : Schedule) (line : ℕ) (told : Cause) (written written' : Option (List ℕ)) : Type 0 where
+  pub step : told ≡ cause.Step
+  pub made : ℕ
+  pub missing : AsksTooMuch (network_of parts) schedule line made
+  pub appends : Appends written written' (refusal_line line cause.Step)
+
+-- what a status says, where the plan and its schedule were read
+abbrev pub AnswersPlan : Bool → PlanParts → Schedule → Status → Option (List ℕ) → Option (List ℕ) → ℕ → ℕ → Type 0
+AnswersPlan packets parts schedule status.Done written written' faults faults' = ReportsRun packets parts schedule written written'
+AnswersPlan packets parts schedule status.Memory written written' faults faults' = Keeps written written' ⊎ FrontOfPlan packets parts schedule written written'
+AnswersPlan packets parts schedule status.WriteFault written written' faults faults' = Rises faults faults' × FrontOfPlan packets parts schedule written written'
+AnswersPlan packets parts schedule (status.Refused line told) written written' faults faults' = TellsMissing parts schedule line told written written'
+AnswersPlan packets parts schedule status.Words written written' faults faults' = ⊥
+AnswersPlan packets parts schedule status.ReadFault written written' faults faults' = ⊥
+AnswersPlan packets parts schedule status.TooLong written written' faults faults' = ⊥
+
+-- a report was written, or a front of it
+pub data WritesReport (answer : Status) (text : List ℕ) (written written' : Option (List ℕ)) (faults faults' : ℕ) : Type 0 where
+  IsWritten : answer ≡ status.Done → Appends written written' text → WritesReport answer text written written' faults faults'
+  FrontWritten : answer ≡ status.WriteFault → Rises faults faults' → WritesPart written written' text → WritesReport answer text written written' faults faults'
+  LacksMemory : answer ≡ status.Memory → WritesPart written written' text → WritesReport answer text written written' faults faults'
+
+-- a refusal was told, or memory was wanted before, or the sink failed behind a front of its line
+pub data TellsRefusal (line : ℕ) (told : Cause) (answer : Status) (written written' : Option (List ℕ)) (faults faults' : ℕ) : Type 0 where
+  IsTold : answer ≡ status.Refused line told → Appends written written' (refusal_line line told) → TellsRefusal line told answer written written' faults faults'
+  FrontTold : answer ≡ status.WriteFault → Rises faults faults' → WritesPart written written' (refusal_line line told) → TellsRefusal line told answer written written' faults faults'
+  NotTold : answer ≡ status.Memory → Keeps written written' → TellsRefusal line told answer written written' faults faults'
 
 -- neither count of faults rose
 pub record MeetsNoFault (before after : Ends) : Type 0 where
@@ -131,14 +165,32 @@ pub record Counts (before after : Ends) : Type 0 where
   pub read : before.read_faults ≤ after.read_faults
   pub write : before.write_faults ≤ after.write_faults
 
--- the list of words is the one word `play`
-abbrev pub is_play : List (List ℕ) → Bool
-is_play words = nat_eq (length words) 1 && are_play words where
-  are_play : List (List ℕ) → Bool
-  are_play [] = false
-  are_play (word ∷ others) = pointwise nat_eq word (codes "play")
+-- ---- laws
 
--- the whole text was written, and the status is `done`; or the sink failed behind a front of it
-pub data WritesAll (answer done : Status) (text : List ℕ) (written written' : Option (List ℕ)) (faults faults' : ℕ) : Type 0 where
-  AllWritten : answer ≡ done → Appends written written' text → WritesAll answer done text written written' faults faults'
-  FrontWritten : answer ≡ status.WriteFault → Rises faults faults' → WritesFront written written' text → WritesAll answer done text written written' faults faults'
+-- a status and a text that are due for the bytes
+pub record DueFor (packets : Bool) (answer : Status) (bytes : List ℕ) : Type 0 where
+  pub text : List ℕ
+  pub due : IsDue packets answer text (reading MOST_BYTES bytes)
+
+pub record BytesDetermine : Type 0 where
+  -- where nothing fails, an answer that `play` may give is due for the bytes, or memory was wanted
+  pub answers : (packets : Bool) (before after : Ends) (answer : Status) (bytes : List ℕ) → before.left ≡ Some bytes → MeetsNoFault before after → Plays packets answer before after → (answer ≡ status.Memory) ⊎ DueFor packets answer bytes
+  -- and no two are due
+  pub one : (packets : Bool) (r : Reading) (answer other : Status) (text text_other : List ℕ) → IsDue packets answer text r → IsDue packets other text_other r → (answer ≡ other) × (text ≡ text_other)
+
+-- ---- the words
+
+-- whether a word is this one
+abbrev pub is_word : List ℕ → List ℕ → Bool
+is_word text word = pointwise nat_eq word text
+
+-- one of these words is `play`, and the other `--packets`
+abbrev pub are_both : List ℕ → List ℕ → Bool
+are_both first second = is_word (codes "play") first && is_word (codes "--packets") second
+
+-- `play` alone, or with `--packets` before or behind it: whether the table of packets is asked for
+abbrev pub play_words : List (List ℕ) → Option Bool
+play_words [] = None
+play_words (word ∷ []) = if is_word (codes "play") word then Some false else None
+play_words (first ∷ second ∷ []) = if are_both first second || are_both second first then Some true else None
+play_words (first ∷ second ∷ third ∷ others) = None

@@ -6,18 +6,9 @@ ghost use Rattle.std.specs.IoError.{error_kind};
 ghost use Rattle.std.specs.declared.io.ErrorKind.TheVariants.{OutOfMemory};
 ghost use Rattle.tenet_app.specs.declared.status.Status.TheVariants.{Memory, Words};
 
-pub mod batch;
-pub mod establishment;
 pub mod laws;
-pub mod player;
 pub mod playing;
-pub mod report;
-pub mod run;
-pub mod scenario;
-pub mod shapes;
 pub mod status;
-pub mod tallies;
-pub mod tally;
 pub mod top;
 
 use byte_ends::{StdSink, StdSource};

@@ -1,92 +1,96 @@
 //! The word `play`: from the bytes of a scenario to the bytes of its report.
-ghost use Rattle.std.specs.Prelude.{◌≡◌, ◌≤◌, ℕ, ◌⊎◌, List, Some, IfOk, string_bytes};
-ghost use Rattle.tenet_app.specs.Plans.{IsPlan};
-ghost use Rattle.tenet_app.specs.Playing.{Ends, MeetsNoFault, plan_report, refusal_line, due_status, Plays, Counts, WritesAll};
-ghost use Rattle.tenet_app.specs.Reading.{reading};
-ghost use Rattle.tenet_app.specs.declared.scenario.reader.TheConstants.{MOST_BYTES};
-ghost use Rattle.tenet_app.specs.declared.status.Status.TheVariants as status;
+ghost use Rattle.std.specs.Prelude.{◌≡◌, ◌≤◌, IfOk, reverse, string_bytes};
+ghost use Rattle.call_script.specs.Tasks.{network_of};
+ghost use Rattle.interleave_core.specs.Runs.{IsRun};
+ghost use Rattle.interleave_core.specs.Schedules.{IsActorOf};
+ghost use Rattle.link_steps.specs.Lists.{Each};
+ghost use Rattle.tenet_app.specs.Playing.{AnswersPlan, Counts, Plays, TellsRefusal, WritesReport, refusal_line};
+ghost use Rattle.channel_report.specs.Report.{report_of};
 
-use crate::report::report;
-use crate::run::run;
-use crate::scenario::cause::Cause;
-use crate::scenario::draft::Draft;
-use crate::scenario::reader::{ReadRefusal, read_scenario};
-use crate::shapes::shape_of;
 use crate::status::Status;
 use byte_ends::{Sink, Source, put_all};
-use net_units::OutOfMemory;
+use call_script::{Plan, Schedule};
+use channel_report::{ReportFault, write_report};
+use interleave_core::PlayFault;
+use run_record::Record;
+use scenario_reader::{Cause, ReadRefusal, read_plan};
 use std::alloc::{AllocError, Global};
 
-/// Reads a scenario, plays its run (the operations of its callers, and then the ticks), and writes the report. It waits
-/// for nobody.
-pub fn play<S: Source, K: Sink>(alloc: Global, source: &mut S, sink: &mut K) -> Status
-    ensures plays { Plays result
+/// Reads a scenario, plays its schedule, and writes the report of its run, with the table of packets where `packets` is set. It
+/// waits for nobody.
+pub fn play<S: Source, K: Sink>(
+    alloc: Global,
+    packets: bool,
+    source: &mut S,
+    sink: &mut K,
+) -> Status
+    ensures plays { Plays packets result
         (record { left = S.left source.old; read_faults = S.faults source.old; written = K.written sink.old; write_faults = K.faults sink.old })
         (record { left = S.left source.new; read_faults = S.faults source.new; written = K.written sink.new; write_faults = K.faults sink.new }) }
     ensures counts { Counts
         (record { left = S.left source.old; read_faults = S.faults source.old; written = K.written sink.old; write_faults = K.faults sink.old })
         (record { left = S.left source.new; read_faults = S.faults source.new; written = K.written sink.new; write_faults = K.faults sink.new }) }
 {
-    match read_scenario(alloc, source) {
-        Ok(draft) => match answer(alloc, &draft) {
-            Ok(text) => write(sink, text.as_str(), Status::Done),
-            Err(OutOfMemory) => Status::Memory,
-        },
+    match read_plan(alloc, source) {
+        Ok((plan, schedule)) => answer(alloc, packets, &plan, &schedule, sink),
         Err(ReadRefusal::Memory) => Status::Memory,
         Err(ReadRefusal::ReadFault) => Status::ReadFault,
         Err(ReadRefusal::TooLong { .. }) => Status::TooLong,
-        Err(ReadRefusal::Refused { line, .. }) => match refusal_text(alloc, line) {
-            Ok(text) => write(
-                sink,
-                text.as_str(),
-                Status::Refused {
-                    line,
-                    cause: Cause::Later,
-                },
-            ),
-            Err(AllocError) => Status::Memory,
-        },
+        Err(ReadRefusal::Refused { line, cause }) => refuse(alloc, line, cause, sink),
     }
 }
 
-// The report of a plan.
-fn answer(alloc: Global, plan: &Draft) -> Result<String, OutOfMemory>
-    requires { IsPlan plan.now }
-    ensures { IfOk result (λ text. string_bytes text ≡ plan_report plan.now) }
-{
-    match plan.links() {
-        [] => Ok(String::new(alloc)),
-        [link, ..] => {
-            let requests = plan.requests();
-            let ticks = plan.rounds() + plan.tail();
-            let played = run(alloc, shape_of(link), plan.script(), requests.len(), ticks)?;
-            report(alloc, &link.name, requests, &played)
-        }
-    }
-}
-
-// The line that tells which line is refused.
-fn refusal_text(alloc: Global, line: u64) -> Result<String, AllocError>
-    ensures { IfOk result (λ text. string_bytes text ≡ refusal_line line) }
-{
-    let text = format!(in alloc; "refused {line} later\n")?;
-    Ok(text)
-}
-
-// Writes the whole text, and answers the status, or `WriteFault`.
-fn write<K: Sink>(sink: &mut K, text: &str, done: Status) -> Status
-    ensures written { WritesAll result done text.now (K.written sink.old) (K.written sink.new) (K.faults sink.old) (K.faults sink.new) }
+// Plays the schedule of a plan, and writes the report of its run, or the line that asks for a step that isn't left.
+fn answer<K: Sink>(
+    alloc: Global,
+    packets: bool,
+    plan: &Plan,
+    schedule: &Schedule,
+    sink: &mut K,
+) -> Status
+    requires { Each (IsActorOf plan.now) schedule.now.items }
+    ensures answers { AnswersPlan packets plan.now schedule.now result (K.written sink.old) (K.written sink.new) (K.faults sink.old) (K.faults sink.new) }
     ensures counts { K.faults sink.old ≤ K.faults sink.new }
 {
+    match interleave_core::play(alloc, plan, schedule) {
+        Ok(run) => report(alloc, packets, plan, &run, sink),
+        Err(PlayFault::Memory) => Status::Memory,
+        Err(PlayFault::Step { line, .. }) => refuse(alloc, line, Cause::Step, sink),
+    }
+}
+
+// Writes the report of a run.
+fn report<K: Sink>(alloc: Global, packets: bool, plan: &Plan, run: &Record, sink: &mut K) -> Status
+    requires { IsRun (network_of plan.now) (reverse run.now.entries) }
+    ensures reports { WritesReport result (report_of plan.now run.now.entries packets) (K.written sink.old) (K.written sink.new) (K.faults sink.old) (K.faults sink.new) }
+    ensures counts { K.faults sink.old ≤ K.faults sink.new }
+{
+    match write_report(alloc, plan, run, packets, sink) {
+        Ok(()) => Status::Done,
+        Err(ReportFault::Memory) => Status::Memory,
+        Err(ReportFault::WriteFault) => Status::WriteFault,
+    }
+}
+
+// Writes the line that tells which line is refused, and why.
+fn refuse<K: Sink>(alloc: Global, line: u64, cause: Cause, sink: &mut K) -> Status
+    ensures tells { TellsRefusal line cause result (K.written sink.old) (K.written sink.new) (K.faults sink.old) (K.faults sink.new) }
+    ensures counts { K.faults sink.old ≤ K.faults sink.new }
+{
+    let text = match refusal_text(alloc, line, cause) {
+        Ok(text) => text,
+        Err(AllocError) => return Status::Memory,
+    };
     match put_all(sink, text.as_bytes()) {
-        Ok(()) => done,
+        Ok(()) => Status::Refused { line, cause },
         Err(_) => Status::WriteFault,
     }
 }
 
-/// Where nothing fails, the bytes determine the status: an answer that `play` may give is that of what the bytes
-/// come to, or memory was wanted.
-pub fn without_a_fault_the_bytes_determine_the_status()
-    ensures { (before after : Ends) (answer : Status) (bytes : List ℕ) → before.left ≡ Some bytes → MeetsNoFault before after
-        → Plays answer before after → (answer ≡ status.Memory) ⊎ (answer ≡ due_status (reading MOST_BYTES bytes)) }
-{}
+// That line.
+fn refusal_text(alloc: Global, line: u64, cause: Cause) -> Result<String, AllocError>
+    ensures { IfOk result (λ text. string_bytes text ≡ refusal_line line cause) }
+{
+    let text = format!(in alloc; "refused {line} {cause}\n")?;
+    Ok(text)
+}

@@ -1,5 +1,5 @@
 //! How a run of the program ended.
-use crate::scenario::cause::Cause;
+use scenario_reader::Cause;
 
 /// How a run of the program ended.
 #[derive(Clone, Copy, Debug, PartialEq, Eq)]
@@ -14,11 +14,11 @@ pub enum Status {
     ReadFault,
     /// The sink failed, as its count of faults shows. A front of the text was written.
     WriteFault,
-    /// A line of the scenario is refused, and one line that tells it was written.
+    /// A line of the scenario is refused, or asks for a step that isn't left, and one line that tells it was written.
     Refused {
         /// The line's number, from 1.
         line: u64,
-        /// Why, as far as it's told: `Later`, until the whole language is built.
+        /// Why.
         cause: Cause,
     },
     /// The scenario has more than 4,194,304 bytes, and no whole line within the first 4,194,304 is refused.

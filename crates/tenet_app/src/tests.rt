@@ -1,19 +1,12 @@
 //! Scenarios over one link whose reports are worked by hand. The numbers of each contract come from counting its
 //! packets: `5 10 20 2` brings at most two packets of two units in 10 or 20 ticks, and four in 40.
-ghost use Rattle.tenet_app.specs.Plans.{IsPlan};
 
-use crate::establishment::Verdict;
 use crate::playing::play;
-use crate::report::report;
-use crate::run::run;
-use crate::scenario::cause::Cause;
-use crate::scenario::draft::Draft;
-use crate::scenario::reader::read_scenario;
-use crate::shapes::shape_of;
 use crate::status::Status;
 use crate::top::top;
 use byte_ends::{MemSink, MemSource};
-use net_units::{Level, NoGate};
+use net_units::NoGate;
+use scenario_reader::Cause;
 use std::alloc::Global;
 use std::process::Abort;
 use std::sync::Wait;
@@ -21,6 +14,7 @@ use std::test::Fail;
 use std::thread::Threads;
 
 mod many;
+mod networks;
 mod runs;
 mod voices;
 
@@ -207,11 +201,8 @@ fn plays<R: Threads + Wait + Abort + Sync>(
     ends_with(rt, alloc, &["play"], input, SOUND, (status, text))
 }
 
-fn refused(line: u64) -> Status {
-    Status::Refused {
-        line,
-        cause: Cause::Later,
-    }
+fn refused(line: u64, cause: Cause) -> Status {
+    Status::Refused { line, cause }
 }
 
 #[test]
@@ -255,12 +246,12 @@ fn a_run_that_stops_says_why(rt: HostRuntime) -> Result<(), Fail> {
         block: 8,
         ..failing_end
     };
-    let told = (refused(1), "refused 1 later\n");
+    let told = (refused(1, Cause::Header), "refused 1 header\n");
     ends_with(
         &rt,
         alloc,
         &["play"],
-        b"tenet 2\nlink",
+        b"tenet 9\nlink",
         failing_behind,
         told,
     )?;
@@ -268,13 +259,22 @@ fn a_run_that_stops_says_why(rt: HostRuntime) -> Result<(), Fail> {
     ends_with(&rt, alloc, &[], first, SOUND, told)?;
     ends_with(&rt, alloc, &["fly"], first, SOUND, told)?;
     ends_with(&rt, alloc, &["play", "play"], first, SOUND, told)?;
+    ends_with(&rt, alloc, &["--packets"], first, SOUND, told)?;
+    ends_with(
+        &rt,
+        alloc,
+        &["play", "--packets", "--packets"],
+        first,
+        SOUND,
+        told,
+    )?;
     Ok(())
 }
 
 // Inputs, each with the line that is refused.
-const BAD_INPUTS: [(&str, u64, &str); 5] = [
-    ("", 1, "refused 1 later\n"),
-    ("tenet 2\n", 1, "refused 1 later\n"),
+const BAD_INPUTS: [(&str, u64, Cause, &str); 5] = [
+    ("", 1, Cause::End, "refused 1 end\n"),
+    ("tenet 01\n", 1, Cause::Header, "refused 1 header\n"),
     // A caller sends on the request of another.
     (
         "tenet 1
@@ -287,7 +287,8 @@ rounds 0
 tail 0
 ",
         6,
-        "refused 6 later\n",
+        Cause::Unknown,
+        "refused 6 unknown\n",
     ),
     // The sends plan a packet too many.
     (
@@ -301,7 +302,8 @@ rounds 0
 tail 0
 ",
         6,
-        "refused 6 later\n",
+        Cause::Load,
+        "refused 6 load\n",
     ),
     // The last line has no line feed.
     (
@@ -312,14 +314,21 @@ open r1 route A contract 5 10 20 2 delay 12 rate
 rounds 0
 tail 0",
         6,
-        "refused 6 later\n",
+        Cause::Cut,
+        "refused 6 cut\n",
     ),
 ];
 
 #[test]
 fn the_first_bad_line_is_refused(rt: HostRuntime) -> Result<(), Fail> {
-    for (input, line, text) in BAD_INPUTS {
-        plays(&rt, rt.alloc(), input.as_bytes(), refused(line), text)?;
+    for (input, line, cause, text) in BAD_INPUTS {
+        plays(
+            &rt,
+            rt.alloc(),
+            input.as_bytes(),
+            refused(line, cause),
+            text,
+        )?;
     }
     Ok(())
 }
@@ -336,52 +345,33 @@ fn header_and(alloc: Global, second: &[u8], bytes: usize) -> Result<Vec<u8>, Fai
 fn too_many_bytes_are_refused_behind_the_whole_lines(rt: HostRuntime) -> Result<(), Fail> {
     let alloc = rt.alloc();
     let full = header_and(alloc, b"", 4_194_304)?;
-    plays(&rt, alloc, full.as_slice(), refused(2), "refused 2 later\n")?;
+    plays(
+        &rt,
+        alloc,
+        full.as_slice(),
+        refused(2, Cause::Cut),
+        "refused 2 cut\n",
+    )?;
     let over = header_and(alloc, b"", 4_194_305)?;
     plays(&rt, alloc, over.as_slice(), Status::TooLong, "")?;
     let bad = header_and(alloc, b"caller k1\n", 4_194_305)?;
-    plays(&rt, alloc, bad.as_slice(), refused(2), "refused 2 later\n")?;
-    Ok(())
-}
-
-// The link of the first scenario establishes its request, and the report tells it.
-#[tactic(auto, using(crate::proofs::PlayFacts::plan_few))]
-fn answers_first(rt: &impl Abort, alloc: Global, plan: &Draft) -> Result<(), Fail>
-    requires { IsPlan plan.now }
-{
-    let requests = plan.requests();
-    match plan.links() {
-        [] => assert!(rt; false, "no link"),
-        [link, ..] => {
-            let played = run(alloc, shape_of(link), plan.script(), requests.len(), 0)?;
-            let accepted = Verdict::Accepted {
-                level: Level::LEAST,
-                delay: 12,
-            };
-            assert!(rt; accepted.is_accepted());
-            let verdicts = played.verdicts.as_slice();
-            assert_eq!(rt; verdicts, [accepted].as_slice());
-            assert_eq!(rt; requests.len(), 1);
-            assert_eq!(rt; verdicts.len(), 1);
-            assert_eq!(rt; played.player.tallies.steps, 2);
-            let text = report(alloc, &link.name, requests, &played)?;
-            assert_eq!(rt; text.as_str(), FIRST_REPORT);
-        }
-    }
+    plays(
+        &rt,
+        alloc,
+        bad.as_slice(),
+        refused(2, Cause::Word),
+        "refused 2 word\n",
+    )?;
     Ok(())
 }
 
 #[test]
-fn each_part_answers_for_the_first_scenario(rt: HostRuntime) -> Result<(), Fail> {
+fn it_reads_and_writes_in_pieces(rt: HostRuntime) -> Result<(), Fail> {
     let alloc = rt.alloc();
-    let input = Vec::from_slice(alloc, FIRST.as_bytes())?;
-    let mut source = MemSource::new(input, 1, Vec::new(alloc));
-    let plan = read_scenario(alloc, &mut source)?;
-    answers_first(&rt, alloc, &plan)?;
     let input = Vec::from_slice(alloc, FIRST.as_bytes())?;
     let mut source = MemSource::new(input, 7, Vec::new(alloc));
     let mut sink = MemSink::new(alloc, 2_000, 7, Vec::new(alloc))?;
-    assert_eq!(rt; play(alloc, &mut source, &mut sink), Status::Done);
+    assert_eq!(rt; play(alloc, false, &mut source, &mut sink), Status::Done);
     assert_eq!(rt; sink.bytes(), FIRST_REPORT.as_bytes());
     Ok(())
 }

@@ -1,8 +1,0 @@
-use Rattle.std.proofs.Common.{drop, length-drop, refl}
-use Rattle.tenet_app.specs.Fields.{fields_of}
-use Rattle.tenet_app.proofs.FormFacts.{one_left}
-use Rattle.tenet_app.proofs.scenario.form.Part.taken.Goals as goal
-
-pub returns-in-Field-clause-value : goal.returns-in-Field-clause-value
-returns-in-Field-clause-value c =
-    rw c.in-Field.is (rw c.one_if-in-Field.ensures (rw (one_left (drop c.args.place (fields_of c.args.line.now)), c.saturating_sub-left.ensures, c.field_count.ensures, length-drop) refl))

@@ -1,9 +1,0 @@
-use Rattle.std.proofs.Common.{◌≡◌, ◌+◌, drop}
-use Rattle.tenet_app.specs.Fields.{fields_of}
-use Rattle.tenet_app.specs.Forms.{route_length}
-use Rattle.tenet_app.proofs.scenario.form.route_length.Given as goal
-
--- the fields so far belong to the route, and what is left goes on with it
-abbrev pub invariant-loop-place : goal.invariant-loop-place
-invariant-loop-place l =
-    l.from + route_length (drop l.from (fields_of l.line)) ≡ l.place + route_length (drop l.place (fields_of l.line))
