@@ -1,7 +1,8 @@
-//! Laws.
+//! Laws of the word `play`, each as the contract of a function that does nothing.
 ghost use Rattle.tenet_app.specs.Playing.{BytesDetermine};
 
-/// Law.
-pub fn bytes_determine()
+/// Where nothing fails, the bytes determine the answer: a status that `play` may give is due for what the bytes come to, or
+/// memory was wanted; and only one status and one text are due for them.
+pub fn without_a_fault_the_bytes_determine_the_answer()
     ensures { BytesDetermine }
 {}
