@@ -1,5 +1,7 @@
 //! Laws of scenarios, each as the contract of a function that does nothing.
+ghost use Rattle.std.specs.Prelude.{◌≡◌};
 ghost use Rattle.scenario_reader.specs.BothWays.{APlansTextIsRead, ATextIsOfOnePlan};
+ghost use Rattle.scenario_reader.specs.declared.reader.TheConstants.{MOST_BYTES};
 
 /// The text of a plan, where it has at most 4,194,304 bytes, is read as that plan and its schedule, whose items then have the
 /// numbers of their lines.
@@ -10,4 +12,9 @@ pub fn a_plans_text_is_read()
 /// A text of at most 4,194,304 bytes is that of one plan, with one schedule up to the numbers of lines.
 pub fn a_text_is_of_one_plan()
     ensures { ATextIsOfOnePlan }
+{}
+
+/// A scenario may have 4,194,304 bytes.
+pub fn a_scenario_has_at_most_4194304_bytes()
+    ensures { MOST_BYTES ≡ 4194304 }
 {}
