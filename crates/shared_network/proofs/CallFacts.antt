@@ -1,5 +1,5 @@
 -- A setup goes on with each step: its entries are what it asks, and fewer asks are left.
-use Rattle.std.proofs.Common.{◌≡◌, ℕ, zero, suc, ◌+◌, ◌-◌, ◌<◌, ◌≤◌, ◌^◌, Bool, true, false, cond, List, [], ◌∷◌, ◌++◌, length, map, Option, Some, None, refl, sym, ap, ◌∙◌, subst, inl, inr, arith}
+use Rattle.std.proofs.Common.{◌≡◌, ℕ, zero, suc, ◌+◌, ◌-◌, ◌<◌, ◌≤◌, true, false, cond, List, [], ◌∷◌, ◌++◌, length, map, Option, Some, None, refl, sym, ap, ◌∙◌, subst, ⊎_elim, arith}
 use Rattle.std.proofs.lemmas.Bool.{cond_both}
 use Rattle.std.proofs.lemmas.List.{append_assoc, append-nil, length-append, map-append, length_push}
 use Rattle.std.proofs.lemmas.Option.{same_Some, slice_get_within}
@@ -10,7 +10,7 @@ use Rattle.net_units.specs.Numbers.{channel_number, link_number, level_number}
 use Rattle.net_units.specs.declared.numbers.ActorNo.{ActorNo}
 use Rattle.net_units.specs.declared.numbers.ChanNo.{ChanNo}
 use Rattle.net_units.specs.declared.numbers.LinkNo.{LinkNo}
-use Rattle.hop_reservation.specs.Offers.{AreLevels, next_levels, next_bound}
+use Rattle.hop_reservation.specs.Offers.{AreLevels, next_bound}
 use Rattle.hop_reservation.specs.Routes.{IsRoute, link_of}
 use Rattle.hop_reservation.specs.declared.route.Hop.{Hop}
 use Rattle.link_steps.specs.Lists.{Each}
@@ -31,7 +31,6 @@ use Rattle.setup_protocol.specs.declared.setup.State.TheVariants as state
 use Rattle.setup_protocol.specs.declared.verdict.Deny.{Deny as Denial}
 use Rattle.setup_protocol.specs.declared.verdict.Deny.TheVariants.{End}
 use Rattle.net_units.specs.Allotted.{levels_of}
-use Rattle.link_ledger.specs.Order.{AreInOrder}
 use Rattle.link_ledger.specs.Own.{own_at}
 use Rattle.link_ledger.specs.Owners.{IsOwner}
 use Rattle.link_ledger.specs.Tokens.{Token, IsLink, Steps}
@@ -39,8 +38,9 @@ use Rattle.link_ledger.specs.declared.entries.OwnEntry.{OwnEntry}
 use Rattle.shared_network.specs.Added.{IsSamePass}
 use Rattle.shared_network.specs.Calls.{Follows, reply_in}
 use Rattle.shared_network.specs.Ready.{MayStep, GoesOn}
+use Rattle.shared_network.proofs.StepFacts.{drawn-own}
 use Rattle.shared_network.proofs.SetupGoes.{IsSound, SetupRows, SetupGoes}
-use Rattle.std.proofs.lemmas.Bool.{ne_eqb}
+use Rattle.std.proofs.lemmas.Bool.{ne_eqb, cases_eq}
 use Rattle.std.specs.Option.{option_map}
 use Rattle.std.specs.Prelude.{Result, Ok, Err, IsOk, OnOk}
 use Rattle.std.specs.Result.{is_err}
@@ -57,12 +57,12 @@ use Rattle.setup_protocol.proofs.ProgressFacts.{progress-advances, progress-none
 use Rattle.channel_laws.specs.Asks.{IsOff}
 use Rattle.channel_laws.proofs.Places.{Each-at}
 use Rattle.link_ledger.specs.Owners.{OwnsAsk, NextBelow, IsBelow}
-use Rattle.shared_network.specs.Calls.{HasNone, IsHopOf, IsEstablished, hold_at}
+use Rattle.shared_network.specs.Calls.{HasNone, IsHopOf, IsCommitted, IsEstablished, hold_at}
 use Rattle.shared_network.specs.Holds.{Hold, Free, Untold, reserved, relaxed, denied, hold_with, hold_from, hold_of}
-use Rattle.shared_network.specs.Sight.{FitsAt}
+use Rattle.shared_network.specs.Sight.{FitsAt, IsSend}
 use Rattle.shared_network.proofs.HoldSteps.{AnswersOf, answers}
 use Rattle.shared_network.proofs.LinkNumbers.{same-link}
-use Rattle.shared_network.proofs.SetupGoes.{setup-goes}
+use Rattle.shared_network.proofs.SetupGoes.{hold-elsewhere, hold-here, setup-goes}
 use Rattle.shared_network.proofs.SetupHolds.{HopStands, IsComm}
 
 -- ---- entries that follow a protocol
@@ -313,3 +313,33 @@ ok-no-err (Err x) ok err = absurd (let clash : false ≡ true = ok in cc)
 pub on-ok : {T E P : Type 0} (r : Result T E) → IsOk r → OnOk r P → P
 on-ok (Ok x) ok p = p
 on-ok (Err x) ok p = absurd (let clash : false ≡ true = ok in cc)
+
+-- ---- sends
+
+send-hold : (c : ℕ) (hold : Hold) (ask : Ask) (reply : Reply) → IsSend ask → hold_with c hold ask reply ≡ hold
+send-hold c hold (Submit chan count gap size) reply send = refl
+send-hold c hold (Pour count gap size) reply send = refl
+send-hold c hold (Reserve chan contract kind delay up_reach first next) reply send = absurd send
+send-hold c hold (Relax chan level up_bound) reply send = absurd send
+send-hold c hold (Deny chan) reply send = absurd send
+send-hold c hold (Release chan upstream) reply send = absurd send
+send-hold c hold (Arrive packet) reply send = absurd send
+send-hold c hold Tick reply send = absurd send
+
+-- a send leaves what each link holds
+sent-hold : (chan : ChanNo) (hop : Hop) (own : List OwnEntry) (e : OwnEntry) → IsSend e.ask → hold_at chan hop (own ++ e ∷ []) ≡ hold_at chan hop own
+sent-hold chan hop own e send =
+    ⊎_elim (λ on. hold-here chan hop own e on ∙ send-hold (channel_number chan) (hold_at chan hop own) e.ask e.reply send) (λ off. hold-elsewhere chan hop own e off) (cases_eq (link_number e.link) (link_of hop))
+
+pub sent-established : (links : List Link) (link : LinkNo) (ask : Ask) (pass pass' : Token) (reply : Reply) → Steps links (link_number link) ask pass pass' reply → IsSend ask → (request : Request) → IsEstablished request pass.own → IsEstablished request pass'.own
+sent-established links link ask pass pass' reply steps send request was = λ i hop found.
+    subst (IsCommitted (nat_eq i 0)) (sym (ap (hold_at request.chan hop) steps.own ∙ sent-hold request.chan hop pass.own steps.entry (subst IsSend (sym steps.acted.ask_is) send))) (was i hop found)
+
+-- ---- how many stamps are drawn
+
+pub drew-some : (table : TableId) (owners : List ActorNo) (links : List Link) (pass pass' : Token) (entries : List OwnEntry) (n : ℕ) → MayStep table owners links pass → MayStep table owners links pass' → pass'.own ≡ pass.own ++ entries → length entries ≤ n → length pass'.view.drawn ≤ length pass.view.drawn + n
+drew-some table owners links pass pass' entries n may may' own few =
+    let before = drawn-own table owners links pass may in
+    let after = drawn-own table owners links pass' may' in
+    let long = ap length own ∙ length-append pass.own entries in
+    omega (arith, before, after, long, few)

@@ -1,9 +1,9 @@
 -- What a link holds of a channel goes with the owner's entries there: the entries of others leave it, and each own entry makes of it
 -- what it tells.
-use Rattle.std.proofs.Common.{◌≡◌, ◌≢◌, ℕ, ◌<◌, eqb, Bool, true, false, cond, Option, Some, None, List, [], ◌∷◌, ◌++◌, map, refl, sym, ap, ◌∙◌, subst, inl, inr, ⊎_elim, arith}
+use Rattle.std.proofs.Common.{◌≡◌, ◌≢◌, ℕ, ◌<◌, eqb, Bool, true, false, cond, Option, Some, None, List, [], ◌∷◌, ◌++◌, refl, sym, ap, ◌∙◌, subst}
 use Rattle.std.proofs.Math.Bridge.{le_prop}
 use Rattle.std.proofs.lemmas.Bool.{cond_both, eqb-true, eqb-false}
-use Rattle.std.proofs.lemmas.List.{append-nil, map-append}
+use Rattle.std.proofs.lemmas.List.{append-nil}
 use Rattle.std.proofs.lemmas.Option.{same_Some}
 use Rattle.std.specs.List.{slice_get}
 use Rattle.std.specs.Option.{option_map}
@@ -19,7 +19,6 @@ use Rattle.link_steps.specs.Legal.{IsLegal}
 use Rattle.link_steps.specs.Lists.{Each}
 use Rattle.link_steps.specs.Replies.{reply_to}
 use Rattle.link_steps.specs.Reservation.{Reservation, is_phase, tentative, committed}
-use Rattle.link_steps.specs.Rows.{Row}
 use Rattle.link_steps.specs.Scan.{Scan, clock_of, scan_of, after}
 use Rattle.link_steps.specs.Split.{Link, SplitFits}
 use Rattle.link_steps.specs.declared.asks.Ask.{Ask}
@@ -35,14 +34,14 @@ use Rattle.step_stamp.specs.Marks.{marks_of}
 use Rattle.step_stamp.specs.declared.marks.Mark.{Mark}
 use Rattle.channel_laws.specs.Asks.{IsOff}
 use Rattle.channel_laws.specs.Laws.{held_after}
-use Rattle.channel_laws.specs.Reservations.{held_by, IsOpen}
+use Rattle.channel_laws.specs.Reservations.{held_by}
 use Rattle.channel_laws.proofs.TermsAfter.{held-off, held-offered, held-relaxed, held-denied, held-submitted}
 use Rattle.link_ledger.specs.Journals.{history_in, journal_of, done_of}
 use Rattle.link_ledger.specs.Owners.{OwnsAsk, IsOwner}
 use Rattle.link_ledger.specs.declared.entries.OwnEntry.{OwnEntry}
 use Rattle.link_ledger.proofs.AnswerFacts.{past-told}
 use Rattle.link_ledger.proofs.JournalFacts.{past_after}
-use Rattle.shared_network.specs.Holds.{Hold, Free, Holds, Untold, reserved, relaxed, denied, hold_with, hold_from, hold_of, IsHeld}
+use Rattle.shared_network.specs.Holds.{Hold, Free, Holds, Untold, reserved, relaxed, denied, hold_with, hold_from, IsHeld}
 
 -- ---- own entries
 

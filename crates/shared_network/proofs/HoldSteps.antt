@@ -1,7 +1,6 @@
 -- A step at a link, and what the link holds of the channels of the pass's actor: before it, as the own entries tell; the reply
 -- is the one of the rules for that; and after it, as the own entries with the new one tell.
 use Rattle.std.proofs.Common.{◌≡◌, ℕ, List, [], ◌∷◌, ◌++◌, length, refl, sym, ap, ◌∙◌, subst, inl}
-use Rattle.std.proofs.lemmas.Option.{same_Some}
 use Rattle.atomic_table.specs.Seated.{TableId}
 use Rattle.net_units.specs.Numbers.{actor_number, channel_number}
 use Rattle.net_units.specs.declared.numbers.ActorNo.{ActorNo}

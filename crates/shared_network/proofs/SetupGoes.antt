@@ -1,5 +1,5 @@
 -- Each reply to a setup is one of its ask's, and the hops then hold what the replies with it have made.
-use Rattle.std.proofs.Common.{◌≡◌, ◌≢◌, ℕ, zero, suc, ◌+◌, ◌-◌, ◌<◌, ◌≤◌, eqb, Bool, true, false, cond, List, [], ◌∷◌, ◌++◌, length, get_or, Option, Some, None, refl, sym, ap, ◌∙◌, subst, inl, inr, arith}
+use Rattle.std.proofs.Common.{◌≡◌, ◌≢◌, ℕ, zero, suc, ◌+◌, ◌-◌, ◌<◌, ◌≤◌, eqb, true, false, cond, List, [], ◌∷◌, ◌++◌, length, get_or, Option, Some, None, refl, sym, ap, ◌∙◌, subst, inl, inr, arith}
 use Rattle.std.proofs.lemmas.Bool.{cases_Bool, cases_lt, eqb-true, eqb-false, eq-eqb, le-leb, and_from}
 use Rattle.std.proofs.lemmas.List.{length_push, get_or_push}
 use Rattle.std.proofs.lemmas.Option.{same_Some, slice_get_within, get_or_from_slice_get}
@@ -24,16 +24,16 @@ use Rattle.link_steps.specs.Replies.{deny_reply, relax_reply, reply_at}
 use Rattle.link_steps.specs.Reservation.{Reservation, tentative, committed}
 use Rattle.link_steps.specs.Split.{Link}
 use Rattle.link_steps.specs.declared.asks.Ask.{Ask}
-use Rattle.link_steps.specs.declared.asks.Ask.TheVariants.{Reserve, Relax, Deny}
+use Rattle.link_steps.specs.declared.asks.Ask.TheVariants.{Relax, Deny}
 use Rattle.link_steps.specs.declared.replies.Refusal.{Refusal}
 use Rattle.link_steps.specs.declared.replies.Reply.{Reply}
 use Rattle.link_steps.specs.declared.replies.Reply.TheVariants as Is
 use Rattle.link_steps.proofs.LevelFacts.{level_of-number}
-use Rattle.relaxation.specs.Allotment.{denial_of, allotted}
+use Rattle.relaxation.specs.Allotment.{allotted}
 use Rattle.relaxation.specs.Laws.{HaveBounds, AreWithinReach}
 use Rattle.relaxation.proofs.LawFacts.{allotted-fit}
 use Rattle.setup_protocol.specs.Requests.{kind_of, jitter_of}
-use Rattle.setup_protocol.specs.Setup.{Progress, Reserving, Undoing, Relaxing, Settled, is_offer, level_in, reach_in, offers_in, behind_offers, reach_after, undoing, relaxing, asked, asked_of, reserve_of, relax_of, bound_if, bound_given, link_in, next_ask, progress_of, is_expected, answers_reserve}
+use Rattle.setup_protocol.specs.Setup.{Progress, Reserving, is_offer, level_in, reach_in, offers_in, behind_offers, reach_after, undoing, relaxing, asked, asked_of, reserve_of, relax_of, bound_if, bound_given, link_in, next_ask, progress_of, is_expected, answers_reserve}
 use Rattle.setup_protocol.specs.State.{with_offers, after_reserve, advance}
 use Rattle.setup_protocol.specs.declared.request.Request.{Request}
 use Rattle.setup_protocol.specs.declared.verdict.Deny.{Deny as Denial}
@@ -45,7 +45,7 @@ use Rattle.link_ledger.specs.Own.{own_at}
 use Rattle.link_ledger.specs.declared.entries.OwnEntry.{OwnEntry}
 use Rattle.link_ledger.proofs.OwnFacts.{one_at, none_at}
 use Rattle.shared_network.specs.Calls.{IsHopOf, hold_at}
-use Rattle.shared_network.specs.Holds.{Hold, Free, Holds, reserved, relaxed, denied, hold_with, hold_of, IsHeld}
+use Rattle.shared_network.specs.Holds.{Hold, Free, Holds, reserved, denied, hold_with, hold_of, IsHeld}
 use Rattle.shared_network.proofs.HoldFacts.{hold-more}
 use Rattle.shared_network.proofs.HoldSteps.{AnswersOf}
 use Rattle.shared_network.proofs.SetupHolds.{bounds_in, reach_at, reach_bound, IsTent, IsComm, HopStands, View, OnWay, Back, Forth, view, undo-stands, relax-stands, offers-stands, undo-says, relax-says, up-kept, tent-kept, within-at}

@@ -1,8 +1,8 @@
 -- A pass that may step goes on after a step: its entries are exact again, and what it knows of each link is as it was, or, of the
 -- link that was asked, the journal with its new entry.
-use Rattle.std.proofs.Common.{◌≡◌, ℕ, ◌<◌, ◌≤◌, List, [], ◌∷◌, ◌++◌, length, map, refl, sym, ap, ◌∙◌, subst, inl, ⊎_elim, arith}
+use Rattle.std.proofs.Common.{◌≡◌, ℕ, ◌+◌, ◌<◌, ◌≤◌, List, [], ◌∷◌, ◌++◌, length, map, refl, sym, ap, ◌∙◌, subst, inl, ⊎_elim, arith}
 use Rattle.std.proofs.lemmas.Bool.{cases_eq}
-use Rattle.std.proofs.lemmas.List.{map-append, length-map}
+use Rattle.std.proofs.lemmas.List.{map-append, length-append, length-map}
 use Rattle.std.proofs.lemmas.Option.{same_Some, slice_get_within}
 use Rattle.atomic_table.specs.Seated.{TableId}
 use Rattle.net_units.specs.Numbers.{actor_number, channel_number, link_number}
@@ -143,3 +143,7 @@ adds-one links link ask pass pass' reply steps = record {
   own = steps.own;
   are = λ i. record { link = same-link steps.entry.link link steps.acted.link_is i; ask = steps.acted.ask_is i; reply = steps.reply_is i } ∷ [];
 }
+
+-- a step draws one stamp
+pub drew-one : (links : List Link) (l : ℕ) (ask : Ask) (pass pass' : Token) (reply : Reply) → Steps links l ask pass pass' reply → length pass'.view.drawn ≡ length pass.view.drawn + 1
+drew-one links l ask pass pass' reply steps = ap length steps.acted.drawn ∙ length-append pass.view.drawn _

@@ -1,6 +1,6 @@
 -- A teardown goes on with each step: the hops that weren't asked yet hold their committed reservations, so each release is
 -- answered.
-use Rattle.std.proofs.Common.{◌≡◌, ◌≢◌, ℕ, zero, suc, ◌+◌, ◌-◌, ◌<◌, ◌≤◌, Bool, true, false, List, [], ◌∷◌, ◌++◌, length, map, Option, Some, None, refl, sym, ap, ◌∙◌, subst, arith}
+use Rattle.std.proofs.Common.{◌≡◌, ◌≢◌, ℕ, ◌-◌, ◌<◌, ◌≤◌, true, List, [], ◌∷◌, ◌++◌, length, map, Option, Some, None, refl, sym, ap, ◌∙◌, subst, arith}
 use Rattle.std.proofs.lemmas.Bool.{ne_eqb}
 use Rattle.std.proofs.lemmas.List.{append_assoc, append-nil, map-append, length_push, length-map}
 use Rattle.std.proofs.lemmas.Option.{same_Some, slice_get_within}
@@ -9,7 +9,6 @@ use Rattle.std.specs.Prelude.{nat_eq, unwrap_or}
 use Rattle.atomic_table.specs.Seated.{TableId}
 use Rattle.net_units.specs.Numbers.{channel_number, link_number}
 use Rattle.net_units.specs.declared.numbers.ActorNo.{ActorNo}
-use Rattle.net_units.specs.declared.numbers.ChanNo.{ChanNo}
 use Rattle.net_units.specs.declared.numbers.LinkNo.{LinkNo}
 use Rattle.hop_reservation.specs.Routes.{IsRoute, link_of}
 use Rattle.hop_reservation.specs.declared.route.Hop.{Hop}
@@ -36,7 +35,7 @@ use Rattle.link_ledger.specs.Tokens.{Token, IsLink, Steps}
 use Rattle.link_ledger.specs.declared.entries.OwnEntry.{OwnEntry}
 use Rattle.shared_network.specs.Added.{IsSamePass}
 use Rattle.shared_network.specs.Calls.{Follows, IsHopOf, IsCommitted, IsEstablished, TearsDown, reply_in, hold_at}
-use Rattle.shared_network.specs.Holds.{Hold, Holds, hold_of, IsHeld}
+use Rattle.shared_network.specs.Holds.{hold_of, IsHeld}
 use Rattle.shared_network.specs.Ready.{MayStep, GoesOn}
 use Rattle.shared_network.specs.Sight.{FitsAt}
 use Rattle.shared_network.proofs.CallFacts.{follows-more}

@@ -1,5 +1,5 @@
 //! Setups and teardowns over a network.
-ghost use Rattle.std.specs.Prelude.{◌≡◌, ℕ, ◌^◌, ◌<◌, ◌-◌, length, IfOk, OnOk, OnErr, true};
+ghost use Rattle.std.specs.Prelude.{◌≡◌, ℕ, ◌^◌, ◌+◌, ◌<◌, ◌≤◌, ◌-◌, length, IfOk, OnOk, OnErr, true};
 ghost use Rattle.net_units.specs.Numbers.{channel_number};
 ghost use Rattle.link_steps.specs.Lists.{Each};
 ghost use Rattle.setup_protocol.specs.Laws.{is_accepted};
@@ -39,6 +39,7 @@ impl<L: LinkStep + Send, H: Home> Network<L, H> {
         requires hops { Each (IsHopOf H.links) request.now.route }
         ensures made { IfOk result (λ verdict. SetsUp request.now pass.old pass.new (outcome_of verdict)) }
         ensures established { IfOk result (λ verdict. is_accepted (outcome_of verdict) ≡ true → IsEstablished request.now pass.new.own) }
+        ensures drew { OnOk result (length pass.new.view.drawn ≤ length pass.old.view.drawn + 32) }
         ensures ready { OnOk result (GoesOn H.table H.owners H.links pass.old pass.new) }
         ensures lost { OnErr result (IsLost pass.new) }
         ensures same { IsSamePass pass.old pass.new }
@@ -77,6 +78,7 @@ impl<L: LinkStep + Send, H: Home> Network<L, H> {
         requires hops { Each (IsHopOf H.links) request.now.route }
         requires established { IsEstablished request.now pass.old.own }
         ensures torn { IfOk result (λ count. TearsDown request.now pass.old pass.new count) }
+        ensures drew { OnOk result (length pass.new.view.drawn ≤ length pass.old.view.drawn + 16) }
         ensures ready { OnOk result (GoesOn H.table H.owners H.links pass.old pass.new) }
         ensures lost { OnErr result (IsLost pass.new) }
         ensures same { IsSamePass pass.old pass.new }

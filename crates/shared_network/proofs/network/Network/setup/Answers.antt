@@ -1,8 +1,8 @@
-use Rattle.std.proofs.Common.{◌≡◌, ℕ, ◌∷◌, ◌++◌, true, map, sym, ap, ◌∙◌, subst}
+use Rattle.std.proofs.Common.{map, sym, ap, ◌∙◌, arith}
 use Rattle.setup_protocol.specs.Setup.{next_ask}
 use Rattle.setup_protocol.specs.declared.request.Request.{Request}
 use Rattle.shared_network.specs.Calls.{reply_in}
-use Rattle.shared_network.proofs.CallFacts.{setting-first, to-below, fits-there, owned-there, next-there, expected-there, left-less, setting-next, setup-established, ok-no-err, on-ok}
+use Rattle.shared_network.proofs.CallFacts.{setting-first, to-below, fits-there, owned-there, next-there, expected-there, left-less, setting-next, setup-established, drew-some, ok-no-err, on-ok}
 use Rattle.shared_network.proofs.network.Network.setup.Goals as goal
 
 pub loop-link-init : goal.loop-link-init
@@ -57,3 +57,8 @@ loop-link-preserved g c =
 
 pub returns-clause-established : goal.returns-clause-established
 returns-clause-established g c = setup-established _ _ _ _ _ _ _ _ c.loop-link.invariant c.in-Some-verdict.ensures.value
+
+pub returns-clause-drew : goal.returns-clause-drew
+returns-clause-drew g c =
+    let so = c.loop-link.invariant in
+    drew-some g.H.Home.table g.H.Home.owners g.H.Home.links _ _ so.entries 32 c.requires.pass so.goes.may_step so.own (let few = so.few in omega (arith, few))

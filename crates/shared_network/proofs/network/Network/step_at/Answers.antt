@@ -7,8 +7,8 @@ use Rattle.link_ledger.specs.Order.{AreInOrder}
 use Rattle.link_ledger.specs.Tokens.{Steps}
 use Rattle.shared_network.specs.Ready.{GoesOn}
 use Rattle.shared_network.specs.Sight.{FitsAt}
-use Rattle.shared_network.proofs.LinkNumbers.{numbered-length, numbered-at, fits-shape, both-ok}
-use Rattle.shared_network.proofs.StepFacts.{goes-on}
+use Rattle.shared_network.proofs.LinkNumbers.{numbered-length, numbered-at, fits-shape, both-ok, ok-then}
+use Rattle.shared_network.proofs.StepFacts.{drew-one, goes-on}
 use Rattle.shared_network.proofs.network.Network.step_at.Goals as goal
 
 pub index-requires : goal.index-requires
@@ -40,3 +40,6 @@ returns-clause-ready g c =
     (λ reply. AreInOrder g.H.Home.owners (length g.H.Home.links) (known_of (link_number c.index.result.now.link) c.step.new.pass.view))
     (GoesOn g.H.Home.table g.H.Home.owners g.H.Home.links c.args.pass.now c.step.new.pass) c.step.result
     (λ reply steps order. goes-on g.H.Home.table g.H.Home.owners g.H.Home.links (link_number c.index.result.now.link) c.args.ask.now c.args.pass.now c.step.new.pass reply c.self.invariant.splits c.requires.pass steps order c.step.ensures.same.0 c.step.ensures.same.2) c.step.ensures.made c.step.ensures.order
+
+pub returns-clause-drew : goal.returns-clause-drew
+returns-clause-drew g c = ok-then (λ reply. Steps g.H.Home.links (link_number c.index.result.now.link) c.args.ask.now c.args.pass.now c.step.new.pass reply) _ c.step.result (λ reply steps. drew-one _ _ _ _ _ reply steps) c.step.ensures.made

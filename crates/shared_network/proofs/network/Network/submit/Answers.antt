@@ -1,6 +1,11 @@
 use Rattle.std.proofs.lemmas.Result.{IfOk-weaker}
+use Rattle.shared_network.proofs.CallFacts.{sent-established}
+use Rattle.shared_network.proofs.LinkNumbers.{ok-then}
 use Rattle.shared_network.proofs.StepFacts.{adds-one}
 use Rattle.shared_network.proofs.network.Network.submit.Goals as goal
 
 pub returns-clause-made : goal.returns-clause-made
 returns-clause-made g c = IfOk-weaker c.step_at.result _ _ (λ reply steps. adds-one g.H.Home.links c.args.link c.args.ask.now c.args.pass.now c.step_at.new.pass reply steps) c.step_at.ensures.made
+
+pub returns-clause-established : goal.returns-clause-established
+returns-clause-established g c = ok-then _ _ c.step_at.result (λ reply steps request was. sent-established g.H.Home.links c.args.link c.args.ask.now c.args.pass.now c.step_at.new.pass reply steps c.requires.send request was) c.step_at.ensures.made

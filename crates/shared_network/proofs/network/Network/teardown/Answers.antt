@@ -1,12 +1,10 @@
-use Rattle.std.proofs.Common.{◌≡◌, ℕ, ◌∷◌, ◌++◌, true, map, sym, ap, ◌∙◌, subst}
-use Rattle.net_units.specs.declared.numbers.ChanNo.{ChanNo}
+use Rattle.std.proofs.Common.{map, sym, ap, ◌∙◌, arith}
 use Rattle.std.specs.Prelude.{Some}
 use Rattle.std.specs.Option.{unwrap_or}
-use Rattle.hop_reservation.specs.declared.route.Hop.{Hop}
 use Rattle.setup_protocol.specs.Teardown.{next_release}
 use Rattle.shared_network.specs.Calls.{reply_in}
-use Rattle.shared_network.proofs.CallFacts.{ok-no-err, on-ok}
-use Rattle.shared_network.proofs.TeardownFacts.{tearing-first, to-below, fits-there, owned-there, next-there, closing-there, made-more, tearing-next, torn-down, some-told}
+use Rattle.shared_network.proofs.CallFacts.{drew-some, ok-no-err, on-ok}
+use Rattle.shared_network.proofs.TeardownFacts.{tearing-first, to-below, fits-there, owned-there, next-there, closing-there, made-more, tearing-next}
 use Rattle.shared_network.proofs.network.Network.teardown.Goals as goal
 
 pub loop-link-init : goal.loop-link-init
@@ -58,3 +56,8 @@ loop-link-preserved g c =
     let expected = closing-there _ _ _ _ _ _ _ _ so c.in-Some.link c.in-Some.ask asks _ c.in_ok-reply.reply c.in_ok-reply.ensures.splits c.requires.owned c.in_ok-reply.ensures.made c.in_ok-reply.ensures.ready c.in_ok-reply.ensures.same in
     let stands = on-ok c.take.result (c.take.ensures.expected.1 expected) c.take.ensures.taken (map reply_in so.entries) so.releases in
     tearing-next _ _ _ _ _ _ _ _ so c.in-Some.link c.in-Some.ask asks _ c.in_ok-reply.reply c.in_ok-reply.ensures.splits c.requires.owned c.in_ok-reply.ensures.made c.in_ok-reply.ensures.ready c.in_ok-reply.ensures.same c.take.new.self c.take.ensures.chan c.take.ensures.route stands _ (ap (λ n. Some n) (c.unwrap_or.ensures ∙ ap (unwrap_or c.loop-link.count) c.count_told.ensures))
+
+pub returns-clause-drew : goal.returns-clause-drew
+returns-clause-drew g c =
+    let so = c.loop-link.invariant in
+    drew-some g.H.Home.table g.H.Home.owners g.H.Home.links _ _ so.entries 16 c.requires.pass so.goes.may_step so.own (let few = so.few in let most = so.route.most in omega (arith, few, most))
