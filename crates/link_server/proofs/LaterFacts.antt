@@ -5,7 +5,7 @@ use Rattle.std.proofs.lemmas.List.{take_more, map_push}
 use Rattle.std.specs.Prelude.{filter, is_some}
 use Rattle.link_steps.specs.Kept.{is_eligible_by, served}
 use Rattle.link_steps.specs.Service.{Arrival, Start, first_in_line}
-use Rattle.link_steps.proofs.ListFacts.{Each-append, Each-if}
+use Rattle.link_steps.proofs.ListFacts.{Each-append, Each-from, Each-if}
 use Rattle.link_server.specs.declared.held_packet.HeldPacket.{HeldPacket}
 use Rattle.link_server.specs.Later.{IsLater, AreLater}
 use Rattle.link_server.specs.declared.held_packet.Running.{Running}
@@ -40,3 +40,6 @@ later-more from least packets i packet later inside is first second =
 pub off-free : (on : Option Running) → is_some on ≡ false → on_in on ≡ None
 off-free None off = refl
 off-free (Some running) off = (let f : true ≡ false = off in cc)
+
+pub later-at-once : (here : List Arrival) → AreLater 0 here
+later-at-once here = Each-from (IsLater 0) here (λ p. omega arith)

@@ -12,7 +12,7 @@ use Rattle.link_steps.specs.Reservation.{Reservation}
 use Rattle.link_steps.specs.Rows.{SourcePacket, planned_from, is_for, left_at}
 use Rattle.link_steps.specs.Service.{Arrival}
 use Rattle.link_steps.specs.Sources.{Rests}
-use Rattle.link_steps.proofs.ListFacts.{Each-append, Each-if}
+use Rattle.link_steps.proofs.ListFacts.{Each-append, Each-from, Each-if}
 use Rattle.net_units.specs.declared.numbers.Level.{Level}
 use Rattle.link_server.specs.Planned.{IsFrom}
 use Rattle.link_server.specs.Quiet.{StaysUntil, IsQuiet, AreQuiet}
@@ -151,3 +151,7 @@ pub quiet-more : (bounds : List ℕ) (until due least : ℕ) (rows : List Served
 quiet-more bounds until due least rows i row quiet inside is its first second =
     subst (λ all. AreQuiet bounds least (map row_in all)) (sym (take_more rows i row inside ∙ ap (λ r. take i rows ++ r ∷ []) (sym is)))
     (quiet-pushed bounds least (take i rows) row (all-quiet-less bounds until least (map row_in (take i rows)) first quiet) (quiet-less bounds due least (row_in row) second its))
+
+-- nothing is known to be due before the first tick
+pub quiet-at-once : (bounds : List ℕ) (rows : List KeptRow) → AreQuiet bounds 0 rows
+quiet-at-once bounds rows = Each-from (IsQuiet bounds 0) rows (λ row. record { plans = Each-from (IsFrom 0) row.left (λ p. omega arith); stays = λ t before. absurd (omega (arith, before)) })
