@@ -6,12 +6,12 @@ use Rattle.net_units.specs.Quotient.{ceil_quotient}
 use Rattle.net_units.specs.declared.numbers.ChanNo.{ChanNo}
 use Rattle.net_units.specs.declared.numbers.Level.{Level}
 use Rattle.net_units.specs.declared.numbers.LinkNo.{LinkNo}
-use Rattle.traffic_contract.specs.Admission.{Server, total, admits, passes, passes_up_to, load, work_up_to, work_in}
+use Rattle.traffic_contract.specs.Admission.{admits, passes, passes_up_to, load, work_up_to, work_in}
 use Rattle.traffic_contract.specs.Contract.{Terms, terms_of, most_in}
 use Rattle.traffic_contract.specs.declared.admission.Test.TheVariants.{Whole}
 use Rattle.link_steps.specs.declared.shape.LinkShape.{LinkShape}
 use Rattle.link_steps.specs.Admissible.{MayOffer}
-use Rattle.link_steps.specs.Buffer.{need_of, kept_units, free_units}
+use Rattle.link_steps.specs.Buffer.{need_of, free_units}
 use Rattle.link_steps.specs.Kept.{Kept, StandsFor, kept_terms}
 use Rattle.link_steps.specs.Levels.{level_of}
 use Rattle.link_steps.specs.Replies.{reach_of}
