@@ -1,0 +1,229 @@
+-- What the scripts of a load are made of: how many requests there are, that their names differ, what is opened and closed, and the load
+-- of the packets.
+use Rattle.std.proofs.Common.{◌≡◌, ◌≢◌, ℕ, zero, suc, ◌+◌, ◌*◌, ◌<◌, ◌≤◌, Bool, true, false, not, nat_eq, ◌||◌, List, [], ◌∷◌, ◌++◌, length, refl, ap, ◌∙◌, inl, inr, arith}
+use Rattle.std.proofs.Math.Nat.{min-eq_right}
+use Rattle.std.proofs.lemmas.Bool.{cases_Bool, cases_lt, eqb-true, eq-eqb, ne_eqb, or_left, or_right}
+use Rattle.std.proofs.lemmas.List.{append-nil, length-append, map-append}
+use Rattle.std.proofs.lemmas.List.Folds.{list_any-append}
+use Rattle.std.proofs.lemmas.Nat.{mul-le}
+use Rattle.std.specs.List.{list_any, slice_get}
+use Rattle.std.specs.Prelude.{◌%◌}
+use Rattle.net_units.specs.Numbers.{actor_number, channel_number}
+use Rattle.link_steps.proofs.ListFacts.{Each-append}
+use Rattle.link_steps.specs.Lists.{Each}
+use Rattle.traffic_contract.proofs.AdmissionFacts.{total-append}
+use Rattle.traffic_contract.specs.Admission.{total}
+use Rattle.call_script.specs.Rules.{is_named, is_new, request_names, opens, closes, hops_of, load_of, load_in}
+use Rattle.call_script.specs.declared.entries.CallerEntry.{CallerEntry}
+use Rattle.call_script.specs.declared.entries.RequestEntry.{RequestEntry}
+use Rattle.load_maker.proofs.LoadFacts.{load-fits}
+use Rattle.load_maker.proofs.NameText.{names-apart}
+use Rattle.load_maker.proofs.RouteFits.{crosses}
+use Rattle.load_maker.proofs.ShareFacts.{share-own, share-other}
+use Rattle.load_maker.specs.Draws.{after}
+use Rattle.load_maker.specs.Loads.{load_at}
+use Rattle.load_maker.specs.Made.{actor_at, channel_at, request_name, entry_of, is_of, share, first_channel, close_before, ops_for, own_requests, own_ops, caller_entry, requests_to, callers_to}
+use Rattle.load_maker.specs.declared.load.Load.{Load}
+
+-- ---- numbers
+
+pub channel-is : (n : ℕ) → n < 1048576 → channel_number (channel_at n) ≡ n
+channel-is n few = min-eq_right (omega (arith, few))
+
+pub actor-is : (n : ℕ) → n ≤ 64 → actor_number (actor_at n) ≡ n
+actor-is n few = min-eq_right few
+
+-- ---- a request more
+
+pub requests-own : (number first caller n : ℕ) → is_of caller n ≡ true → own_requests number first caller (suc n) ≡ own_requests number first caller n ++ entry_of (load_at number n) n caller (first + share caller n) ∷ []
+unfolding own_requests
+requests-own number first caller n own = rw own refl
+
+pub requests-other : (number first caller n : ℕ) → is_of caller n ≡ false → own_requests number first caller (suc n) ≡ own_requests number first caller n
+unfolding own_requests
+requests-other number first caller n other = rw other (append-nil (own_requests number first caller n))
+
+pub ops-own : (number first caller n : ℕ) → is_of caller n ≡ true → own_ops number first caller (suc n) ≡ own_ops number first caller n ++ ops_for (load_at number n) first (share caller n)
+unfolding own_ops
+ops-own number first caller n own = rw own refl
+
+pub ops-other : (number first caller n : ℕ) → is_of caller n ≡ false → own_ops number first caller (suc n) ≡ own_ops number first caller n
+unfolding own_ops
+ops-other number first caller n other = rw other (append-nil (own_ops number first caller n))
+
+-- ---- how many there are
+
+pub own-length : (number first caller n : ℕ) → length (own_requests number first caller n) ≡ share caller n
+unfolding own_requests share
+own-length number first caller zero = refl
+own-length number first caller (suc n) =
+    let rest = own-length number first caller n in
+    elim (cases_Bool (is_of caller n)) [
+      | inl own ↦ (let both = length-append (own_requests number first caller n) (entry_of (load_at number n) n caller (first + share caller n) ∷ []) in rw own (omega (arith, both, rest)))
+      | inr other ↦ (let both = length-append (own_requests number first caller n) [] in rw other (omega (arith, both, rest)))
+    ]
+
+pub requests-length : (number size n : ℕ) → length (requests_to number size n) ≡ first_channel size n
+unfolding requests_to first_channel
+requests-length number size zero = refl
+requests-length number size (suc n) =
+    let rest = requests-length number size n in
+    let own = own-length number (first_channel size n) n size in
+    let both = length-append (requests_to number size n) (own_requests number (first_channel size n) n size) in
+    omega (arith, rest, own, both)
+
+pub callers-length : (number size n : ℕ) → length (callers_to number size n) ≡ n
+unfolding callers_to
+callers-length number size zero = refl
+callers-length number size (suc n) =
+    let rest = callers-length number size n in
+    let both = length-append (callers_to number size n) (caller_entry number size n ∷ []) in
+    omega (arith, rest, both)
+
+-- ---- names
+
+neither : (a b : Bool) → not a ≡ true → not b ≡ true → not (a || b) ≡ true
+neither false b one two = two
+neither true b one two = cc
+
+new-both : (xs ys : List (List ℕ)) (name : List ℕ) → is_new xs name ≡ true → is_new ys name ≡ true → is_new (xs ++ ys) name ≡ true
+new-both xs ys name one two = ap not (list_any-append (is_named name) xs ys) ∙ neither (list_any (is_named name) xs) (list_any (is_named name) ys) one two
+
+pub new-entries : (xs ys : List RequestEntry) (name : List ℕ) → is_new (request_names xs) name ≡ true → is_new (request_names ys) name ≡ true → is_new (request_names (xs ++ ys)) name ≡ true
+new-entries xs ys name one two = ap (λ names. is_new names name) (map-append (λ (e : RequestEntry). e.name) xs ys) ∙ new-both (request_names xs) (request_names ys) name one two
+
+new-one : (n m : ℕ) → n < 1024 → m < 1024 → n ≢ m → is_new (request_name m ∷ []) (request_name n) ≡ true
+new-one n m few_n few_m apart = rw (names-apart n m few_n few_m apart) refl
+
+pub own-new : (number first caller n m : ℕ) → n < 1024 → m ≤ 1024 → ((i : ℕ) → i < m → is_of caller i ≡ true → n ≢ i) → is_new (request_names (own_requests number first caller m)) (request_name n) ≡ true
+unfolding own_requests
+own-new number first caller n zero few_n few_m apart = refl
+own-new number first caller n (suc m) few_n few_m apart =
+    let rest = own-new number first caller n m few_n (omega (arith, few_m)) (λ i less own. apart i (omega (arith, less)) own) in
+    elim (cases_Bool (is_of caller m)) [
+      | inl own ↦ rw own (new-entries (own_requests number first caller m) (entry_of (load_at number m) m caller (first + share caller m) ∷ []) (request_name n) rest (new-one n m few_n (omega (arith, few_m)) (apart m (omega arith) own)))
+      | inr other ↦ rw other (new-entries (own_requests number first caller m) [] (request_name n) rest refl)
+    ]
+
+pub requests-new : (number size n callers : ℕ) → n < 1024 → size ≤ 1024 → callers ≤ n % 4 → is_new (request_names (requests_to number size callers)) (request_name n) ≡ true
+unfolding requests_to
+requests-new number size n zero few_n few within = refl
+requests-new number size n (suc callers) few_n few within =
+    new-entries (requests_to number size callers) (own_requests number (first_channel size callers) callers size) (request_name n)
+    (requests-new number size n callers few_n few (omega (arith, within)))
+    (own-new number (first_channel size callers) callers n size few_n few (λ i less own same. (
+    let is : i % 4 ≡ callers = eqb-true (i % 4) callers own in
+    let also : n % 4 ≡ i % 4 = ap (λ k. k % 4) same in
+    omega (arith, is, also, within))))
+
+-- ---- routes are short
+
+abbrev pub IsShort : RequestEntry → Type 0
+IsShort entry = length entry.request.route ≤ 4
+
+pub entry-short : (number n caller chan : ℕ) → IsShort (entry_of (load_at number n) n caller chan)
+entry-short number n caller chan = (let fits = load-fits (after (6 * n) number) in (crosses (load_at number n).first (load_at number n).hops fits.some fits.within).long)
+
+pub own-short : (number first caller n : ℕ) → Each IsShort (own_requests number first caller n)
+unfolding own_requests
+own-short number first caller zero = tt
+own-short number first caller (suc n) =
+    elim (cases_Bool (is_of caller n)) [
+      | inl own ↦ rw own (Each-append IsShort (own_requests number first caller n) (entry_of (load_at number n) n caller (first + share caller n) ∷ []) (own-short number first caller n) (entry-short number n caller (first + share caller n), tt))
+      | inr other ↦ rw other (Each-append IsShort (own_requests number first caller n) [] (own-short number first caller n) tt)
+    ]
+
+pub requests-short : (number size n : ℕ) → Each IsShort (requests_to number size n)
+unfolding requests_to
+requests-short number size zero = tt
+requests-short number size (suc n) = Each-append IsShort (requests_to number size n) (own_requests number (first_channel size n) n size) (requests-short number size n) (own-short number (first_channel size n) n size)
+
+pub hops-few : (requests : List RequestEntry) → Each IsShort requests → (n : ℕ) → hops_of (slice_get requests n) ≤ 4
+hops-few [] short zero = omega arith
+hops-few [] short (suc n) = omega arith
+hops-few (entry ∷ requests) short zero = short.0
+hops-few (entry ∷ requests) short (suc n) = hops-few requests short.1 n
+
+-- ---- the packets
+
+close-load : (requests : List RequestEntry) (first place : ℕ) → total (load_of requests) (close_before first place) ≡ 0
+close-load requests first zero = refl
+close-load requests first (suc zero) = refl
+close-load requests first (suc (suc place)) = refl
+
+pub send-load : (requests : List RequestEntry) → Each IsShort requests → (count n : ℕ) → count ≤ 16 → count * hops_of (slice_get requests n) ≤ 64
+send-load requests short count n few = mul-le count (hops_of (slice_get requests n)) 16 4 few (hops-few requests short n)
+
+ops-load : (requests : List RequestEntry) (load : Load) (first place : ℕ) → Each IsShort requests → load.count ≤ 16 → total (load_of requests) (ops_for load first place) ≤ 64
+ops-load requests load first place short few =
+    let sent = send-load requests short load.count (channel_number (channel_at (first + place))) few in
+    let closed = close-load requests first place in
+    omega (arith, sent, closed)
+
+pub own-load : (requests : List RequestEntry) (number first caller n : ℕ) → Each IsShort requests → total (load_of requests) (own_ops number first caller n) ≤ 64 * share caller n
+unfolding own_ops share
+own-load requests number first caller zero short = omega arith
+own-load requests number first caller (suc n) short =
+    let rest = own-load requests number first caller n short in
+    elim (cases_Bool (is_of caller n)) [
+      | inl own ↦
+          (let one = ops-load requests (load_at number n) first (share caller n) short (load-fits (after (6 * n) number)).count in
+          let both = total-append (load_of requests) (own_ops number first caller n) (ops_for (load_at number n) first (share caller n)) in
+          rw own (omega (arith, rest, one, both)))
+      | inr other ↦ (let both = total-append (load_of requests) (own_ops number first caller n) [] in rw other (omega (arith, rest, both)))
+    ]
+
+pub callers-load : (requests : List RequestEntry) (number size n : ℕ) → Each IsShort requests → load_in requests (callers_to number size n) ≤ 64 * first_channel size n
+unfolding callers_to first_channel
+callers-load requests number size zero short = omega arith
+callers-load requests number size (suc n) short =
+    let rest = callers-load requests number size n short in
+    let own = own-load requests number (first_channel size n) n size short in
+    let both = total-append (λ (c : CallerEntry). total (load_of requests) c.ops) (callers_to number size n) (caller_entry number size n ∷ []) in
+    omega (arith, rest, own, both)
+
+-- ---- what is opened and closed
+
+close-off : (first place chan : ℕ) → first + place < 1048576 → suc (first + place) ≤ chan + 2 → list_any (closes chan) (close_before first place) ≡ false
+close-off first zero chan small below = refl
+close-off first (suc zero) chan small below = refl
+close-off first (suc (suc place)) chan small below =
+    let is = channel-is (first + place) (omega (arith, small)) in
+    let off : nat_eq (channel_number (channel_at (first + place))) chan ≡ false = ne_eqb (channel_number (channel_at (first + place))) chan (λ same. omega (arith, is, same, below)) in
+    rw off refl
+
+-- a channel that isn't two before the next one isn't closed yet
+pub closed-off : (number first caller n chan : ℕ) → first + share caller n < 1048576 → first + share caller n ≤ chan + 2 → list_any (closes chan) (own_ops number first caller n) ≡ false
+unfolding own_ops
+closed-off number first caller zero chan small below = refl
+closed-off number first caller (suc n) chan small below =
+    elim (cases_Bool (is_of caller n)) [
+      | inl own ↦
+          (let more = share-own caller n own in
+          let rest = closed-off number first caller n chan (omega (arith, small, more)) (omega (arith, below, more)) in
+          let one = close-off first (share caller n) chan (omega (arith, small, more)) (omega (arith, below, more)) in
+          rw (own, list_any-append (closes chan) (own_ops number first caller n) (ops_for (load_at number n) first (share caller n)), rest) one)
+      | inr other ↦
+          (let same = share-other caller n other in
+          let rest = closed-off number first caller n chan (omega (arith, small, same)) (omega (arith, below, same)) in
+          rw (other, append-nil (own_ops number first caller n)) rest)
+    ]
+
+-- each channel of a caller so far is opened
+pub opened-at : (number first caller n place : ℕ) → place < share caller n → first + place < 1048576 → list_any (opens (first + place)) (own_ops number first caller n) ≡ true
+unfolding own_ops share
+opened-at number first caller zero place below small = absurd (omega (arith, below))
+opened-at number first caller (suc n) place below small =
+    elim (cases_Bool (is_of caller n)) [
+      | inl own ↦
+          (let more : share caller (suc n) ≡ suc (share caller n) = share-own caller n own in
+          let open_it = ops_for (load_at number n) first (share caller n) in
+          rw (own, list_any-append (opens (first + place)) (own_ops number first caller n) open_it) (
+          elim (cases_lt place (share caller n)) [
+            | inl before ↦ or_left _ _ (opened-at number first caller n place before small)
+            | inr last ↦ or_right (list_any (opens (first + place)) (own_ops number first caller n)) _ (or_left _ _ (
+                let is = channel-is (first + share caller n) (let same : place ≡ share caller n = omega (arith, last, below, more) in omega (arith, same, small)) in
+                eq-eqb (channel_number (channel_at (first + share caller n))) (first + place) (omega (arith, is, last, below, more))))
+          ]))
+      | inr other ↦ (let same = share-other caller n other in rw (other, append-nil (own_ops number first caller n)) (opened-at number first caller n place (omega (arith, below, same)) small))
+    ]

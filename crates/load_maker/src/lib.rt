@@ -1,0 +1,16 @@
+//! Plans of large loads, made from a number and a size.
+//!
+//! [`made`] draws the requests of a plan from its number: their routes over four links in a row, their contracts, bounds and packets.
+//! The same number and size always give the same plan. Times are in ticks, sizes in units.
+#![tactic(auto)]
+
+mod draws;
+mod links;
+pub mod load;
+pub mod making;
+mod script;
+
+pub use making::made;
+
+#[cfg(test)]
+mod tests;

@@ -1,0 +1,123 @@
+//! The requests of a caller, and what it does.
+ghost use Rattle.std.specs.Prelude.{◌≡◌, ◌+◌, ◌<◌, ◌≤◌, ◌++◌, IfOk, OnOk, length};
+ghost use Rattle.load_maker.specs.Made.{actor_at, channel_at, entry_of, ops_for, own_ops, own_requests, request_name};
+
+use crate::draws::Draws;
+use crate::links::route;
+use crate::load::Load;
+use call_script::{Op, RequestEntry};
+use net_units::{ActorNo, ChanNo, Name, OutOfMemory};
+use setup_protocol::Request;
+use std::alloc::Global;
+
+// Adds the requests of a caller among the first `size` ones behind those of the callers before it, and answers what the caller does. The
+// draws begin anew for each caller, so nothing is kept of the requests of the others.
+pub(crate) fn script(
+    alloc: Global,
+    number: u32,
+    size: u32,
+    caller: u8,
+    requests: &mut Vec<RequestEntry>,
+) -> Result<Vec<Op>, OutOfMemory>
+    requires number { number < 2147483648 }
+    requires size { size ≤ 1024 }
+    requires caller { caller < 4 }
+    requires few { length requests.old.items ≤ 1024 }
+    ensures requests { OnOk result (requests.new.items ≡ requests.old.items ++ own_requests number (length requests.old.items) caller size) }
+    ensures ops { IfOk result (λ ops. ops.items ≡ own_ops number (length requests.old.items) caller size) }
+{
+    let first = requests.len();
+    let mut ops = Vec::new(alloc);
+    let mut draws = Draws::new(number);
+    for n in 0..size {
+        let load = draws.load();
+        if n % 4 == u32::from(caller) {
+            let chan = requests.len();
+            requests.push(request(alloc, &load, n, caller, chan)?)?;
+            push_ops(&mut ops, &load, first, chan - first)?;
+        }
+    }
+    Ok(ops)
+}
+
+// The request of this number, with its load, its caller and its channel.
+fn request(
+    alloc: Global,
+    load: &Load,
+    number: u32,
+    caller: u8,
+    chan: usize,
+) -> Result<RequestEntry, OutOfMemory>
+    requires some { 1 ≤ load.now.hops }
+    requires within { load.now.first + load.now.hops ≤ 4 }
+    requires number { number < 1024 }
+    requires caller { caller < 4 }
+    requires chan { chan < 1048576 }
+    ensures { IfOk result (λ entry. entry ≡ entry_of load.now number caller chan) }
+{
+    Ok(RequestEntry {
+        name: request_name(alloc, number)?,
+        caller: actor(caller),
+        request: Request {
+            chan: channel(chan),
+            route: route(load.first, load.hops),
+            contract: load.contract,
+            control: load.control,
+            delay: load.delay,
+        },
+    })
+}
+
+// Adds what a caller does for the request at this place of its own, the first of which has that channel.
+fn push_ops(ops: &mut Vec<Op>, load: &Load, first: usize, place: usize) -> Result<(), OutOfMemory>
+    requires { first + place < 1048576 }
+    ensures { OnOk result (ops.new.items ≡ ops.old.items ++ ops_for load.now first place) }
+{
+    let chan = channel(first + place);
+    ops.push(Op::Open(chan))?;
+    ops.push(Op::Send {
+        chan,
+        count: load.count,
+        gap: u64::from(load.contract.xave()),
+        size: load.contract.smax(),
+    })?;
+    if place >= 2 {
+        ops.push(Op::Close(channel(first + place - 2)))?;
+    }
+    Ok(())
+}
+
+// The name of a request.
+fn request_name(alloc: Global, number: u32) -> Result<Name, OutOfMemory>
+    requires { number < 1024 }
+    ensures { IfOk result (λ name. name ≡ request_name number) }
+{
+    let place = number + 1;
+    let text = format!(in alloc; "r{place}")?;
+    match Name::new(text.as_bytes()) {
+        Some(name) => Ok(name),
+        None => unreachable!(),
+    }
+}
+
+// The caller of this number.
+fn actor(number: u8) -> ActorNo
+    requires { number < 65 }
+    ensures { result ≡ actor_at number }
+{
+    match ActorNo::new(number) {
+        Some(actor) => actor,
+        None => unreachable!(),
+    }
+}
+
+// The channel of this number.
+fn channel(number: usize) -> ChanNo
+    requires { number < 1048576 }
+    ensures { result ≡ channel_at number }
+{
+    match ChanNo::new(number as u32) {
+        Some(chan) => chan,
+        None => unreachable!(),
+    }
+}
