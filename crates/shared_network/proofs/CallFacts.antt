@@ -151,7 +151,7 @@ off-hold c hold (Arrive packet) reply off = refl
 off-hold c hold Tick reply off = refl
 off-hold c hold (Pour count gap size) reply off = refl
 
-none-from : (c : ℕ) (hold : Hold) (own : List OwnEntry) → Each (λ (e : OwnEntry). IsOff c e.ask) own → hold_from c hold own ≡ hold
+pub none-from : (c : ℕ) (hold : Hold) (own : List OwnEntry) → Each (λ (e : OwnEntry). IsOff c e.ask) own → hold_from c hold own ≡ hold
 unfolding hold_from
 none-from c hold [] off = refl
 none-from c hold (e ∷ own) off = ap (λ h. hold_from c h own) (off-hold c hold e.ask e.reply off.0) ∙ none-from c hold own off.1

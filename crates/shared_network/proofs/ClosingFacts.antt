@@ -56,7 +56,7 @@ has-map f [] y has = absurd has
 has-map f (x ∷ xs) y (inl is) = (x, inl refl, is)
 has-map f (x ∷ xs) y (inr has) = (let rest = has-map f xs y has in (rest.0, inr rest.1, rest.2))
 
-map-has : {X Y : Type 0} (f : X → Y) (xs : List X) (x : X) → Has x xs → Has (f x) (map f xs)
+pub map-has : {X Y : Type 0} (f : X → Y) (xs : List X) (x : X) → Has x xs → Has (f x) (map f xs)
 map-has f [] x has = absurd has
 map-has f (y ∷ xs) x (inl is) = inl (ap f is)
 map-has f (y ∷ xs) x (inr has) = inr (map-has f xs x has)

@@ -11,3 +11,8 @@ mod SetupHolds
 mod SetupGoes
 mod CallFacts
 mod TeardownFacts
+mod NextLinks
+mod RoundReplies
+mod OwnRounds
+mod RoundSteps
+mod OtherChannels

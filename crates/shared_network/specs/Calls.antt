@@ -1,7 +1,7 @@
 -- What a setup and a teardown add to the own entries of a pass, and when they may be called. The entries are exactly the asks of
 -- the protocol, each behind the replies of those before it. A setup's verdict is that of its replies; a teardown answers the
 -- count that the first hop has told.
-use Rattle.std.specs.Prelude.{◌≡◌, ℕ, nat_eq, Bool, Option, Some, List, [], ◌∷◌, ◌++◌, length, map}
+use Rattle.std.specs.Prelude.{◌≡◌, ◌≢◌, ℕ, nat_eq, Bool, Option, Some, List, [], ◌∷◌, ◌++◌, length, map}
 use Rattle.std.specs.List.{slice_get}
 use Rattle.net_units.specs.Numbers.{channel_number, link_number}
 use Rattle.net_units.specs.declared.numbers.ChanNo.{ChanNo}
@@ -72,3 +72,8 @@ pub record TearsDown (request : Request) (pass pass' : Token) (count : ℕ) : Ty
   pub follows : Follows (next_release request.chan request.route) [] entries
   pub whole : length entries ≡ length request.route
   pub count_is : first_count (map reply_in entries) ≡ Some count
+
+-- each other channel of the pass is as it was: an established one stays so, and one that no entry names has none
+pub record OthersStay (chan : ChanNo) (own own' : List OwnEntry) : Type 0 where
+  pub established : (other : Request) → channel_number other.chan ≢ channel_number chan → IsEstablished other own → IsEstablished other own'
+  pub unopened : (other : ChanNo) → channel_number other ≢ channel_number chan → HasNone other own → HasNone other own'

@@ -5,3 +5,4 @@ pub mod Calls
 pub mod Closing
 pub mod Gathering
 pub mod Holds
+pub mod Planes

@@ -7,7 +7,7 @@ ghost use Rattle.setup_protocol.specs.State.{outcome_of};
 ghost use Rattle.setup_protocol.specs.Teardown.{count_in};
 ghost use Rattle.link_ledger.specs.Owners.{IsOwner};
 ghost use Rattle.shared_network.specs.Added.{IsSamePass, IsLost};
-ghost use Rattle.shared_network.specs.Calls.{HasNone, IsHopOf, IsEstablished, SetsUp, TearsDown};
+ghost use Rattle.shared_network.specs.Calls.{HasNone, IsHopOf, IsEstablished, OthersStay, SetsUp, TearsDown};
 ghost use Rattle.shared_network.specs.Ready.{MayStep, GoesOn};
 
 use crate::network::Network;
@@ -20,8 +20,8 @@ use std::sync::Wait;
 impl<L: LinkStep + Send, H: Home> Network<L, H> {
     /// Sets a channel up over its route, from its first reserve to its verdict, which is that of the replies that the pass then
     /// holds. Each hop of the route is over a link of the network, with its bounds and its propagation (`hops`), the pass's
-    /// actor owns the channel, and the pass has no entry of it (`new`). An accepted channel is then established. It may wait
-    /// for each link.
+    /// actor owns the channel, and the pass has no entry of it (`new`). An accepted channel is then established, and each other
+    /// one of the pass is as it was. It may wait for each link.
     ///
     /// The pass has its seat, isn't spent (`pass`) and has drawn fewer than 2^40 - 64 stamps. After want of memory it is
     /// spent, the steps made so far stand in the journals, and nothing further is claimed of the channel.
@@ -39,6 +39,7 @@ impl<L: LinkStep + Send, H: Home> Network<L, H> {
         requires hops { Each (IsHopOf H.links) request.now.route }
         ensures made { IfOk result (λ verdict. SetsUp request.now pass.old pass.new (outcome_of verdict)) }
         ensures established { IfOk result (λ verdict. is_accepted (outcome_of verdict) ≡ true → IsEstablished request.now pass.new.own) }
+        ensures others { OnOk result (OthersStay request.now.chan pass.old.own pass.new.own) }
         ensures drew { OnOk result (length pass.new.view.drawn ≤ length pass.old.view.drawn + 32) }
         ensures ready { OnOk result (GoesOn H.table H.owners H.links pass.old pass.new) }
         ensures lost { OnErr result (IsLost pass.new) }
@@ -61,7 +62,7 @@ impl<L: LinkStep + Send, H: Home> Network<L, H> {
 
     /// Releases an established channel at all hops of its route, in their order, and answers the count of packets that the
     /// first hop has taken or still takes. The pass's actor owns the channel, this pass's setup of the request was accepted,
-    /// and it hasn't torn it down (`established`). It may wait for each link.
+    /// and it hasn't torn it down (`established`). Each other channel of the pass stays as it was. It may wait for each link.
     ///
     /// The pass has its seat, isn't spent (`pass`) and has drawn fewer than 2^40 - 64 stamps. After want of memory it is
     /// spent, the steps made so far stand in the journals, and nothing further is claimed of the channel.
@@ -78,6 +79,7 @@ impl<L: LinkStep + Send, H: Home> Network<L, H> {
         requires hops { Each (IsHopOf H.links) request.now.route }
         requires established { IsEstablished request.now pass.old.own }
         ensures torn { IfOk result (λ count. TearsDown request.now pass.old pass.new count) }
+        ensures others { OnOk result (OthersStay request.now.chan pass.old.own pass.new.own) }
         ensures drew { OnOk result (length pass.new.view.drawn ≤ length pass.old.view.drawn + 16) }
         ensures ready { OnOk result (GoesOn H.table H.owners H.links pass.old pass.new) }
         ensures lost { OnErr result (IsLost pass.new) }

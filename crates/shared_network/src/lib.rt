@@ -8,6 +8,7 @@
 pub mod calls;
 pub mod closing;
 pub mod network;
+pub mod rounds;
 
 pub use closing::{CloseFault, Closed};
 pub use network::Network;

@@ -1,6 +1,7 @@
 //! The network, its opening, and one step of a pass.
 ghost use Rattle.std.specs.Prelude.{◌≡◌, ℕ, ◌^◌, ◌<◌, ◌≤◌, ◌+◌, ◌-◌, [], ◌∷◌, ◌++◌, length, map, IfOk, OnOk, OnErr, true};
-ghost use Rattle.net_units.specs.Numbers.{link_number, actor_number};
+ghost use Rattle.net_units.specs.Numbers.{link_number, actor_number, channel_number};
+ghost use Rattle.net_units.specs.declared.numbers.ChanNo.{ChanNo};
 ghost use Rattle.link_steps.specs.Lists.{Each};
 ghost use Rattle.link_steps.specs.Split.{SplitFits};
 ghost use Rattle.step_stamp.specs.Lists.{up_to};
@@ -8,7 +9,8 @@ ghost use Rattle.step_stamp.specs.Seats.{table_of, link_of};
 ghost use Rattle.step_stamp.specs.Opening.{AreLinks, ArePasses};
 ghost use Rattle.step_stamp.specs.Views.{saw};
 ghost use Rattle.setup_protocol.specs.declared.request.Request.{Request};
-ghost use Rattle.shared_network.specs.Calls.{IsEstablished};
+ghost use Rattle.channel_laws.specs.Asks.{IsOff};
+ghost use Rattle.shared_network.specs.Calls.{HasNone, IsEstablished};
 ghost use Rattle.link_ledger.specs.Owners.{OwnsAsk, NextBelow};
 ghost use Rattle.link_ledger.specs.Tokens.{Steps};
 ghost use Rattle.shared_network.specs.Added.{Adds, IsSamePass, IsLost};
@@ -100,8 +102,9 @@ impl<L: LinkStep + Send, H: Home> Network<L, H> {
     }
 
     /// Sends packets at a link of the network: of a channel that the pass's actor owns, by a submit, or best-effort ones, by a
-    /// pour. It is one ask, whose reply is the answer. An established channel stays so. It may wait for the link. After want of memory the pass is spent, and
-    /// the link's journal may have the entry.
+    /// pour. It is one ask, whose reply is the answer. An established channel stays so, and so does one that no entry names, if
+    /// the ask doesn't (`unopened`). It may wait for the link. After want of memory the pass is spent, and the link's journal
+    /// may have the entry.
     ///
     /// The pass has its seat, isn't spent (`pass`) and has drawn fewer than 2^40 - 64 stamps, and the conditions on an ask
     /// hold.
@@ -121,6 +124,7 @@ impl<L: LinkStep + Send, H: Home> Network<L, H> {
         requires owned { OwnsAsk H.owners pass.old.actor ask.now }
         ensures made { IfOk result (λ reply. Adds pass.old pass.new (record { link = link; ask = ask.now; reply = reply } ∷ [])) }
         ensures established { OnOk result ((request : Request) → IsEstablished request pass.old.own → IsEstablished request pass.new.own) }
+        ensures unopened { OnOk result ((chan : ChanNo) → IsOff (channel_number chan) ask.now → HasNone chan pass.old.own → HasNone chan pass.new.own) }
         ensures drew { OnOk result (length pass.new.view.drawn ≡ length pass.old.view.drawn + 1) }
         ensures ready { OnOk result (GoesOn H.table H.owners H.links pass.old pass.new) }
         ensures lost { OnErr result (IsLost pass.new) }

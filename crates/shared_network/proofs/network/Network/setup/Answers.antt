@@ -3,6 +3,7 @@ use Rattle.setup_protocol.specs.Setup.{next_ask}
 use Rattle.setup_protocol.specs.declared.request.Request.{Request}
 use Rattle.shared_network.specs.Calls.{reply_in}
 use Rattle.shared_network.proofs.CallFacts.{setting-first, to-below, fits-there, owned-there, next-there, expected-there, left-less, setting-next, setup-established, drew-some, ok-no-err, on-ok}
+use Rattle.shared_network.proofs.OtherChannels.{setup-others}
 use Rattle.shared_network.proofs.network.Network.setup.Goals as goal
 
 pub loop-link-init : goal.loop-link-init
@@ -62,3 +63,8 @@ pub returns-clause-drew : goal.returns-clause-drew
 returns-clause-drew g c =
     let so = c.loop-link.invariant in
     drew-some g.H.Home.table g.H.Home.owners g.H.Home.links _ _ so.entries 32 c.requires.pass so.goes.may_step so.own (let few = so.few in omega (arith, few))
+
+pub returns-clause-others : goal.returns-clause-others
+returns-clause-others g c =
+    let so = c.loop-link.invariant in
+    setup-others c.args.request.now _ _ so.entries so.own so.follows

@@ -1,6 +1,10 @@
+use Rattle.std.proofs.Common.{[], ◌∷◌, sym, subst}
 use Rattle.std.proofs.lemmas.Result.{IfOk-weaker}
+use Rattle.net_units.specs.Numbers.{channel_number}
+use Rattle.channel_laws.specs.Asks.{IsOff}
 use Rattle.shared_network.proofs.CallFacts.{sent-established}
 use Rattle.shared_network.proofs.LinkNumbers.{ok-then}
+use Rattle.shared_network.proofs.OtherChannels.{unopened-stays}
 use Rattle.shared_network.proofs.StepFacts.{adds-one}
 use Rattle.shared_network.proofs.network.Network.submit.Goals as goal
 
@@ -9,3 +13,6 @@ returns-clause-made g c = IfOk-weaker c.step_at.result _ _ (λ reply steps. adds
 
 pub returns-clause-established : goal.returns-clause-established
 returns-clause-established g c = ok-then _ _ c.step_at.result (λ reply steps request was. sent-established g.H.Home.links c.args.link c.args.ask.now c.args.pass.now c.step_at.new.pass reply steps c.requires.send request was) c.step_at.ensures.made
+
+pub returns-clause-unopened : goal.returns-clause-unopened
+returns-clause-unopened g c = ok-then _ _ c.step_at.result (λ reply steps chan off none. unopened-stays chan _ _ (steps.entry ∷ []) steps.own (subst (IsOff (channel_number chan)) (sym steps.acted.ask_is) off, tt) none) c.step_at.ensures.made

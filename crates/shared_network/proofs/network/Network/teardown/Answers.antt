@@ -4,6 +4,7 @@ use Rattle.std.specs.Option.{unwrap_or}
 use Rattle.setup_protocol.specs.Teardown.{next_release}
 use Rattle.shared_network.specs.Calls.{reply_in}
 use Rattle.shared_network.proofs.CallFacts.{drew-some, ok-no-err, on-ok}
+use Rattle.shared_network.proofs.OtherChannels.{teardown-others}
 use Rattle.shared_network.proofs.TeardownFacts.{tearing-first, to-below, fits-there, owned-there, next-there, closing-there, made-more, tearing-next}
 use Rattle.shared_network.proofs.network.Network.teardown.Goals as goal
 
@@ -61,3 +62,8 @@ pub returns-clause-drew : goal.returns-clause-drew
 returns-clause-drew g c =
     let so = c.loop-link.invariant in
     drew-some g.H.Home.table g.H.Home.owners g.H.Home.links _ _ so.entries 16 c.requires.pass so.goes.may_step so.own (let few = so.few in let most = so.route.most in omega (arith, few, most))
+
+pub returns-clause-others : goal.returns-clause-others
+returns-clause-others g c =
+    let so = c.loop-link.invariant in
+    teardown-others c.args.request.now _ _ so.entries so.own so.follows
