@@ -16,3 +16,4 @@ mod RoundReplies
 mod OwnRounds
 mod RoundSteps
 mod OtherChannels
+mod WorkedFacts

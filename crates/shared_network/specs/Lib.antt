@@ -6,3 +6,4 @@ pub mod Closing
 pub mod Gathering
 pub mod Holds
 pub mod Planes
+pub mod Worked

@@ -12,3 +12,6 @@ pub mod rounds;
 
 pub use closing::{CloseFault, Closed};
 pub use network::Network;
+
+#[cfg(test)]
+mod tests;

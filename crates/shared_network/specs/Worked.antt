@@ -1,0 +1,32 @@
+-- Words of the worked networks: their links have the levels 10, 20 and 40 and a propagation of 2, and each channel has one hop.
+use Rattle.std.specs.Prelude.{◌≡◌, ℕ, List, [], ◌∷◌}
+use Rattle.atomic_table.specs.Seated.{TableId}
+use Rattle.net_units.specs.Numbers.{link_number}
+use Rattle.net_units.specs.declared.numbers.ActorNo.{ActorNo}
+use Rattle.hop_reservation.specs.declared.route.Hop.{Hop}
+use Rattle.link_steps.specs.Lists.{Each}
+use Rattle.link_steps.specs.Split.{Link}
+use Rattle.link_steps.specs.declared.shape.LinkShape.{LinkShape}
+use Rattle.setup_protocol.specs.declared.request.Request.{Request}
+use Rattle.link_ledger.specs.Owners.{IsOwner}
+use Rattle.link_ledger.specs.Tokens.{Token}
+use Rattle.shared_network.specs.Calls.{HasNone, IsHopOf}
+use Rattle.shared_network.specs.Ready.{MayStep}
+
+pub record IsWorkedLink (shape : LinkShape) : Type 0 where
+  pub bounds : shape.bounds ≡ 10 ∷ 20 ∷ 40 ∷ []
+  pub prop : shape.prop ≡ 2
+
+-- a hop over the link of this number
+pub record IsOverLink (l : ℕ) (hop : Hop) : Type 0 where
+  pub link_is : link_number hop.link ≡ l
+  pub bounds : hop.bounds ≡ 10 ∷ 20 ∷ 40 ∷ []
+  pub prop : hop.prop ≡ 2
+
+-- a pass that has made no step may set the channel of this request up
+pub record IsJob (table : TableId) (owners : List ActorNo) (links : List Link) (pass : Token) (request : Request) : Type 0 where
+  pub may_step : MayStep table owners links pass
+  pub drawn : pass.view.drawn ≡ []
+  pub owned : IsOwner owners pass.actor request.chan
+  pub new : HasNone request.chan pass.own
+  pub hops : Each (IsHopOf links) request.route
