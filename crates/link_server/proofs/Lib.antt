@@ -31,4 +31,6 @@ pub mod SoundTick
 pub mod SoundNumbers
 pub mod SoundServes
 pub mod QuietFacts
-pub mod LaterFacts
+pub mod RankFacts
+pub mod NextFacts
+pub mod TurnFacts

@@ -1,7 +1,7 @@
 -- The packet that occupies the link in a tick can go on in it, and departs at its end if that is its last tick.
 use Rattle.std.proofs.Common.{◌≡◌, ℕ, suc, ◌+◌, ◌≤◌, Bool, true, false, cond, not, List, [], ◌∷◌, Option, Some, None, refl, sym, ap, ◌∙◌, subst, arith}
 use Rattle.std.proofs.lemmas.Bool.{leb-true, eq-eqb, cond_both}
-use Rattle.std.specs.Prelude.{filter}
+use Rattle.std.specs.Prelude.{filter, is_some}
 use Rattle.link_steps.specs.declared.shape.LinkShape.{LinkShape}
 use Rattle.link_steps.specs.declared.replies.Sent.{Sent}
 use Rattle.link_steps.specs.BestEffort.{is_best}
@@ -17,10 +17,10 @@ use Rattle.link_server.specs.Packets.{here_in, on_in, start_in}
 use Rattle.link_server.specs.Serving.{GoesOn, CanServe}
 
 -- those of the packets here that are eligible
-abbrev IsDue : ℕ → Arrival → Type 0
+abbrev pub IsDue : ℕ → Arrival → Type 0
 IsDue clock p = p.eligible ≤ clock
 
-are-due : (clock : ℕ) (here : List Arrival) → Each (IsDue clock) (filter (is_eligible_by clock) here)
+pub are-due : (clock : ℕ) (here : List Arrival) → Each (IsDue clock) (filter (is_eligible_by clock) here)
 are-due clock [] = tt
 are-due clock (p ∷ here) =
     let rest = are-due clock here in
@@ -65,3 +65,8 @@ pub best-departs-now : (shape : LinkShape) (clock : ℕ) (occupies : Option Star
 best-departs-now shape clock occupies occupant running best goes same is last made =
     let later = goes.leaves_later in
     rw (sym same ∙ ap on_in is, eq-eqb (leaves_at shape.rate (start_in running)) (suc clock) (omega (arith, later, last))) made
+
+-- a link that no packet occupies is free
+pub off-free : (on : Option Running) → is_some on ≡ false → on_in on ≡ None
+off-free None off = refl
+off-free (Some running) off = (let f : true ≡ false = off in cc)

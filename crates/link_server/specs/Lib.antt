@@ -13,4 +13,7 @@ pub mod Held
 pub mod Sound
 pub mod SoundProp
 pub mod Quiet
-pub mod Later
+pub mod Rank
+pub mod Line
+pub mod InLine
+pub mod Parting

@@ -18,7 +18,7 @@ Each-prop P once (x ∷ xs) = ×_prop (once x) (Each-prop P once xs)
 
 -- ---- packets
 
-AreNumbered-prop : (low : ℕ) (ps : List Arrival) (high : ℕ) → IsProp (AreNumbered low ps high)
+pub AreNumbered-prop : (low : ℕ) (ps : List Arrival) (high : ℕ) → IsProp (AreNumbered low ps high)
 AreNumbered-prop low [] high = le_prop
 AreNumbered-prop low (p ∷ ps) high = ×_prop le_prop (AreNumbered-prop p.place ps high)
 

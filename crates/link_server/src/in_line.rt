@@ -1,15 +1,18 @@
 //! Which of the packets at a link are whose, and which of them is served first.
-ghost use Rattle.std.specs.Prelude.{◌≡◌, Some, filter, length};
+ghost use Rattle.std.specs.Prelude.{◌≡◌, ◌+◌, ◌≤◌, Some, None, IfSome, IfNone, filter, length};
 ghost use Rattle.std.specs.Option.{option_map};
 ghost use Rattle.std.specs.Vec.{vec_capacity};
 ghost use Rattle.link_steps.specs.BestEffort.{is_best};
 ghost use Rattle.link_steps.specs.Buffer.{held_packets};
-ghost use Rattle.link_steps.specs.Kept.{is_eligible_by, is_other, waits_here};
-ghost use Rattle.link_steps.specs.Service.{goes_before, sooner, first_in_line};
+ghost use Rattle.link_steps.specs.Kept.{is_eligible_by, is_other, start_at, waits_here};
+ghost use Rattle.link_steps.specs.Service.{first_in_line};
 ghost use Rattle.link_server.specs.Packets.{arrival_in, start_in, here_in};
-ghost use Rattle.link_server.specs.Later.{AreLater};
+ghost use Rattle.link_server.specs.InLine.{is_rank_of, count_on, AreIn, AreRising, HasRank, IsStale};
+ghost use Rattle.link_server.specs.Line.{ranks_in, room_in};
+ghost use Rattle.link_server.specs.Parting.{PartsAt};
 
 use crate::held_packet::{HeldPacket, Running};
+use crate::line::{Line, Rank};
 use net_units::Bounds;
 
 // How many of these packets are of the reservation whose first packet had this place.
@@ -41,71 +44,66 @@ pub(crate) fn best_here_but(packets: &[HeldPacket], bounds: &Bounds, running: &R
         .count()
 }
 
-// The packet that goes before all others that are eligible by this tick.
-pub(crate) fn first_in_line(packets: &[HeldPacket], tick: u64) -> Option<HeldPacket>
-    ensures { option_map arrival_in result ≡ first_in_line (filter (is_eligible_by tick) (here_in packets.now)) }
+// The packet that starts in this tick, where the link is free: the first in line of those that are eligible. Its rank is taken
+// out of the line.
+pub(crate) fn start_next(line: &mut Line, here: &[HeldPacket], tick: u64) -> Option<HeldPacket>
+    requires looked { line.old.until ≤ tick }
+    requires room { length (ranks_in line.old) ≤ room_in line.old }
+    requires rising { AreRising 0 (here_in here.now) }
+    requires all { AreIn (ranks_in line.old) None (here_in here.now) }
+    ensures first { option_map arrival_in result ≡ first_in_line (filter (is_eligible_by tick) (here_in here.now)) }
+    ensures others { AreIn (ranks_in line.new) (start_at tick (option_map arrival_in result)) (here_in here.now) }
+    ensures fewer { length (ranks_in line.new) + count_on (start_at tick (option_map arrival_in result)) ≤ length (ranks_in line.old) }
+    ensures room { room_in line.old ≤ room_in line.new }
+    ensures looked { line.new.until ≡ tick }
 {
-    // From the last to the first: each packet against the first in line of those behind it.
-    let mut first = None;
-    for packet in packets.iter().rev() {
-        if packet.eligible <= tick {
-            first = Some(sooner(packet, first));
+    while let Some(rank) = line.next(tick) {
+        if let Some(packet) = with_rank(here, &rank) {
+            return Some(packet);
         }
     }
-    first
+    None
 }
 
-// A tick before which none of these packets is eligible. None was before `from`: where that is behind this tick, it is
-// found anew.
-pub(crate) fn later_after(packets: &[HeldPacket], from: u64, tick: u64) -> u64
-    requires { AreLater from (here_in packets.now) }
-    ensures { AreLater result (here_in packets.now) }
+// The packet of this rank, if it is here.
+fn with_rank(packets: &[HeldPacket], rank: &Rank) -> Option<HeldPacket>
+    requires { AreRising 0 (here_in packets.now) }
+    ensures some { IfSome result (λ packet. HasRank (here_in packets.now) rank.now (arrival_in packet)) }
+    ensures none { IfNone result (IsStale (here_in packets.now) rank.now) }
 {
-    if tick < from {
-        return from;
+    let index = place_in(packets, rank.place);
+    if index < packets.len() && is_rank_of(&packets[index], rank) {
+        return Some(packets[index]);
     }
-    first_eligible(packets)
+    None
 }
 
-// The first tick in which one of these packets is eligible.
-fn first_eligible(packets: &[HeldPacket]) -> u64
-    ensures { AreLater result (here_in packets.now) }
+// Whether it is the packet's rank.
+fn is_rank_of(packet: &HeldPacket, rank: &Rank) -> bool
+    ensures { result ≡ is_rank_of (arrival_in packet.now) rank.now }
 {
-    let mut from = u64::MAX;
-    for packet in packets {
-        from = from.min(packet.eligible);
-    }
-    from
+    rank.place == packet.place && rank.eligible == packet.eligible && rank.level == packet.level
 }
 
-// This packet, or the other where there is one that goes before it.
-fn sooner(packet: &HeldPacket, other: Option<HeldPacket>) -> HeldPacket
-    ensures { arrival_in result ≡ sooner (arrival_in packet.now) (option_map arrival_in other) }
+// Where the packet of this arrival number stands, if it is here: all before it have lower ones, and no other has a lower one.
+fn place_in(packets: &[HeldPacket], place: u64) -> usize
+    requires { AreRising 0 (here_in packets.now) }
+    ensures { PartsAt place packets.now result }
 {
-    match other {
-        Some(other) => {
-            if goes_before(&other, packet) {
-                other
-            } else {
-                *packet
-            }
-        }
-        None => *packet,
-    }
-}
-
-// Whether a packet goes before another: by level, then by eligible tick, then by arrival number.
-fn goes_before(packet: &HeldPacket, other: &HeldPacket) -> bool
-    ensures { result ≡ goes_before (arrival_in packet.now) (arrival_in other.now) }
-{
-    let rank = (packet.level, packet.eligible, packet.place);
-    rank < (other.level, other.eligible, other.place)
+    packets.partition_point(|packet| packet.place < place)
 }
 
 // Takes the packet that has been on the link out of those here.
 pub(crate) fn take_out(packets: &mut Vec<HeldPacket>, running: &Running)
+    requires { AreRising 0 (here_in packets.old.items) }
     ensures others { here_in packets.new.items ≡ filter (is_other (start_in running.now)) (here_in packets.old.items) }
+    ensures one { length packets.old.items ≤ length packets.new.items + 1 }
+    ensures fewer { length packets.new.items ≤ length packets.old.items }
     ensures capacity { vec_capacity packets.new ≡ vec_capacity packets.old }
 {
-    packets.retain(|packet| packet.place != running.packet.place);
+    let place = running.packet.place;
+    let index = place_in(packets, place);
+    if index < packets.len() && packets[index].place == place {
+        packets.remove(index);
+    }
 }

@@ -1,6 +1,5 @@
 //! The state of a link, and its steps.
 ghost use Rattle.std.specs.Prelude.{◌≡◌, ◌^◌, ◌<◌, ◌≤◌, ◌∷◌, [], List, map, length, IfOk, OnErr, IsOk};
-ghost use Rattle.std.specs.Vec.{vec_capacity};
 ghost use Rattle.rcsp_admission.specs.Sums.{AreAdmitted};
 ghost use Rattle.link_steps.specs.Legal.{AskFits};
 ghost use Rattle.link_steps.specs.Shape.{server_of};
@@ -40,7 +39,8 @@ pub struct LinkState {
     ghost within: { AreWithin (length shape.bounds) rows.items },
     ghost sound: { IsSound shape room (account clock packets rows.items) } by { IsSound-prop shape room (account clock packets rows.items) },
     ghost quiet: { AreQuiet shape.bounds due (map row_in rows.items) } by { AreQuiet-prop shape.bounds due (map row_in rows.items) },
-    ghost roomy: { room ≤ vec_capacity packets.here },
+    ghost roomy: { room ≤ packets.room },
+    ghost looked: { packets.line.until ≤ clock },
     ghost stood: { IsStood shape (account clock packets rows.items) } by { IsStood-prop shape (account clock packets rows.items) },
 }
 

@@ -1,12 +1,16 @@
 //! The packets at a link: those that it has taken and that haven't departed, and the one that occupies it.
 ghost use Rattle.std.specs.Prelude.{◌≡◌, ◌+◌, ◌^◌, ◌<◌, ◌≤◌, ◌∷◌, ◌++◌, [], suc, nat_eq, filter, find, length, IsTrue, IsOk, OnOk};
 ghost use Rattle.std.specs.Vec.{vec_capacity};
-ghost use Rattle.link_server.specs.Packets.{here_in};
-ghost use Rattle.link_server.specs.Later.{AreLater, AreLater-prop};
+ghost use Rattle.link_server.specs.InLine.{count_on, AreIn, AreIn-prop};
+ghost use Rattle.link_server.specs.Line.{ranks_in, room_in};
+ghost use Rattle.link_server.specs.Packets.{here_in, on_in};
+ghost use Rattle.link_server.specs.Sound.{AreNumbered};
+ghost use Rattle.link_server.specs.SoundProp.{AreNumbered-prop};
 
 use crate::best_effort::best_packet;
 use crate::held_packet::{HeldPacket, Running};
-use crate::in_line::{best_here, best_here_but, first_in_line, later_after, take_out};
+use crate::in_line::{best_here, best_here_but, start_next, take_out};
+use crate::line::{Line, Rank};
 use crate::planned::Planned;
 use link_steps::{LinkShape, Sent};
 use net_units::{Bounds, OutOfMemory};
@@ -19,13 +23,20 @@ pub(crate) struct Packets {
     pub(crate) taken: u64,
     // In the order of their arrival.
     pub(crate) here: Vec<HeldPacket>,
-    // None of these is eligible before this tick.
-    pub(crate) from: u64,
+    // The ranks of those that haven't started.
+    pub(crate) line: Line,
+    // For how many packets there is room, those here included.
+    pub(crate) room: usize,
     // The one that occupies the link: it is one of those here.
     pub(crate) on: Option<Running>,
     // The best-effort packets that are planned and left.
     pub(crate) best: Planned,
-    ghost later: { AreLater from (here_in here.items) } by { AreLater-prop from (here_in here.items) },
+    ghost numbered: { AreNumbered 0 (here_in here.items) taken } by { AreNumbered-prop 0 (here_in here.items) taken },
+    ghost ranked: { AreIn (ranks_in line) (on_in on) (here_in here.items) } by { AreIn-prop (ranks_in line) (on_in on) (here_in here.items) },
+    ghost few: { length (ranks_in line) + count_on (on_in on) ≤ length here.items },
+    ghost fits: { length here.items ≤ room },
+    ghost holds: { room ≤ vec_capacity here },
+    ghost lines_up: { room ≤ room_in line },
 }
 
 // What leaves a link at the end of a tick: a packet of a channel, or a best-effort packet, if any.
@@ -41,7 +52,6 @@ impl Packets {
     ghost use Rattle.link_steps.specs.Rows.{is_for, left_at};
     ghost use Rattle.link_steps.specs.Sources.{source_step, taken_by, lost_by};
     ghost use Rattle.link_server.specs.Planned.{left_in, IsAhead};
-    ghost use Rattle.link_server.specs.Packets.{on_in};
     ghost use Rattle.link_server.specs.Serving.{CanServe};
 
     // No packet taken yet, and no room for one.
@@ -50,11 +60,13 @@ impl Packets {
         ensures here { result.here.items ≡ [] }
         ensures on { result.on ≡ None }
         ensures best { left_in result.best ≡ [] }
+        ensures looked { result.line.until ≡ 0 }
     {
         Packets {
             taken: 0,
             here: Vec::new(alloc),
-            from: u64::MAX,
+            line: Line::new(alloc),
+            room: 0,
             on: None,
             best: Planned::NONE,
         }
@@ -62,47 +74,64 @@ impl Packets {
 
     // Makes room for `more` more packets here. Where there is that room already it takes no memory.
     pub(crate) fn reserve(&mut self, more: usize) -> Result<(), OutOfMemory>
-        ensures room { OnOk result (length self.new.here.items + more ≤ vec_capacity self.new.here) }
-        ensures had_room { length self.old.here.items + more ≤ vec_capacity self.old.here → IsOk result }
-        ensures grows { vec_capacity self.old.here ≤ vec_capacity self.new.here }
+        ensures room { OnOk result (length self.new.here.items + more ≤ self.new.room) }
+        ensures had_room { length self.old.here.items + more ≤ self.old.room → IsOk result }
+        ensures grows { self.old.room ≤ self.new.room }
+        ensures looked { self.new.line.until ≡ self.old.line.until }
         ensures taken { self.new.taken ≡ self.old.taken }
         ensures here { self.new.here.items ≡ self.old.here.items }
         ensures on { self.new.on ≡ self.old.on }
         ensures best { self.new.best ≡ self.old.best }
     {
+        let room = self.here.len().checked_add(more).ok_or(OutOfMemory)?;
+        if room <= self.room {
+            return Ok(());
+        }
         self.here.reserve(more)?;
+        self.line.reserve(room)?;
+        self.room = room;
         Ok(())
     }
 
     // Takes a packet, behind those that are here. It takes no memory.
     pub(crate) fn push(&mut self, packet: HeldPacket)
-        requires room { length self.old.here.items < vec_capacity self.old.here }
+        requires room { length self.old.here.items < self.old.room }
+        requires next { packet.place ≡ self.old.taken + 1 }
         requires countable { self.old.taken + 1 < 2 ^ 64 }
         ensures taken { self.new.taken ≡ self.old.taken + 1 }
         ensures here { self.new.here.items ≡ self.old.here.items ++ packet ∷ [] }
         ensures on { self.new.on ≡ self.old.on }
         ensures best { self.new.best ≡ self.old.best }
-        ensures capacity { vec_capacity self.new.here ≡ vec_capacity self.old.here }
+        ensures room { self.new.room ≡ self.old.room }
+        ensures looked { self.new.line.until ≡ self.old.line.until }
     {
-        self.from = self.from.min(packet.eligible);
+        self.line.push(&Rank {
+            level: packet.level,
+            eligible: packet.eligible,
+            place: packet.place,
+        });
         self.here.push_reserved(packet);
         self.taken += 1;
     }
 
-    // The packet that occupies the link in this tick: the one that did, or else the first in line of those here. Where
-    // none is eligible yet it looks at none.
-    fn occupant(&self, tick: u64) -> Option<Running>
-        requires { tick < 2 ^ 61 }
-        ensures { on_in result ≡ served tick (here_in self.now.here.items) (on_in self.now.on) }
+    // The packet that occupies the link in this tick: the one that did, or else the first in line of those here.
+    fn occupant(&mut self, tick: u64) -> Option<Running>
+        requires early { tick < 2 ^ 61 }
+        requires looked { self.old.line.until ≤ tick }
+        ensures occupant { on_in result ≡ served tick (here_in self.old.here.items) (on_in self.old.on) }
+        ensures on { self.new.on ≡ result }
+        ensures here { self.new.here ≡ self.old.here }
+        ensures taken { self.new.taken ≡ self.old.taken }
+        ensures best { self.new.best ≡ self.old.best }
+        ensures room { self.new.room ≡ self.old.room }
+        ensures looked { self.new.line.until ≤ tick }
     {
         if self.on.is_some() {
             return self.on;
         }
-        if tick < self.from {
-            return None;
-        }
-        let packet = first_in_line(&self.here, tick)?;
-        Some(Running { packet, tick })
+        let packet = start_next(&mut self.line, &self.here, tick)?;
+        self.on = Some(Running { packet, tick });
+        self.on
     }
 
     // Whether the best-effort packet that is planned for this tick has a place. Where none is planned it looks at no packet.
@@ -131,14 +160,15 @@ impl Packets {
     // found no place, and so was lost. It takes no memory.
     pub(crate) fn take_best(&mut self, fits: bool, shape: &LinkShape, clock: u64) -> bool
         requires ahead { IsAhead clock self.old.best }
-        requires room { IsTrue fits → length self.old.here.items < vec_capacity self.old.here }
+        requires room { IsTrue fits → length self.old.here.items < self.old.room }
         requires countable { self.old.taken + 1 < 2 ^ 64 }
         ensures lost { result ≡ nat_eq (lost_by (source_step fits (find (is_for clock) (left_in self.old.best)))) 1 }
         ensures here { here_in self.new.here.items ≡ here_in self.old.here.items ++ best_packet (source_step fits (find (is_for clock) (left_in self.old.best))) shape.now.bounds (suc self.old.taken) clock }
         ensures taken { self.new.taken ≡ self.old.taken + taken_by (source_step fits (find (is_for clock) (left_in self.old.best))) }
         ensures best { left_in self.new.best ≡ left_at (clock + 1) (left_in self.old.best) }
         ensures on { self.new.on ≡ self.old.on }
-        ensures capacity { vec_capacity self.new.here ≡ vec_capacity self.old.here }
+        ensures room { self.new.room ≡ self.old.room }
+        ensures looked { self.new.line.until ≡ self.old.line.until }
     {
         let Some(size) = self.best.take_at(clock) else {
             return false;
@@ -155,6 +185,7 @@ impl Packets {
     // tick this is, which departs at its end. It takes no memory.
     pub(crate) fn serve(&mut self, shape: &LinkShape, clock: u64) -> Left
         requires early { clock < 2 ^ 61 }
+        requires looked { self.old.line.until ≤ clock }
         requires serves { CanServe shape.now clock (on_in self.old.on) }
         ensures sent { result.sent ≡ departs shape.now clock (served clock (here_in self.old.here.items) (on_in self.old.on)) }
         ensures best_sent { result.best_sent ≡ best_departs shape.now clock (served clock (here_in self.old.here.items) (on_in self.old.on)) }
@@ -162,12 +193,10 @@ impl Packets {
         ensures here { here_in self.new.here.items ≡ still_here shape.now.rate clock (served clock (here_in self.old.here.items) (on_in self.old.on)) (here_in self.old.here.items) }
         ensures on { on_in self.new.on ≡ still_on shape.now.rate clock (served clock (here_in self.old.here.items) (on_in self.old.on)) }
         ensures taken { self.new.taken ≡ self.old.taken }
-        ensures capacity { vec_capacity self.new.here ≡ vec_capacity self.old.here }
+        ensures room { self.new.room ≡ self.old.room }
+        ensures looked { self.new.line.until ≤ clock }
     {
-        let occupant = self.occupant(clock);
-        self.on = occupant;
-        let Some(running) = occupant else {
-            self.from = later_after(&self.here, self.from, clock);
+        let Some(running) = self.occupant(clock) else {
             return Left {
                 sent: None,
                 best_sent: false,

@@ -1,6 +1,5 @@
 //! The sources' part of a tick: the packets that are planned for it arrive.
 ghost use Rattle.std.specs.Prelude.{◌≡◌, ◌+◌, ◌^◌, ◌<◌, ◌≤◌, ◌++◌, suc, if◌then◌else◌, length, map, take};
-ghost use Rattle.std.specs.Vec.{vec_capacity};
 ghost use Rattle.link_steps.specs.Kept.{kept_packet, kept_after_step};
 ghost use Rattle.link_steps.specs.Sources.{taken_by, lost_by};
 ghost use Rattle.link_server.specs.Packets.{here_in};
@@ -26,7 +25,7 @@ pub(crate) fn take_source_packets(
     requires few { length rows.old < 2 ^ 32 }
     requires ready { AreReady clock rows.old }
     requires within { AreWithin (length bounds.now) rows.old }
-    requires room { length packets.old.here.items + length (brought_by bounds.now (here_in packets.old.here.items) clock packets.old.taken rows.old) ≤ vec_capacity packets.old.here }
+    requires room { length packets.old.here.items + length (brought_by bounds.now (here_in packets.old.here.items) clock packets.old.taken rows.old) ≤ packets.old.room }
     requires numbers { packets.old.taken + length (brought_by bounds.now (here_in packets.old.here.items) clock packets.old.taken rows.old) < 2 ^ 64 }
     ensures lost { result ≡ lost_by_rows bounds.now (here_in packets.old.here.items) clock rows.old }
     ensures rows { map row_in rows.new ≡ rows_by bounds.now (here_in packets.old.here.items) clock packets.old.taken rows.old }
@@ -34,7 +33,8 @@ pub(crate) fn take_source_packets(
     ensures taken { packets.new.taken ≡ packets.old.taken + length (brought_by bounds.now (here_in packets.old.here.items) clock packets.old.taken rows.old) }
     ensures on { packets.new.on ≡ packets.old.on }
     ensures best { packets.new.best ≡ packets.old.best }
-    ensures capacity { vec_capacity packets.new.here ≡ vec_capacity packets.old.here }
+    ensures room { packets.new.room ≡ packets.old.room }
+    ensures looked { packets.new.line.until ≡ packets.old.line.until }
     ensures summed { map summed rows.new ≡ map summed rows.old }
     ensures levels { AreWithin (length bounds.now) rows.new }
     ensures quiet { clock < due → AreQuiet bounds.now due (map row_in rows.new) }
@@ -65,7 +65,7 @@ fn take_source_packet(
     requires ready { IsReady clock (row_in row.old) }
     requires within { IsWithin (length bounds.now) row.old }
     requires before { before ≤ length packets.old.here.items }
-    requires room { length packets.old.here.items + taken_by (step_in bounds.now (take before (here_in packets.old.here.items)) clock row.old) ≤ vec_capacity packets.old.here }
+    requires room { length packets.old.here.items + taken_by (step_in bounds.now (take before (here_in packets.old.here.items)) clock row.old) ≤ packets.old.room }
     requires numbers { packets.old.taken + taken_by (step_in bounds.now (take before (here_in packets.old.here.items)) clock row.old) < 2 ^ 64 }
     ensures lost { (if result then 1 else 0) ≡ lost_by (step_in bounds.now (take before (here_in packets.old.here.items)) clock row.old) }
     ensures row { row_in row.new ≡ kept_after_step (step_in bounds.now (take before (here_in packets.old.here.items)) clock row.old) clock (suc packets.old.taken) (row_in row.old) }
@@ -73,7 +73,8 @@ fn take_source_packet(
     ensures taken { packets.new.taken ≡ packets.old.taken + taken_by (step_in bounds.now (take before (here_in packets.old.here.items)) clock row.old) }
     ensures on { packets.new.on ≡ packets.old.on }
     ensures best { packets.new.best ≡ packets.old.best }
-    ensures capacity { vec_capacity packets.new.here ≡ vec_capacity packets.old.here }
+    ensures room { packets.new.room ≡ packets.old.room }
+    ensures looked { packets.new.line.until ≡ packets.old.line.until }
 {
     let Some(size) = row.next_planned(clock) else {
         return false;

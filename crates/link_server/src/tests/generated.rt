@@ -1,10 +1,6 @@
 //! Generated lists of asks: a link that remembers until when nothing is due replies as one that forgets it before each ask,
-//! and so looks at all its rows and packets in each tick.
-ghost use Rattle.std.specs.Prelude.{◌≡◌};
-ghost use Rattle.std.specs.Vec.{vec_capacity};
-
+//! and so looks at all its rows in each tick.
 use super::{LinkState, deny, open, pour, relax, release, reserve, step, submit, tick, voice};
-use crate::packets::Packets;
 use link_steps::{Ask, Packet, Reply};
 use net_units::{ChanNo, Kind};
 use std::test::Fail;
@@ -17,17 +13,6 @@ const ASKS: u64 = 120;
 // Forgets until when nothing is due.
 fn forget(link: &mut LinkState) {
     link.due = 0;
-    forget_packets(&mut link.packets);
-}
-
-fn forget_packets(packets: &mut Packets)
-    ensures taken { packets.new.taken ≡ packets.old.taken }
-    ensures here { packets.new.here.items ≡ packets.old.here.items }
-    ensures on { packets.new.on ≡ packets.old.on }
-    ensures best { packets.new.best ≡ packets.old.best }
-    ensures capacity { vec_capacity packets.new.here ≡ vec_capacity packets.old.here }
-{
-    packets.from = 0;
 }
 
 // The next number, of a linear congruence.

@@ -1,12 +1,28 @@
--- What stays are the others.
-use Rattle.std.proofs.Common.{ap, sym, ◌∙◌, rules, tests}
-use Rattle.std.proofs.lemmas.Fn.{filter_same}
-use Rattle.link_steps.specs.Kept.{is_other}
-use Rattle.link_server.specs.Packets.{arrival_in, start_in, here_in}
-use Rattle.link_server.proofs.LineFacts.{here-passing}
+-- The packet stands at its place, or isn't here.
+use Rattle.std.proofs.Common.{◌≡◌, ◌<◌, length, get_or, sym, ap, ◌∙◌, subst, arith}
+use Rattle.std.proofs.lemmas.List.{get_or_default}
+use Rattle.link_server.specs.Packets.{start_in, here_in}
+use Rattle.link_server.specs.Parting.{PartsAt}
+use Rattle.link_server.proofs.TurnFacts.{removed-others, absent-others}
 use Rattle.link_server.proofs.in_line.take_out.Goals as goal
+use Rattle.link_server.proofs.in_line.take_out.Goals.{else-index-len-via-then-index-len+else-index-place, else-index-len-via-else-index-len}
 
-pub returns-clause-others : goal.returns-clause-others
-returns-clause-others c =
-    ap here_in (filter_same _ (λ packet. is_other (start_in c.args.running.now) (arrival_in packet)) _ (λ x b f k. search (rules, tests)) c.args.packets.now.items c.retain.new.self.items c.retain.ensures.filtered)
-    ∙ sym (here-passing (is_other (start_in c.args.running.now)) c.args.packets.now.items)
+pub returns-then-index-place-clause-others : goal.returns-then-index-place-clause-others
+returns-then-index-place-clause-others c =
+    let items = c.args.packets.now.items in
+    let parts = subst (λ packets. PartsAt c.args.running.now.packet.place packets c.place_in-index.result) c.deref.ensures.value c.place_in-index.ensures in
+    let inside : c.place_in-index.result < length items = (let len = c.args.packets.now.ok in omega (arith, len, c.if-index-len.true, c.len.ensures)) in
+    ap here_in c.remove.ensures.items
+    ∙ removed-others (start_in c.args.running.now) 0 items c.place_in-index.result c.index.result.now c.requires parts inside (ap (λ p. p.place) (sym c.index.ensures) ∙ c.if-index-place.true)
+
+pub returns-else-index-len-clause-others : goal.returns-else-index-len-clause-others
+returns-else-index-len-clause-others c =
+    let items = c.args.packets.now.items in
+    let len = c.args.packets.now.ok in
+    let parts = subst (λ packets. PartsAt c.args.running.now.packet.place packets c.place_in-index.result) c.deref.ensures.value c.place_in-index.ensures in
+    elim c.else-index-len.branch [
+      | else-index-len-via-then-index-len+else-index-place w ↦ absent-others (start_in c.args.running.now) 0 items c.place_in-index.result c.requires parts
+          (λ d inside same. w.if-index-place.false (ap (λ p. p.place) (w.index.ensures ∙ get_or_default items c.place_in-index.result w.index.result.now d inside) ∙ same))
+      | else-index-len-via-else-index-len w ↦ absent-others (start_in c.args.running.now) 0 items c.place_in-index.result c.requires parts
+          (λ d inside same. absurd (omega (arith, len, inside, w.if-index-len.false, c.len.ensures)))
+    ]

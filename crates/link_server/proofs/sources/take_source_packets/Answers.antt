@@ -45,7 +45,8 @@ loop-row-init c =
       front = take_all c.len-before.result (here_in c.args.packets.now.here.items) (omega (arith, c.len-before.ensures, long));
       on = refl;
       best = refl;
-      capacity = refl;
+      room = refl;
+      looked = refl;
       summed = refl;
       levels = c.requires.within;
     }
@@ -71,7 +72,7 @@ take_source_packet-requires-clause-room c =
     let was = length-append (here_in c.args.packets.now.here.items) (brought_by c.args.bounds.now (here_in c.args.packets.now.here.items) c.args.clock c.args.packets.now.taken c.args.rows.now) in
     let long = length-map c.loop-row.packets.here.items arrival_in in
     let before = length-map c.args.packets.now.here.items arrival_in in
-    omega (arith, step, fits, all, now, was, long, before, c.requires.room, c.loop-row.invariant.capacity)
+    omega (arith, step, fits, all, now, was, long, before, c.requires.room, c.loop-row.invariant.room)
 
 pub take_source_packet-requires-clause-numbers : goal.take_source_packet-requires-clause-numbers
 take_source_packet-requires-clause-numbers c =
@@ -114,7 +115,8 @@ loop-row-preserved c =
       front = front-same c.len-before.result c.loop-row.packets.here.items c.take_source_packet.new.packets.here.items _ c.loop-row.invariant.before brought ∙ front;
       on = c.take_source_packet.ensures.on ∙ c.loop-row.invariant.on;
       best = c.take_source_packet.ensures.best ∙ c.loop-row.invariant.best;
-      capacity = c.take_source_packet.ensures.capacity ∙ c.loop-row.invariant.capacity;
+      room = c.take_source_packet.ensures.room ∙ c.loop-row.invariant.room;
+      looked = c.take_source_packet.ensures.looked ∙ c.loop-row.invariant.looked;
       summed =
           map-set_same summed c.loop-row.rows c.loop-row.row-index c.take_source_packet.new.row c.row-item.result
           (summed-same c.take_source_packet.new.row row terms)

@@ -1,5 +1,4 @@
 use Rattle.std.proofs.Common.{◌≡◌, ◌≤◌, length, map, take}
-use Rattle.std.specs.Vec.{vec_capacity}
 use Rattle.link_server.specs.Packets.{here_in}
 use Rattle.link_server.specs.Rows.{summed, AreWithin}
 use Rattle.link_server.proofs.SourceRows.{HaveStepped}
@@ -13,7 +12,8 @@ invariant-loop-row l = record {
   front : take l.before (here_in l.packets.here.items) ≡ here_in l.fn.packets.here.items;
   on : l.packets.on ≡ l.fn.packets.on;
   best : l.packets.best ≡ l.fn.packets.best;
-  capacity : vec_capacity l.packets.here ≡ vec_capacity l.fn.packets.here;
+  room : l.packets.room ≡ l.fn.packets.room;
+  looked : l.packets.line.until ≡ l.fn.packets.line.until;
   summed : map summed l.rows ≡ map summed l.fn.rows;
   levels : AreWithin (length l.bounds) l.rows;
 }

@@ -134,7 +134,8 @@ invariant_of-self-3 c =
       quiet =
           quiet-changed c.args.self.now.shape.bounds c.args.self.now.due c.row_due.result c.min-self.result c.args.self.now.rows.items c.in-Some.place c.take-taken.new.self c.index-3.result.now c.args.self.now.quiet place.inside c.index-3.ensures c.row_due.ensures
           (omega (arith, c.min-self.ensures)) (omega (arith, c.min-self.ensures));
-      roomy = omega (arith, roomy, c.push.ensures.capacity);
+      roomy = omega (arith, roomy, c.push.ensures.room);
+      looked = (let looked = c.args.self.now.looked in omega (arith, looked, c.push.ensures.looked));
       stood = still-stood c.args.self.now (Arrive c.args.packet.now) (Taken c.args.self.now.clock c.take-taken.result.eligible) _ c.requires.fits (replied (goal.at.invariant_of-self-3 c).After-take-taken place) (kept (goal.at.invariant_of-self-3 c).After-push place);
     }
 

@@ -71,6 +71,7 @@ invariant_of-self c =
       sound = subst (IsSound c.args.self.now.shape c.args.self.now.room) (sym kept) (sound-deny c.args.self.now.shape c.args.self.now.room (kept_in c.args.self.now) c.args.chan Denied c.args.self.now.sound);
       quiet = rw c.remove-2.ensures.items (each-without (IsQuiet c.args.self.now.shape.bounds c.args.self.now.due) c.args.self.now.rows.items c.in-Some.place c.args.self.now.quiet);
       roomy = c.args.self.now.roomy;
+      looked = c.args.self.now.looked;
       stood = still-stood c.args.self.now (Deny c.args.chan) Denied _ tt (denied (goal.at.invariant_of-self c).After-remove-2) kept;
     }
 

@@ -75,6 +75,7 @@ invariant_of-self c =
           (quiet-pushed c.make_room.new.self.shape.bounds c.make_room.new.self.due c.make_room.new.self.rows.items c.in_ok-row.row c.make_room.new.self.quiet
           (subst (IsQuiet c.make_room.new.self.shape.bounds c.make_room.new.self.due) (sym c.in_ok-row.ensures) (new-quiet c.make_room.new.self.shape.bounds c.make_room.new.self.due _ refl)));
       roomy = c.make_room.new.self.roomy;
+      looked = c.make_room.new.self.looked;
       stood = subst (IsStood c.make_room.new.self.shape) (sym (kept (goal.at.invariant_of-self c).After-add)) (stood-offered c.make_room.new.self.shape (kept_in c.make_room.new.self) c.args.wanted.now c.args.offer.now (rows-have c.make_room.new.self.rows.items) c.requires.fits may c.make_room.new.self.stood);
     }
 

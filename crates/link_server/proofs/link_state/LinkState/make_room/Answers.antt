@@ -30,6 +30,7 @@ invariant_of-self-2 c =
       sound = subst (IsSound c.args.self.now.shape c.max-self.result) (sym same) larger;
       quiet = subst (λ rows. AreQuiet c.args.self.now.shape.bounds c.args.self.now.due (map row_in rows)) (sym c.reserve.ensures.items) c.args.self.now.quiet;
       roomy = omega (arith, c.max-self.ensures, grows, roomy, taken, c.len.ensures, ap length c.reserve-3.ensures.here);
+      looked = (let looked = c.args.self.now.looked in omega (arith, looked, c.reserve-3.ensures.looked));
       stood = subst (IsStood c.args.self.now.shape) (sym same) c.args.self.now.stood;
     }
 

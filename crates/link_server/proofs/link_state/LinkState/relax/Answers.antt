@@ -92,6 +92,7 @@ invariant_of-self c =
           (each-at (IsQuiet c.args.self.now.shape.bounds c.args.self.now.due) c.args.self.now.rows.items c.in-Some.place c.index_mut.result.now place.inside c.args.self.now.quiet)))
           c.args.self.now.quiet;
       roomy = c.args.self.now.roomy;
+      looked = c.args.self.now.looked;
       stood = still-stood c.args.self.now (Relax c.args.chan c.args.level c.args.up_bound) (Relaxed c.args.self.now.clock) _ c.requires.fits reply kept;
     }
 

@@ -84,6 +84,7 @@ invariant_of-self c =
           quiet-changed c.args.self.now.shape.bounds c.args.self.now.due c.row_due.result c.min-self.result c.args.self.now.rows.items c.in-Some.place c.close.new.self c.index-4.result.now c.args.self.now.quiet place.inside c.index-4.ensures c.row_due.ensures
           (omega (arith, c.min-self.ensures)) (omega (arith, c.min-self.ensures));
       roomy = c.args.self.now.roomy;
+      looked = c.args.self.now.looked;
       stood = still-stood c.args.self.now (Release c.args.chan c.args.upstream) (Closing c.count_at_release-count.result c.cancelled_at_release-cancelled.result) _ tt (replied close place) (kept close place);
     }
 

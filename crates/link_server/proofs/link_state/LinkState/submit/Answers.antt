@@ -92,6 +92,7 @@ invariant_of-self c =
           quiet-changed c.args.self.now.shape.bounds c.args.self.now.due c.row_due.result c.min-self.result c.args.self.now.rows.items c.in-Some.place c.plan.new.self c.index-4.result.now c.args.self.now.quiet place.inside c.index-4.ensures c.row_due.ensures
           (omega (arith, c.min-self.ensures)) (omega (arith, c.min-self.ensures));
       roomy = c.args.self.now.roomy;
+      looked = c.args.self.now.looked;
       stood = still-stood c.args.self.now (Submit c.args.chan c.args.count c.args.gap c.args.size) (Planned c.args.self.now.clock) _ c.requires.fits reply kept;
     }
 

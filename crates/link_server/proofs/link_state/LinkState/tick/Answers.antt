@@ -72,7 +72,7 @@ take_best-best_lost-requires-clause-room c = λ free.
     let parts = length-append (here_in c.args.self.now.packets.here.items) (brought_by c.args.self.now.shape.bounds (here_in c.args.self.now.packets.here.items) c.args.self.now.clock c.args.self.now.packets.taken c.deref_mut.result.now) in
     let long = length-map c.take_source_packets-full.new.packets.here.items arrival_in in
     let roomy = c.args.self.now.roomy in
-    omega (arith, room, same, all, parts, long, roomy, c.take_source_packets-full.ensures.capacity)
+    omega (arith, room, same, all, parts, long, roomy, c.take_source_packets-full.ensures.room)
 
 pub take_best-best_lost-requires-clause-countable : goal.take_best-best_lost-requires-clause-countable
 take_best-best_lost-requires-clause-countable c =
@@ -89,6 +89,11 @@ pub serve-left-requires-clause-serves : goal.serve-left-requires-clause-serves
 serve-left-requires-clause-serves c =
     subst (λ on. CanServe c.args.self.now.shape c.args.self.now.clock on) (sym (ap on_in (c.take_best-best_lost.ensures.on ∙ c.take_source_packets-full.ensures.on)))
     (sound-serves c.args.self.now.shape c.args.self.now.room (kept_in c.args.self.now) c.args.self.now.sound)
+
+pub serve-left-requires-clause-looked : goal.serve-left-requires-clause-looked
+serve-left-requires-clause-looked c =
+    let looked = c.args.self.now.looked in
+    omega (arith, looked, c.take_source_packets-full.ensures.looked, c.take_best-best_lost.ensures.looked)
 
 -- the rows written back are those that the sources left
 written : (c : After-serve-left) → take c.expire.new.rows.len (c.take_source_packets-full.new.rows ++ drop (length c.take_source_packets-full.new.rows) c.expire.new.rows.items) ≡ c.take_source_packets-full.new.rows
@@ -120,9 +125,9 @@ invariant_of-self c =
     let rows = written (goal.at.invariant_of-self c).After-serve-left in
     let after = ap (account (c.args.self.now.clock + 1) c.serve-left.new.self) rows ∙ kept (goal.at.invariant_of-self c).After-serve-left in
     let roomy = c.args.self.now.roomy in
-    let first = c.take_source_packets-full.ensures.capacity in
-    let second = c.serve-left.ensures.capacity in
-    let third = c.take_best-best_lost.ensures.capacity in
+    let first = c.take_source_packets-full.ensures.room in
+    let second = c.serve-left.ensures.room in
+    let third = c.take_best-best_lost.ensures.room in
     record {
       admitted = c.expire.ensures.admitted;
       same_server = c.expire.ensures.server ∙ c.args.self.now.same_server;
@@ -131,6 +136,7 @@ invariant_of-self c =
       sound = subst (IsSound c.args.self.now.shape c.args.self.now.room) (sym after) (sound-tick c.args.self.now.shape c.args.self.now.room (kept_in c.args.self.now) (Ticked c.args.self.now.clock c.take_source_packets-full.result c.serve-left.result.sent c.serve-left.result.best_sent c.take_best-best_lost.result) c.args.self.now.sound);
       quiet = subst (λ all. AreQuiet c.args.self.now.shape.bounds c.due_after-self.result (map row_in all)) c.deref.ensures.value c.due_after-self.ensures;
       roomy = omega (arith, roomy, first, second, third);
+      looked = omega (arith, c.serve-left.ensures.looked);
       stood = still-stood c.args.self.now Tick (Ticked c.args.self.now.clock c.take_source_packets-full.result c.serve-left.result.sent c.serve-left.result.best_sent c.take_best-best_lost.result) _ tt (replied (goal.at.invariant_of-self c).After-serve-left) after;
     }
 

@@ -1,9 +1,17 @@
--- Where none is eligible yet, none starts.
-use Rattle.std.proofs.Common.{sym, ◌∙◌}
-use Rattle.link_server.specs.Packets.{here_in, on_in}
-use Rattle.link_server.proofs.LaterFacts.{later-served, off-free}
+-- There is room for each rank, and the packets here stand in the order of their arrival numbers.
+use Rattle.std.proofs.Common.{sym, subst, arith}
+use Rattle.link_server.specs.InLine.{AreRising}
+use Rattle.link_server.specs.Packets.{here_in}
+use Rattle.link_server.proofs.TurnFacts.{numbered-rising}
 use Rattle.link_server.proofs.packets.Packets.occupant.Goals as goal
 
-pub returns-then-tick-self : goal.returns-then-tick-self
-returns-then-tick-self c =
-    later-served c.args.self.now.from c.args.tick (here_in c.args.self.now.here.items) (on_in c.args.self.now.on) c.args.self.now.later c.if-tick-self.true (off-free c.args.self.now.on (sym c.is_some.ensures ∙ c.if-is_some.false))
+pub start_next-requires-clause-room : goal.start_next-requires-clause-room
+start_next-requires-clause-room c =
+    let few = c.args.self.now.few in
+    let fits = c.args.self.now.fits in
+    let lines_up = c.args.self.now.lines_up in
+    omega (arith, few, fits, lines_up)
+
+pub start_next-requires-clause-rising : goal.start_next-requires-clause-rising
+start_next-requires-clause-rising c =
+    subst (λ packets. AreRising 0 (here_in packets)) (sym c.deref.ensures.value) (numbered-rising 0 (here_in c.args.self.now.here.items) c.args.self.now.taken c.args.self.now.numbered)

@@ -1,13 +1,38 @@
--- No packet is eligible before the earlier of the two ticks.
-use Rattle.std.proofs.Common.{ap, sym, subst, arith}
-use Rattle.link_server.specs.Later.{AreLater}
-use Rattle.link_server.specs.Packets.{here_in}
-use Rattle.link_server.proofs.LaterFacts.{later-pushed}
+-- The packet comes behind those here, and its rank is put in line.
+use Rattle.std.proofs.Common.{◌≡◌, ◌+◌, ◌++◌, ◌∷◌, [], length, refl, sym, ap, ◌∙◌, subst, arith}
+use Rattle.std.proofs.lemmas.List.{map_push, length-append}
+use Rattle.std.proofs.lemmas.List.Sorted.{length_permutation}
+use Rattle.link_server.specs.InLine.{AreIn}
+use Rattle.link_server.specs.Line.{ranks_in}
+use Rattle.link_server.specs.Packets.{arrival_in, here_in, on_in}
+use Rattle.link_server.specs.Sound.{AreNumbered}
+use Rattle.link_server.proofs.NextFacts.{ranks-pushed, own-rank}
+use Rattle.link_server.proofs.SoundPackets.{numbered-append}
 use Rattle.link_server.proofs.packets.Packets.push.Goals as goal
+
+pub push-requires : goal.push-requires
+push-requires c =
+    let few = c.args.self.now.few in
+    let room = c.args.self.now.lines_up in
+    record { room = omega (arith, few, room, c.requires.room) }
 
 pub invariant_of-self : goal.invariant_of-self
 invariant_of-self c =
+    let one : here_in c.push_reserved.new.self.items ≡ here_in c.args.self.now.here.items ++ arrival_in c.args.packet ∷ [] =
+    ap here_in c.push_reserved.ensures.items ∙ map_push arrival_in c.args.self.now.here.items c.args.packet in
+    let few = c.args.self.now.few in
+    let holds = c.args.self.now.holds in
+    let lines_up = c.args.self.now.lines_up in
+    let more = length_permutation _ (ranks_in c.push.new.self) c.push.ensures.ranks in
+    let longer = ap length c.push_reserved.ensures.items ∙ length-append c.args.self.now.here.items (c.args.packet ∷ []) in
     record {
-      later = subst (AreLater c.min-self.result) (ap here_in (sym c.push_reserved.ensures.items))
-          (later-pushed c.args.self.now.from c.min-self.result c.args.self.now.here.items c.args.packet c.args.self.now.later (omega (arith, c.min-self.ensures)) (omega (arith, c.min-self.ensures)));
+      numbered = subst (λ ps. AreNumbered 0 ps (c.args.self.now.taken + 1)) (sym one)
+          (numbered-append 0 c.args.self.now.taken (c.args.self.now.taken + 1) (here_in c.args.self.now.here.items) (arrival_in c.args.packet ∷ []) c.args.self.now.numbered
+          (omega (arith, c.requires.next), omega (arith, c.requires.next)));
+      ranked = subst (AreIn (ranks_in c.push.new.self) (on_in c.args.self.now.on)) (sym one)
+          (ranks-pushed (ranks_in c.args.self.now.line) (ranks_in c.push.new.self) _ (on_in c.args.self.now.on) (here_in c.args.self.now.here.items) (arrival_in c.args.packet) c.push.ensures.ranks c.args.self.now.ranked (own-rank (arrival_in c.args.packet)));
+      few = omega (arith, few, more, longer);
+      fits = omega (arith, longer, c.requires.room);
+      holds = omega (arith, holds, c.push_reserved.ensures.capacity);
+      lines_up = omega (arith, lines_up, c.push.ensures.room);
     }
