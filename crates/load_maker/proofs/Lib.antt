@@ -5,3 +5,4 @@ pub mod RouteFits
 pub mod ScriptFacts
 pub mod Growth
 pub mod MakeFacts
+pub mod TurnLaws

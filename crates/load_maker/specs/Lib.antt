@@ -1,3 +1,4 @@
 pub mod Draws
 pub mod Loads
 pub mod Made
+pub mod TurnRuns

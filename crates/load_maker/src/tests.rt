@@ -44,3 +44,22 @@ fn one_request(rt: HostRuntime) -> Result<(), Fail> {
     assert_eq!(rt; ops, [Op::Open(chan), sent].as_slice());
     Ok(())
 }
+
+// The caller opens a request over three links, which takes three reserves and three relaxes, and sends on it. Between two of its steps the plane makes
+// one, and nobody else has any. The plane ticks four links 5,000 times, and 12 packets go on to two further links each.
+#[test]
+fn turns_of_one_request(rt: HostRuntime) -> Result<(), Fail> {
+    let alloc = rt.alloc();
+    let plan = made(alloc, 1, 1)?;
+    let run = take_turns(alloc, &plan)?;
+    assert_eq!(rt; run.entries().len(), 20_031);
+    let mut turns = Vec::new(alloc);
+    for done in run.entries().iter().take(16) {
+        turns.push(done.actor.get())?;
+    }
+    assert_eq!(rt;
+        turns.as_slice(),
+        [0, 4, 0, 4, 0, 4, 0, 4, 0, 4, 0, 4, 0, 4, 4, 4].as_slice()
+    );
+    Ok(())
+}
