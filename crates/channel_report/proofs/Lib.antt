@@ -8,3 +8,4 @@ pub mod DelayFacts
 pub mod ChannelFacts
 pub mod LinkTallies
 pub mod EarlyTicks
+pub mod SummaryFacts

@@ -12,3 +12,4 @@ pub mod ChannelTallies
 pub mod Delays
 pub mod DelayTallies
 pub mod Channels
+pub mod Summary

@@ -18,6 +18,7 @@ pub mod report;
 mod request_lines;
 pub mod schedule;
 mod source_act;
+pub mod summary;
 mod table;
 mod telling;
 mod words;
@@ -25,6 +26,7 @@ mod words;
 pub use fault::ReportFault;
 pub use report::write_report;
 pub use schedule::write_schedule;
+pub use summary::write_summary;
 
 #[cfg(test)]
 mod tests;
