@@ -1,2 +1,3 @@
 pub mod PlayFacts
 pub mod AnswerFacts
+pub mod LoadFacts

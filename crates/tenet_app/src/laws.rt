@@ -1,8 +1,11 @@
-//! Laws of the word `play`, each as the contract of a function that does nothing.
+//! Laws of the words `play` and `make`, each as the contract of a function that does nothing.
+ghost use Rattle.tenet_app.specs.Making.{LoadsDetermine};
 ghost use Rattle.tenet_app.specs.Playing.{BytesDetermine};
 
 /// Where nothing fails, the bytes determine the answer: a status that `play` may give is due for what the bytes come to, or
-/// memory was wanted; and only one status and one text are due for them.
+/// memory was wanted; and only one status and one text are due for them. So it is for `make`, of which the number and the size
+/// determine the answer.
 pub fn without_a_fault_the_bytes_determine_the_answer()
-    ensures { BytesDetermine }
+    ensures plays { BytesDetermine }
+    ensures makes { LoadsDetermine }
 {}

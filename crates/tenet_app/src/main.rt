@@ -7,9 +7,11 @@ ghost use Rattle.std.specs.declared.io.ErrorKind.TheVariants.{OutOfMemory};
 ghost use Rattle.tenet_app.specs.declared.status.Status.TheVariants.{Memory, Words};
 
 pub mod laws;
+pub mod making;
 pub mod playing;
 pub mod status;
 pub mod top;
+mod words;
 
 use byte_ends::{StdSink, StdSource};
 use net_units::NoGate;
