@@ -22,6 +22,8 @@ use std::process::Abort;
 use std::test::Fail;
 use traffic_contract::{Contract, Test};
 
+mod summaries;
+
 fn name(text: &str) -> Result<Name, Fail> {
     Ok(Name::new(text.as_bytes()).ok_or("name")?)
 }
