@@ -1,11 +1,8 @@
 -- What is due for a load is one status and one text, and an answer without a fault is due for it.
-use Rattle.std.proofs.Common.{◌≡◌, ◌⊎◌, inl, inr, refl, ℕ, Bool, true, false, ◌&&◌, if◌then◌else◌, List, [], ◌∷◌, Option, Some, None, Result, Ok, Err, map, subst, sym, ◌∙◌, ap, reverse}
-use Rattle.std.proofs.lemmas.Bool.{cases_Bool}
+use Rattle.std.proofs.Common.{◌≡◌, ◌⊎◌, inl, inr, refl, ℕ, List, Option, Result, Ok, Err, subst, sym, ◌∙◌, ap, reverse}
 use Rattle.std.proofs.lemmas.List.{reverse-reverse}
 use Rattle.std.specs.Io.KnownBytes.{Appends}
-use Rattle.std.specs.Result.{result_ok}
 use Rattle.byte_ends.specs.Faults.{Rises}
-use Rattle.byte_ends.specs.Gathering.{WritesPart}
 use Rattle.call_script.specs.Parts.{PlanParts}
 use Rattle.call_script.specs.Tasks.{network_of}
 use Rattle.channel_report.specs.Summary.{summary_of}
@@ -17,10 +14,7 @@ use Rattle.load_maker.proofs.TurnLaws.{turns-one-run}
 use Rattle.load_maker.specs.Made.{made_parts}
 use Rattle.load_maker.specs.TurnRuns.{IsTurnsRun}
 use Rattle.run_record.specs.declared.done.Done.{Done}
-use Rattle.scenario_reader.specs.Causes.{Judges, or_else, unless}
-use Rattle.scenario_reader.specs.declared.cause.Cause.{Cause}
-use Rattle.tenet_app.specs.Making.{DueOfLoad, DueAs, MakesDone, FrontOfLoad, Makes, Summarizes, LoadsDetermine, make_words}
-use Rattle.tenet_app.specs.Playing.{play_words}
+use Rattle.tenet_app.specs.Making.{DueOfLoad, DueAs, Makes, Summarizes, LoadsDetermine}
 use Rattle.tenet_app.specs.declared.status.Status.{Status}
 use Rattle.tenet_app.specs.declared.status.Status.TheVariants as status
 
