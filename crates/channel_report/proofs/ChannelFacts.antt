@@ -1,11 +1,11 @@
 -- The line of an established channel, by what is kept of it.
-use Rattle.std.proofs.Common.{◌≡◌, ℕ, suc, ◌+◌, ◌^◌, ◌<◌, ◌≤◌, Bool, Option, Some, List, [], ◌∷◌, ◌++◌, length, get_or, take, reverse, refl, sym, ap, ◌∙◌, subst, arith}
+use Rattle.std.proofs.Common.{◌≡◌, ℕ, ◌<◌, ◌≤◌, Bool, Some, List, [], ◌∷◌, length, get_or, reverse, refl, sym, ap, ◌∙◌, arith}
 use Rattle.std.proofs.lemmas.List.{length-map, length-reverse}
 use Rattle.std.proofs.lemmas.Option.{slice_get_within}
 use Rattle.std.specs.Prelude.{filter, map}
 use Rattle.std.specs.List.{slice_get}
 use Rattle.traffic_contract.specs.Keeping.{keeps}
-use Rattle.net_units.specs.Numbers.{channel_number, link_number}
+use Rattle.net_units.specs.Numbers.{link_number}
 use Rattle.hop_reservation.specs.declared.route.Hop.{Hop}
 use Rattle.link_steps.specs.Lists.{Each}
 use Rattle.link_steps.specs.Scan.{clock_of}
@@ -16,17 +16,15 @@ use Rattle.call_script.specs.Parts.{PlanParts}
 use Rattle.call_script.specs.Plans.{IsPlan}
 use Rattle.call_script.specs.Tasks.{link_of}
 use Rattle.call_script.specs.declared.entries.RequestEntry.{RequestEntry}
-use Rattle.run_record.specs.Rows.{rows_of}
 use Rattle.run_record.specs.Runs.{part_of}
 use Rattle.run_record.specs.declared.done.Done.{Done}
 use Rattle.run_record.specs.declared.rows.HopRow.{HopRow}
-use Rattle.channel_report.specs.ChannelTallies.{Keeps, never}
+use Rattle.channel_report.specs.ChannelTallies.{never}
 use Rattle.channel_report.specs.Channels.{established_line, offered_by, sends_refused, told_channel}
 use Rattle.channel_report.specs.DelayTallies.{delay_tally_of}
 use Rattle.channel_report.specs.Delays.{delays_in}
 use Rattle.channel_report.specs.Findings.{AreFound}
 use Rattle.channel_report.specs.Sources.{first_link, is_made, planned_in, refused_in}
-use Rattle.channel_report.specs.Tallies.{AreLinkTallies}
 use Rattle.channel_report.specs.declared.channel_tally.ChannelTally.{ChannelTally}
 use Rattle.channel_report.specs.declared.delay_tally.DelayTally.{DelayTally}
 use Rattle.channel_report.specs.declared.findings.Findings.{Findings}

@@ -1,5 +1,5 @@
 -- What is kept of all sources behind one entry more of a run.
-use Rattle.std.proofs.Common.{◌≡◌, ◌≢◌, ℕ, suc, ◌+◌, ◌^◌, ◌<◌, ◌≤◌, true, false, Option, Some, None, List, [], ◌∷◌, ◌++◌, length, set, refl, sym, ap, ◌∙◌, subst, inl, inr, arith, length-set, zero-add}
+use Rattle.std.proofs.Common.{◌≡◌, ℕ, ◌+◌, ◌^◌, ◌<◌, ◌≤◌, Some, List, [], ◌∷◌, ◌++◌, length, set, refl, sym, ap, ◌∙◌, subst, inl, inr, arith, length-set, zero-add}
 use Rattle.std.proofs.lemmas.Bool.{cases_eq, eq-eqb, ne_eqb}
 use Rattle.std.proofs.lemmas.Option.{same_Some}
 use Rattle.std.specs.List.{slice_get}
@@ -11,11 +11,11 @@ use Rattle.link_steps.specs.Scan.{clock_of}
 use Rattle.call_script.specs.declared.entries.RequestEntry.{RequestEntry}
 use Rattle.interleave_core.proofs.Lookups.{get-set-same, get-set-other, get-push, held}
 use Rattle.interleave_core.proofs.RunLegal.{part-on, part-off}
-use Rattle.run_record.specs.Runs.{entry_of, part_of}
+use Rattle.run_record.specs.Runs.{part_of}
 use Rattle.run_record.specs.declared.done.Done.{Done}
 use Rattle.channel_report.proofs.LinkTallies.{part-short}
 use Rattle.channel_report.specs.ChannelTallies.{AreChannelTallies, Keeps}
-use Rattle.channel_report.specs.Sources.{act_of, chan_of, first_link, is_number, planned_after, planned_in, refused_by, refused_in}
+use Rattle.channel_report.specs.Sources.{act_of, chan_of, first_link, planned_after, planned_in, refused_by, refused_in}
 use Rattle.channel_report.specs.declared.channel_tally.ChannelTally.{ChannelTally}
 use Rattle.channel_report.specs.declared.source_act.Act.{Act}
 use Rattle.channel_report.specs.declared.source_act.Act.TheVariants.{Plans, Refuses, Cancels, Nothing}

@@ -1,10 +1,10 @@
 -- Each tick of a run is told early: its clock is at most the number of the entries before it.
-use Rattle.std.proofs.Common.{◌≡◌, ℕ, suc, ◌+◌, ◌^◌, ◌<◌, ◌≤◌, List, [], ◌∷◌, ◌++◌, length, reverse, refl, sym, ap, ◌∙◌, subst, arith}
+use Rattle.std.proofs.Common.{◌≡◌, ◌^◌, ◌<◌, List, [], ◌∷◌, ◌++◌, length, reverse, sym, ◌∙◌, subst, arith}
 use Rattle.std.proofs.lemmas.List.{length-reverse, reverse-append}
 use Rattle.net_units.specs.Numbers.{link_number}
 use Rattle.link_steps.specs.Lists.{Each}
-use Rattle.link_steps.specs.Replies.{reply_to, tick_reply}
-use Rattle.link_steps.specs.Scan.{clock_of, scan_of}
+use Rattle.link_steps.specs.Replies.{reply_to}
+use Rattle.link_steps.specs.Scan.{clock_of}
 use Rattle.link_steps.specs.Split.{Link}
 use Rattle.link_steps.specs.declared.asks.Ask.{Ask}
 use Rattle.link_steps.specs.declared.asks.Ask.TheVariants.{Reserve, Relax, Deny, Submit, Release, Arrive, Tick, Pour}
@@ -18,7 +18,7 @@ use Rattle.call_script.specs.Parts.{PlanParts}
 use Rattle.call_script.specs.Plans.{IsPlan}
 use Rattle.call_script.specs.Tasks.{network_of}
 use Rattle.interleave_core.specs.Answers.{IsAnswered, IsReserveReply, IsRelaxed}
-use Rattle.interleave_core.specs.Runs.{IsNext, IsRun}
+use Rattle.interleave_core.specs.Runs.{IsRun}
 use Rattle.interleave_core.proofs.Replying.{asks-answered}
 use Rattle.interleave_core.proofs.RunLegal.{tick-answer}
 use Rattle.run_record.specs.Rows.{IsEarly}

@@ -9,3 +9,4 @@ pub mod ChannelFacts
 pub mod LinkTallies
 pub mod EarlyTicks
 pub mod SummaryFacts
+pub mod PlainFields

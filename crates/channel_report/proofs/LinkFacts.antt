@@ -1,5 +1,5 @@
 -- The counts of a link behind one entry more, and how large they are.
-use Rattle.std.proofs.Common.{◌≡◌, ℕ, suc, ◌+◌, ◌*◌, ◌^◌, ◌<◌, ◌≤◌, Bool, true, false, Option, Some, None, List, [], ◌∷◌, length, refl, sym, ap, ◌∙◌, arith}
+use Rattle.std.proofs.Common.{◌≡◌, ℕ, ◌+◌, ◌^◌, ◌<◌, ◌≤◌, Bool, true, false, Some, None, List, [], ◌∷◌, length, refl, ap, ◌∙◌, arith}
 use Rattle.link_steps.specs.declared.asks.Ask.{Ask}
 use Rattle.link_steps.specs.declared.asks.Ask.TheVariants.{Reserve, Relax, Deny, Submit, Release, Arrive, Tick, Pour}
 use Rattle.link_steps.specs.declared.replies.Entry.{Entry}
@@ -7,8 +7,8 @@ use Rattle.link_steps.specs.declared.replies.Reply.{Reply}
 use Rattle.link_steps.specs.declared.replies.Reply.TheVariants as Is
 use Rattle.link_steps.specs.Scan.{clock_of, clock_with}
 use Rattle.link_steps.proofs.WindowFits.{clock_with-most}
-use Rattle.channel_report.specs.Links.{one_if, one_if_some, sent_by, dropped_by, best_sent_by, best_lost_by, pours_refused_by, total_in, sent_in, dropped_in, best_sent_in, best_lost_in, pours_refused_in}
-use Rattle.channel_report.specs.Tallies.{link_tally_of, IsTally}
+use Rattle.channel_report.specs.Links.{one_if, sent_by, dropped_by, best_sent_by, best_lost_by, pours_refused_by, total_in}
+use Rattle.channel_report.specs.Tallies.{IsTally}
 use Rattle.channel_report.specs.declared.link_tally.LinkTally.{LinkTally}
 
 pub clock-most : (h : List Entry) → clock_of h ≤ length h

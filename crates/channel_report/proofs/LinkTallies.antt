@@ -1,21 +1,18 @@
 -- The counts of all links behind one entry more of a run.
-use Rattle.std.proofs.Common.{◌≡◌, ℕ, suc, ◌+◌, ◌*◌, ◌^◌, ◌<◌, ◌≤◌, true, false, Some, List, [], ◌∷◌, length, get_or, set, take, reverse, refl, sym, ap, ◌∙◌, subst, inl, inr, arith, get_or-set_same, get_or-set_other, length-set, length-take}
-use Rattle.std.proofs.lemmas.Bool.{cases_Bool, cases_eq, eqb-true}
+use Rattle.std.proofs.Common.{◌≡◌, ℕ, ◌<◌, ◌≤◌, List, [], ◌∷◌, length, get_or, set, take, reverse, refl, sym, ◌∙◌, inl, inr, arith, get_or-set_same, get_or-set_other, length-set, length-take}
+use Rattle.std.proofs.lemmas.Bool.{cases_Bool, cases_eq}
 use Rattle.std.proofs.lemmas.List.{length-map, length-reverse}
 use Rattle.std.proofs.lemmas.Option.{slice_get_within}
-use Rattle.std.specs.List.{slice_get}
 use Rattle.net_units.specs.Numbers.{link_number}
-use Rattle.link_steps.specs.declared.replies.Entry.{Entry}
 use Rattle.link_steps.specs.Scan.{clock_of}
 use Rattle.call_script.specs.Parts.{PlanParts}
 use Rattle.call_script.specs.Tasks.{link_of, network_of}
-use Rattle.interleave_core.specs.Runs.{IsNext, IsRun}
-use Rattle.interleave_core.proofs.RunFronts.{front-more, front-next}
+use Rattle.interleave_core.specs.Runs.{IsNext}
 use Rattle.interleave_core.proofs.RunLegal.{part-on, part-off}
 use Rattle.run_record.specs.Runs.{entry_of, is_on, part_of}
 use Rattle.run_record.specs.declared.done.Done.{Done}
 use Rattle.channel_report.specs.Links.{total_in}
-use Rattle.channel_report.specs.Tallies.{AreLinkTallies, IsTally, link_tally_of}
+use Rattle.channel_report.specs.Tallies.{AreLinkTallies, IsTally}
 use Rattle.channel_report.specs.declared.link_tally.LinkTally.{LinkTally}
 
 pub part-short : (n : ℕ) (run : List Done) → length (part_of n run) ≤ length run

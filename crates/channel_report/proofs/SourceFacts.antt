@@ -1,12 +1,12 @@
 -- What is kept of a source behind what an entry does for it.
-use Rattle.std.proofs.Common.{◌≡◌, ℕ, ◌+◌, ◌≤◌, true, List, ◌++◌, refl, sym, ◌∙◌, ap, arith}
+use Rattle.std.proofs.Common.{◌≡◌, ℕ, ◌+◌, List, ◌++◌, sym, ◌∙◌, ap, arith}
 use Rattle.std.specs.Prelude.{filter}
 use Rattle.std.proofs.lemmas.Bool.{eq-eqb}
 use Rattle.std.proofs.lemmas.List.Elements.{filter-append}
 use Rattle.net_units.specs.Numbers.{channel_number}
 use Rattle.net_units.specs.declared.numbers.ChanNo.{ChanNo}
 use Rattle.channel_report.specs.ChannelTallies.{Keeps, never}
-use Rattle.channel_report.specs.Sources.{is_made, is_number, planned_after, refused_by, ticks_from}
+use Rattle.channel_report.specs.Sources.{is_made, planned_after, refused_by, ticks_from}
 use Rattle.channel_report.specs.declared.channel_tally.ChannelTally.{ChannelTally}
 use Rattle.channel_report.specs.declared.source_act.Act.TheVariants.{Plans, Refuses, Cancels}
 use Rattle.channel_report.proofs.TickFacts.{made-both}

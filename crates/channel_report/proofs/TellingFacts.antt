@@ -1,6 +1,6 @@
 -- The text of a list is told item by item. What was told before a fault is a front of it.
 use Rattle.std.proofs.Common.{◌≡◌, ℕ, ◌+◌, ◌<◌, ◌≤◌, Option, Result, Ok, Err, List, [], ◌∷◌, ◌++◌, length, get_or, take, drop, refl, sym, ap, ◌∙◌, subst, append_assoc, append-nil, arith}
-use Rattle.std.proofs.lemmas.List.{drop_more, take_more, take_all, take-append-drop}
+use Rattle.std.proofs.lemmas.List.{take_more, take_all, take-append-drop}
 use Rattle.std.specs.List.{flat_map}
 use Rattle.byte_ends.specs.Gathering.{Gathers, WritesPart}
 use Rattle.std.proofs.KnownBytes.{Appends-nil}
@@ -66,6 +66,10 @@ failed (Err fault) why a b gathered gathered' f f' text is part rises = (part, s
 pub nothing-told : (result : Result (Unit {0}) ReportFault) (a : Option (List ℕ)) (gathered : List ℕ) (f : ℕ) (text : List ℕ) → IsErrAnd result (λ fault. fault ≡ Memory) → Tells result a a gathered gathered f f text
 nothing-told result a gathered f text is =
     failed result Memory a a gathered gathered f f text is (part-of-longer a a gathered text (record { front = []; rest = gathered; appends = Appends-nil a; joined = refl })) (omega arith)
+
+-- the same where a call wanted it
+pub nothing-told-for : (result : Result (Unit {0}) ReportFault) (why : ReportFault) (a : Option (List ℕ)) (gathered : List ℕ) (f : ℕ) (text : List ℕ) → IsErrAnd result (λ fault. fault ≡ why) → why ≡ Memory → Tells result a a gathered gathered f f text
+nothing-told-for result why a gathered f text is memory = nothing-told result a gathered f text (subst (λ (w : ReportFault). IsErrAnd result (λ fault. fault ≡ w)) memory is)
 
 -- a fault at an item
 pub item-failed : {X : Type 0} (line : X → List ℕ) (xs : List X) (i : ℕ) (x : X) (text : List ℕ) (a b c : Option (List ℕ)) (gathered gathered' gathered'' : List ℕ) (f f' f'' : ℕ) (result : Result (Unit {0}) ReportFault) (why : ReportFault)

@@ -2,7 +2,6 @@
 -- those that were cancelled, and how many sends were refused there. A tick that no clock of a run reaches isn't kept.
 use Rattle.std.specs.Prelude.{◌≡◌, ℕ, ◌^◌, Some, List, length, filter}
 use Rattle.std.specs.List.{slice_get}
-use Rattle.link_steps.specs.declared.replies.Entry.{Entry}
 use Rattle.call_script.specs.declared.entries.RequestEntry.{RequestEntry}
 use Rattle.run_record.specs.Runs.{part_of}
 use Rattle.run_record.specs.declared.done.Done.{Done}

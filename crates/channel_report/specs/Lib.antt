@@ -13,3 +13,4 @@ pub mod Delays
 pub mod DelayTallies
 pub mod Channels
 pub mod Summary
+pub mod Csv

@@ -25,18 +25,21 @@ abbrev pub name_of_link : Option LinkEntry → List ℕ
 name_of_link None = []
 name_of_link (Some entry) = entry.name
 
--- NAME,NUMBER,HOP,LINK,SIZE,AT,ELIGIBLE,DEPARTED
-abbrev pub told_row : PlanParts → HopRow → List ℕ
-told_row parts row = row_line (
-    name_of_request (slice_get parts.requests (channel_number row.chan))
+-- NAME,NUMBER,HOP,LINK,SIZE,AT,ELIGIBLE,DEPARTED, of a channel and a link of these names
+abbrev pub fields_of_row : List ℕ → List ℕ → HopRow → List (List ℕ)
+fields_of_row channel link row =
+    channel
     ∷ decimal row.number
     ∷ decimal row.hop
-    ∷ name_of_link (slice_get parts.links (link_number row.link))
+    ∷ link
     ∷ decimal row.size
     ∷ decimal row.at
     ∷ decimal row.eligible
     ∷ decimal row.departed
-    ∷ [])
+    ∷ []
+
+abbrev pub told_row : PlanParts → HopRow → List ℕ
+told_row parts row = row_line (fields_of_row (name_of_request (slice_get parts.requests (channel_number row.chan))) (name_of_link (slice_get parts.links (link_number row.link))) row)
 
 abbrev pub table_of : PlanParts → List HopRow → List ℕ
 table_of parts rows = header ++ flat_map (told_row parts) rows

@@ -1,7 +1,6 @@
 -- What is kept of a run while its entries are counted: for each link the counts of its history, and for each channel what its source
 -- has planned at its first link, without what was cancelled, and how many sends were refused there.
 use Rattle.std.specs.Prelude.{◌≡◌, ℕ, ◌*◌, ◌<◌, ◌≤◌, List, length, slice_index_or}
-use Rattle.net_units.specs.Numbers.{link_number}
 use Rattle.link_steps.specs.Scan.{clock_of}
 use Rattle.link_steps.specs.declared.replies.Entry.{Entry}
 use Rattle.run_record.specs.Runs.{part_of}

@@ -1,17 +1,19 @@
 //! The table of a run's packets.
-ghost use Rattle.std.specs.Prelude.{◌≡◌, ◌++◌, ◌<◌, List, Some, OnOk, length, string_bytes};
+ghost use Rattle.std.specs.Prelude.{◌≡◌};
 ghost use Rattle.std.specs.List.{flat_map, slice_get};
 ghost use Rattle.net_units.specs.Numbers.{channel_number, link_number};
+ghost use Rattle.channel_report.specs.Csv.{IsPlain};
 ghost use Rattle.channel_report.specs.Table.{header, name_of_link, name_of_request, table_of, told_row};
 ghost use Rattle.channel_report.specs.Telling.{Tells};
 
+use crate::csv_rows::{header_text, row_text};
 use crate::fault::ReportFault;
 use crate::telling::tell;
 use byte_ends::{Gather, Sink};
 use call_script::Plan;
 use net_units::{ChanNo, LinkNo};
 use run_record::HopRow;
-use std::alloc::{AllocError, Global};
+use std::alloc::Global;
 
 // Tells the header, and a line for each row.
 pub(crate) fn tell_table<K: Sink>(
@@ -23,12 +25,16 @@ pub(crate) fn tell_table<K: Sink>(
 ) -> Result<(), ReportFault>
     ensures { Tells result (K.written sink.old) (K.written sink.new) gather.old gather.new (K.faults sink.old) (K.faults sink.new) (table_of plan.now rows.now) }
 {
-    tell(
-        gather,
-        sink,
-        b"channel,packet,hop,link,size,at,eligible,departed\n",
-    )?;
+    tell_header(alloc, gather, sink)?;
     tell_rows(alloc, plan, rows, gather, sink)
+}
+
+// Tells the header.
+fn tell_header<K: Sink>(alloc: Global, gather: &mut Gather, sink: &mut K) -> Result<(), ReportFault>
+    ensures { Tells result (K.written sink.old) (K.written sink.new) gather.old gather.new (K.faults sink.old) (K.faults sink.new) header }
+{
+    let line = header_text(alloc)?;
+    tell(gather, sink, line.as_slice())
 }
 
 // Tells a line for each row.
@@ -57,53 +63,32 @@ fn tell_row<K: Sink>(
 ) -> Result<(), ReportFault>
     ensures { Tells result (K.written sink.old) (K.written sink.new) gather.old gather.new (K.faults sink.old) (K.faults sink.new) (told_row plan.now row.now) }
 {
-    let mut line = String::new(alloc);
-    push_row(&mut line, plan, row)?;
-    tell(gather, sink, line.as_bytes())
-}
-
-// The line of a row.
-fn push_row(text: &mut String, plan: &Plan, row: &HopRow) -> Result<(), AllocError>
-    ensures { OnOk result (string_bytes text.new ≡ string_bytes text.old ++ told_row plan.now row.now) }
-{
-    let HopRow {
-        chan,
-        number,
-        hop,
-        link,
-        size,
-        at,
-        eligible,
-        departed,
-    } = *row;
-    push_request(text, plan, chan)?;
-    write!(text, ",{number},{hop},")?;
-    push_link(text, plan, link)?;
-    writeln!(text, ",{size},{at},{eligible},{departed}")
+    let channel = request_name(plan, row.chan);
+    let link = link_name(plan, row.link);
+    let line = row_text(alloc, channel, link, row)?;
+    tell(gather, sink, line.as_slice())
 }
 
 // The name of a channel's request.
-fn push_request(text: &mut String, plan: &Plan, chan: ChanNo) -> Result<(), AllocError>
-    ensures { OnOk result (string_bytes text.new ≡ string_bytes text.old ++ name_of_request (slice_get plan.now.requests (channel_number chan))) }
+#[tactic(auto, using(crate::proofs::PlainFields::plain_names))]
+fn request_name(plan: &Plan, chan: ChanNo) -> &[u8]
+    ensures value { result.now ≡ name_of_request (slice_get plan.now.requests (channel_number chan)) }
+    ensures plain { IsPlain result.now }
 {
     match plan.requests().get(chan.get() as usize) {
-        Some(entry) => {
-            let name = entry.name;
-            write!(text, "{name}")
-        }
-        None => Ok(()),
+        Some(entry) => entry.name.as_bytes(),
+        None => &[],
     }
 }
 
 // The name of a link.
-fn push_link(text: &mut String, plan: &Plan, link: LinkNo) -> Result<(), AllocError>
-    ensures { OnOk result (string_bytes text.new ≡ string_bytes text.old ++ name_of_link (slice_get plan.now.links (link_number link))) }
+#[tactic(auto, using(crate::proofs::PlainFields::plain_names))]
+fn link_name(plan: &Plan, link: LinkNo) -> &[u8]
+    ensures value { result.now ≡ name_of_link (slice_get plan.now.links (link_number link)) }
+    ensures plain { IsPlain result.now }
 {
     match plan.links().get(usize::from(link.get())) {
-        Some(entry) => {
-            let name = entry.name;
-            write!(text, "{name}")
-        }
-        None => Ok(()),
+        Some(entry) => entry.name.as_bytes(),
+        None => &[],
     }
 }

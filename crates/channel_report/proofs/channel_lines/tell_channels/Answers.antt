@@ -1,4 +1,4 @@
-use Rattle.std.proofs.Common.{◌≡◌, ◌<◌, length, get_or, reverse, refl, sym, ◌∙◌, arith}
+use Rattle.std.proofs.Common.{◌<◌, length, reverse, refl, arith}
 use Rattle.interleave_core.proofs.Lookups.{held}
 use Rattle.run_record.specs.Rows.{rows_of}
 use Rattle.channel_report.specs.Channels.{channel_line}

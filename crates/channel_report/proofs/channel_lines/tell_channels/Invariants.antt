@@ -1,4 +1,4 @@
-use Rattle.std.proofs.Common.{◌≤◌, List, length, reverse, take}
+use Rattle.std.proofs.Common.{◌≤◌, List, reverse, take}
 use Rattle.std.specs.List.{flat_map}
 use Rattle.byte_ends.specs.Gathering.{Gathers}
 use Rattle.run_record.specs.Rows.{rows_of}

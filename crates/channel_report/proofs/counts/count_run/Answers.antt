@@ -1,10 +1,9 @@
-use Rattle.std.proofs.Common.{◌≡◌, ◌<◌, ◌≤◌, ◌+◌, ◌^◌, ◌∷◌, List, length, get_or, take, reverse, replicate, sym, ap, subst, ◌∙◌, set, arith}
+use Rattle.std.proofs.Common.{◌≡◌, ◌<◌, ◌^◌, length, get_or, take, reverse, replicate, sym, ap, subst, ◌∙◌, set, arith}
 use Rattle.std.proofs.lemmas.List.{get_or-replicate, length-replicate}
 use Rattle.net_units.specs.Numbers.{link_number}
 use Rattle.call_script.specs.Tasks.{network_of}
 use Rattle.interleave_core.proofs.RunFronts.{front-more, front-next}
 use Rattle.run_record.specs.Runs.{part_of}
-use Rattle.run_record.specs.declared.done.Done.{Done}
 use Rattle.link_steps.specs.Scan.{clock_of}
 use Rattle.channel_report.specs.ChannelTallies.{AreChannelTallies}
 use Rattle.channel_report.specs.Tallies.{AreLinkTallies, IsTally}

@@ -1,5 +1,4 @@
-use Rattle.std.proofs.Common.{◌≡◌, ◌<◌, length, refl, sym, ap, ◌∙◌, arith}
-use Rattle.interleave_core.proofs.Lookups.{found-at}
+use Rattle.std.proofs.Common.{◌<◌, length, ap, ◌∙◌, arith}
 use Rattle.channel_report.specs.Sources.{chan_of}
 use Rattle.channel_report.proofs.ChannelTallies.{sources-more, sources-same, tally-few}
 use Rattle.channel_report.proofs.LineFacts.{found-item, on-ok}

@@ -1,6 +1,5 @@
-use Rattle.std.proofs.Common.{sym, ap, ◌∙◌, length, arith}
-use Rattle.std.proofs.lemmas.List.{length-append}
-use Rattle.channel_report.proofs.ChannelTallies.{fresh-sources, fresh-more}
+use Rattle.std.proofs.Common.{arith}
+use Rattle.channel_report.proofs.ChannelTallies.{fresh-sources}
 use Rattle.channel_report.proofs.counts.new_tallies.Goals as goal
 
 pub returns : goal.returns

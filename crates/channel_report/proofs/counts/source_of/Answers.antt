@@ -1,8 +1,7 @@
-use Rattle.std.proofs.Common.{◌≡◌, Some, refl, sym, ap, ◌∙◌, arith}
+use Rattle.std.proofs.Common.{◌≡◌, refl, sym, ap, ◌∙◌}
 use Rattle.std.proofs.lemmas.Option.{same_Some}
 use Rattle.std.specs.List.{slice_get}
-use Rattle.net_units.specs.Numbers.{channel_number, link_number}
-use Rattle.net_units.specs.declared.numbers.ChanNo.{ChanNo}
+use Rattle.net_units.specs.Numbers.{channel_number}
 use Rattle.call_script.specs.declared.entries.RequestEntry.{RequestEntry}
 use Rattle.interleave_core.proofs.Lookups.{found-at}
 use Rattle.channel_report.specs.Sources.{first_link}

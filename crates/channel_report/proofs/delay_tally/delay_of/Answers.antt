@@ -1,4 +1,4 @@
-use Rattle.std.proofs.Common.{◌≡◌, refl, sym, ap, ◌∙◌, [], ◌∷◌}
+use Rattle.std.proofs.Common.{sym, ◌∙◌, [], ◌∷◌}
 use Rattle.net_units.specs.Numbers.{channel_number}
 use Rattle.interleave_core.proofs.Lookups.{found-at}
 use Rattle.channel_report.proofs.DelayFacts.{by-place, if-none, if-some}

@@ -1,5 +1,4 @@
-use Rattle.std.proofs.Common.{◌≡◌, ◌<◌, length, sym, ap, ◌∙◌, arith}
-use Rattle.net_units.specs.Numbers.{channel_number}
+use Rattle.std.proofs.Common.{◌<◌, length, sym, ap, ◌∙◌, arith}
 use Rattle.channel_report.specs.Delays.{delay_by}
 use Rattle.channel_report.proofs.DelayFacts.{delays-more, delays-same, tally-few}
 use Rattle.channel_report.proofs.LineFacts.{found-item}

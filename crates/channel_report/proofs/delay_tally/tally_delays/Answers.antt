@@ -1,8 +1,7 @@
-use Rattle.std.proofs.Common.{◌≡◌, ◌<◌, ◌+◌, ◌^◌, ◌∷◌, [], ◌++◌, None, Some, length, get_or, take, reverse, replicate, refl, sym, ap, subst, ◌∙◌, arith}
-use Rattle.std.proofs.lemmas.List.{take_more, reverse-append, length-reverse, length-replicate}
+use Rattle.std.proofs.Common.{length, take, reverse, refl, sym, ap, subst, ◌∙◌}
+use Rattle.std.proofs.lemmas.List.{length-replicate}
 use Rattle.channel_report.specs.DelayTallies.{AreDelayTallies}
 use Rattle.channel_report.specs.Delays.{first_in, nearer}
-use Rattle.channel_report.specs.declared.delay_tally.DelayTally.{DelayTally}
 use Rattle.channel_report.proofs.DelayFacts.{none-delivered, bare-item, front-more, first-more, front-few}
 use Rattle.channel_report.proofs.delay_tally.tally_delays.Goals as goal
 

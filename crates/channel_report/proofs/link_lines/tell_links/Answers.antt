@@ -1,9 +1,9 @@
-use Rattle.std.proofs.Common.{◌≡◌, ◌<◌, length, get_or, sym, ◌∙◌, arith}
+use Rattle.std.proofs.Common.{◌≡◌, ◌<◌, length, get_or, arith}
 use Rattle.run_record.specs.Runs.{part_of}
 use Rattle.channel_report.specs.Links.{link_line, told_link}
 use Rattle.channel_report.proofs.LineFacts.{found-item, line-at}
 use Rattle.channel_report.proofs.LinkTallies.{nothing}
-use Rattle.channel_report.proofs.TellingFacts.{item-failed, item-told, told-all}
+use Rattle.channel_report.proofs.TellingFacts.{item-failed, item-told}
 use Rattle.channel_report.proofs.link_lines.tell_links.Goals as goal
 
 pub returns-in_err-tell_link : goal.returns-in_err-tell_link

@@ -1,4 +1,4 @@
-use Rattle.std.proofs.Common.{◌≡◌, length, ap, sym, ◌∙◌}
+use Rattle.std.proofs.Common.{length}
 use Rattle.run_record.specs.Rows.{rows_of}
 use Rattle.channel_report.specs.Report.{end_line, table_if}
 use Rattle.channel_report.specs.Table.{table_of}

@@ -1,4 +1,4 @@
-use Rattle.std.proofs.Common.{◌≡◌, ◌<◌, length, get_or, ap, sym, ◌∙◌, arith}
+use Rattle.std.proofs.Common.{◌≡◌, ◌<◌, length, get_or, ap, arith}
 use Rattle.std.specs.Prelude.{option_map}
 use Rattle.setup_protocol.specs.State.{outcome_of}
 use Rattle.channel_report.specs.Verdicts.{request_line, verdict_line}

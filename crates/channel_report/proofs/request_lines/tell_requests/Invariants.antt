@@ -1,4 +1,4 @@
-use Rattle.std.proofs.Common.{◌≤◌, List, length, take}
+use Rattle.std.proofs.Common.{◌≤◌, List, take}
 use Rattle.std.specs.List.{flat_map}
 use Rattle.byte_ends.specs.Gathering.{Gathers}
 use Rattle.call_script.specs.Tasks.{network_of}

@@ -1,4 +1,4 @@
-use Rattle.std.proofs.Common.{◌≡◌, ◌+◌, ap, sym, ◌∙◌, arith}
+use Rattle.std.proofs.Common.{◌+◌, ap, ◌∙◌, arith}
 use Rattle.channel_report.proofs.LinkFacts.{are-small, tally-more}
 use Rattle.channel_report.proofs.link_tally.LinkTally.add.Goals as goal
 
