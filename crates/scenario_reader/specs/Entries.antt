@@ -4,6 +4,7 @@ use Rattle.std.specs.Prelude.{◌≡◌, ℕ, min, refl, Bool, true, nat_le, ◌
 use Rattle.std.proofs.Common.{lit<}
 use Rattle.std.proofs.Math.Nat.{min-le_left, lt_of_le_of_lt}
 use Rattle.std.proofs.lemmas.Bool.{and_parts, leb-true}
+use Rattle.net_units.specs.Limits.{most_bound}
 use Rattle.net_units.specs.Quotient.{ceil_quotient}
 use Rattle.net_units.specs.LevelBounds.{are_bounds, bound_at}
 use Rattle.net_units.specs.declared.numbers.ActorNo.{ActorNo}
@@ -14,6 +15,7 @@ use Rattle.hop_reservation.specs.declared.route.Hop.{Hop}
 use Rattle.link_steps.specs.Shape.{is_within}
 use Rattle.link_steps.specs.declared.shape.LinkShape.{LinkShape}
 use Rattle.call_script.specs.declared.entries.LinkEntry.{LinkEntry}
+use Rattle.scenario_reader.specs.Limits.{most_rate, most_cap, most_buffer, most_best}
 
 -- the link of this number, for a number below 32
 abbrev pub link_at : ℕ → LinkNo
@@ -38,11 +40,11 @@ pub record LinkNumbers : Type 0 where
 
 -- whether the rate and the cap are within their limits
 abbrev pub has_rate : LinkNumbers → Bool
-has_rate numbers = is_within 1 65536 numbers.rate && is_within 1 65536 numbers.cap
+has_rate numbers = is_within 1 most_rate numbers.rate && is_within 1 most_cap numbers.cap
 
 -- and so are the propagation, the buffer and the best-effort packets that may wait
 abbrev pub has_room : LinkNumbers → Bool
-has_room numbers = nat_le numbers.prop 1048576 && nat_le numbers.buffer 262144 && nat_le numbers.best 1024
+has_room numbers = nat_le numbers.prop most_bound && nat_le numbers.buffer most_buffer && nat_le numbers.best most_best
 
 -- the bounds rise, and a packet of the largest size fits into the first of them
 abbrev pub has_bounds : LinkNumbers → Bool
@@ -51,11 +53,11 @@ has_bounds numbers = are_bounds numbers.bounds && nat_le (ceil_quotient numbers.
 -- the shape of a link whose numbers are so
 abbrev pub shape_with : LinkNo → Test → (numbers : LinkNumbers) → has_rate numbers ≡ true → has_room numbers ≡ true → has_bounds numbers ≡ true → LinkShape
 shape_with link test numbers rates rooms bounds =
-    let both = and_parts (is_within 1 65536 numbers.rate) (is_within 1 65536 numbers.cap) rates in
-    let rate = and_parts (nat_le 1 numbers.rate) (nat_le numbers.rate 65536) both.0 in
-    let cap = and_parts (nat_le 1 numbers.cap) (nat_le numbers.cap 65536) both.1 in
-    let most = and_parts (nat_le numbers.prop 1048576 && nat_le numbers.buffer 262144) (nat_le numbers.best 1024) rooms in
-    let room = and_parts (nat_le numbers.prop 1048576) (nat_le numbers.buffer 262144) most.0 in
+    let both = and_parts (is_within 1 most_rate numbers.rate) (is_within 1 most_cap numbers.cap) rates in
+    let rate = and_parts (nat_le 1 numbers.rate) (nat_le numbers.rate most_rate) both.0 in
+    let cap = and_parts (nat_le 1 numbers.cap) (nat_le numbers.cap most_cap) both.1 in
+    let most = and_parts (nat_le numbers.prop most_bound && nat_le numbers.buffer most_buffer) (nat_le numbers.best most_best) rooms in
+    let room = and_parts (nat_le numbers.prop most_bound) (nat_le numbers.buffer most_buffer) most.0 in
     let rising = and_parts (are_bounds numbers.bounds) (nat_le (ceil_quotient numbers.cap numbers.rate) (bound_at numbers.bounds 1)) bounds in
     record {
       link = link;
@@ -67,12 +69,12 @@ shape_with link test numbers rates rooms bounds =
       test = test;
       best = numbers.best;
       rate_least = leb-true 1 numbers.rate rate.0;
-      rate_most = leb-true numbers.rate 65536 rate.1;
+      rate_most = leb-true numbers.rate most_rate rate.1;
       cap_least = leb-true 1 numbers.cap cap.0;
-      cap_most = leb-true numbers.cap 65536 cap.1;
-      prop_most = leb-true numbers.prop 1048576 room.0;
-      buffer_most = leb-true numbers.buffer 262144 room.1;
-      best_most = leb-true numbers.best 1024 most.1;
+      cap_most = leb-true numbers.cap most_cap cap.1;
+      prop_most = leb-true numbers.prop most_bound room.0;
+      buffer_most = leb-true numbers.buffer most_buffer room.1;
+      best_most = leb-true numbers.best most_best most.1;
       bounds_rise = rising.0;
       blocking_fits = leb-true (ceil_quotient numbers.cap numbers.rate) (bound_at numbers.bounds 1) rising.1;
     }

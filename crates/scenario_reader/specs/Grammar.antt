@@ -22,6 +22,7 @@ use Rattle.scenario_reader.specs.Drafts.{Said, rounds_of, link_named, caller_nam
 use Rattle.scenario_reader.specs.Entries.{actor_at}
 use Rattle.scenario_reader.specs.Fields.{fields_of, are_fields, field_at}
 use Rattle.scenario_reader.specs.Forms.{is_word, has_form, new_name_rule, used_name_rule, number_rule}
+use Rattle.scenario_reader.specs.Limits.{most_steps}
 use Rattle.scenario_reader.specs.LinkLine.{link_rule, link_said}
 use Rattle.scenario_reader.specs.OpenLine.{open_rule, request_said}
 use Rattle.scenario_reader.specs.declared.cause.Cause.{Cause}
@@ -198,7 +199,7 @@ abbrev pub do_rule : Said → List (List ℕ) → Rule
 do_rule said fields = first_cause (
     unless (has_form do_form fields) cause.Shape
     ∷ actor_rule said (field_at fields 1)
-    ∷ number_rule 1 1048576 (field_at fields 2)
+    ∷ number_rule 1 most_steps (field_at fields 2)
     ∷ [])
 
 -- the steps of an actor on the line of this number

@@ -17,6 +17,7 @@ use Rattle.call_script.specs.declared.operations.Op.TheVariants as op
 use Rattle.call_script.specs.declared.schedule.Do.{Do}
 use Rattle.call_script.specs.declared.schedule.Schedule.{Schedule}
 use Rattle.scenario_reader.specs.Drafts.{Said, nothing_said, rounds_of, parts_said, schedule_said, last_caller, is_closed}
+use Rattle.scenario_reader.specs.Limits.{most_steps}
 use Rattle.scenario_reader.specs.declared.item.Item.{Item}
 use Rattle.scenario_reader.specs.declared.item.Item.TheVariants as item
 
@@ -24,7 +25,7 @@ use Rattle.scenario_reader.specs.declared.item.Item.TheVariants as item
 pub record IsDo (callers : List CallerEntry) (what : Do) : Type 0 where
   pub actor : actor_number what.actor ≤ length callers
   pub least : 1 ≤ what.count
-  pub most : what.count ≤ 1048576
+  pub most : what.count ≤ most_steps
 
 -- a schedule of these callers and the plane; one that isn't written has no items
 pub record IsScheduleOf (callers : List CallerEntry) (schedule : Schedule) : Type 0 where

@@ -1,8 +1,10 @@
 -- The fields of a link line as the code holds them, each of which passes.
 use Rattle.std.specs.Prelude.{ℕ, ◌≤◌, List}
+use Rattle.net_units.specs.Limits.{most_bound}
 use Rattle.scenario_reader.specs.Decimal.{value_of}
 use Rattle.scenario_reader.specs.Entries.{LinkNumbers}
 use Rattle.scenario_reader.specs.Fields.{field_at}
+use Rattle.scenario_reader.specs.Limits.{most_rate, most_cap, most_buffer}
 use Rattle.scenario_reader.specs.LinkLine.{best_in, bound_fields, bounds_of}
 use Rattle.scenario_reader.specs.declared.link_line.Figures.{Figures}
 use Rattle.scenario_reader.specs.declared.link_line.LinkFields.{LinkFields}
@@ -11,11 +13,11 @@ use Rattle.std.specs.Prelude.{map}
 -- the numbers in their ranges
 pub record AreFigures (figures : Figures) : Type 0 where
   pub rate_least : 1 ≤ figures.rate
-  pub rate_most : figures.rate ≤ 65536
+  pub rate_most : figures.rate ≤ most_rate
   pub cap_least : 1 ≤ figures.cap
-  pub cap_most : figures.cap ≤ 65536
-  pub prop_most : figures.prop ≤ 1048576
-  pub buffer_most : figures.buffer ≤ 262144
+  pub cap_most : figures.cap ≤ most_cap
+  pub prop_most : figures.prop ≤ most_bound
+  pub buffer_most : figures.buffer ≤ most_buffer
 
 -- the figures of a line
 abbrev pub figures_in : List (List ℕ) → Figures

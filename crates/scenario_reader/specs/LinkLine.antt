@@ -1,6 +1,7 @@
 -- The line of a link: link NAME NODE NODE rate R cap C prop P buffer U levels D1 .. Dn. From version three on the fields
 -- best K may stand before `levels`.
 use Rattle.std.specs.Prelude.{ℕ, ◌&&◌, ◌||◌, Bool, nat_lt, if◌then◌else◌, Option, Some, None, List, [], ◌∷◌, length, map, drop, option_map}
+use Rattle.net_units.specs.Limits.{most_bound}
 use Rattle.net_units.specs.LevelBounds.{are_bounds}
 use Rattle.call_script.specs.Limits.{most_links}
 use Rattle.call_script.specs.Rules.{link_names}
@@ -14,6 +15,7 @@ use Rattle.scenario_reader.specs.Drafts.{Said}
 use Rattle.scenario_reader.specs.Entries.{LinkNumbers, link_at, has_bounds, shape_of}
 use Rattle.scenario_reader.specs.Fields.{field_at}
 use Rattle.scenario_reader.specs.Forms.{is_word, has_form, name_rule, new_name_rule, number_rule}
+use Rattle.scenario_reader.specs.Limits.{most_rate, most_cap, most_buffer, most_best}
 use Rattle.scenario_reader.specs.declared.cause.Cause.TheVariants as cause
 use Rattle.scenario_reader.specs.declared.form.Keyword.TheVariants as word
 use Rattle.scenario_reader.specs.declared.form.Part.{Part}
@@ -68,19 +70,19 @@ link_numbers fields = record {
 -- each of them in its range, from left to right: the rate, the cap, the propagation and the buffer
 abbrev pub link_numbers_rule : List (List ℕ) → Rule
 link_numbers_rule fields = first_cause (
-    number_rule 1 65536 (field_at fields 5)
-    ∷ number_rule 1 65536 (field_at fields 7)
-    ∷ number_rule 0 1048576 (field_at fields 9)
-    ∷ number_rule 0 262144 (field_at fields 11)
+    number_rule 1 most_rate (field_at fields 5)
+    ∷ number_rule 1 most_cap (field_at fields 7)
+    ∷ number_rule 0 most_bound (field_at fields 9)
+    ∷ number_rule 0 most_buffer (field_at fields 11)
     ∷ [])
 
 -- the best-effort packets, where they stand
 abbrev pub best_rule : List (List ℕ) → Rule
-best_rule fields = if has_best fields then number_rule 1 1024 (field_at fields 13) else None
+best_rule fields = if has_best fields then number_rule 1 most_best (field_at fields 13) else None
 
 -- and the bounds
 abbrev pub bound_numbers_rule : List (List ℕ) → Rule
-bound_numbers_rule fields = first_cause (map (number_rule 1 1048576) fields)
+bound_numbers_rule fields = first_cause (map (number_rule 1 most_bound) fields)
 
 -- the fields, from left to right
 abbrev pub link_fields_rule : Said → List (List ℕ) → Rule

@@ -1,12 +1,13 @@
 -- The line of a request: open NAME route LINK1 .. LINKh contract XMIN XAVE I SMAX delay D, and then either rate or jitter J.
 use Rattle.std.specs.Prelude.{ℕ, ◌+◌, Bool, nat_lt, ◌&&◌, ◌||◌, if◌then◌else◌, Option, Some, None, List, [], ◌∷◌, length, map, take, drop, is_some, is_none}
+use Rattle.net_units.specs.Limits.{most_bound}
 use Rattle.traffic_contract.specs.Contract.{Terms, terms_of}
 use Rattle.traffic_contract.specs.Refusal.{first_bad}
 use Rattle.hop_reservation.specs.Routes.{fault_in}
 use Rattle.hop_reservation.specs.declared.route.Hop.{Hop}
 use Rattle.setup_protocol.specs.declared.request.Control.{Control}
 use Rattle.setup_protocol.specs.declared.request.Control.TheVariants.{Rate, Jitter}
-use Rattle.call_script.specs.Limits.{most_requests, most_delay}
+use Rattle.call_script.specs.Limits.{most_requests, most_delay, most_size}
 use Rattle.call_script.specs.Rules.{request_names, is_joined}
 use Rattle.call_script.specs.declared.entries.RequestEntry.{RequestEntry}
 use Rattle.scenario_reader.specs.Causes.{Rule, unless, first_cause}
@@ -15,6 +16,7 @@ use Rattle.scenario_reader.specs.Drafts.{Said, last_caller, link_named, route_ov
 use Rattle.scenario_reader.specs.Entries.{actor_at, channel_at}
 use Rattle.scenario_reader.specs.Fields.{field_at}
 use Rattle.scenario_reader.specs.Forms.{is_word, route_length, has_form, new_name_rule, used_name_rule, number_rule}
+use Rattle.scenario_reader.specs.Limits.{most_interval}
 use Rattle.scenario_reader.specs.declared.cause.Cause.TheVariants as cause
 use Rattle.scenario_reader.specs.declared.form.Keyword.TheVariants as word
 use Rattle.scenario_reader.specs.declared.form.Part.{Part}
@@ -75,10 +77,10 @@ route_names_rule said route = first_cause (map (route_link_rule said) route)
 -- the numbers of the contract, each in its range
 abbrev pub terms_rule : List (List ℕ) → Rule
 terms_rule fields = first_cause (
-    number_rule 1 1048576 (behind_route fields 1)
-    ∷ number_rule 1 1048576 (behind_route fields 2)
-    ∷ number_rule 1 16777216 (behind_route fields 3)
-    ∷ number_rule 1 65536 (behind_route fields 4)
+    number_rule 1 most_bound (behind_route fields 1)
+    ∷ number_rule 1 most_bound (behind_route fields 2)
+    ∷ number_rule 1 most_interval (behind_route fields 3)
+    ∷ number_rule 1 most_size (behind_route fields 4)
     ∷ [])
 
 -- the jitter bound, where there is one

@@ -5,6 +5,7 @@ ghost use Rattle.scenario_reader.specs.Causes.{Judges, States, unless};
 ghost use Rattle.scenario_reader.specs.Decimal.{value_of};
 ghost use Rattle.scenario_reader.specs.Entries.{link_at, has_bounds, shape_of};
 ghost use Rattle.scenario_reader.specs.Fields.{fields_of};
+ghost use Rattle.scenario_reader.specs.Limits.{most_best};
 ghost use Rattle.scenario_reader.specs.LinkFields.{AreFigures, figures_in, link_in, numbers_with};
 ghost use Rattle.scenario_reader.specs.LinkLine.{is_link_line, has_best, bound_start, bound_fields, bounds_of, best_in, link_numbers_rule, best_rule, bound_numbers_rule, link_fields_rule, link_rule, link_said};
 
@@ -12,6 +13,7 @@ use crate::cause::Cause;
 use crate::draft::Draft;
 use crate::fields::{field, field_count};
 use crate::form::{Keyword, Part, has_form};
+use crate::limits::{MOST_BEST, MOST_BUFFER, MOST_CAP, MOST_RATE};
 use crate::values::{name, new_name, number, require};
 use call_script::{LinkEntry, Version};
 use link_steps::LinkShape;
@@ -97,7 +99,7 @@ impl Draft {
         requires { length (bound_fields (fields_of line.now)) ≤ 8 }
         ensures judged { Judges result (link_fields_rule self.now (fields_of line.now)) (link_in (fields_of line.now)) }
         ensures figures { IfOk result (λ link. AreFigures link.figures) }
-        ensures best { IfOk result (λ link. link.best ≤ 1024) }
+        ensures best { IfOk result (λ link. link.best ≤ most_best) }
     {
         let link_name = new_name(field(line, 1), &self.link_names)?;
         let from = name(field(line, 2))?;
@@ -119,7 +121,7 @@ impl Draft {
     fn judge_shape(&self, version: Version, link: &LinkFields) -> Result<LinkShape, Cause>
         requires few { length self.now.links < 32 }
         requires figures { AreFigures link.now.figures }
-        requires best { link.now.best ≤ 1024 }
+        requires best { link.now.best ≤ most_best }
         ensures { (numbers : List ℕ) → link.now.bounds ≡ bounds_of numbers
             → States result (unless (has_bounds (numbers_with link.now numbers)) Cause.Levels)
             (shape_of (link_at (length self.now.links)) (test_of version) (numbers_with link.now numbers)) }
@@ -163,10 +165,10 @@ fn judge_figures(line: &[u8]) -> Result<Figures, Cause>
     ensures judged { Judges result (link_numbers_rule (fields_of line.now)) (figures_in (fields_of line.now)) }
     ensures figures { IfOk result AreFigures }
 {
-    let rate = number(field(line, 5), 1, 65_536)?;
-    let cap = number(field(line, 7), 1, 65_536)?;
+    let rate = number(field(line, 5), 1, MOST_RATE)?;
+    let cap = number(field(line, 7), 1, MOST_CAP)?;
     let prop = number(field(line, 9), 0, u64::from(MOST_BOUND))?;
-    let buffer = number(field(line, 11), 0, 262_144)?;
+    let buffer = number(field(line, 11), 0, MOST_BUFFER)?;
     Ok(Figures {
         rate: rate as u32,
         cap: cap as u32,
@@ -178,10 +180,10 @@ fn judge_figures(line: &[u8]) -> Result<Figures, Cause>
 // How many best-effort packets may wait, 0 where the line doesn't say it.
 fn judge_best(line: &[u8]) -> Result<u32, Cause>
     ensures judged { Judges result (best_rule (fields_of line.now)) (best_in (fields_of line.now)) }
-    ensures most { IfOk result (λ best. best ≤ 1024) }
+    ensures most { IfOk result (λ best. best ≤ most_best) }
 {
     if has_best(line) {
-        Ok(number(field(line, 13), 1, 1_024)? as u32)
+        Ok(number(field(line, 13), 1, MOST_BEST)? as u32)
     } else {
         Ok(0)
     }

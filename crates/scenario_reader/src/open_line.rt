@@ -15,9 +15,10 @@ use crate::draft::Draft;
 use crate::fields::field;
 use crate::form::{Keyword, Part, has_form, route_length};
 use crate::hops::Hops;
+use crate::limits::MOST_INTERVAL;
 use crate::values::{new_name, number, require};
 use call_script::RequestEntry;
-use call_script::limits::{MOST_DELAY, MOST_REQUESTS};
+use call_script::limits::{MOST_DELAY, MOST_REQUESTS, MOST_SIZE};
 use hop_reservation::{Hop, Route};
 use link_steps::LinkShape;
 use net_units::limits::{MOST_BOUND, MOST_HOPS};
@@ -73,8 +74,8 @@ impl Draft {
         ensures { Judges result (open_rule self.now (fields_of line.now)) (request_said self.now (fields_of line.now)) }
     {
         require(is_open_line(line), Cause::Shape)?;
-        let open = self.judge_open_fields(line)?;
-        self.judge_open_limits(&open)
+        let asked = self.judge_open_fields(line)?;
+        self.judge_open_limits(&asked)
     }
 
     // The fields behind its word, from left to right.
@@ -121,22 +122,22 @@ impl Draft {
     }
 
     // The request, once its fields pass.
-    fn judge_open_limits(&self, open: &OpenFields) -> Result<RequestEntry, Cause>
-        ensures { (fields : List (List ℕ)) → open.now ≡ open_in self.now fields
+    fn judge_open_limits(&self, asked: &OpenFields) -> Result<RequestEntry, Cause>
+        ensures { (fields : List (List ℕ)) → asked.now ≡ open_in self.now fields
             → Judges result (open_limits_rule self.now fields) (request_said self.now fields) }
     {
         require(self.requests.len() < MOST_REQUESTS, Cause::Many)?;
-        let contract = open.contract.ok_or(Cause::Contract)?;
-        let route = self.judge_way(open.hops.as_slice())?;
+        let contract = asked.contract.ok_or(Cause::Contract)?;
+        let route = self.judge_way(asked.hops.as_slice())?;
         Ok(RequestEntry {
-            name: open.name,
+            name: asked.name,
             caller: self.last_caller(),
             request: Request {
                 chan: self.next_channel(),
                 route,
                 contract,
-                control: open.control,
-                delay: open.delay,
+                control: asked.control,
+                delay: asked.delay,
             },
         })
     }
@@ -223,8 +224,8 @@ fn judge_terms(line: &[u8], hops: usize) -> Result<Option<Contract>, Cause>
 {
     let xmin = number(field(line, 3 + hops + 1), 1, u64::from(MOST_BOUND))?;
     let xave = number(field(line, 3 + hops + 2), 1, u64::from(MOST_BOUND))?;
-    let interval = number(field(line, 3 + hops + 3), 1, 16_777_216)?;
-    let smax = number(field(line, 3 + hops + 4), 1, 65_536)?;
+    let interval = number(field(line, 3 + hops + 3), 1, MOST_INTERVAL)?;
+    let smax = number(field(line, 3 + hops + 4), 1, u64::from(MOST_SIZE))?;
     Ok(Contract::new(xmin as u32, xave as u32, interval as u32, smax as u32).ok())
 }
 

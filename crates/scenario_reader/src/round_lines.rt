@@ -11,6 +11,7 @@ use crate::cause::Cause;
 use crate::draft::Draft;
 use crate::fields::field;
 use crate::form::{Keyword, Part, has_form};
+use crate::limits::MOST_STEPS;
 use crate::values::{name, number, require};
 use call_script::Do;
 use call_script::limits::MOST_ROUNDS;
@@ -23,9 +24,6 @@ const TAIL_FORM: [Part; 2] = [Part::Word(Keyword::Tail), Part::Field];
 const SCHEDULE_FORM: [Part; 1] = [Part::Word(Keyword::Schedule)];
 
 const DO_FORM: [Part; 3] = [Part::Word(Keyword::Do), Part::Field, Part::Field];
-
-/// Steps of an item of a schedule.
-pub const MOST_STEPS: u64 = 1_048_576;
 
 pub(crate) fn judge_rounds(line: &[u8]) -> Result<u64, Cause>
     ensures { Judges result (rounds_rule (fields_of line.now)) (value_of (field_at (fields_of line.now) 1)) }
