@@ -35,3 +35,4 @@ pub mod TextBack
 pub mod LineFacts
 pub mod TextFacts
 pub mod WrittenFacts
+mod Worked
