@@ -10,3 +10,4 @@ pub mod LinkTallies
 pub mod EarlyTicks
 pub mod SummaryFacts
 pub mod PlainFields
+mod Worked
