@@ -208,78 +208,18 @@ fn refuses(
     Ok(())
 }
 
+// `.ci/refusals` has many more.
 #[test]
 fn a_line_is_refused_by_its_first_cause(rt: HostRuntime) -> Result<(), Fail> {
     for (front, line, cause) in [
         ("", "tenet 01", Cause::Header),
-        ("", "tenet 9", Cause::Header),
-        ("", "tenet 1 1", Cause::Header),
         ("", "tenet  1", Cause::Shape),
-        (
-            BEHIND_LINK,
-            "open r1 route A contract 5 10 20 2 delay 12 rate",
-            Cause::Word,
-        ),
-        (
-            BEHIND_CALLER,
-            "link C n3 n4 rate 1 cap 4 prop 2 buffer 100 levels 10",
-            Cause::Word,
-        ),
-        (BEHIND_CALLER, "pour A 1 1 1", Cause::Word),
-        (BEHIND_CALLER, "tail 0", Cause::Word),
-        (BEHIND_LINK, "caller  k1", Cause::Shape),
-        (
-            BEHIND_LINK,
-            "link C n3 n4 rate 1 cap 4 prop 2 buffer 100 best 1 levels 10",
-            Cause::Shape,
-        ),
-        (
-            BEHIND_CALLER,
-            "open r1 route contract 5 10 20 2 delay 12 rate",
-            Cause::Shape,
-        ),
-        (
-            BEHIND_LINK,
-            "link 1 n1 n2 rate 01 cap 4 prop 2 buffer 100 levels 10",
-            Cause::Name,
-        ),
-        (
-            BEHIND_LINK,
-            "link contract n1 n2 rate 1 cap 4 prop 2 buffer 100 levels 10",
-            Cause::Name,
-        ),
+        (BEHIND_TAIL, "do k1 1", Cause::Word),
         (BEHIND_LINK, "caller plane", Cause::Name),
-        (
-            BEHIND_LINK,
-            "link C n1 n2 rate 01 cap 0 prop 2 buffer 100 levels 10",
-            Cause::Number,
-        ),
         (BEHIND_OPEN, "send r1 +1 1 2", Cause::Number),
-        (BEHIND_TAIL, "rounds 3", Cause::Word),
-        (
-            BEHIND_LINK,
-            "link A n1 n2 rate 0 cap 4 prop 2 buffer 100 levels 10",
-            Cause::Known,
-        ),
         (BEHIND_CALLER, "caller k1", Cause::Known),
-        (
-            BEHIND_OPEN,
-            "open r1 route Z contract 5 10 20 2 delay 12 rate",
-            Cause::Known,
-        ),
-        (
-            BEHIND_CALLER,
-            "open r1 route Z contract 5 10 20 2 delay 12 rate",
-            Cause::Unknown,
-        ),
         (BEHIND_OPEN, "send r2 0 1 2", Cause::Unknown),
         (BEHIND_OPEN, "send r1 0 1 2", Cause::Range),
-        (
-            BEHIND_LINK,
-            "link C n1 n2 rate 1 cap 4 prop 2 buffer 262145 levels 9 8",
-            Cause::Range,
-        ),
-        (BEHIND_LINK, "rounds 524289", Cause::Range),
         (
             BEHIND_CALLER,
             "open r1 route A A contract 5 4 20 2 delay 12 rate",
@@ -287,35 +227,12 @@ fn a_line_is_refused_by_its_first_cause(rt: HostRuntime) -> Result<(), Fail> {
         ),
         (
             BEHIND_CALLER,
-            "open r1 route A contract 1 1 257 2 delay 12 rate",
-            Cause::Contract,
-        ),
-        (
-            BEHIND_LINK,
-            "link C n1 n2 rate 1 cap 11 prop 2 buffer 100 levels 10",
-            Cause::Levels,
-        ),
-        (
-            BEHIND_LINK,
-            "link C n1 n2 rate 1 cap 4 prop 2 buffer 100 levels 10 10",
-            Cause::Levels,
-        ),
-        (
-            BEHIND_CALLER,
-            "open r1 route A A contract 5 10 20 2 delay 12 rate",
-            Cause::Route,
-        ),
-        (
-            BEHIND_CALLER,
             "open r1 route B A contract 5 10 20 2 delay 12 rate",
             Cause::Route,
         ),
-        (BEHIND_CLOSE, "send r1 262144 1 2", Cause::Closed),
         (BEHIND_CLOSE, "close r1", Cause::Closed),
         (BEHIND_OPEN, "send r1 131073 1 2", Cause::Load),
-        (BEHIND_BEST, "pour B 262145 1 2", Cause::Range),
         (BEHIND_BEST, "pour B 262144 1 2", Cause::Best),
-        (BEHIND_TAIL, "do k1 1", Cause::Word),
     ] {
         refuses(&rt, rt.alloc(), front, line, cause)?;
     }
