@@ -146,25 +146,25 @@ fn items_have_the_numbers_of_their_lines(rt: HostRuntime) -> Result<(), Fail> {
 }
 
 // The lines in front of a line that is refused.
-const BEHIND_LINK: &str = "tenet 1
+const AFTER_LINK: &str = "tenet 1
 link A n1 n2 rate 1 cap 4 prop 2 buffer 100 levels 10 20 40
 link B n2 n3 rate 1 cap 4 prop 2 buffer 100 levels 10 20 40
 ";
 
-const BEHIND_CALLER: &str = "tenet 1
+const AFTER_CALLER: &str = "tenet 1
 link A n1 n2 rate 1 cap 4 prop 2 buffer 100 levels 10 20 40
 link B n2 n3 rate 1 cap 4 prop 2 buffer 100 levels 10 20 40
 caller k1
 ";
 
-const BEHIND_OPEN: &str = "tenet 1
+const AFTER_OPEN: &str = "tenet 1
 link A n1 n2 rate 1 cap 4 prop 2 buffer 100 levels 10 20 40
 link B n2 n3 rate 1 cap 4 prop 2 buffer 100 levels 10 20 40
 caller k1
 open r1 route A B contract 5 10 20 2 delay 50 rate
 ";
 
-const BEHIND_CLOSE: &str = "tenet 1
+const AFTER_CLOSE: &str = "tenet 1
 link A n1 n2 rate 1 cap 4 prop 2 buffer 100 levels 10 20 40
 link B n2 n3 rate 1 cap 4 prop 2 buffer 100 levels 10 20 40
 caller k1
@@ -172,14 +172,14 @@ open r1 route A B contract 5 10 20 2 delay 50 rate
 close r1
 ";
 
-const BEHIND_TAIL: &str = "tenet 1
+const AFTER_TAIL: &str = "tenet 1
 link A n1 n2 rate 1 cap 4 prop 2 buffer 100 levels 10 20 40
 caller k1
 rounds 3
 tail 2
 ";
 
-const BEHIND_BEST: &str = "tenet 3
+const AFTER_BEST: &str = "tenet 3
 link A n1 n2 rate 1 cap 4 prop 2 buffer 100 best 2 levels 10 20 40
 link B n2 n3 rate 1 cap 4 prop 2 buffer 100 levels 10 20 40
 caller k1
@@ -214,25 +214,25 @@ fn a_line_is_refused_by_its_first_cause(rt: HostRuntime) -> Result<(), Fail> {
     for (front, line, cause) in [
         ("", "tenet 01", Cause::Header),
         ("", "tenet  1", Cause::Shape),
-        (BEHIND_TAIL, "do k1 1", Cause::Word),
-        (BEHIND_LINK, "caller plane", Cause::Name),
-        (BEHIND_OPEN, "send r1 +1 1 2", Cause::Number),
-        (BEHIND_CALLER, "caller k1", Cause::Known),
-        (BEHIND_OPEN, "send r2 0 1 2", Cause::Unknown),
-        (BEHIND_OPEN, "send r1 0 1 2", Cause::Range),
+        (AFTER_TAIL, "do k1 1", Cause::Word),
+        (AFTER_LINK, "caller plane", Cause::Name),
+        (AFTER_OPEN, "send r1 +1 1 2", Cause::Number),
+        (AFTER_CALLER, "caller k1", Cause::Known),
+        (AFTER_OPEN, "send r2 0 1 2", Cause::Unknown),
+        (AFTER_OPEN, "send r1 0 1 2", Cause::Range),
         (
-            BEHIND_CALLER,
+            AFTER_CALLER,
             "open r1 route A A contract 5 4 20 2 delay 12 rate",
             Cause::Contract,
         ),
         (
-            BEHIND_CALLER,
+            AFTER_CALLER,
             "open r1 route B A contract 5 10 20 2 delay 12 rate",
             Cause::Route,
         ),
-        (BEHIND_CLOSE, "close r1", Cause::Closed),
-        (BEHIND_OPEN, "send r1 131073 1 2", Cause::Load),
-        (BEHIND_BEST, "pour B 262144 1 2", Cause::Best),
+        (AFTER_CLOSE, "close r1", Cause::Closed),
+        (AFTER_OPEN, "send r1 131073 1 2", Cause::Load),
+        (AFTER_BEST, "pour B 262144 1 2", Cause::Best),
     ] {
         refuses(&rt, rt.alloc(), front, line, cause)?;
     }
@@ -252,7 +252,7 @@ fn a_schedule_names_callers_and_the_plane(rt: HostRuntime) -> Result<(), Fail> {
         ("schedule 1\n", Err((6, Cause::Shape))),
     ] {
         let mut bytes = Vec::new(alloc);
-        bytes.extend_from_slice(BEHIND_TAIL.as_bytes())?;
+        bytes.extend_from_slice(AFTER_TAIL.as_bytes())?;
         bytes.extend_from_slice(lines.as_bytes())?;
         let mut source = MemSource::new(bytes, 64, Vec::new(alloc));
         let got = match read_plan(alloc, &mut source) {
@@ -273,7 +273,7 @@ fn an_input_that_ends_early_is_refused_at_its_end(rt: HostRuntime) -> Result<(),
         ("\n# nothing\n", 3, Cause::End),
         ("tenet 1\nrounds", 2, Cause::Cut),
         ("#", 1, Cause::Cut),
-        (BEHIND_LINK, 4, Cause::End),
+        (AFTER_LINK, 4, Cause::End),
     ] {
         assert_eq!(rt;
             read(alloc, text)?,
