@@ -1,6 +1,6 @@
-mod CountFacts
+pub mod CountFacts
 mod OpeningFacts
-mod LinkNumbers
+pub mod LinkNumbers
 mod StepFacts
 mod GatherFacts
 mod ClosingFacts

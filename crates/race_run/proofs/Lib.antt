@@ -1,0 +1,6 @@
+pub mod Lists
+mod WholeFacts
+mod MergeFacts
+mod TurnFacts
+mod RunFacts
+mod Sources

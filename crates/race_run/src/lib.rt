@@ -1,0 +1,11 @@
+//! What a race over the shared network has made, as one run.
+//!
+//! A closed network hands back a journal for each link and a pass for each actor. [`woven`] merges the journals by their
+//! stamps into the record of the run that has happened, with the schedule that it followed.
+#![tactic(auto)]
+
+pub mod merging;
+pub mod turns;
+pub mod weaving;
+
+pub use weaving::{Raced, woven};
