@@ -4,3 +4,7 @@ mod MergeFacts
 mod TurnFacts
 mod RunFacts
 mod Sources
+mod ScriptFacts
+mod TaskFacts
+mod BetweenFacts
+mod OpFacts

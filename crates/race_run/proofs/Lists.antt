@@ -1,7 +1,9 @@
 -- Facts on lists: what stands in a list turned round or seen through a map, at which place, and what holds of each element.
-use Rattle.std.proofs.Common.{◌≡◌, ℕ, zero, suc, List, [], ◌∷◌, ◌++◌, map, reverse, Some, None, refl, sym, ap, ◌∙◌, subst, inl, inr}
+use Rattle.std.proofs.Common.{◌≡◌, ℕ, zero, suc, List, [], ◌∷◌, ◌++◌, map, reverse, Some, None, refl, sym, ap, ◌∙◌, subst, inl, inr, true, false, get_or, length}
 use Rattle.std.proofs.lemmas.List.{map-append, reverse-append, reverse-reverse}
-use Rattle.std.proofs.lemmas.Option.{same_Some}
+use Rattle.std.proofs.lemmas.Bool.{ltb-true, ltb-false}
+use Rattle.std.proofs.lemmas.Option.{same_Some, slice_get_read, slice_get_past}
+use Rattle.std.specs.Prelude.{nat_lt}
 use Rattle.std.specs.List.{slice_get}
 use Rattle.link_steps.specs.Lists.{Each}
 use Rattle.link_steps.proofs.ListFacts.{Among, Each-append}
@@ -87,3 +89,13 @@ pub map-get : {X Y : Type 0} (f : X → Y) (xs : List X) (k : ℕ) (x : X) → s
 map-get f [] k x found = absurd (let clash : None ≡ Some x = found in cc)
 map-get f (y ∷ xs) zero x found = ap (λ z. Some (f z)) (same_Some y x found)
 map-get f (y ∷ xs) (suc k) x found = map-get f xs k x found
+
+-- ---- what a look-up answers
+
+pub there : {X : Type 0} (xs ys : List X) (n i : ℕ) (x : X) → true ≡ nat_lt n (length xs) → x ≡ get_or xs n x → xs ≡ ys → n ≡ i → slice_get ys i ≡ Some x
+there xs ys n i x inside is same number =
+    ap (slice_get ys) (sym number) ∙ ap (λ l. slice_get l n) (sym same) ∙ slice_get_read xs (length xs) n x refl (ltb-true n (length xs) (sym inside)) is
+
+pub missing : {X : Type 0} (xs ys : List X) (n i : ℕ) → false ≡ nat_lt n (length xs) → xs ≡ ys → n ≡ i → slice_get ys i ≡ None
+missing xs ys n i past same number =
+    ap (slice_get ys) (sym number) ∙ ap (λ l. slice_get l n) (sym same) ∙ slice_get_past xs n (ltb-false n (length xs) (sym past))

@@ -1,3 +1,4 @@
 pub mod Whole
 pub mod Turns
 pub mod Merging
+pub mod Callers

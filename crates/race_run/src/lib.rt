@@ -1,11 +1,14 @@
 //! What a race over the shared network has made, as one run.
 //!
 //! A closed network hands back a journal for each link and a pass for each actor. [`woven`] merges the journals by their
-//! stamps into the record of the run that has happened, with the schedule that it followed.
+//! stamps into the record of the run that has happened, with the schedule that it followed. [`make_op`] makes one operation of a
+//! caller's script over a network, with the caller's pass.
 #![tactic(auto)]
 
+pub mod callers;
 pub mod merging;
 pub mod turns;
 pub mod weaving;
 
+pub use callers::make_op;
 pub use weaving::{Raced, woven};

@@ -1,0 +1,97 @@
+-- What a caller's script tells of a channel at an operation: before it is opened no task names it, and where it is sent on or
+-- closed it was opened above and not closed.
+use Rattle.std.proofs.Common.{◌≡◌, ◌≢◌, ℕ, List, [], ◌∷◌, ◌++◌, refl, sym, ap, ◌∙◌, subst, inl, inr}
+use Rattle.net_units.specs.Numbers.{channel_number}
+use Rattle.link_steps.specs.Lists.{Each}
+use Rattle.setup_protocol.specs.declared.request.Request.{Request}
+use Rattle.step_stamp.specs.Lists.{Has}
+use Rattle.call_script.specs.Owners.{TaskOff, IsSend, SendsOnce, FullScript}
+use Rattle.call_script.specs.declared.tasks.Task.{Task}
+use Rattle.call_script.specs.declared.tasks.Task.TheVariants.{Opens, Sends, Closes, Pours}
+use Rattle.race_run.specs.Callers.{LeavesOpen}
+
+chan_of : Request → ℕ
+chan_of request = channel_number request.chan
+
+-- a task that names the channel isn't off it
+pub data Names (request : Request) : Task → Type 0 where
+  AnOpen : Names request (Opens request)
+  ASend : (count gap size : ℕ) → Names request (Sends request count gap size)
+  AClose : Names request (Closes request)
+
+pub named-off : (request : Request) (task : Task) → Names request task → TaskOff (channel_number request.chan) task → ⊥
+named-off request task AnOpen off = off refl
+named-off request task (ASend count gap size) off = off refl
+named-off request task AClose off = off refl
+
+pub each-middle : (P : Task → Type 0) (front : List Task) (task : Task) (rest : List Task) → Each P (front ++ task ∷ rest) → P task
+each-middle P [] task rest each = each.0
+each-middle P (first ∷ front) task rest each = each-middle P front task rest each.1
+
+off-leaves : (c : ℕ) (task : Task) → TaskOff c task → LeavesOpen c task
+off-leaves c (Opens request) off = tt
+off-leaves c (Sends request count gap size) off = tt
+off-leaves c (Closes request) off = off
+off-leaves c (Pours link count gap size) off = tt
+
+send-leaves : (request : Request) (task : Task) → IsSend request task → LeavesOpen (channel_number request.chan) task
+send-leaves request task send = subst (LeavesOpen (channel_number request.chan)) (sym send.is) tt
+
+-- behind its opening a channel isn't opened again
+sends-no-open : (request : Request) (front rest : List Task) → SendsOnce request (front ++ Opens request ∷ rest) → ⊥
+sends-no-open request [] rest (inl off) = off.0 refl
+sends-no-open request [] rest (inr (inl send)) = (let is : Opens request ≡ Sends request send.0.count send.0.gap send.0.size = send.0.is in cc)
+sends-no-open request [] rest (inr (inr close)) = (let is : Opens request ≡ Closes request = close.0 in cc)
+sends-no-open request (task ∷ front) rest (inl off) = sends-no-open request front rest off.1
+sends-no-open request (task ∷ front) rest (inr (inl send)) = sends-no-open request front rest send.1
+sends-no-open request (task ∷ front) rest (inr (inr close)) = each-middle (TaskOff (channel_number request.chan)) front (Opens request) rest close.1 refl
+
+pub opened-once : (request : Request) (front rest : List Task) → FullScript request (front ++ Opens request ∷ rest) → Each (TaskOff (channel_number request.chan)) front
+opened-once request [] rest full = tt
+opened-once request (task ∷ front) rest (inl off) = (off.0, opened-once request front rest off.1)
+opened-once request (task ∷ front) rest (inr opens) = absurd (sends-no-open request front rest opens.1)
+
+-- up to a use of the channel nothing has closed it
+sends-open : (request : Request) (front : List Task) (task : Task) (rest : List Task) → Names request task → SendsOnce request (front ++ task ∷ rest) → Each (LeavesOpen (channel_number request.chan)) front
+sends-open request [] task rest names sends = tt
+sends-open request (first ∷ front) task rest names (inl off) = (off-leaves (channel_number request.chan) first off.0, sends-open request front task rest names off.1)
+sends-open request (first ∷ front) task rest names (inr (inl send)) = (send-leaves request first send.0, sends-open request front task rest names send.1)
+sends-open request (first ∷ front) task rest names (inr (inr close)) = absurd (named-off request task names (each-middle (TaskOff (channel_number request.chan)) front task rest close.1))
+
+-- a use of the channel, by a send or a close
+pub data Uses (request : Request) : Task → Type 0 where
+  BySend : (count gap size : ℕ) → Uses request (Sends request count gap size)
+  ByClose : Uses request (Closes request)
+
+uses-names : (request : Request) (task : Task) → Uses request task → Names request task
+uses-names request task (BySend count gap size) = ASend count gap size
+uses-names request task ByClose = AClose
+
+uses-apart : (request : Request) (task : Task) → Uses request task → task ≡ Opens request → ⊥
+uses-apart request task (BySend count gap size) is = (let clash : Sends request count gap size ≡ Opens request = is in cc)
+uses-apart request task ByClose is = (let clash : Closes request ≡ Opens request = is in cc)
+
+pub record IsLive (request : Request) (front : List Task) : Type 0 where
+  pub opened : Has (Opens request) front
+  pub unclosed : Each (LeavesOpen (channel_number request.chan)) front
+
+pub used-live : (request : Request) (front : List Task) (task : Task) (rest : List Task) → Uses request task → FullScript request (front ++ task ∷ rest) → IsLive request front
+used-live request [] task rest uses (inl off) = absurd (named-off request task (uses-names request task uses) off.0)
+used-live request [] task rest uses (inr opens) = absurd (uses-apart request task uses opens.0)
+used-live request (first ∷ front) task rest uses (inl off) = (let live = used-live request front task rest uses off.1 in record { opened = inr live.opened; unclosed = (off-leaves (channel_number request.chan) first off.0, live.unclosed) })
+used-live request (first ∷ front) task rest uses (inr opens) = record {
+  opened = inl opens.0;
+  unclosed = (subst (LeavesOpen (channel_number request.chan)) (sym opens.0) tt, sends-open request front task rest (uses-names request task uses) opens.1);
+}
+
+-- ---- what a task more changes
+
+pub each-front : (P : Task → Type 0) (front : List Task) (task : Task) → Each P (front ++ task ∷ []) → Each P front × P task
+each-front P [] task each = (tt, each.0)
+each-front P (first ∷ front) task each = (let rest = each-front P front task each.1 in ((each.0, rest.0), rest.1))
+
+pub has-front : (x : Task) (front : List Task) (task : Task) → Has x (front ++ task ∷ []) → (task ≡ x → ⊥) → Has x front
+has-front x [] task (inl is) other = absurd (other is)
+has-front x [] task (inr none) other = absurd none
+has-front x (first ∷ front) task (inl is) other = inl is
+has-front x (first ∷ front) task (inr has) other = inr (has-front x front task has other)

@@ -1,0 +1,38 @@
+use Rattle.std.proofs.Common.{◌≡◌, Some, ap, sym, ◌∙◌, false, get_or}
+use Rattle.net_units.specs.Numbers.{channel_number}
+use Rattle.call_script.specs.declared.operations.Op.TheVariants.{Send}
+use Rattle.call_script.specs.declared.tasks.Task.TheVariants.{Sends}
+use Rattle.race_run.proofs.Lists.{there, missing}
+use Rattle.race_run.proofs.OpFacts.{send-owner, send-there, send-fits, send-passed, send-over, none-passed, request-none}
+use Rattle.race_run.proofs.callers.send_on.Goals as goal
+
+pub returns-in_default-clause-at : goal.returns-in_default-clause-at
+returns-in_default-clause-at g c =
+    let none = missing c.requests.result.now c.args.plan.now.requests c.get-number.result (channel_number c.args.packets.0) c.in_default.ensures.lookup.0 c.requests.ensures.value c.get-number.ensures.value in
+    none-passed c.args.plan.now c.args.at.0 c.args.at.1 (Send c.args.packets.0 c.args.packets.1 c.args.packets.2 c.args.packets.3) c.args.pass.now c.args.accepted.now c.requires.at c.requires.op (request-none c.args.plan.now (λ request. Sends request c.args.packets.1 c.args.packets.2 c.args.packets.3) (channel_number c.args.packets.0) none)
+
+pub returns-then-not-accepted-number-clause-at : goal.returns-then-not-accepted-number-clause-at
+returns-then-not-accepted-number-clause-at g c =
+    let found = there c.requests.result.now c.args.plan.now.requests c.get-number.result (channel_number c.args.packets.0) c.in-Some.entry.now c.in-Some.ensures.lookup.0 c.in-Some.ensures.lookup.1 c.requests.ensures.value c.get-number.ensures.value in
+    send-passed c.args.plan.now c.args.at.0 c.args.at.1 c.args.packets.0 c.args.packets.1 c.args.packets.2 c.args.packets.3 c.in-Some.entry.now c.args.pass.now c.args.accepted.now c.requests.ensures.valid c.requires.at c.requires.op found (ap (λ n. get_or c.args.accepted.now n false) (sym c.get-number.ensures.value) ∙ c.if-not-accepted-number.true)
+
+pub submit-requires-clause-link : goal.submit-requires-clause-link
+submit-requires-clause-link g c κs within =
+    let found = there c.requests.result.now c.args.plan.now.requests c.get-number.result (channel_number c.args.packets.0) c.in-Some.entry.now c.in-Some.ensures.lookup.0 c.in-Some.ensures.lookup.1 c.requests.ensures.value c.get-number.ensures.value in
+    send-there c.args.plan.now g.H.Home.links g.H.Home.owners (channel_number c.args.packets.0) c.in-Some.entry.now c.hop.result c.requests.ensures.valid c.requires.network found c.hop.ensures.value
+
+pub submit-requires-clause-fits : goal.submit-requires-clause-fits
+submit-requires-clause-fits g c κs within =
+    let found = there c.requests.result.now c.args.plan.now.requests c.get-number.result (channel_number c.args.packets.0) c.in-Some.entry.now c.in-Some.ensures.lookup.0 c.in-Some.ensures.lookup.1 c.requests.ensures.value c.get-number.ensures.value in
+    send-fits c.args.plan.now g.H.Home.links c.args.at.0 c.args.at.1 c.args.packets.0 c.args.packets.1 c.args.packets.2 c.args.packets.3 c.in-Some.entry.now c.args.pass.now c.args.accepted.now _ c.requests.ensures.valid c.requires.at c.requires.op found
+
+pub submit-requires-clause-owned : goal.submit-requires-clause-owned
+submit-requires-clause-owned g c κs within =
+    let found = there c.requests.result.now c.args.plan.now.requests c.get-number.result (channel_number c.args.packets.0) c.in-Some.entry.now c.in-Some.ensures.lookup.0 c.in-Some.ensures.lookup.1 c.requests.ensures.value c.get-number.ensures.value in
+    send-owner c.args.plan.now g.H.Home.links g.H.Home.owners c.args.at.0 c.args.at.1 c.args.packets.0 c.args.packets.1 c.args.packets.2 c.args.packets.3 c.in-Some.entry.now c.args.pass.now c.args.accepted.now c.requests.ensures.valid c.requires.network c.requires.at c.requires.op found
+
+pub returns-in-Ok-clause-at : goal.returns-in-Ok-clause-at
+returns-in-Ok-clause-at g c =
+    let found = there c.requests.result.now c.args.plan.now.requests c.get-number.result (channel_number c.args.packets.0) c.in-Some.entry.now c.in-Some.ensures.lookup.0 c.in-Some.ensures.lookup.1 c.requests.ensures.value c.get-number.ensures.value in
+    send-over c.args.plan.now c.args.at.0 c.args.at.1 c.args.packets.0 c.args.packets.1 c.args.packets.2 c.args.packets.3 c.in-Some.entry.now c.hop.result c.in-Ok.field-0 c.args.pass.now c.submit.new.pass c.args.accepted.now c.requests.ensures.valid c.requires.at c.requires.op found (ap (λ n. get_or c.args.accepted.now n false) (sym c.get-number.ensures.value) ∙ c.if-not-accepted-number.false)
+    c.hop.ensures.value c.submit.ensures.same.actor c.in-Ok.ensures.made c.in-Ok.ensures.established c.in-Ok.ensures.unopened

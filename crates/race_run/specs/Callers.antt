@@ -1,0 +1,71 @@
+-- Where a caller stands between two operations of its script, by the own entries of its pass. These are what its tasks so far have
+-- asked, each behind the replies before it. A channel that no task so far names has no entry. One that was accepted and not
+-- closed yet is established.
+use Rattle.std.specs.Prelude.{◌≡◌, ◌≢◌, ℕ, Bool, true, false, Some, List, [], ◌∷◌, ◌++◌, map, reverse, take, drop, get_or, length, ◌<◌}
+use Rattle.std.specs.List.{slice_get}
+use Rattle.net_units.specs.Numbers.{actor_number, channel_number}
+use Rattle.net_units.specs.declared.numbers.ActorNo.{ActorNo}
+use Rattle.net_units.specs.declared.numbers.ChanNo.{ChanNo}
+use Rattle.link_steps.specs.Lists.{Each}
+use Rattle.link_steps.specs.Split.{Link}
+use Rattle.step_stamp.specs.Lists.{Has}
+use Rattle.setup_protocol.specs.declared.request.Request.{Request}
+use Rattle.link_ledger.specs.Tokens.{Token}
+use Rattle.shared_network.specs.Calls.{HasNone, IsEstablished, reply_in}
+use Rattle.call_script.specs.Owners.{TaskOff}
+use Rattle.call_script.specs.Parts.{PlanParts}
+use Rattle.call_script.specs.Scripts.{Opened, begun, is_established, standing}
+use Rattle.call_script.specs.Standing.{requests_of}
+use Rattle.call_script.specs.Tasks.{Network, network_of, tasks_of}
+use Rattle.call_script.specs.declared.entries.CallerEntry.{CallerEntry}
+use Rattle.call_script.specs.declared.entries.RequestEntry.{RequestEntry}
+use Rattle.call_script.specs.declared.operations.Op.{Op}
+use Rattle.call_script.specs.declared.tasks.Task.{Task}
+use Rattle.call_script.specs.declared.tasks.Task.TheVariants.{Opens, Sends, Closes, Pours}
+use Rattle.interleave_core.specs.Parts.{IsAsked}
+use Rattle.race_run.specs.Whole.{own_done}
+
+-- the task doesn't close the channel of this number
+abbrev pub LeavesOpen : ℕ → Task → Type 0
+LeavesOpen c (Opens request) = Unit {0}
+LeavesOpen c (Sends request count gap size) = Unit {0}
+LeavesOpen c (Closes request) = channel_number request.chan ≢ c
+LeavesOpen c (Pours link count gap size) = Unit {0}
+
+-- of the tasks, those of `front` are done. `accepted` tells of each channel, by its number, whether it was accepted so far
+pub record StandsBetween (network : Network) (front rest : List Task) (pass : Token) (accepted : List Bool) : Type 0 where
+  pub outcomes : List Opened
+  pub asked : IsAsked network (actor_number pass.actor) (reverse (map (own_done pass.actor) pass.own))
+  pub stands : standing (front ++ rest) (reverse (map reply_in pass.own)) ≡ begun outcomes rest
+  pub known : (chan : ChanNo) → is_established chan outcomes ≡ get_or accepted (channel_number chan) false
+  pub fresh : (chan : ChanNo) → Each (TaskOff (channel_number chan)) front → HasNone chan pass.own
+  pub live : (request : Request) → Has (Opens request) front → Each (LeavesOpen (channel_number request.chan)) front → is_established request.chan outcomes ≡ true → IsEstablished request pass.own
+
+-- the caller of this number has done its first operations, so many
+pub record CallerIsAt (parts : PlanParts) (caller place : ℕ) (pass : Token) (accepted : List Bool) : Type 0 where
+  pub entry : CallerEntry
+  pub found : slice_get parts.callers caller ≡ Some entry
+  pub is : actor_number pass.actor ≡ caller
+  pub all : length accepted ≡ length parts.requests
+  pub between : StandsBetween (network_of parts) (tasks_of (requests_of parts) (take place entry.ops)) (tasks_of (requests_of parts) (drop place entry.ops)) pass accepted
+
+-- it has an operation left, and it is this one
+pub record HasLeft (parts : PlanParts) (caller place : ℕ) : Type 0 where
+  pub entry : CallerEntry
+  pub found : slice_get parts.callers caller ≡ Some entry
+  pub inside : place < length entry.ops
+
+pub record HasOp (parts : PlanParts) (caller place : ℕ) (op : Op) : Type 0 where
+  pub entry : CallerEntry
+  pub found : slice_get parts.callers caller ≡ Some entry
+  pub here : slice_get entry.ops place ≡ Some op
+
+-- ---- the network that a race is over
+
+abbrev pub caller_of : RequestEntry → ActorNo
+caller_of entry = entry.caller
+
+-- its links are the plan's, and its owners the callers of the plan's requests
+pub record IsNetworkOf (parts : PlanParts) (links : List Link) (owners : List ActorNo) : Type 0 where
+  pub links_are : links ≡ (network_of parts).links
+  pub owners_are : owners ≡ map caller_of parts.requests
