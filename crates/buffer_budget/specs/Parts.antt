@@ -12,10 +12,10 @@ pub record Parts : Type 0 where
 abbrev pub whole_of : Parts → ℕ
 whole_of parts = parts.free + parts.held
 
--- so many of the free units are held
+-- `units` of the free units are held
 abbrev pub with_held : Parts → ℕ → Parts
 with_held parts units = record { free = parts.free - units; held = parts.held + units }
 
--- so many of the held units are free again
+-- `units` of the held units are free again
 abbrev pub with_freed : Parts → ℕ → Parts
 with_freed parts units = record { free = parts.free + units; held = parts.held - units }

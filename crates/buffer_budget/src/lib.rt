@@ -37,7 +37,7 @@ pub struct NoRoom {
 }
 
 impl Budget {
-    /// A buffer of so many units, all free.
+    /// A buffer of `units` units, all free.
     pub fn new(units: u64) -> Budget
         ensures { result ≡ record { free = units; held = 0 } }
     {
@@ -55,7 +55,7 @@ impl Budget {
         self.free
     }
 
-    /// Holds so many units. `NoRoom` comes exactly where more are asked for than are free, and changes nothing.
+    /// Holds `units` units. `NoRoom` comes exactly where more are asked for than are free, and changes nothing.
     pub fn try_hold(&mut self, units: u64) -> Result<(), NoRoom>
         ensures fits { IsOk result ↔ (units ≤ self.old.free) }
         ensures held { OnOk result (self.new ≡ with_held self.old units) }
@@ -87,7 +87,7 @@ impl Budget {
         self.give_back(from - to);
     }
 
-    /// Gives back so many units, at most as many as are held.
+    /// Gives back `units` units, at most as many as are held.
     pub fn give_back(&mut self, units: u64)
         requires { units ≤ self.old.held }
         ensures freed { self.new ≡ with_freed self.old units }

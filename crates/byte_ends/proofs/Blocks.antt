@@ -3,7 +3,7 @@ use Rattle.std.proofs.Common.{◌≡◌, ℕ, ◌≤◌, List, [], ◌∷◌, �
 use Rattle.std.specs.Io.KnownBytes.{Consumes, IsAtEnd}
 use Rattle.std.proofs.KnownBytes.{Consumes-nil, Consumes-trans}
 use Rattle.byte_ends.specs.WholeLines.{feed}
-use Rattle.byte_ends.specs.Cutting.{Cutting, IsOpen, ahead, let_go}
+use Rattle.byte_ends.specs.Cutting.{Cutting, WantsMore, ahead, let_go}
 use Rattle.byte_ends.specs.Answers.{Moves, GivesNone, Answers}
 use Rattle.byte_ends.specs.Steps.{Settles}
 use Rattle.byte_ends.specs.declared.lines.Cut.{Cut}
@@ -16,7 +16,7 @@ use Rattle.byte_ends.proofs.Fetching.{Consumes-ahead}
 pub record Reached (s t : Cutting) (left left' : Option (List ℕ)) (faults faults' : ℕ) : Type 0 where
   pub moves : Moves s t left left' []
   pub same_number : t.number ≡ s.number
-  pub undecided : IsOpen t
+  pub undecided : WantsMore t
   pub counts : faults ≤ faults'
 
 -- nothing was taken, and `out` was given of what was pending

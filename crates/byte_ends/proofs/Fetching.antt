@@ -4,20 +4,20 @@ use Rattle.std.proofs.lemmas.List.{take_all}
 use Rattle.std.proofs.lemmas.Bool.{false≢true}
 use Rattle.std.specs.Io.KnownBytes.{Consumes, Keeps}
 use Rattle.std.proofs.KnownBytes.{Consumes-nil, Consumes-kept}
-use Rattle.byte_ends.specs.Cutting.{Cutting, IsCutting, IsOpen, IsOf, ahead}
-use Rattle.byte_ends.specs.Held.{IsHeld, cutting_of, front_of}
+use Rattle.byte_ends.specs.Cutting.{Cutting, IsCutting, WantsMore, IsOf, ahead}
+use Rattle.byte_ends.specs.Held.{HoldsParts, cutting_of, front_of}
 use Rattle.byte_ends.specs.Answers.{GivesNone}
 
--- the front of the pending line and the whole block behind it are what was pending
+-- the front of the pending line and the whole block after it are what was pending
 pub gathered : (front block line line' : List ℕ) (n : ℕ) → line ≡ front → n ≡ length block → line' ≡ line ++ take n block → line' ≡ front ++ block
 gathered front block line line' n is_front whole moved =
     moved ∙ rw (is_front, whole, take_all (length block) block (omega arith)) refl
 
 -- a cutting to which the bytes of a block were added is held as it should be
-pub IsHeld-fetched : (s : Cutting) (whole ended : Bool) (line block : List ℕ) (taken capacity : ℕ) → IsCutting s → IsOpen s
+pub IsHeld-fetched : (s : Cutting) (whole ended : Bool) (line block : List ℕ) (taken capacity : ℕ) → IsCutting s → WantsMore s
     → whole ≡ false → line ≡ s.pending → taken ≡ s.taken + length block → taken ≤ s.most + 1 → (ended ≡ true → block ≡ [])
     → length line + length block ≤ capacity
-    → IsHeld (cutting_of s.most taken s.number ended whole line block) (front_of whole line) block capacity
+    → HoldsParts (cutting_of s.most taken s.number ended whole line block) (front_of whole line) block capacity
 IsHeld-fetched s whole ended line block taken capacity was undecided begun all_pending counted fits at_end reserved =
     rw begun (record {
       cutting = record {
@@ -59,9 +59,9 @@ GivesNone-taken s t left left' bytes consumed pending counted most number no_lin
     }
 
 -- where nothing was taken, the cutting stays open, and gives no line
-pub GivesNone-kept : (s : Cutting) (whole : Bool) (line block : List ℕ) (left left' : Option (List ℕ)) → IsOpen s → whole ≡ false
+pub GivesNone-kept : (s : Cutting) (whole : Bool) (line block : List ℕ) (left left' : Option (List ℕ)) → WantsMore s → whole ≡ false
     → line ≡ s.pending → block ≡ [] → Keeps left left'
-    → GivesNone s (cutting_of s.most s.taken s.number s.ended whole line block) left left' × IsOpen (cutting_of s.most s.taken s.number s.ended whole line block)
+    → GivesNone s (cutting_of s.most s.taken s.number s.ended whole line block) left left' × WantsMore (cutting_of s.most s.taken s.number s.ended whole line block)
 GivesNone-kept s whole line block left left' undecided begun all_pending none kept =
     rw (begun, all_pending, none, append-nil s.pending) (
       GivesNone-taken s (record s { line = [] }) left left' [] (Consumes-kept left left left' [] (Consumes-nil left) kept) (sym (append-nil s.pending)) (omega arith) refl refl refl

@@ -1,11 +1,11 @@
--- Texts that are gathered one behind another are one text.
+-- Texts that are gathered one after another are one text.
 use Rattle.std.proofs.Common.{◌≡◌, ℕ, ◌+◌, ◌≤◌, List, [], ◌++◌, length, take, drop, refl, sym, ap, ◌∙◌, subst, append_assoc, arith}
 use Rattle.std.proofs.lemmas.List.{append-nil, take-append-drop}
 use Rattle.std.proofs.Math.Seq.{take-add}
 use Rattle.std.specs.Prelude.{Option}
 use Rattle.std.specs.Io.KnownBytes.{Appends}
 use Rattle.std.proofs.KnownBytes.{Appends-nil, Appends-trans}
-use Rattle.byte_ends.specs.Faults.{Rises}
+use Rattle.byte_ends.specs.Faults.{FaultsRise}
 use Rattle.byte_ends.specs.Gathering.{Gathers, WritesPart}
 use Rattle.byte_ends.specs.Writing.{WritesFront}
 
@@ -26,7 +26,7 @@ joined-on put put' gathered gathered' gathered'' text text' first second =
     append_assoc put put' gathered'' ∙ ap (λ (rest : List ℕ). put ++ rest) second ∙ sym (append_assoc put gathered' text')
     ∙ ap (λ (front : List ℕ). front ++ text') first ∙ append_assoc gathered text text'
 
--- one text behind another
+-- one text after another
 pub gathers-on : (a b c : Option (List ℕ)) (gathered gathered' gathered'' text text' : List ℕ) → Gathers a b gathered gathered' text → Gathers b c gathered' gathered'' text' → Gathers a c gathered gathered'' (text ++ text')
 gathers-on a b c gathered gathered' gathered'' text text' first second = record {
   put = first.put ++ second.put;
@@ -50,7 +50,7 @@ gathers-next done count piece next a b c gathered gathered' gathered'' is so_far
 pub gathers-part : (a b : Option (List ℕ)) (gathered gathered' text : List ℕ) → Gathers a b gathered gathered' text → WritesPart a b (gathered ++ text)
 gathers-part a b gathered gathered' text g = record { front = g.put; rest = gathered'; appends = g.appends; joined = g.joined }
 
--- a front of a text behind what was gathered
+-- a front of a text after what was gathered
 pub gathers-then-part : (a b c : Option (List ℕ)) (gathered gathered' text text' : List ℕ) → Gathers a b gathered gathered' text → WritesPart b c (gathered' ++ text') → WritesPart a c (gathered ++ (text ++ text'))
 gathers-then-part a b c gathered gathered' text text' first part = record {
   front = first.put ++ part.front;
@@ -81,5 +81,5 @@ front-is-part a b piece front = record { front = take front.count piece; rest = 
 pub ruleset parts = (front-is-part, gathers-nothing, gathers-put)
 
 -- a count that rose in a later call rose in all of them
-pub rises-later : (a b c : ℕ) → a ≤ b → Rises b c → Rises a c
+pub rises-later : (a b c : ℕ) → a ≤ b → FaultsRise b c → FaultsRise a c
 rises-later a b c first later = record { keeps = omega (arith, first, later.keeps); more = omega (arith, first, later.more) }

@@ -15,7 +15,7 @@ use Rattle.byte_ends.specs.declared.lines.LineRefusal.TheVariants.{ReadFault, To
 not_feed : (b : ℕ) → b ≢ feed → (b == feed) ≡ false
 not_feed b h = grind (arith, nat_tests)
 
--- the first whole line, and then those behind it
+-- the first whole line, and then those after it
 pub whole_lines-line : (n most : ℕ) (line rest : List ℕ) → HasNoFeed line → n ≡ length line + 1 + most
     → whole_lines n (line ++ feed ∷ rest) ≡ line ∷ whole_lines most rest
 whole_lines-line zero most [] rest no_feed e = absurd (omega arith)
@@ -28,7 +28,7 @@ whole_lines-line (suc n) most (b ∷ line) rest no_feed e =
     let behind = whole_lines-line n most line rest (All-tail (λ c. c ≢ feed) b line no_feed) (omega arith) in
     rw test (ap (with_front b) behind)
 
--- what comes behind the first whole line
+-- what comes after the first whole line
 pub ending_from-line : (open_line : Bool) (n most : ℕ) (line rest : List ℕ) → HasNoFeed line → n ≡ length line + 1 + most
     → ending_from open_line n (line ++ feed ∷ rest) ≡ ending most rest
 ending_from-line open_line zero most [] rest no_feed e = absurd (omega arith)

@@ -5,7 +5,7 @@ use Rattle.std.proofs.lemmas.List.{get_or-take, get_or_at, get_or_append_left}
 use Rattle.std.proofs.lemmas.Bool.{cases_lt}
 use Rattle.std.proofs.lemmas.List.Elements.{All-take}
 use Rattle.byte_ends.specs.WholeLines.{feed}
-use Rattle.byte_ends.specs.Cutting.{Cutting, HasLine, HasNoFeed, IsCutting, IsDone, IsOver, IsCut, IsFinal, IsOpen, allowance, let_go}
+use Rattle.byte_ends.specs.Cutting.{Cutting, HasLine, HasNoFeed, IsCutting, IsDone, IsOver, IsCut, IsFinal, WantsMore, allowance, let_go}
 use Rattle.byte_ends.specs.Answers.{Moves}
 use Rattle.byte_ends.specs.Steps.{GivesLine, Settles}
 use Rattle.byte_ends.specs.declared.lines.Cut.{Cut}
@@ -56,7 +56,7 @@ HasLine-given s t gives =
     (length t.line, omega (arith, room, length-take (allowance s) s.pending, ap length gives.joined, length-append t.line (feed ∷ t.pending)), at)
 
 -- a line that was given after one more block was read ends in that block, so what is pending is less than the block
-pub pending_below_block : (p m t : Cutting) (left left' : Option (List ℕ)) (block : ℕ) → IsOpen p → Moves p m left left' []
+pub pending_below_block : (p m t : Cutting) (left left' : Option (List ℕ)) (block : ℕ) → WantsMore p → Moves p m left left' []
     → m.taken ≤ p.taken + block → GivesLine m t → length t.pending < block
 pending_below_block p m t left left' block undecided moves one_block gives =
     elim (cases_lt (length t.line) (length p.pending)) [

@@ -1,13 +1,13 @@
 -- What a call for the next line answers. A line comes where one stands whole among the bytes that may stand in lines;
 -- the end comes where the source ended and all its bytes were given. The call refuses where the source failed, where
 -- memory was wanted, where one byte too many was taken and no whole line is left, and where the source ended inside a
--- line. Where the source tells its bytes, the lines given and the answer behind them are a function of those bytes,
+-- line. Where the source tells its bytes, the lines given and the answer after them are a function of those bytes,
 -- whatever the sizes of the reads: each call takes the first line off the outlook, or answers what the outlook ends in.
 use Rattle.std.specs.Prelude.{◌≡◌, ℕ, ◌+◌, ◌≤◌, List, [], ◌∷◌, ◌++◌, length, Option, Some, None, Result, Ok, Err, ⊤}
 use Rattle.std.specs.Io.KnownBytes.{Consumes, IsAtEnd}
-use Rattle.byte_ends.specs.Faults.{Rises}
+use Rattle.byte_ends.specs.Faults.{FaultsRise}
 use Rattle.byte_ends.specs.WholeLines.{feed, Outlook, outlook, all_given, cut_short, too_long}
-use Rattle.byte_ends.specs.Cutting.{Cutting, HasNoFeed, IsOpen, IsDone, IsOver, IsCut, IsOf, ahead, allowance, given}
+use Rattle.byte_ends.specs.Cutting.{Cutting, HasNoFeed, WantsMore, IsDone, IsOver, IsCut, IsOf, ahead, allowance, given}
 use Rattle.byte_ends.specs.declared.lines.Cut.{Cut}
 use Rattle.byte_ends.specs.declared.lines.Cut.TheVariants.{Line, End}
 use Rattle.byte_ends.specs.declared.lines.LineRefusal.{LineRefusal}
@@ -49,13 +49,13 @@ pub record AnswersEnd (s t : Cutting) (left left' : Option (List ℕ)) : Type 0 
 -- the source failed: its count of faults rose
 pub record AnswersReadFault (s t : Cutting) (left left' : Option (List ℕ)) (faults faults' : ℕ) : Type 0 where
   pub stays : GivesNone s t left left'
-  pub open_still : IsOpen t
-  pub rises : Rises faults faults'
+  pub open_still : WantsMore t
+  pub rises : FaultsRise faults faults'
 
 -- memory was wanted
 pub record AnswersMemory (s t : Cutting) (left left' : Option (List ℕ)) : Type 0 where
   pub stays : GivesNone s t left left'
-  pub open_still : IsOpen t
+  pub open_still : WantsMore t
 
 -- `taken` bytes were taken, one too many, and no whole line is left among the others
 pub record AnswersTooLong (taken : ℕ) (s t : Cutting) (left left' : Option (List ℕ)) : Type 0 where

@@ -69,7 +69,7 @@ pub record IsDone (t : Cutting) : Type 0 where
   pub none : t.pending ≡ []
 
 -- more has to be read before anything is known
-pub record IsOpen (t : Cutting) : Type 0 where
+pub record WantsMore (t : Cutting) : Type 0 where
   pub goes_on : t.ended ≡ false
   pub room : t.taken ≤ t.most
   pub no_line : HasNoFeed t.pending
@@ -79,8 +79,8 @@ abbrev pub IsFinal : Cutting → Type 0
 IsFinal t = IsOver t ⊎ (IsCut t ⊎ IsDone t)
 
 -- the bytes taken decide what is answered next
-abbrev pub IsSettled : Cutting → Type 0
-IsSettled t = HasLine t ⊎ IsFinal t
+abbrev pub IsDecided : Cutting → Type 0
+IsDecided t = HasLine t ⊎ IsFinal t
 
 -- the cutting is of a source that has these bytes left: where it says that the source ended, none is left
 abbrev pub IsOf : Cutting → Option (List ℕ) → Type 0

@@ -4,7 +4,7 @@
 use Rattle.std.specs.Prelude.{ℕ, ◌+◌, ◌-◌, ◌^◌, ◌≤◌, min, List, Contains}
 
 -- the count rose from a to b, or stands at its last value
-pub record Rises (a b : ℕ) : Type 0 where
+pub record FaultsRise (a b : ℕ) : Type 0 where
   pub keeps : a ≤ b
   pub more : min (a + 1) (2 ^ 64 - 1) ≤ b
 

@@ -1,4 +1,4 @@
--- Bytes that are gathered before they are written to a sink. What was written, and behind it what is gathered now, is what
+-- Bytes that are gathered before they are written to a sink. What was written, and after it what is gathered now, is what
 -- was gathered before and then the pieces pushed since, in their order. After a fault a front of that was written.
 use Rattle.std.specs.Prelude.{◌≡◌, ℕ, List, ◌++◌, Option}
 use Rattle.std.specs.Io.KnownBytes.{Appends}

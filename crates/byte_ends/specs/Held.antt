@@ -1,6 +1,6 @@
 -- How a cutting is held. What is pending stands in two parts: the front of the line that is pending, which has no line
--- feed, and behind it the rest of the block that was read last. A line that is whole is in hand and isn't pending. Room
--- for the rest of the block is reserved behind the front, so a line that was taken is given without taking memory.
+-- feed, and after it the rest of the block that was read last. A line that is whole is in hand and isn't pending. Room
+-- for the rest of the block is reserved after the front, so a line that was taken is given without taking memory.
 use Rattle.std.specs.Prelude.{◌≡◌, ℕ, ◌+◌, ◌<◌, ◌≤◌, Bool, List, [], ◌++◌, length, take, slice_index, if◌then◌else◌}
 use Rattle.byte_ends.specs.WholeLines.{feed}
 use Rattle.byte_ends.specs.Cutting.{Cutting, HasNoFeed, IsCutting}
@@ -22,7 +22,7 @@ cutting_of most taken number ended whole line block =
     }
 
 -- what holds of the parts
-pub record IsHeld (t : Cutting) (front block : List ℕ) (capacity : ℕ) : Type 0 where
+pub record HoldsParts (t : Cutting) (front block : List ℕ) (capacity : ℕ) : Type 0 where
   pub cutting : IsCutting t
   pub no_feed : HasNoFeed front
   pub reserved : length front + length block ≤ capacity

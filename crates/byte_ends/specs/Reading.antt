@@ -4,7 +4,7 @@
 -- rose in that read, and then it takes no byte.
 use Rattle.std.specs.Prelude.{◌≡◌, ℕ, ◌≤◌, List, [], length, take, Option, ⊤}
 use Rattle.std.specs.Io.KnownBytes.{Consumes, Keeps, IsAtEnd}
-use Rattle.byte_ends.specs.Faults.{Rises}
+use Rattle.byte_ends.specs.Faults.{FaultsRise}
 use Rattle.byte_ends.specs.declared.source.Took.{Took}
 use Rattle.byte_ends.specs.declared.source.Took.TheVariants.{Taken, End, Failed}
 
@@ -16,24 +16,24 @@ pub record Takes (n : ℕ) (left left' : Option (List ℕ)) (room : List ℕ) (f
   pub counts : faults ≤ faults'
 
 -- the source ended: no byte was left before the read, and none is left after it
-pub record Ends (left left' : Option (List ℕ)) (faults faults' : ℕ) : Type 0 where
+pub record ReachesEnd (left left' : Option (List ℕ)) (faults faults' : ℕ) : Type 0 where
   pub none_left : IsAtEnd left
   pub none_comes : IsAtEnd left'
   pub keeps : Keeps left left'
   pub counts : faults ≤ faults'
 
 -- the read failed: the count rose, and no byte was taken
-pub record Fails (left left' : Option (List ℕ)) (faults faults' : ℕ) : Type 0 where
+pub record FailsToRead (left left' : Option (List ℕ)) (faults faults' : ℕ) : Type 0 where
   pub keeps : Keeps left left'
-  pub rises : Rises faults faults'
+  pub rises : FaultsRise faults faults'
 
 -- what one read answers and does
 abbrev pub Reads : Took → Option (List ℕ) → Option (List ℕ) → List ℕ → ℕ → ℕ → Type 0
 Reads (Taken n) left left' room faults faults' = Takes n left left' room faults faults'
-Reads End left left' room faults faults' = Ends left left' faults faults'
-Reads Failed left left' room faults faults' = Fails left left' faults faults'
+Reads End left left' room faults faults' = ReachesEnd left left' faults faults'
+Reads Failed left left' room faults faults' = FailsToRead left left' faults faults'
 
--- no more than so many bytes were taken
+-- no more than `most` bytes were taken
 abbrev pub TakesAtMost : ℕ → Took → Type 0
 TakesAtMost want (Taken n) = n ≤ want
 TakesAtMost want End = ⊤
@@ -50,5 +50,5 @@ pub record FillsBlock (n want : ℕ) (block : List ℕ) (left left' : Option (Li
 -- what a read into an empty block answers and does
 abbrev pub Refills : Took → ℕ → List ℕ → Option (List ℕ) → Option (List ℕ) → ℕ → ℕ → Type 0
 Refills (Taken n) want block left left' faults faults' = FillsBlock n want block left left' faults faults'
-Refills End want block left left' faults faults' = (block ≡ []) × Ends left left' faults faults'
-Refills Failed want block left left' faults faults' = (block ≡ []) × Fails left left' faults faults'
+Refills End want block left left' faults faults' = (block ≡ []) × ReachesEnd left left' faults faults'
+Refills Failed want block left left' faults faults' = (block ≡ []) × FailsToRead left left' faults faults'

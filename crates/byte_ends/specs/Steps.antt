@@ -2,7 +2,7 @@
 -- second is made where they decide nothing, and reads one block more.
 use Rattle.std.specs.Prelude.{◌≡◌, ℕ, ◌+◌, ◌<◌, ◌≤◌, ◌⊎◌, true, List, ◌∷◌, ◌++◌, Option, Some, None, Result, Ok, Err}
 use Rattle.byte_ends.specs.WholeLines.{feed}
-use Rattle.byte_ends.specs.Cutting.{Cutting, HasNoFeed, IsOpen, IsDone, IsOver, IsCut, given, let_go}
+use Rattle.byte_ends.specs.Cutting.{Cutting, HasNoFeed, WantsMore, IsDone, IsOver, IsCut, given, let_go}
 use Rattle.byte_ends.specs.Answers.{GivesNone, AnswersReadFault, AnswersMemory}
 use Rattle.byte_ends.specs.declared.block.TheConstants.{BLOCK}
 use Rattle.byte_ends.specs.declared.lines.Cut.{Cut}
@@ -23,14 +23,14 @@ pub record GivesLine (s t : Cutting) : Type 0 where
 -- nothing but the line in hand was let go, and the bytes taken decide nothing
 pub record StaysOpen (s t : Cutting) : Type 0 where
   pub same : t ≡ let_go s
-  pub undecided : IsOpen t
+  pub undecided : WantsMore t
 
 -- all bytes were given before
 pub record SettlesDone (s t : Cutting) : Type 0 where
   pub same : t ≡ let_go s
   pub done : IsDone t
 
--- one byte too many was taken before, so many in all
+-- one byte too many was taken before, `taken` in all
 pub record SettlesOver (taken : ℕ) (s t : Cutting) : Type 0 where
   pub same : t ≡ let_go s
   pub over : IsOver t

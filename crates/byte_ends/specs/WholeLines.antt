@@ -8,7 +8,7 @@ use Rattle.std.specs.Prelude.{ℕ, suc, zero, Bool, false, not, ◌==◌, if◌t
 abbrev pub feed : ℕ
 feed = 10
 
--- a byte put in front of the first line; a byte with no whole line behind it stands in no whole line
+-- a byte put in front of the first line; a byte with no whole line after it stands in no whole line
 abbrev pub with_front : ℕ → List (List ℕ) → List (List ℕ)
 with_front b [] = []
 with_front b (line ∷ lines) = (b ∷ line) ∷ lines
@@ -19,23 +19,23 @@ whole_lines most [] = []
 whole_lines zero (b ∷ bs) = []
 whole_lines (suc most) (b ∷ bs) = if b == feed then [] ∷ whole_lines most bs else with_front b (whole_lines most bs)
 
--- what comes behind the whole lines
+-- what comes after the whole lines
 pub data Ending : Type 0 where
   all_given : Ending
   cut_short : Ending
   too_long : Ending
 
--- what comes behind the whole lines, where a line is open or not
+-- what comes after the whole lines, where a line is open or not
 abbrev pub ending_from : Bool → ℕ → List ℕ → Ending
 ending_from open_line most [] = if open_line then cut_short else all_given
 ending_from open_line zero (b ∷ bs) = too_long
 ending_from open_line (suc most) (b ∷ bs) = ending_from (not (b == feed)) most bs
 
--- what comes behind the whole lines of all bytes
+-- what comes after the whole lines of all bytes
 abbrev pub ending : ℕ → List ℕ → Ending
 ending most bs = ending_from false most bs
 
--- what is to come of bytes that are not given yet: their whole lines, and what comes behind them
+-- what is to come of bytes that are not given yet: their whole lines, and what comes after them
 pub record Outlook : Type 0 where
   pub lines : List (List ℕ)
   pub ending : Ending

@@ -3,7 +3,7 @@
 -- only where the count of faults rose in that write, and then it appends nothing.
 use Rattle.std.specs.Prelude.{ℕ, ◌≤◌, ◌<◌, List, length, take, Option}
 use Rattle.std.specs.Io.KnownBytes.{Appends, Keeps}
-use Rattle.byte_ends.specs.Faults.{Rises}
+use Rattle.byte_ends.specs.Faults.{FaultsRise}
 use Rattle.byte_ends.specs.declared.sink.Put.{Put}
 use Rattle.byte_ends.specs.declared.sink.Put.TheVariants.{Wrote, Failed}
 
@@ -17,7 +17,7 @@ pub record Puts (n : ℕ) (written written' : Option (List ℕ)) (piece : List �
 -- the write failed: the count rose, and nothing was appended
 pub record Refuses (written written' : Option (List ℕ)) (faults faults' : ℕ) : Type 0 where
   pub keeps : Keeps written written'
-  pub rises : Rises faults faults'
+  pub rises : FaultsRise faults faults'
 
 -- what one write answers and does
 abbrev pub Writes : Put → Option (List ℕ) → Option (List ℕ) → List ℕ → ℕ → ℕ → Type 0

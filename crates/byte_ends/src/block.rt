@@ -84,7 +84,7 @@ impl Block {
     }
 }
 
-/// Reads at most `want` bytes into the front of the room.
+// Reads at most `want` bytes into the front of the room.
 fn read_front<S: Source>(source: &mut S, room: &mut [u8], want: usize) -> Took
     requires some { 0 < want }
     requires fits { want ≤ length room.old }

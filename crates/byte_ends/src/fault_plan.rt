@@ -1,6 +1,6 @@
 //! The planned faults of a source or a sink in memory.
 ghost use Rattle.std.specs.Prelude.{◌≡◌, ◌↔◌, IsTrue};
-ghost use Rattle.byte_ends.specs.Faults.{Rises, after_call, after_fault, FailsNext};
+ghost use Rattle.byte_ends.specs.Faults.{FaultsRise, after_call, after_fault, FailsNext};
 
 use std::marker::Model;
 
@@ -45,7 +45,7 @@ impl FaultPlan {
     /// Counts one fault.
     pub fn count_fault(&mut self)
         ensures after { self.new ≡ after_fault self.old }
-        ensures rises { Rises self.old.faults self.new.faults }
+        ensures rises { FaultsRise self.old.faults self.new.faults }
     {
         self.faults = self.faults.saturating_add(1);
     }

@@ -1,7 +1,7 @@
 //! Pieces that are gathered before they are written.
 ghost use Rattle.std.specs.Prelude.{◌≡◌, ◌≤◌, ◌<◌, ◌++◌, [], length, IfOk, OnOk, OnErr};
 ghost use Rattle.std.specs.Io.KnownBytes.{Appends};
-ghost use Rattle.byte_ends.specs.Faults.{Rises};
+ghost use Rattle.byte_ends.specs.Faults.{FaultsRise};
 ghost use Rattle.byte_ends.specs.Gathering.{Gathers, WritesPart};
 
 use crate::block::BLOCK;
@@ -40,12 +40,12 @@ impl Gather {
         })
     }
 
-    /// Gathers the piece behind those before it. What is gathered is written whenever there is no more room. A fault comes
+    /// Gathers the piece after those before it. What is gathered is written whenever there is no more room. A fault comes
     /// only where the sink's count of faults rose in this call, and then a front of what was gathered and of the piece was
     /// written.
     pub fn push<K: Sink>(&mut self, sink: &mut K, piece: &[u8]) -> Result<(), WriteFault>
         ensures ok { OnOk result (Gathers (K.written sink.old) (K.written sink.new) self.old self.new piece.now) }
-        ensures fault { OnErr result (Rises (K.faults sink.old) (K.faults sink.new)) }
+        ensures fault { OnErr result (FaultsRise (K.faults sink.old) (K.faults sink.new)) }
         ensures front { OnErr result (WritesPart (K.written sink.old) (K.written sink.new) (self.old ++ piece.now)) }
         ensures counts { K.faults sink.old ≤ K.faults sink.new }
     {
@@ -64,7 +64,7 @@ impl Gather {
     #[tactic(auto, using(crate::proofs::Gathering::parts))]
     pub fn finish<K: Sink>(self, sink: &mut K) -> Result<(), WriteFault>
         ensures ok { OnOk result (Appends (K.written sink.old) (K.written sink.new) self) }
-        ensures fault { OnErr result (Rises (K.faults sink.old) (K.faults sink.new)) }
+        ensures fault { OnErr result (FaultsRise (K.faults sink.old) (K.faults sink.new)) }
         ensures front { OnErr result (WritesPart (K.written sink.old) (K.written sink.new) self) }
         ensures counts { K.faults sink.old ≤ K.faults sink.new }
     {
@@ -76,7 +76,7 @@ impl Gather {
     fn make_room<K: Sink>(&mut self, sink: &mut K) -> Result<(), WriteFault>
         ensures ok { OnOk result (Gathers (K.written sink.old) (K.written sink.new) self.old self.new []) }
         ensures room { OnOk result (length self.new < BLOCK) }
-        ensures fault { OnErr result (Rises (K.faults sink.old) (K.faults sink.new)) }
+        ensures fault { OnErr result (FaultsRise (K.faults sink.old) (K.faults sink.new)) }
         ensures front { OnErr result (WritesPart (K.written sink.old) (K.written sink.new) self.old) }
         ensures counts { K.faults sink.old ≤ K.faults sink.new }
     {

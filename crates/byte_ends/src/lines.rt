@@ -2,7 +2,7 @@
 ghost use Rattle.std.specs.Prelude.{◌≡◌, ◌+◌, ◌-◌, ◌^◌, ◌<◌, ◌≤◌, ◌⊎◌, [], ◌++◌, false, length, take, drop, Ok, Err, IfOk, IfNone, IfSome, vec_len, vec_capacity};
 ghost use Rattle.byte_ends.specs.Answers.{Answers, Foretells};
 ghost use Rattle.byte_ends.specs.Steps.{Fetches, Settles};
-ghost use Rattle.byte_ends.specs.Cutting.{HasLine, HasNoFeed, IsCut, IsCutting, IsDone, IsFinal, IsOf, IsOpen, IsOver, IsSettled, ahead, let_go};
+ghost use Rattle.byte_ends.specs.Cutting.{HasLine, HasNoFeed, IsCut, IsCutting, IsDone, IsFinal, IsOf, WantsMore, IsOver, IsDecided, ahead, let_go};
 ghost use Rattle.byte_ends.specs.Held.{IsFirstFeed, front_of};
 
 use crate::block::{BLOCK, Block};
@@ -12,7 +12,7 @@ use net_units::OutOfMemory;
 use std::alloc::Global;
 use std::marker::Model;
 
-/// The byte that ends a line.
+// The byte that ends a line.
 const FEED: u8 = b'\n';
 
 /// What a call came to.
@@ -29,7 +29,7 @@ pub enum Cut {
 pub enum LineRefusal {
     /// The source failed, as its count of faults shows. The call may be made again.
     ReadFault,
-    /// One byte more than lines may have was taken, so many in all, and no whole line is left among the others.
+    /// One byte more than lines may have was taken, `taken` in all, and no whole line is left among the others.
     TooLong {
         /// How many bytes were taken.
         taken: u64,
@@ -63,13 +63,13 @@ pub struct Lines {
 impl Model for Lines {
     ghost use Rattle.std.specs.Prelude.{vec_capacity};
     ghost use Rattle.byte_ends.specs.Cutting.{Cutting};
-    ghost use Rattle.byte_ends.specs.Held.{IsHeld, cutting_of, front_of};
+    ghost use Rattle.byte_ends.specs.Held.{HoldsParts, cutting_of, front_of};
 
     ghost Value = { Cutting };
 
     ghost view = { λ a. cutting_of a.most a.taken a.number a.ended a.whole a.line.items a.block };
 
-    ghost invariant = { λ a. IsHeld
+    ghost invariant = { λ a. HoldsParts
         (cutting_of a.most a.taken a.number a.ended a.whole a.line.items a.block)
         (front_of a.whole a.line.items) a.block (vec_capacity a.line) };
 }
@@ -135,8 +135,8 @@ impl Lines {
         ensures cut_again { IsCut self.old
             → result ≡ Err (LineRefusal.NoLineEnd (self.old.number + 1)) }
         ensures done_again { IsDone self.old → result ≡ Ok Cut.End }
-        ensures unread { IsSettled self.old → source.new ≡ source.old }
-        ensures untaken { IsSettled self.old → self.new.taken ≡ self.old.taken }
+        ensures unread { IsDecided self.old → source.new ≡ source.old }
+        ensures untaken { IsDecided self.old → self.new.taken ≡ self.old.taken }
         ensures near { result ≡ Ok Cut.Line
             → HasLine self.old ⊎ (length self.new.pending < BLOCK) }
         ensures same_again { IsFinal self.old → self.new ≡ let_go self.old }
@@ -147,9 +147,9 @@ impl Lines {
         }
     }
 
-    /// Reads until the bytes taken decide something.
+    // Reads until the bytes taken decide something.
     fn read_on<S: Source>(&mut self, source: &mut S) -> Result<Cut, LineRefusal>
-        requires { IsOpen self.old }
+        requires { WantsMore self.old }
         ensures answers { Answers result self.old self.new (S.left source.old) (S.left source.new)
             (S.faults source.old) (S.faults source.new) }
         ensures counts { S.faults source.old ≤ S.faults source.new }
@@ -164,9 +164,9 @@ impl Lines {
         }
     }
 
-    /// Reads one block more, behind the bytes that are pending.
+    // Reads one block more, after the bytes that are pending.
     fn fetch<S: Source>(&mut self, source: &mut S) -> Result<(), LineRefusal>
-        requires { IsOpen self.old }
+        requires { WantsMore self.old }
         ensures fetches { Fetches result self.old self.new (S.left source.old) (S.left source.new)
             (S.faults source.old) (S.faults source.new) }
         ensures counts { S.faults source.old ≤ S.faults source.new }
@@ -192,7 +192,7 @@ impl Lines {
         }
     }
 
-    /// What the bytes taken so far decide. Where they decide nothing, more has to be read.
+    // What the bytes taken so far decide. Where they decide nothing, more has to be read.
     fn settle(&mut self) -> Option<Result<Cut, LineRefusal>>
         ensures settles { Settles result self.old self.new }
         ensures stands { IsCutting self.new }
@@ -220,7 +220,7 @@ impl Lines {
     }
 }
 
-/// Lets a line go that was given, so that the next one begins.
+// Lets a line go that was given, so that the next one begins.
 fn begin_line(line: &mut Vec<u8>, whole: &mut bool)
     ensures front { line.new.items ≡ front_of whole.old line.old.items }
     ensures begun { whole.new ≡ false }
@@ -232,7 +232,7 @@ fn begin_line(line: &mut Vec<u8>, whole: &mut bool)
     }
 }
 
-/// Where the first line feed stands, the last `surplus` bytes left aside.
+// Where the first line feed stands, the last `surplus` bytes left aside.
 fn first_feed(bytes: &[u8], surplus: usize) -> Option<usize>
     ensures none { IfNone result (HasNoFeed (take (length bytes.now - surplus) bytes.now)) }
     ensures found { IfSome result (IsFirstFeed (take (length bytes.now - surplus) bytes.now)) }
@@ -241,7 +241,7 @@ fn first_feed(bytes: &[u8], surplus: usize) -> Option<usize>
     bytes[..count].iter().position(|byte| *byte == FEED)
 }
 
-/// Moves the first `count` bytes of the block to the end of the line, where room for them is reserved.
+// Moves the first `count` bytes of the block to the end of the line, where room for them is reserved.
 fn move_front(block: &mut Block, line: &mut Vec<u8>, count: usize)
     requires within { count ≤ length block.old }
     requires reserved { vec_len line.old + length block.old ≤ vec_capacity line.old }

@@ -1,7 +1,7 @@
 //! Where bytes are written to.
 ghost use Rattle.std.specs.Prelude.{◌≡◌, ℕ, ◌<◌, ◌≤◌, List, [], length, Option, IsOk, OnOk, OnErr};
 ghost use Rattle.std.specs.Io.KnownBytes.{Appends};
-ghost use Rattle.byte_ends.specs.Faults.{Rises};
+ghost use Rattle.byte_ends.specs.Faults.{FaultsRise};
 ghost use Rattle.byte_ends.specs.Writing.{Writes, WritesFront};
 
 /// What one write to a sink took.
@@ -39,7 +39,7 @@ pub struct WriteFault;
 /// of the piece was written.
 pub fn put_all<K: Sink>(sink: &mut K, piece: &[u8]) -> Result<(), WriteFault>
     ensures ok { OnOk result (Appends (K.written sink.old) (K.written sink.new) piece.now) }
-    ensures fault { OnErr result (Rises (K.faults sink.old) (K.faults sink.new)) }
+    ensures fault { OnErr result (FaultsRise (K.faults sink.old) (K.faults sink.new)) }
     ensures front { OnErr result (WritesFront (K.written sink.old) (K.written sink.new) piece.now) }
     ensures counts { K.faults sink.old ≤ K.faults sink.new }
 

@@ -66,7 +66,7 @@ impl<R: Read + Drop> Source for StdSource<R> {
     }
 }
 
-/// How many bytes a read took, where it didn't fail.
+// How many bytes a read took, where it didn't fail.
 fn read_retrying<R: Read>(from: &mut R, room: &mut [u8]) -> Option<usize>
     ensures { IfSome result (λ count. count ≤ length room.new) }
 {
@@ -133,7 +133,7 @@ impl<W: Write + Drop> Sink for StdSink<W> {
     }
 }
 
-/// How many bytes of the piece a write took, where it took some and didn't fail.
+// How many bytes of the piece a write took, where it took some and didn't fail.
 fn write_retrying<W: Write>(to: &mut W, piece: &[u8]) -> Option<usize>
     ensures { IfSome result (WritesSome piece.now) }
 {
@@ -151,7 +151,7 @@ fn write_retrying<W: Write>(to: &mut W, piece: &[u8]) -> Option<usize>
     None
 }
 
-/// Whether a flush succeeded.
+// Whether a flush succeeded.
 fn flush_retrying<W: Write>(to: &mut W) -> bool {
     for _attempt in 0..=RETRIES {
         match to.flush() {
@@ -166,7 +166,7 @@ fn flush_retrying<W: Write>(to: &mut W) -> bool {
     false
 }
 
-/// Whether the call was interrupted, so that it may be made again.
+// Whether the call was interrupted, so that it may be made again.
 fn is_interrupted(error: &Error) -> bool {
     error.kind() == ErrorKind::Interrupted
 }

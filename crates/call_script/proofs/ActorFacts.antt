@@ -11,9 +11,9 @@ use Rattle.link_steps.specs.declared.replies.Reply.{Reply}
 use Rattle.setup_protocol.specs.declared.request.Request.{Request}
 use Rattle.call_script.specs.Parts.{PlanParts}
 use Rattle.call_script.specs.Scripts.{Opened, Standing, is_established, outcome_in, takes_step, from_step, standing, standing_of}
-use Rattle.call_script.specs.Standing.{requests_of, Stands, standing_in, if_step}
+use Rattle.call_script.specs.Standing.{requests_of, CallerStands, standing_in, if_step}
 use Rattle.call_script.specs.Tasks.{network_of, script_of, task_of, with_task, tasks_of}
-use Rattle.call_script.specs.Work.{accepts_in, opened_of, opened_in}
+use Rattle.call_script.specs.Work.{accepts_in, opened_of, opened_among}
 use Rattle.call_script.specs.declared.actor.Actor.{Actor}
 use Rattle.call_script.specs.declared.operations.Op.{Op}
 use Rattle.call_script.specs.declared.tasks.Task.{Task}
@@ -22,7 +22,7 @@ use Rattle.call_script.proofs.Walks.{left-at, before-at}
 
 -- ---- where it stands
 
-pub stands-in : (parts : PlanParts) (actor : Actor) (replies : List Reply) (stands : Stands parts actor replies)
+pub stands-in : (parts : PlanParts) (actor : Actor) (replies : List Reply) (stands : CallerStands parts actor replies)
     → standing_in parts (actor_number actor.caller) replies ≡ standing (script_of (requests_of parts) stands.caller) replies
 unfolding network_of
 stands-in parts actor replies stands =
@@ -40,29 +40,29 @@ established-of chan (opened ∷ outcomes) =
       | inr other ↦ rw other (established-of chan outcomes)
     ]
 
-pub opened-more : (known : List Known) (last : Known) → opened_in (known ++ last ∷ []) ≡ opened_of last ∷ opened_in known
+pub opened-more : (known : List Known) (last : Known) → opened_among (known ++ last ∷ []) ≡ opened_of last ∷ opened_among known
 opened-more known last = ap (map opened_of) (reverse-append known (last ∷ []))
 
-outcome-same : (chan : ChanNo) (known : List Known) (last : Known) → channel_number last.chan ≡ channel_number chan → outcome_in chan (opened_in (known ++ last ∷ [])) ≡ Some (opened_of last).outcome
+outcome-same : (chan : ChanNo) (known : List Known) (last : Known) → channel_number last.chan ≡ channel_number chan → outcome_in chan (opened_among (known ++ last ∷ [])) ≡ Some (opened_of last).outcome
 unfolding outcome_in
 outcome-same chan known last same = rw (opened-more known last) (rw (eq-eqb (channel_number last.chan) (channel_number chan) same) refl)
 
-outcome-other : (chan : ChanNo) (known : List Known) (last : Known) → channel_number last.chan ≢ channel_number chan → outcome_in chan (opened_in (known ++ last ∷ [])) ≡ outcome_in chan (opened_in known)
+outcome-other : (chan : ChanNo) (known : List Known) (last : Known) → channel_number last.chan ≢ channel_number chan → outcome_in chan (opened_among (known ++ last ∷ [])) ≡ outcome_in chan (opened_among known)
 unfolding outcome_in
 outcome-other chan known last other = rw (opened-more known last) (rw (ne_eqb (channel_number last.chan) (channel_number chan) other) refl)
 
 -- the last of the entries so far that is of the channel, with one entry more
-pub turn-none : (chan : ChanNo) (known : List Known) → None ≡ outcome_in chan (opened_in (take 0 known))
+pub turn-none : (chan : ChanNo) (known : List Known) → None ≡ outcome_in chan (opened_among (take 0 known))
 unfolding outcome_in
 turn-none chan known = refl
 
 pub turn-same : (chan : ChanNo) (known : List Known) (i : ℕ) (at : Known) → i < length known → at ≡ get_or known i at → channel_number at.chan ≡ channel_number chan
-    → Some (opened_of at).outcome ≡ outcome_in chan (opened_in (take (i + 1) known))
-turn-same chan known i at within is same = sym (ap (λ xs. outcome_in chan (opened_in xs)) (before-at known i at within is) ∙ outcome-same chan (take i known) at same)
+    → Some (opened_of at).outcome ≡ outcome_in chan (opened_among (take (i + 1) known))
+turn-same chan known i at within is same = sym (ap (λ xs. outcome_in chan (opened_among xs)) (before-at known i at within is) ∙ outcome-same chan (take i known) at same)
 
 pub turn-other : (chan : ChanNo) (known : List Known) (i : ℕ) (at : Known) → i < length known → at ≡ get_or known i at → channel_number at.chan ≢ channel_number chan
-    → outcome_in chan (opened_in (take i known)) ≡ outcome_in chan (opened_in (take (i + 1) known))
-turn-other chan known i at within is other = sym (ap (λ xs. outcome_in chan (opened_in xs)) (before-at known i at within is) ∙ outcome-other chan (take i known) at other)
+    → outcome_in chan (opened_among (take i known)) ≡ outcome_in chan (opened_among (take (i + 1) known))
+turn-other chan known i at within is other = sym (ap (λ xs. outcome_in chan (opened_among xs)) (before-at known i at within is) ∙ outcome-other chan (take i known) at other)
 
 -- ---- the next task that takes a step
 

@@ -20,7 +20,7 @@ use Rattle.call_script.specs.Fits.{IsHopOf, RequestFits, TaskFits, NetworkFits}
 use Rattle.call_script.specs.Parts.{PlanParts, FollowsLink}
 use Rattle.call_script.specs.Plans.{HasTerms, IsPlan}
 use Rattle.call_script.specs.Rules.{have_links, has_link, route_is_there, pour_is_there, are_opened, are_there, request_in_range, op_in_range, rounds_in_range, are_in_range, are_few, takes_best_effort, pour_is_taken, pours_are_taken}
-use Rattle.call_script.specs.Tasks.{Network, request_of, link_of, task_of, with_task, tasks_of, script_of, network_of}
+use Rattle.call_script.specs.Tasks.{Network, request_of, entry_link, task_of, with_task, tasks_of, script_of, network_of}
 use Rattle.call_script.specs.declared.entries.CallerEntry.{CallerEntry}
 use Rattle.call_script.specs.declared.entries.LinkEntry.{LinkEntry}
 use Rattle.call_script.specs.declared.entries.RequestEntry.{RequestEntry}
@@ -55,19 +55,19 @@ comes-from f (x ∷ xs) (suc i) y found = (let rest = comes-from f xs i y found 
 
 -- ---- requests
 
-hop-there : (links : List LinkEntry) (hop : Hop) → has_link links hop.link ≡ true → FollowsLink links hop → IsHopOf (map link_of links) hop
+hop-there : (links : List LinkEntry) (hop : Hop) → has_link links hop.link ≡ true → FollowsLink links hop → IsHopOf (map entry_link links) hop
 hop-there links hop there follows =
     elim (slice_get_cases links (link_number hop.link)).1 [
       | inl at ↦ record {
-        link = link_of at.0;
-        linked = slice_get-map link_of links (link_number hop.link) ∙ ap (option_map link_of) at.2;
+        link = entry_link at.0;
+        linked = slice_get-map entry_link links (link_number hop.link) ∙ ap (option_map entry_link) at.2;
         bounds = follows.bounds at.0 at.2;
         prop = follows.prop at.0 at.2;
       }
       | inr past ↦ (let within : link_number hop.link < length links = ltb-true (link_number hop.link) (length links) there in absurd (omega (arith, past.0)))
     ]
 
-hops-there : (links : List LinkEntry) (route : List Hop) → list_all (λ (hop : Hop). has_link links hop.link) route ≡ true → Each (FollowsLink links) route → Each (IsHopOf (map link_of links)) route
+hops-there : (links : List LinkEntry) (route : List Hop) → list_all (λ (hop : Hop). has_link links hop.link) route ≡ true → Each (FollowsLink links) route → Each (IsHopOf (map entry_link links)) route
 hops-there links [] there follows = tt
 hops-there links (hop ∷ route) there follows =
     let split = both (has_link links hop.link) (list_all (λ (h : Hop). has_link links h.link) route) there in
@@ -84,7 +84,7 @@ hops-bounds links (hop ∷ route) there follows =
       | inr past ↦ (let within : link_number hop.link < length links = ltb-true (link_number hop.link) (length links) split.0 in absurd (omega (arith, past.0)))
     ]
 
-pub request-fits : (parts : PlanParts) (n : ℕ) (entry : RequestEntry) → IsPlan parts → slice_get parts.requests n ≡ Some entry → RequestFits (map link_of parts.links) entry.request
+pub request-fits : (parts : PlanParts) (n : ℕ) (entry : RequestEntry) → IsPlan parts → slice_get parts.requests n ≡ Some entry → RequestFits (map entry_link parts.links) entry.request
 unfolding are_there
 request-fits parts n entry plan found =
     let rules = keeps-rules parts plan.kept in
@@ -108,38 +108,38 @@ with-fits links None tasks fits each = each
 with-fits links (Some task) tasks fits each = (fits, each)
 
 -- of the request at an index
-of-request : (parts : PlanParts) (own : Request → Task) (n : ℕ) → IsPlan parts → ((request : Request) → RequestFits (map link_of parts.links) request → TaskFits (map link_of parts.links) (own request))
-    → (found : Option Request) → slice_get (map request_of parts.requests) n ≡ found → TaskFitsIf (map link_of parts.links) (option_map own found)
+of-request : (parts : PlanParts) (own : Request → Task) (n : ℕ) → IsPlan parts → ((request : Request) → RequestFits (map entry_link parts.links) request → TaskFits (map entry_link parts.links) (own request))
+    → (found : Option Request) → slice_get (map request_of parts.requests) n ≡ found → TaskFitsIf (map entry_link parts.links) (option_map own found)
 unfolding TaskFitsIf
 of-request parts own n plan fits None is = tt
 of-request parts own n plan fits (Some request) is =
     let at = comes-from request_of parts.requests n request is in
-    fits request (subst (RequestFits (map link_of parts.links)) at.is (request-fits parts n at.from plan at.found))
+    fits request (subst (RequestFits (map entry_link parts.links)) at.is (request-fits parts n at.from plan at.found))
 
-pour-fits : (links : List LinkEntry) (link : LinkNo) (count gap size : ℕ) → takes_best_effort (slice_get links (link_number link)) ≡ true → op_in_range (Pour link count gap size) ≡ true → TaskFitsIf (map link_of links) (task_of [] (Pour link count gap size))
+pour-fits : (links : List LinkEntry) (link : LinkNo) (count gap size : ℕ) → takes_best_effort (slice_get links (link_number link)) ≡ true → op_in_range (Pour link count gap size) ≡ true → TaskFitsIf (map entry_link links) (task_of [] (Pour link count gap size))
 unfolding TaskFitsIf
 pour-fits links link count gap size taken range = by (slice_get links (link_number link)) refl taken where
-  by : (found : Option LinkEntry) → slice_get links (link_number link) ≡ found → takes_best_effort found ≡ true → TaskFitsIf (map link_of links) (task_of [] (Pour link count gap size))
+  by : (found : Option LinkEntry) → slice_get links (link_number link) ≡ found → takes_best_effort found ≡ true → TaskFitsIf (map entry_link links) (task_of [] (Pour link count gap size))
   by None is none = cc
-  by (Some entry) is some = record { link = link_of entry; linked = slice_get-map link_of links (link_number link) ∙ ap (option_map link_of) is; best = leb-true 1 entry.shape.best some; pour = packets-fit count gap size range }
+  by (Some entry) is some = record { link = entry_link entry; linked = slice_get-map entry_link links (link_number link) ∙ ap (option_map entry_link) is; best = leb-true 1 entry.shape.best some; pour = packets-fit count gap size range }
 
-op-fits : (parts : PlanParts) (op : Op) → IsPlan parts → op_in_range op ≡ true → pour_is_taken parts.links op ≡ true → TaskFitsIf (map link_of parts.links) (task_of (map request_of parts.requests) op)
+op-fits : (parts : PlanParts) (op : Op) → IsPlan parts → op_in_range op ≡ true → pour_is_taken parts.links op ≡ true → TaskFitsIf (map entry_link parts.links) (task_of (map request_of parts.requests) op)
 op-fits parts (Open chan) plan range taken = of-request parts _ (channel_number chan) plan (λ request fits. fits) (slice_get (map request_of parts.requests) (channel_number chan)) refl
 op-fits parts (Send chan count gap size) plan range taken =
     of-request parts _ (channel_number chan) plan (λ request fits. record { of_request = fits; send = packets-fit count gap size range }) (slice_get (map request_of parts.requests) (channel_number chan)) refl
 op-fits parts (Close chan) plan range taken = of-request parts _ (channel_number chan) plan (λ request fits. fits) (slice_get (map request_of parts.requests) (channel_number chan)) refl
 op-fits parts (Pour link count gap size) plan range taken = pour-fits parts.links link count gap size taken range
 
-ops-fit : (parts : PlanParts) (ops : List Op) → IsPlan parts → list_all op_in_range ops ≡ true → list_all (pour_is_taken parts.links) ops ≡ true → Each (TaskFits (map link_of parts.links)) (tasks_of (map request_of parts.requests) ops)
+ops-fit : (parts : PlanParts) (ops : List Op) → IsPlan parts → list_all op_in_range ops ≡ true → list_all (pour_is_taken parts.links) ops ≡ true → Each (TaskFits (map entry_link parts.links)) (tasks_of (map request_of parts.requests) ops)
 unfolding tasks_of
 ops-fit parts [] plan range taken = tt
 ops-fit parts (op ∷ ops) plan range taken =
     let ranges = both (op_in_range op) (list_all op_in_range ops) range in
     let takes = both (pour_is_taken parts.links op) (list_all (pour_is_taken parts.links) ops) taken in
-    with-fits (map link_of parts.links) (task_of (map request_of parts.requests) op) (tasks_of (map request_of parts.requests) ops) (op-fits parts op plan ranges.0 takes.0) (ops-fit parts ops plan ranges.1 takes.1)
+    with-fits (map entry_link parts.links) (task_of (map request_of parts.requests) op) (tasks_of (map request_of parts.requests) ops) (op-fits parts op plan ranges.0 takes.0) (ops-fit parts ops plan ranges.1 takes.1)
 
 callers-fit : (parts : PlanParts) (callers : List CallerEntry) → IsPlan parts → list_all (λ (caller : CallerEntry). list_all op_in_range caller.ops) callers ≡ true → list_all (λ (caller : CallerEntry). list_all (pour_is_taken parts.links) caller.ops) callers ≡ true
-    → Each (Each (TaskFits (map link_of parts.links))) (map (script_of (map request_of parts.requests)) callers)
+    → Each (Each (TaskFits (map entry_link parts.links))) (map (script_of (map request_of parts.requests)) callers)
 callers-fit parts [] plan range taken = tt
 callers-fit parts (caller ∷ callers) plan range taken =
     let ranges = both (list_all op_in_range caller.ops) (list_all (λ (c : CallerEntry). list_all op_in_range c.ops) callers) range in
@@ -148,7 +148,7 @@ callers-fit parts (caller ∷ callers) plan range taken =
 
 -- ---- the network
 
-links-fit : (links : List LinkEntry) → Each SplitFits (map link_of links)
+links-fit : (links : List LinkEntry) → Each SplitFits (map entry_link links)
 links-fit [] = tt
 links-fit (entry ∷ links) = (whole-fits entry.shape, links-fit links)
 
@@ -166,8 +166,8 @@ plan-fits parts plan =
     let r : parts.rounds ≤ 524288 = leb-true parts.rounds 524288 rounds.0 in
     let t : parts.tail ≤ 524288 = leb-true parts.tail 524288 rounds.1 in
     record {
-      some = omega (arith, length-map parts.links link_of);
-      few = omega (arith, length-map parts.links link_of);
+      some = omega (arith, length-map parts.links entry_link);
+      few = omega (arith, length-map parts.links entry_link);
       splits = links-fit parts.links;
       tasks = callers-fit parts parts.callers plan ops.1 rules.pours;
       rounds = omega arith;

@@ -14,7 +14,7 @@ use Rattle.traffic_contract.specs.Admission.{total}
 use Rattle.call_script.specs.Growing.{nothing_of, new_caller, add_op, last_ops, with_link, with_caller, with_open, with_op, with_rounds, with_tail, MayAddLink, MayAddCaller, MayOpen, IsOpenedThere, IsWithinLoad, MaySend, MayPour, KeepSoFar, AreEnough}
 use Rattle.call_script.specs.Parts.{PlanParts, parts_of, Opening, opened_by, openings_of, opening_of, FollowsLink, ArePlanned}
 use Rattle.call_script.specs.Plans.{HasTerms, IsPlan}
-use Rattle.call_script.specs.Rules.{each_after, unless, link_has_version, op_has_version, have_version, have_links, is_new, are_distinct, link_names, caller_names, request_names, have_names, route_is_there, pour_is_there, opens, is_opened, are_opened, are_there, request_in_range, op_in_range, rounds_in_range, are_in_range, are_few, is_joined, are_joined, closes, is_unclosed, are_unclosed, hops_of, load_of, load_in, are_within_load, pour_is_taken, pours_are_taken, use_rule_broken, range_rule_broken, rule_broken}
+use Rattle.call_script.specs.Rules.{each_after, unless_broken, link_has_version, op_has_version, have_version, have_links, is_new, are_distinct, link_names, caller_names, request_names, have_names, route_is_there, pour_is_there, opens, is_opened, are_opened, are_there, request_in_range, op_in_range, rounds_in_range, are_in_range, are_few, is_joined, are_joined, closes, is_unclosed, are_unclosed, hops_of, load_of, load_in, are_within_load, pour_is_taken, pours_are_taken, use_rule_broken, range_rule_broken, rule_broken}
 use Rattle.call_script.specs.declared.entries.CallerEntry.{CallerEntry}
 use Rattle.call_script.specs.declared.entries.LinkEntry.{LinkEntry}
 use Rattle.call_script.specs.declared.entries.RequestEntry.{RequestEntry}
@@ -425,7 +425,7 @@ tail-keeps parts tail keep few =
 
 -- ---- a plan
 
-passes : (kept : Bool) (rule : ℕ) (other : Option ℕ) → kept ≡ true → other ≡ None → unless kept rule other ≡ None
+passes : (kept : Bool) (rule : ℕ) (other : Option ℕ) → kept ≡ true → other ≡ None → unless_broken kept rule other ≡ None
 passes true rule other holds none = none
 passes false rule other fails none = cc
 

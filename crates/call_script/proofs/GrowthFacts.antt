@@ -1,4 +1,4 @@
--- One element more behind a list, and one operation more behind those of the last caller.
+-- One element more after a list, and one operation more after those of the last caller.
 use Rattle.std.proofs.Common.{◌≡◌, ℕ, zero, suc, ◌+◌, ◌<◌, ◌≤◌, ◌⊎◌, Bool, true, Some, List, [], ◌∷◌, ◌++◌, length, refl, sym, ap, ◌∙◌, subst, inl, inr, append_assoc, arith}
 use Rattle.std.proofs.lemmas.Bool.{and_from, and_parts}
 use Rattle.std.proofs.lemmas.List.{append-nil}
@@ -32,7 +32,7 @@ get-before [] ys n below = absurd (omega arith)
 get-before (x ∷ xs) ys zero below = refl
 get-before (x ∷ xs) ys (suc n) below = get-before xs ys n (omega arith)
 
--- the one at an index is one of the list, or the one behind them
+-- the one at an index is one of the list, or the one after them
 pub get-more : {X : Type 0} (xs : List X) (x : X) (n : ℕ) (y : X) → slice_get (xs ++ x ∷ []) n ≡ Some y → (slice_get xs n ≡ Some y) ⊎ ((n ≡ length xs) × (x ≡ y))
 get-more [] x zero y found = inr (refl, same_Some x y found)
 get-more [] x (suc n) y found = cc

@@ -10,7 +10,7 @@ use Rattle.std.specs.Prelude.{◌||◌, ◌&&◌}
 use Rattle.net_units.specs.Numbers.{actor_number, channel_number}
 use Rattle.link_steps.specs.Lists.{Each}
 use Rattle.setup_protocol.specs.declared.request.Request.{Request}
-use Rattle.call_script.specs.Owners.{TaskOff, IsSend, SendsOnce, FullScript, OwnedFully, IsOwned, IsUnnamed, AllOwned}
+use Rattle.call_script.specs.Owners.{TaskOff, IsSendOn, SendsOnce, FullScript, OwnedFully, IsOwned, IsUnnamed, AllOwned}
 use Rattle.call_script.specs.Parts.{PlanParts, openings_in, ArePlanned}
 use Rattle.call_script.specs.Plans.{IsPlan}
 use Rattle.call_script.specs.Rules.{each_after, opens, is_opened, closes, is_unclosed, are_opened, are_there, are_unclosed, route_is_there, pour_is_there}

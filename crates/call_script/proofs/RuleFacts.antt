@@ -3,10 +3,11 @@ use Rattle.std.proofs.Common.{◌≡◌, ℕ, ◌≤◌, Bool, true, false, not,
 use Rattle.std.proofs.lemmas.Bool.{cases_Bool, leb-true}
 use Rattle.std.specs.List.{list_all, slice_get}
 use Rattle.std.specs.Prelude.{nat_le, ◌&&◌}
+use Rattle.net_units.specs.Limits.{is_within}
 use Rattle.link_steps.specs.Legal.{SubmitFits}
 use Rattle.link_steps.specs.Lists.{Each}
 use Rattle.call_script.specs.Parts.{PlanParts}
-use Rattle.call_script.specs.Rules.{each_after, is_from, unless, packets_in_range, have_version, have_links, have_names, are_there, are_in_range, are_few, are_joined, are_unclosed, are_within_load, pours_are_taken, use_rule_broken, range_rule_broken, rule_broken}
+use Rattle.call_script.specs.Rules.{each_after, unless_broken, packets_in_range, have_version, have_links, have_names, are_there, are_in_range, are_few, are_joined, are_unclosed, are_within_load, pours_are_taken, use_rule_broken, range_rule_broken, rule_broken}
 
 -- ---- tests
 
@@ -22,13 +23,13 @@ pub each-of : {X : Type 0} (test : X → Bool) (xs : List X) → list_all test x
 each-of test [] all = tt
 each-of test (x ∷ xs) all = (let split = both (test x) (list_all test xs) all in (split.0, each-of test xs split.1))
 
-pub from-low : (low high x : ℕ) → is_from low high x ≡ true → (low ≤ x) × (x ≤ high)
+pub from-low : (low high x : ℕ) → is_within low high x ≡ true → (low ≤ x) × (x ≤ high)
 from-low low high x inside = (let split = both (nat_le low x) (nat_le x high) inside in (leb-true low x split.0, leb-true x high split.1))
 
 pub packets-fit : (count gap size : ℕ) → packets_in_range count gap size ≡ true → SubmitFits count gap size
 packets-fit count gap size inside =
-    let first = both (is_from 1 262144 count && is_from 1 1048576 gap) (is_from 1 65536 size) inside in
-    let second = both (is_from 1 262144 count) (is_from 1 1048576 gap) first.0 in
+    let first = both (is_within 1 262144 count && is_within 1 1048576 gap) (is_within 1 65536 size) inside in
+    let second = both (is_within 1 262144 count) (is_within 1 1048576 gap) first.0 in
     let counts = from-low 1 262144 count second.0 in
     let gaps = from-low 1 1048576 gap second.1 in
     let sizes = from-low 1 65536 size first.1 in
@@ -48,7 +49,7 @@ pub record KeepsRules (parts : PlanParts) : Type 0 where
   pub load : are_within_load parts ≡ true
   pub pours : pours_are_taken parts ≡ true
 
-kept-rule : (kept : Bool) (rule : ℕ) (other : Option ℕ) → unless kept rule other ≡ None → (kept ≡ true) × (other ≡ None)
+kept-rule : (kept : Bool) (rule : ℕ) (other : Option ℕ) → unless_broken kept rule other ≡ None → (kept ≡ true) × (other ≡ None)
 kept-rule true rule other none = (refl, none)
 kept-rule false rule other none = cc
 

@@ -12,9 +12,9 @@ use Rattle.link_steps.specs.declared.replies.Reply.{Reply}
 use Rattle.setup_protocol.specs.declared.request.Request.{Request}
 use Rattle.call_script.specs.Parts.{PlanParts}
 use Rattle.call_script.specs.Scripts.{Opened, Standing, outcome_by, begun, continued, resumed, standing, task_ask}
-use Rattle.call_script.specs.Standing.{requests_of, owed_by, StandsAt, Stands}
+use Rattle.call_script.specs.Standing.{requests_of, owed_by, StandsAt, CallerStands}
 use Rattle.call_script.specs.Tasks.{request_of, script_of, tasks_of}
-use Rattle.call_script.specs.Work.{WorkStands, TurnStands, GoesOn, IsOver, opened_of, opened_in}
+use Rattle.call_script.specs.Work.{WorkStands, TurnStands, TaskGoesOn, IsFinished, opened_of, opened_among}
 use Rattle.call_script.specs.declared.actor.Actor.{Actor}
 use Rattle.call_script.specs.declared.entries.CallerEntry.{CallerEntry}
 use Rattle.call_script.specs.declared.entries.RequestEntry.{RequestEntry}
@@ -59,7 +59,7 @@ resumed-on : (outcomes : List Opened) (task : Task) (tasks : List Task) (replies
 unfolding resumed
 resumed-on outcomes task tasks replies to ask asks = ap (continued outcomes task tasks replies) asks
 
-resumed-over : (outcomes own : List Opened) (task : Task) (tasks : List Task) (replies : List Reply) → IsOver task replies own → resumed outcomes (task ∷ tasks) replies ≡ begun (own ++ outcomes) tasks
+resumed-over : (outcomes own : List Opened) (task : Task) (tasks : List Task) (replies : List Reply) → IsFinished task replies own → resumed outcomes (task ∷ tasks) replies ≡ begun (own ++ outcomes) tasks
 unfolding resumed
 resumed-over outcomes own task tasks replies over = ap (continued outcomes task tasks replies) over.asks ∙ ap (λ new. begun (new ++ outcomes) tasks) over.tells
 
@@ -83,7 +83,7 @@ goes-on requests ops actor w outcomes (task ∷ tasks) replies reply was on =
       outcomes = was.outcomes;
       room = room;
     }) where
-      resumes : GoesOn w task tasks (replies ++ reply ∷ []) → resumed outcomes (task ∷ tasks) (replies ++ reply ∷ []) ≡ record { tasks = task ∷ tasks; replies = replies ++ reply ∷ []; outcomes = outcomes }
+      resumes : TaskGoesOn w task tasks (replies ++ reply ∷ []) → resumed outcomes (task ∷ tasks) (replies ++ reply ∷ []) ≡ record { tasks = task ∷ tasks; replies = replies ++ reply ∷ []; outcomes = outcomes }
       resumes goes = resumed-on outcomes task tasks (replies ++ reply ∷ []) goes.to goes.ask goes.asks
 
       room : length ops - actor.next + owed_by w ≤ vec_capacity actor.known - vec_len actor.known
@@ -91,7 +91,7 @@ goes-on requests ops actor w outcomes (task ∷ tasks) replies reply was on =
 
 -- it is over, with these outcomes
 is-over : (requests : List Request) (ops : List Op) (actor new : Actor) (own outcomes known : List Opened) (task : Task) (tasks : List Task) (replies : List Reply) (reply : Reply)
-    → StandsAt requests ops actor (record { tasks = task ∷ tasks; replies = replies; outcomes = outcomes }) → IsOver task (replies ++ reply ∷ []) own → known ≡ own ++ opened_in actor.known.items
+    → StandsAt requests ops actor (record { tasks = task ∷ tasks; replies = replies; outcomes = outcomes }) → IsFinished task (replies ++ reply ∷ []) own → known ≡ own ++ opened_among actor.known.items
     → StandsAt requests ops new (begun known (tasks_of requests (drop actor.next ops))) → StandsAt requests ops new (resumed outcomes (task ∷ tasks) (replies ++ reply ∷ []))
 is-over requests ops actor new own outcomes known task tasks replies reply was over same begins =
     let all : known ≡ own ++ outcomes = same ∙ ap (λ os. own ++ os) (sym was.outcomes) in
@@ -100,18 +100,18 @@ is-over requests ops actor new own outcomes known task tasks replies reply was o
 -- with no outcome
 over-none : (requests : List Request) (ops : List Op) (actor new : Actor) (w : Work) (outcomes : List Opened) (tasks : List Task) (replies : List Reply) (reply : Reply)
     → StandsAt requests ops actor (record { tasks = tasks; replies = replies; outcomes = outcomes }) → TurnStands turn.Over w tasks (replies ++ reply ∷ [])
-    → StandsAt requests ops new (begun (opened_in actor.known.items) (tasks_of requests (drop actor.next ops))) → StandsAt requests ops new (resumed outcomes tasks (replies ++ reply ∷ []))
+    → StandsAt requests ops new (begun (opened_among actor.known.items) (tasks_of requests (drop actor.next ops))) → StandsAt requests ops new (resumed outcomes tasks (replies ++ reply ∷ []))
 over-none requests ops actor new w outcomes [] replies reply was over begins = absurd over
 over-none requests ops actor new w outcomes (task ∷ tasks) replies reply was over begins =
-    is-over requests ops actor new [] outcomes (opened_in actor.known.items) task tasks replies reply was over refl begins
+    is-over requests ops actor new [] outcomes (opened_among actor.known.items) task tasks replies reply was over refl begins
 
 -- with one
 over-one : (requests : List Request) (ops : List Op) (actor new : Actor) (w : Work) (one : Known) (outcomes : List Opened) (tasks : List Task) (replies : List Reply) (reply : Reply)
     → StandsAt requests ops actor (record { tasks = tasks; replies = replies; outcomes = outcomes }) → TurnStands (turn.Settled one) w tasks (replies ++ reply ∷ [])
-    → StandsAt requests ops new (begun (opened_in (actor.known.items ++ one ∷ [])) (tasks_of requests (drop actor.next ops))) → StandsAt requests ops new (resumed outcomes tasks (replies ++ reply ∷ []))
+    → StandsAt requests ops new (begun (opened_among (actor.known.items ++ one ∷ [])) (tasks_of requests (drop actor.next ops))) → StandsAt requests ops new (resumed outcomes tasks (replies ++ reply ∷ []))
 over-one requests ops actor new w one outcomes [] replies reply was over begins = absurd over
 over-one requests ops actor new w one outcomes (task ∷ tasks) replies reply was over begins =
-    is-over requests ops actor new (opened_of one ∷ []) outcomes (opened_in (actor.known.items ++ one ∷ [])) task tasks replies reply was over (opened-more actor.known.items one) begins
+    is-over requests ops actor new (opened_of one ∷ []) outcomes (opened_among (actor.known.items ++ one ∷ [])) task tasks replies reply was over (opened-more actor.known.items one) begins
 
 -- ---- the caller
 
@@ -120,17 +120,17 @@ pub ops-are : (found : Option CallerEntry) (caller : CallerEntry) (ops : List Op
 ops-are found caller ops told is = same_Some caller.ops ops (sym (ap (option_map (λ (entry : CallerEntry). entry.ops)) is) ∙ told)
 
 -- an actor of the same caller that is where the caller stands with one reply more
-pub more-stands : (parts : PlanParts) (actor new : Actor) (replies : List Reply) (reply : Reply) (stands : Stands parts actor replies) → new.caller ≡ actor.caller
+pub more-stands : (parts : PlanParts) (actor new : Actor) (replies : List Reply) (reply : Reply) (stands : CallerStands parts actor replies) → new.caller ≡ actor.caller
     → (let at = standing (script_of (requests_of parts) stands.caller) replies in StandsAt (requests_of parts) stands.caller.ops new (resumed at.outcomes at.tasks (at.replies ++ reply ∷ [])))
-    → Stands parts new (reply ∷ replies)
+    → CallerStands parts new (reply ∷ replies)
 more-stands parts actor new replies reply stands same at = record {
   caller = stands.caller;
   found = ap (λ c. slice_get parts.callers (actor_number c)) same ∙ stands.found;
   at = subst (StandsAt (requests_of parts) stands.caller.ops new) (sym (standing-more (script_of (requests_of parts) stands.caller) replies reply)) at;
 }
 
-pub turned-on : (parts : PlanParts) (actor : Actor) (w : Work) (took : Turn) (replies : List Reply) (reply : Reply) → Stands parts actor replies → took ≡ turn.On
-    → ((tasks : List Task) (rs : List Reply) → WorkStands actor.work tasks rs → TurnStands took w tasks (rs ++ reply ∷ [])) → Stands parts (record actor { work = w }) (reply ∷ replies)
+pub turned-on : (parts : PlanParts) (actor : Actor) (w : Work) (took : Turn) (replies : List Reply) (reply : Reply) → CallerStands parts actor replies → took ≡ turn.On
+    → ((tasks : List Task) (rs : List Reply) → WorkStands actor.work tasks rs → TurnStands took w tasks (rs ++ reply ∷ [])) → CallerStands parts (record actor { work = w }) (reply ∷ replies)
 turned-on parts actor w took replies reply stands is turns =
     let at : Standing = standing (script_of (requests_of parts) stands.caller) replies in
     more-stands parts actor (record actor { work = w }) replies reply stands refl
@@ -143,33 +143,33 @@ begins-here parts requests caller ops new outcomes next same own begins =
     subst (λ os. StandsAt (requests_of parts) os new (begun outcomes (tasks_of (requests_of parts) (drop next os)))) (sym own)
     (subst (λ rs. StandsAt (map request_of rs) ops new (begun outcomes (tasks_of (map request_of rs) (drop next ops)))) same begins)
 
-pub turned-over : (parts : PlanParts) (actor new : Actor) (w : Work) (took : Turn) (ops : List Op) (requests : List RequestEntry) (replies : List Reply) (reply : Reply) → Stands parts actor replies → took ≡ turn.Over
+pub turned-over : (parts : PlanParts) (actor new : Actor) (w : Work) (took : Turn) (ops : List Op) (requests : List RequestEntry) (replies : List Reply) (reply : Reply) → CallerStands parts actor replies → took ≡ turn.Over
     → ((tasks : List Task) (rs : List Reply) → WorkStands actor.work tasks rs → TurnStands took w tasks (rs ++ reply ∷ [])) → option_map (λ (entry : CallerEntry). entry.ops) (slice_get parts.callers (actor_number actor.caller)) ≡ Some ops
     → requests ≡ parts.requests → new.caller ≡ actor.caller
-    → StandsAt (map request_of requests) ops new (begun (opened_in actor.known.items) (tasks_of (map request_of requests) (drop actor.next ops))) → Stands parts new (reply ∷ replies)
+    → StandsAt (map request_of requests) ops new (begun (opened_among actor.known.items) (tasks_of (map request_of requests) (drop actor.next ops))) → CallerStands parts new (reply ∷ replies)
 turned-over parts actor new w took ops requests replies reply stands is turns told same kept begins =
     let at : Standing = standing (script_of (requests_of parts) stands.caller) replies in
     more-stands parts actor new replies reply stands kept
     (over-none (requests_of parts) stands.caller.ops actor new w at.outcomes at.tasks at.replies reply stands.at (subst (λ t. TurnStands t w at.tasks (at.replies ++ reply ∷ [])) is (turns at.tasks at.replies stands.at.under_way))
-    (begins-here parts requests stands.caller ops new (opened_in actor.known.items) actor.next same (ops-are _ stands.caller ops told stands.found) begins))
+    (begins-here parts requests stands.caller ops new (opened_among actor.known.items) actor.next same (ops-are _ stands.caller ops told stands.found) begins))
 
-pub turned-settled : (parts : PlanParts) (actor new : Actor) (w : Work) (took : Turn) (one : Known) (items : List Known) (ops : List Op) (requests : List RequestEntry) (replies : List Reply) (reply : Reply) → Stands parts actor replies → took ≡ turn.Settled one
+pub turned-settled : (parts : PlanParts) (actor new : Actor) (w : Work) (took : Turn) (one : Known) (items : List Known) (ops : List Op) (requests : List RequestEntry) (replies : List Reply) (reply : Reply) → CallerStands parts actor replies → took ≡ turn.Settled one
     → ((tasks : List Task) (rs : List Reply) → WorkStands actor.work tasks rs → TurnStands took w tasks (rs ++ reply ∷ [])) → option_map (λ (entry : CallerEntry). entry.ops) (slice_get parts.callers (actor_number actor.caller)) ≡ Some ops
     → requests ≡ parts.requests → new.caller ≡ actor.caller → items ≡ actor.known.items ++ one ∷ []
-    → StandsAt (map request_of requests) ops new (begun (opened_in items) (tasks_of (map request_of requests) (drop actor.next ops))) → Stands parts new (reply ∷ replies)
+    → StandsAt (map request_of requests) ops new (begun (opened_among items) (tasks_of (map request_of requests) (drop actor.next ops))) → CallerStands parts new (reply ∷ replies)
 turned-settled parts actor new w took one items ops requests replies reply stands is turns told same kept pushed begins =
     let at : Standing = standing (script_of (requests_of parts) stands.caller) replies in
     more-stands parts actor new replies reply stands kept
     (over-one (requests_of parts) stands.caller.ops actor new w one at.outcomes at.tasks at.replies reply stands.at (subst (λ t. TurnStands t w at.tasks (at.replies ++ reply ∷ [])) is (turns at.tasks at.replies stands.at.under_way))
-    (begins-here parts requests stands.caller ops new (opened_in (actor.known.items ++ one ∷ [])) actor.next same (ops-are _ stands.caller ops told stands.found)
-    (subst (λ ks. StandsAt (map request_of requests) ops new (begun (opened_in ks) (tasks_of (map request_of requests) (drop actor.next ops)))) pushed begins)))
+    (begins-here parts requests stands.caller ops new (opened_among (actor.known.items ++ one ∷ [])) actor.next same (ops-are _ stands.caller ops told stands.found)
+    (subst (λ ks. StandsAt (map request_of requests) ops new (begun (opened_among ks) (tasks_of (map request_of requests) (drop actor.next ops)))) pushed begins)))
 
 -- an actor that begins stands for no replies
 pub fresh-stands : (parts : PlanParts) (actor : Actor) (caller : ActorNo) (ops : List Op) (requests : List RequestEntry) → option_map (λ (entry : CallerEntry). entry.ops) (slice_get parts.callers (actor_number caller)) ≡ Some ops
-    → requests ≡ parts.requests → actor.caller ≡ caller → StandsAt (map request_of requests) ops actor (begun [] (tasks_of (map request_of requests) (drop 0 ops))) → Stands parts actor []
+    → requests ≡ parts.requests → actor.caller ≡ caller → StandsAt (map request_of requests) ops actor (begun [] (tasks_of (map request_of requests) (drop 0 ops))) → CallerStands parts actor []
 unfolding standing
 fresh-stands parts actor caller ops requests told same own begins = by (slice_get parts.callers (actor_number caller)) refl told where
-  by : (found : Option CallerEntry) → slice_get parts.callers (actor_number caller) ≡ found → option_map (λ (entry : CallerEntry). entry.ops) found ≡ Some ops → Stands parts actor []
+  by : (found : Option CallerEntry) → slice_get parts.callers (actor_number caller) ≡ found → option_map (λ (entry : CallerEntry). entry.ops) found ≡ Some ops → CallerStands parts actor []
   by None is none = cc
   by (Some entry) is some = record {
     caller = entry;

@@ -11,7 +11,7 @@ use Rattle.link_steps.specs.declared.replies.Reply.{Reply}
 use Rattle.setup_protocol.proofs.ProgressFacts.{progress-none}
 use Rattle.setup_protocol.specs.Releases.{Releases}
 use Rattle.setup_protocol.specs.Setup.{asked, asked_of, next_ask, progress_of, settled_in}
-use Rattle.setup_protocol.specs.Standing.{progress_in, Stands as SetupStands}
+use Rattle.setup_protocol.specs.Standing.{progress_in, SetupStands}
 use Rattle.setup_protocol.specs.State.{IsStateOf, progress_at}
 use Rattle.setup_protocol.specs.Teardown.{next_release}
 use Rattle.setup_protocol.specs.declared.request.Request.{Request}
@@ -20,7 +20,7 @@ use Rattle.setup_protocol.specs.declared.setup.State.{State}
 use Rattle.setup_protocol.specs.declared.setup.State.TheVariants as state
 use Rattle.setup_protocol.specs.declared.teardown.Teardown.{Teardown}
 use Rattle.call_script.specs.Scripts.{first_ask}
-use Rattle.call_script.specs.Work.{WorkStands, IsOpening, IsClosing, GoesOn, is_under_way}
+use Rattle.call_script.specs.Work.{WorkStands, IsOpening, IsClosing, TaskGoesOn, is_under_way}
 use Rattle.call_script.specs.declared.tasks.Task.{Task}
 use Rattle.call_script.specs.declared.tasks.Task.TheVariants.{Opens, Closes}
 use Rattle.call_script.specs.declared.work.Work.{Work}
@@ -64,7 +64,7 @@ under-way work.Idle (task ∷ tasks) replies stands left = absurd stands
 -- the setup goes on
 pub opening-goes-on : (chan : ChanNo) (old new : Setup) (request : Request) (tasks : List Task) (replies : List Reply) (reply : Reply)
     → new.request ≡ old.request → ((rs : List Reply) → SetupStands old rs → SetupStands new (rs ++ reply ∷ [])) → settled_in (progress_in new) ≡ None → IsOpening chan old request replies
-    → GoesOn (work.Opening chan new) (Opens request) tasks (replies ++ reply ∷ [])
+    → TaskGoesOn (work.Opening chan new) (Opens request) tasks (replies ++ reply ∷ [])
 opening-goes-on chan old new request tasks replies reply kept taken left was =
     let same = kept ∙ was.same in
     let stands = taken replies was.stands in
@@ -77,7 +77,7 @@ opening-goes-on chan old new request tasks replies reply kept taken left was =
 pub closing-goes-on : (old new : Teardown) (request : Request) (tasks : List Task) (replies : List Reply) (reply : Reply) (to : LinkNo) (ask : Ask)
     → new.chan ≡ old.chan → new.route ≡ old.route → ((rs : List Reply) → Releases old rs → Releases new (rs ++ reply ∷ []))
     → ((rs : List Reply) → Releases new rs → Some (to, ask) ≡ next_release new.chan new.route rs) → new.made < length new.route → IsClosing old request replies
-    → GoesOn (work.Closing new) (Closes request) tasks (replies ++ reply ∷ [])
+    → TaskGoesOn (work.Closing new) (Closes request) tasks (replies ++ reply ∷ [])
 closing-goes-on old new request tasks replies reply to ask chan route taken next left was =
     let stands = taken replies was.stands in
     let same = route ∙ was.route in

@@ -1,5 +1,5 @@
 -- How the parts of a plan grow, a line at a time. A link is added while there is no caller; then callers, each first without
--- operations; behind the operations of the last caller an open, with its request, or a send, a close or a pour; and at last
+-- operations; after the operations of the last caller an open, with its request, or a send, a close or a pour; and at last
 -- the numbers of rounds. Each addition has what a reader judges of its line. Parts that grew so keep all rules but two, that
 -- there is a link and that the ticks of all links are within the limit; with these they are those of a plan.
 use Rattle.std.specs.Prelude.{◌≡◌, ℕ, suc, ◌+◌, ◌*◌, ◌<◌, ◌≤◌, true, false, List, [], ◌∷◌, ◌++◌, length}
@@ -8,8 +8,8 @@ use Rattle.net_units.specs.Numbers.{link_number, actor_number, channel_number}
 use Rattle.net_units.specs.declared.numbers.ChanNo.{ChanNo}
 use Rattle.net_units.specs.declared.numbers.LinkNo.{LinkNo}
 use Rattle.std.specs.List.{slice_get}
+use Rattle.net_units.specs.Limits.{most_links, most_callers, most_requests, most_packets, most_rounds}
 use Rattle.link_steps.specs.Lists.{Each}
-use Rattle.call_script.specs.Limits.{most_links, most_callers, most_requests, most_packets, most_rounds}
 use Rattle.call_script.specs.Parts.{PlanParts, parts_of, FollowsLink, ArePlanned}
 use Rattle.call_script.specs.Plans.{HasTerms, IsPlan}
 use Rattle.call_script.specs.Rules.{have_version, have_names, are_there, are_in_range, are_few, are_joined, are_unclosed, pours_are_taken, link_names, caller_names, request_names, is_new, link_has_version, has_link, route_is_there, opens, request_in_range, packets_in_range, is_joined, closes, load_of, load_in, takes_best_effort}
@@ -53,7 +53,7 @@ with_link entry parts = record parts { links = parts.links ++ entry ∷ [] }
 abbrev pub with_caller : List ℕ → PlanParts → PlanParts
 with_caller name parts = record parts { callers = parts.callers ++ new_caller name ∷ [] }
 
--- a request, and its open behind the operations of the last caller
+-- a request, and its open after the operations of the last caller
 abbrev pub with_open : RequestEntry → PlanParts → PlanParts
 with_open entry parts = record parts { requests = parts.requests ++ entry ∷ []; callers = add_op (Open entry.request.chan) parts.callers }
 

@@ -1,4 +1,3 @@
-pub mod Limits
 pub mod Versions
 pub mod Parts
 pub mod Draft

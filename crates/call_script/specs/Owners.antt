@@ -18,7 +18,7 @@ TaskOff c (Closes request) = channel_number request.chan ≢ c
 TaskOff c (Pours link count gap size) = Unit {0}
 
 -- a send on the request
-pub record IsSend (request : Request) (task : Task) : Type 0 where
+pub record IsSendOn (request : Request) (task : Task) : Type 0 where
   pub count : ℕ
   pub gap : ℕ
   pub size : ℕ
@@ -29,7 +29,7 @@ abbrev pub SendsOnce : Request → List Task → Type 0
 SendsOnce request [] = Unit {0}
 SendsOnce request (task ∷ tasks) =
     (TaskOff (channel_number request.chan) task × SendsOnce request tasks)
-    ⊎ ((IsSend request task × SendsOnce request tasks)
+    ⊎ ((IsSendOn request task × SendsOnce request tasks)
     ⊎ ((task ≡ Closes request) × Each (TaskOff (channel_number request.chan)) tasks))
 
 abbrev pub FullScript : Request → List Task → Type 0

@@ -17,11 +17,11 @@ use Rattle.std.specs.List.{list_any, list_all, slice_get}
 use Rattle.std.specs.Cmp.Lexicographic.{pointwise}
 use Rattle.net_units.specs.Numbers.{link_number, channel_number}
 use Rattle.net_units.specs.declared.numbers.LinkNo.{LinkNo}
+use Rattle.net_units.specs.Limits.{most_links, most_callers, most_requests, most_delay, most_packets, most_gap, most_size, most_rounds, is_within}
 use Rattle.traffic_contract.specs.Admission.{total}
 use Rattle.hop_reservation.specs.declared.route.Hop.{Hop}
 use Rattle.setup_protocol.specs.declared.request.Control.{Control}
 use Rattle.setup_protocol.specs.declared.request.Control.TheVariants.{Rate, Jitter}
-use Rattle.call_script.specs.Limits.{most_links, most_callers, most_requests, most_delay, most_packets, most_gap, most_size, most_rounds}
 use Rattle.call_script.specs.Parts.{PlanParts}
 use Rattle.call_script.specs.Versions.{test_of, has_best_effort, is_test}
 use Rattle.call_script.specs.declared.entries.LinkEntry.{LinkEntry}
@@ -41,10 +41,6 @@ each_after test above (x ∷ xs) = test above x && each_after test (above ++ x �
 -- each operation of each caller passes
 abbrev pub all_ops : (Op → Bool) → List CallerEntry → Bool
 all_ops test callers = list_all (λ caller. list_all test caller.ops) callers
-
--- from low to high
-abbrev pub is_from : ℕ → ℕ → ℕ → Bool
-is_from low high x = nat_le low x && nat_le x high
 
 -- ---- 1: the version
 
@@ -143,13 +139,13 @@ are_there parts = list_all (route_is_there parts.links) parts.requests && all_op
 
 abbrev pub control_in_range : Control → Bool
 control_in_range Rate = true
-control_in_range (Jitter bound) = is_from 1 most_delay bound
+control_in_range (Jitter bound) = is_within 1 most_delay bound
 
 abbrev pub request_in_range : RequestEntry → Bool
-request_in_range entry = is_from 1 most_delay entry.request.delay && control_in_range entry.request.control
+request_in_range entry = is_within 1 most_delay entry.request.delay && control_in_range entry.request.control
 
 abbrev pub packets_in_range : ℕ → ℕ → ℕ → Bool
-packets_in_range count gap size = is_from 1 most_packets count && is_from 1 most_gap gap && is_from 1 most_size size
+packets_in_range count gap size = is_within 1 most_packets count && is_within 1 most_gap gap && is_within 1 most_size size
 
 abbrev pub op_in_range : Op → Bool
 op_in_range (Open chan) = true
@@ -251,18 +247,18 @@ pours_are_taken parts = all_ops (pour_is_taken parts.links) parts.callers
 -- ---- the least rule broken
 
 -- a rule that isn't kept, or else those after it
-abbrev pub unless : Bool → ℕ → Option ℕ → Option ℕ
-unless kept rule other = if kept then other else Some rule
+abbrev pub unless_broken : Bool → ℕ → Option ℕ → Option ℕ
+unless_broken kept rule other = if kept then other else Some rule
 
 -- the rules on how the scripts use the channels and load the links
 unfoldable pub use_rule_broken : PlanParts → Option ℕ
-use_rule_broken parts = unless (are_unclosed parts) 13 (unless (are_within_load parts) 14 (unless (pours_are_taken parts) 19 None))
+use_rule_broken parts = unless_broken (are_unclosed parts) 13 (unless_broken (are_within_load parts) 14 (unless_broken (pours_are_taken parts) 19 None))
 
 -- those on what is there, and in which ranges, and those after them
 unfoldable pub range_rule_broken : PlanParts → Option ℕ
 range_rule_broken parts =
-    unless (are_there parts) 7 (unless (are_in_range parts) 8 (unless (are_few parts) 9 (unless (are_joined parts) 12 (use_rule_broken parts))))
+    unless_broken (are_there parts) 7 (unless_broken (are_in_range parts) 8 (unless_broken (are_few parts) 9 (unless_broken (are_joined parts) 12 (use_rule_broken parts))))
 
 -- all rules
 unfoldable pub rule_broken : PlanParts → Option ℕ
-rule_broken parts = unless (have_version parts) 1 (unless (have_links parts) 2 (unless (have_names parts) 6 (range_rule_broken parts)))
+rule_broken parts = unless_broken (have_version parts) 1 (unless_broken (have_links parts) 2 (unless_broken (have_names parts) 6 (range_rule_broken parts)))

@@ -8,7 +8,7 @@ use Rattle.setup_protocol.specs.declared.request.Request.{Request}
 use Rattle.call_script.specs.Parts.{PlanParts}
 use Rattle.call_script.specs.Scripts.{Opened, Standing, ask_at, standing, standing_of, takes_step}
 use Rattle.call_script.specs.Tasks.{request_of, script_of, network_of, tasks_of}
-use Rattle.call_script.specs.Work.{WorkStands, opened_in}
+use Rattle.call_script.specs.Work.{WorkStands, opened_among}
 use Rattle.call_script.specs.declared.actor.Actor.{Actor}
 use Rattle.call_script.specs.declared.entries.CallerEntry.{CallerEntry}
 use Rattle.call_script.specs.declared.operations.Op.{Op}
@@ -32,11 +32,11 @@ pub record StandsAt (requests : List Request) (ops : List Op) (actor : Actor) (a
   pub under_way : WorkStands actor.work at.tasks at.replies
   pub rest : drop 1 at.tasks ≡ tasks_of requests (drop actor.next ops)
   pub within : actor.next ≤ length ops
-  pub outcomes : at.outcomes ≡ opened_in actor.known.items
+  pub outcomes : at.outcomes ≡ opened_among actor.known.items
   pub room : length ops - actor.next + owed_by actor.work ≤ vec_capacity actor.known - vec_len actor.known
 
 -- the actor stands for the replies that its caller has got, newest first
-pub record Stands (parts : PlanParts) (actor : Actor) (replies : List Reply) : Type 0 where
+pub record CallerStands (parts : PlanParts) (actor : Actor) (replies : List Reply) : Type 0 where
   pub caller : CallerEntry
   pub found : slice_get parts.callers (actor_number actor.caller) ≡ Some caller
   pub at : StandsAt (requests_of parts) caller.ops actor (standing (script_of (requests_of parts) caller) replies)
@@ -47,7 +47,7 @@ standing_in parts caller replies = standing_of (slice_get (network_of parts).scr
 
 -- it stands so, and an ask is left
 pub record HasAskLeft (parts : PlanParts) (actor : Actor) (replies : List Reply) : Type 0 where
-  pub stands : Stands parts actor replies
+  pub stands : CallerStands parts actor replies
   pub left : IsSome (ask_at (standing_in parts (actor_number actor.caller) replies))
 
 -- ---- the next task that takes a step

@@ -39,8 +39,8 @@ unfoldable pub tasks_of : List Request → List Op → List Task
 tasks_of requests [] = []
 tasks_of requests (op ∷ ops) = with_task (task_of requests op) (tasks_of requests ops)
 
-abbrev pub link_of : LinkEntry → Link
-link_of entry = whole entry.shape
+abbrev pub entry_link : LinkEntry → Link
+entry_link entry = whole entry.shape
 
 abbrev pub script_of : List Request → CallerEntry → List Task
 script_of requests caller = tasks_of requests caller.ops
@@ -48,7 +48,7 @@ script_of requests caller = tasks_of requests caller.ops
 -- what a plan's run goes over
 unfoldable pub network_of : PlanParts → Network
 network_of parts = record {
-  links = map link_of parts.links;
+  links = map entry_link parts.links;
   requests = map request_of parts.requests;
   scripts = map (script_of (map request_of parts.requests)) parts.callers;
   rounds = parts.rounds + parts.tail;

@@ -9,7 +9,7 @@ use Rattle.link_steps.specs.declared.replies.Reply.{Reply}
 use Rattle.hop_reservation.specs.Routes.{IsRoute}
 use Rattle.setup_protocol.specs.Releases.{Releases}
 use Rattle.setup_protocol.specs.Setup.{Outcome, settled_in}
-use Rattle.setup_protocol.specs.Standing.{progress_in, Stands as SetupStands}
+use Rattle.setup_protocol.specs.Standing.{progress_in, SetupStands}
 use Rattle.setup_protocol.specs.State.{outcome_of}
 use Rattle.setup_protocol.specs.declared.request.Request.{Request}
 use Rattle.setup_protocol.specs.declared.setup.Setup.{Setup}
@@ -64,8 +64,8 @@ abbrev pub opened_of : Known → Opened
 opened_of known = record { chan = known.chan; outcome = outcome_of known.verdict }
 
 -- newest first
-abbrev pub opened_in : List Known → List Opened
-opened_in known = map opened_of (reverse known)
+abbrev pub opened_among : List Known → List Opened
+opened_among known = map opened_of (reverse known)
 
 -- whether an outcome, if there is one, is an established channel
 abbrev pub accepts_in : Option Outcome → Bool
@@ -75,22 +75,22 @@ accepts_in (Some outcome) = is_accepting outcome
 -- ---- one reply more
 
 -- the task goes on: it has an ask left
-pub record GoesOn (work : Work) (task : Task) (tasks : List Task) (replies : List Reply) : Type 0 where
+pub record TaskGoesOn (work : Work) (task : Task) (tasks : List Task) (replies : List Reply) : Type 0 where
   pub to : LinkNo
   pub ask : Ask
   pub asks : task_ask task replies ≡ Some (to, ask)
   pub stands : WorkStands work (task ∷ tasks) replies
 
 -- it is over, with these outcomes
-pub record IsOver (task : Task) (replies : List Reply) (outcomes : List Opened) : Type 0 where
+pub record IsFinished (task : Task) (replies : List Reply) (outcomes : List Opened) : Type 0 where
   pub asks : task_ask task replies ≡ None
   pub tells : outcome_by task replies ≡ outcomes
 
 abbrev pub TurnStands : Turn → Work → List Task → List Reply → Type 0
 TurnStands turn work [] replies = ⊥
-TurnStands On work (task ∷ tasks) replies = GoesOn work task tasks replies
-TurnStands Over work (task ∷ tasks) replies = IsOver task replies []
-TurnStands (Settled known) work (task ∷ tasks) replies = IsOver task replies (opened_of known ∷ [])
+TurnStands On work (task ∷ tasks) replies = TaskGoesOn work task tasks replies
+TurnStands Over work (task ∷ tasks) replies = IsFinished task replies []
+TurnStands (Settled known) work (task ∷ tasks) replies = IsFinished task replies (opened_of known ∷ [])
 
 -- ---- tasks that can begin
 

@@ -10,7 +10,7 @@ ghost use Rattle.call_script.specs.Parts.{PlanParts};
 ghost use Rattle.call_script.specs.Plans.{HasTerms};
 ghost use Rattle.call_script.specs.Scripts.{ask_at, begun, expects, from_step, is_established, outcome_in, takes_step};
 ghost use Rattle.call_script.specs.Tasks.{request_of, task_of, tasks_of};
-ghost use Rattle.call_script.specs.Work.{WorkStands, HasRoute, accepts_in, opened_in};
+ghost use Rattle.call_script.specs.Work.{WorkStands, HasRoute, accepts_in, opened_among};
 
 use crate::entries::RequestEntry;
 use crate::operations::Op;
@@ -36,14 +36,14 @@ pub struct Actor {
 }
 
 impl Actor {
-    ghost use Rattle.call_script.specs.Standing.{Stands, StandsAt, HasAskLeft, owed_by, if_step, standing_in};
+    ghost use Rattle.call_script.specs.Standing.{CallerStands, StandsAt, HasAskLeft, owed_by, if_step, standing_in};
 
     /// A caller of the plan that has asked nothing yet. It takes all memory that it needs; an `Err` comes only for want of
     /// it.
     pub fn new(alloc: Global, plan: &Plan, caller: ActorNo) -> Result<Actor, OutOfMemory>
         requires { actor_number caller < length plan.now.callers }
         ensures caller { IfOk result (λ actor. actor.caller ≡ caller) }
-        ensures stands { IfOk result (λ actor. Stands plan.now actor []) }
+        ensures stands { IfOk result (λ actor. CallerStands plan.now actor []) }
     {
         let ops = ops_of(plan, caller);
         let mut known = Vec::new(alloc);
@@ -61,8 +61,8 @@ impl Actor {
     /// The next ask, and the link that it goes to; None exactly at the end of the script. The plan is the one that it was
     /// made for.
     pub fn next_ask(&self, _plan: &Plan) -> Option<(LinkNo, Ask)>
-        requires { (replies : List Replied) × Stands _plan.now self.now replies }
-        ensures { (replies : List Replied) → Stands _plan.now self.now replies → result ≡ ask_at (standing_in _plan.now (actor_number self.now.caller) replies) }
+        requires { (replies : List Replied) × CallerStands _plan.now self.now replies }
+        ensures { (replies : List Replied) → CallerStands _plan.now self.now replies → result ≡ ask_at (standing_in _plan.now (actor_number self.now.caller) replies) }
     {
         self.work.next_ask()
     }
@@ -70,8 +70,8 @@ impl Actor {
     /// What the request of this channel has come to by the replies taken: None while its setup has an ask left, and where
     /// this caller doesn't open it.
     pub fn verdict(&self, chan: ChanNo) -> Option<Verdict>
-        ensures known { option_map outcome_of result ≡ outcome_in chan (opened_in self.now.known.items) }
-        ensures verdict { (parts : PlanParts) (replies : List Replied) → Stands parts self.now replies → option_map outcome_of result ≡ outcome_in chan (standing_in parts (actor_number self.now.caller) replies).outcomes }
+        ensures known { option_map outcome_of result ≡ outcome_in chan (opened_among self.now.known.items) }
+        ensures verdict { (parts : PlanParts) (replies : List Replied) → CallerStands parts self.now replies → option_map outcome_of result ≡ outcome_in chan (standing_in parts (actor_number self.now.caller) replies).outcomes }
     {
         let mut found = None;
         for known in &self.known {
@@ -87,9 +87,9 @@ impl Actor {
     pub fn take(&mut self, plan: &Plan, reply: Reply) -> Result<(), Unexpected>
         requires { (replies : List Replied) × HasAskLeft plan.now self.old replies }
         ensures caller { self.new.caller ≡ self.old.caller }
-        ensures expected { (replies : List Replied) → Stands plan.now self.old replies → IsOk result ↔ IsTrue (expects (standing_in plan.now (actor_number self.old.caller) replies) reply) }
-        ensures taken { OnOk result ((replies : List Replied) → Stands plan.now self.old replies → Stands plan.now self.new (reply ∷ replies)) }
-        ensures unexpected { IfErr result (λ odd. (odd.reply ≡ reply) × ((replies : List Replied) → Stands plan.now self.old replies → option_map (λ to. to.1) (ask_at (standing_in plan.now (actor_number self.old.caller) replies)) ≡ Some odd.ask)) }
+        ensures expected { (replies : List Replied) → CallerStands plan.now self.old replies → IsOk result ↔ IsTrue (expects (standing_in plan.now (actor_number self.old.caller) replies) reply) }
+        ensures taken { OnOk result ((replies : List Replied) → CallerStands plan.now self.old replies → CallerStands plan.now self.new (reply ∷ replies)) }
+        ensures unexpected { IfErr result (λ odd. (odd.reply ≡ reply) × ((replies : List Replied) → CallerStands plan.now self.old replies → option_map (λ to. to.1) (ask_at (standing_in plan.now (actor_number self.old.caller) replies)) ≡ Some odd.ask)) }
         ensures unchanged { OnErr result (self.new ≡ self.old) }
     {
         let ops = ops_of(plan, self.caller);
@@ -114,7 +114,7 @@ impl Actor {
         requires within { self.old.next ≤ length ops.now }
         requires room { length ops.now - self.old.next ≤ vec_capacity self.old.known - vec_len self.old.known }
         ensures caller { self.new.caller ≡ self.old.caller }
-        ensures stands { StandsAt (map request_of requests.now) ops.now self.new (begun (opened_in self.old.known.items) (tasks_of (map request_of requests.now) (drop self.old.next ops.now))) }
+        ensures stands { StandsAt (map request_of requests.now) ops.now self.new (begun (opened_among self.old.known.items) (tasks_of (map request_of requests.now) (drop self.old.next ops.now))) }
     {
         match self.first_step(requests, ops) {
             Some(step) => {
@@ -134,8 +134,8 @@ impl Actor {
         requires within { self.now.next ≤ length ops.now }
         ensures within { IfSome result (λ step. (self.now.next ≤ step.index) × (step.index < length ops.now)) }
         ensures route { IfSome result (λ step. HasRoute step.task) }
-        ensures some { IfSome result (λ step. from_step (opened_in self.now.known.items) (tasks_of (map request_of requests.now) (drop self.now.next ops.now)) ≡ step.task ∷ tasks_of (map request_of requests.now) (drop (step.index + 1) ops.now)) }
-        ensures none { IfNone result (from_step (opened_in self.now.known.items) (tasks_of (map request_of requests.now) (drop self.now.next ops.now)) ≡ []) }
+        ensures some { IfSome result (λ step. from_step (opened_among self.now.known.items) (tasks_of (map request_of requests.now) (drop self.now.next ops.now)) ≡ step.task ∷ tasks_of (map request_of requests.now) (drop (step.index + 1) ops.now)) }
+        ensures none { IfNone result (from_step (opened_among self.now.known.items) (tasks_of (map request_of requests.now) (drop self.now.next ops.now)) ≡ []) }
     {
         for index in self.next..ops.len() {
             if let Some(task) = self.step_of(requests, &ops[index]) {
@@ -148,7 +148,7 @@ impl Actor {
     // The task of an operation, if it takes a step.
     fn step_of(&self, requests: &[RequestEntry], op: &Op) -> Option<Task>
         requires { Each HasTerms requests.now }
-        ensures task { result ≡ if_step (opened_in self.now.known.items) (task_of (map request_of requests.now) op.now) }
+        ensures task { result ≡ if_step (opened_among self.now.known.items) (task_of (map request_of requests.now) op.now) }
         ensures route { IfSome result HasRoute }
     {
         match task_of(requests, op) {
@@ -159,7 +159,7 @@ impl Actor {
 
     // Whether a task takes a step.
     fn takes_step(&self, task: &Task) -> bool
-        ensures { result ≡ takes_step (opened_in self.now.known.items) task.now }
+        ensures { result ≡ takes_step (opened_among self.now.known.items) task.now }
     {
         match task {
             Task::Opens(_) => true,
@@ -171,7 +171,7 @@ impl Actor {
 
     // Whether the request of this channel was accepted.
     fn is_established(&self, chan: ChanNo) -> bool
-        ensures { result ≡ is_established chan (opened_in self.now.known.items) }
+        ensures { result ≡ is_established chan (opened_among self.now.known.items) }
     {
         accepts(self.verdict(chan))
     }

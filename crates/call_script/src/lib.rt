@@ -9,7 +9,6 @@
 pub mod actor;
 pub mod entries;
 pub mod laws;
-pub mod limits;
 pub mod operations;
 pub(crate) mod parts;
 pub mod plan;

@@ -5,10 +5,9 @@ ghost use Rattle.call_script.specs.Draft.{parts_in};
 ghost use Rattle.call_script.specs.Plans.{HasTerms};
 ghost use Rattle.call_script.specs.Rules.{have_version, have_links, have_names, are_there, are_in_range, are_few, are_joined, are_unclosed, are_within_load, pours_are_taken, use_rule_broken, range_rule_broken, rule_broken};
 
-use crate::limits::{MOST_CALLERS, MOST_REQUESTS, MOST_ROUNDS};
 use crate::parts::Parts;
 use net_units::OutOfMemory;
-use net_units::limits::MOST_LINKS;
+use net_units::limits::{MOST_CALLERS, MOST_LINKS, MOST_REQUESTS, MOST_ROUNDS};
 use std::alloc::Global;
 
 pub(crate) mod load;

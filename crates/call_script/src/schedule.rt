@@ -4,7 +4,7 @@ ghost use Rattle.std.specs.Prelude.{◌≡◌};
 use net_units::ActorNo;
 use std::marker::Model;
 
-/// An item of a schedule: so many steps of one actor, one after the other.
+/// An item of a schedule: a count of steps of one actor, one after the other.
 #[derive(Clone, Copy, Debug, PartialEq, Eq)]
 pub struct Do {
     /// The number of its line in the scenario, from 1, or 0 where it has none.

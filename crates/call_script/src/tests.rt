@@ -3,7 +3,7 @@ ghost use Rattle.std.specs.Prelude.{◌≡◌, [], ◌∷◌, IfOk, OnOk, List, 
 ghost use Rattle.net_units.specs.Numbers.{link_number, channel_number};
 ghost use Rattle.link_steps.specs.declared.replies.Reply.{Reply as Replied};
 ghost use Rattle.call_script.specs.OneLink.{IsThatLink, IsThatRequest, IsThatScript};
-ghost use Rattle.call_script.specs.Standing.{Stands};
+ghost use Rattle.call_script.specs.Standing.{CallerStands};
 
 use super::*;
 use hop_reservation::{Hop, Route};
@@ -134,8 +134,8 @@ fn asks(
     ask: &Ask,
     reply: Reply,
 ) -> Result<(), Fail>
-    requires { (replies : List Replied) × Stands plan.now actor.old replies }
-    ensures { OnOk result ((replies : List Replied) × Stands plan.now actor.new replies) }
+    requires { (replies : List Replied) × CallerStands plan.now actor.old replies }
+    ensures { OnOk result ((replies : List Replied) × CallerStands plan.now actor.new replies) }
 {
     match actor.next_ask(plan) {
         Some((to, next)) => {

@@ -10,7 +10,7 @@ use Rattle.net_units.specs.declared.Kind.{Kind}
 use Rattle.net_units.specs.declared.numbers.ChanNo.{ChanNo}
 use Rattle.net_units.specs.declared.numbers.Level.{Level}
 use Rattle.net_units.specs.declared.numbers.LinkNo.{LinkNo}
-use Rattle.traffic_contract.specs.Contract.{Terms, IsContract}
+use Rattle.traffic_contract.specs.Contract.{Traffic, IsContract}
 use Rattle.traffic_contract.specs.Keeping.{keeps_newest_first}
 use Rattle.link_steps.specs.declared.asks.Ask.{Ask}
 use Rattle.link_steps.specs.declared.asks.Ask.TheVariants.{Reserve, Relax, Deny, Submit, Release, Arrive, Tick, Pour}
@@ -31,7 +31,7 @@ use Rattle.link_steps.specs.Rows.{Row, row_terms, new_row, is_for, made_by}
 use Rattle.link_steps.specs.Scan.{Scan, clock_of, is_row_of, is_row_at_hop, names_first_hop, relax_row, plan_row, close_row, arrived_packet, arrived_row, with_arrival, without_expired, with_sources, with_best, best_step_at, after_tick, after, scan_of}
 use Rattle.link_steps.specs.Service.{Arrival, here_at}
 use Rattle.link_steps.specs.Buffer.{has_slot}
-use Rattle.link_steps.specs.Sources.{SourceStep, Rests, Brings, Loses, source_step, arrival_at, with_packet, source_tick, step_of, packet_of, row_after, taken_by, source_packets, rows_after}
+use Rattle.link_steps.specs.Sources.{SourceStep, Rests, Brings, Drops, source_step, arrival_at, with_packet, source_tick, step_of, packet_of, row_after, taken_by, source_packets, rows_after}
 use Rattle.link_steps.specs.BestEffort.{best_packet}
 use Rattle.link_steps.proofs.AdmissionHolds.{find-terms}
 use Rattle.link_steps.proofs.ChangeFacts.{Each-change_found}
@@ -42,11 +42,11 @@ use Rattle.link_steps.proofs.ListFacts.{Each-append, Each-filter, Each-find, Eac
 use Rattle.link_steps.proofs.RefusalFacts.{kept-rule, unless-none}
 use Rattle.link_steps.proofs.ReplyFacts.{relax-tells}
 use Rattle.std.specs.Option.{option_map}
-use Rattle.channel_laws.specs.Channels.{HopTerms, is_of_channel, channel_packets, tick_of_packet, channel_of, offers_with, offers_to, OffersTerms, AllOfferTerms, AreNumbered, RowTells, IsElsewhere, IsOnly, IsFree, HasRow, ChannelStands}
+use Rattle.channel_laws.specs.Channels.{HopTerms, is_of_channel, channel_packets, tick_of_packet, channel_of, offers_with, offers_to, OffersTerms, AllOfferTerms, AreNumberedAfter, RowTells, IsElsewhere, IsOnly, IsFree, HasOneRow, ChannelStands}
 
 -- ---- packets
 
-numbered-push : (n : ℕ) (own : List Arrival) (p : Arrival) → AreNumbered n own → p.number ≡ suc (n + length own) → AreNumbered n (own ++ p ∷ [])
+numbered-push : (n : ℕ) (own : List Arrival) (p : Arrival) → AreNumberedAfter n own → p.number ≡ suc (n + length own) → AreNumberedAfter n (own ++ p ∷ [])
 numbered-push n [] p are is = (omega (arith, is), tt)
 numbered-push n (q ∷ own) p are is = (are.0, numbered-push (suc n) own p are.1 (omega (arith, is)))
 
@@ -74,7 +74,7 @@ best-none c place t bounds (Brings size) =
       | inr other ↦ rw other refl
     ]
 best-none c place t bounds Rests = refl
-best-none c place t bounds Loses = refl
+best-none c place t bounds Drops = refl
 
 -- the packets of a channel after a tick are those before it and those that the sources bring
 pub tick-packets : (shape : LinkShape) (c t : ℕ) (scan : Scan) → channel_packets c (after_tick shape t scan).packets ≡ channel_packets c scan.packets ++ channel_packets c (source_packets shape.bounds (here_at shape.rate scan.packets t) t (length scan.packets) (filter (stays shape.bounds t) scan.rows))
@@ -116,7 +116,7 @@ unchanged test change (row ∷ rows) none =
       | inr failed ↦ rw failed (ap (λ rest. row ∷ rest) (unchanged test change rows (rw failed at none)))
     ]
 
--- the rows behind one of the channel are of others
+-- the rows after one of the channel are of others
 pub others-elsewhere : (c : ℕ) (row : Row) (rows : List Row) → channel_of row ≡ c → DifferInChannel (row ∷ rows) → Each (IsElsewhere c) rows
 others-elsewhere c row rows same differ =
     Each-if (λ r. channel_of r ≢ channel_of row) (IsElsewhere c) rows (λ r other is. other (is ∙ sym same)) (Each-mapped (λ n. n ≢ channel_of row) channel_of rows differ.0)
@@ -160,7 +160,7 @@ changed-stands terms c n chan scan test change tests keeps differ tells stands =
   free = λ none. (let is = stands.free none in record { rows = Each-change_first (IsElsewhere c) test change scan.rows (λ r other same. other (sym (keeps r) ∙ same)) is.rows; packets = is.packets });
   known = λ one. by-channel (stands.known one);
 } where
-  by-found : (is : HasRow terms c scan) → channel_number chan ≡ c → (found : Option Row) → find test scan.rows ≡ found → HasRow terms c (record scan { rows = change_first test change scan.rows })
+  by-found : (is : HasOneRow terms c scan) → channel_number chan ≡ c → (found : Option Row) → find test scan.rows ≡ found → HasOneRow terms c (record scan { rows = change_first test change scan.rows })
   by-found is same None none = record { row = is.row; tells = is.tells; only = subst (Each (IsOnly c is.row)) (sym (unchanged test change scan.rows none)) is.only }
   by-found is same (Some r) found =
       let own : r ≡ is.row = Each-find (IsOnly c is.row) test scan.rows r is.only found (tests r (find-passes test r scan.rows found) ∙ same) in
@@ -171,7 +171,7 @@ changed-stands terms c n chan scan test change tests keeps differ tells stands =
         only = only-changed test change c is.row scan.rows (λ x passed. tests x passed ∙ same) differ found' is.only;
       }
 
-  by-channel : HasRow terms c scan → HasRow terms c (record scan { rows = change_first test change scan.rows })
+  by-channel : HasOneRow terms c scan → HasOneRow terms c (record scan { rows = change_first test change scan.rows })
   by-channel is =
       elim (cases_Bool (nat_eq (channel_number chan) c)) [
         | inl on ↦ by-found is (eqb-true (channel_number chan) c on) (find test scan.rows) refl
@@ -238,12 +238,12 @@ arrival-stands shape terms c n t packet scan (Some row) clock e is differ same s
 pub packet-elsewhere : (c t place : ℕ) (row : Row) (step : SourceStep) → channel_of row ≢ c → channel_packets c (packet_of step t place row) ≡ []
 packet-elsewhere c t place row (Brings size) other = rw (ne_eqb (channel_of row) c other) refl
 packet-elsewhere c t place row Rests other = refl
-packet-elsewhere c t place row Loses other = refl
+packet-elsewhere c t place row Drops other = refl
 
 row-elsewhere : (c t place : ℕ) (row : Row) (step : SourceStep) → channel_of row ≢ c → channel_of (row_after step t place row) ≢ c
 row-elsewhere c t place row (Brings size) other = other
 row-elsewhere c t place row Rests other = other
-row-elsewhere c t place row Loses other = other
+row-elsewhere c t place row Drops other = other
 
 pub sources-elsewhere : (c : ℕ) (bounds : List ℕ) (here : List Arrival) (t taken : ℕ) (rows : List Row) → Each (IsElsewhere c) rows → (channel_packets c (source_packets bounds here t taken rows) ≡ []) × Each (IsElsewhere c) (rows_after bounds here t taken rows)
 unfolding source_packets rows_after
@@ -255,10 +255,10 @@ sources-elsewhere c bounds here t taken (row ∷ rows) each =
       (row-elsewhere c t (suc taken) row (step_of bounds here t row) each.0, rest.1),
     )
 
--- a row and its packets behind the step of its source
+-- a row and its packets after the step of its source
 tells-step : (terms : HopTerms) (c t place : ℕ) (row : Row) (own : List Arrival) (step : SourceStep) → RowTells terms c row own → RowTells terms c (row_after step t place row) (own ++ channel_packets c (packet_of step t place row))
 tells-step terms c t place row own Rests tells = rw (append-nil own) tells
-tells-step terms c t place row own Loses tells = rw (append-nil own) (record {
+tells-step terms c t place row own Drops tells = rw (append-nil own) (record {
   chan = tells.chan;
   contract_is = tells.contract_is;
   kind_is = tells.kind_is;
@@ -349,7 +349,7 @@ sources-none c bounds here t taken (r ∷ rows) row none differ only =
           filter-append (is_of_channel c) (packet_of (step_of bounds here t r) t (suc taken) r) _ ∙ ap (λ x. x ++ channel_packets c (source_packets bounds here t (taken + taken_by (step_of bounds here t r)) rows)) (packet-elsewhere c t (suc taken) r (step_of bounds here t r) other) ∙ rest)
     ]
 
-pub tick-none : (shape : LinkShape) (terms : HopTerms) (c t : ℕ) (scan : Scan) → terms.first ≡ false → DifferInChannel scan.rows → HasRow terms c scan → channel_packets c (after_tick shape t scan).packets ≡ channel_packets c scan.packets
+pub tick-none : (shape : LinkShape) (terms : HopTerms) (c t : ℕ) (scan : Scan) → terms.first ≡ false → DifferInChannel scan.rows → HasOneRow terms c scan → channel_packets c (after_tick shape t scan).packets ≡ channel_packets c scan.packets
 unfolding after_tick with_best with_sources without_expired
 tick-none shape terms c t scan later differ has =
     tick-packets shape c t scan ∙ ap (λ x. channel_packets c scan.packets ++ x) (sources-none c shape.bounds (here_at shape.rate scan.packets t) t (length scan.packets) (filter (stays shape.bounds t) scan.rows) has.row (has.tells.unplanned later) (differ-filter (stays shape.bounds t) scan.rows differ) (Each-filter (IsOnly c has.row) (stays shape.bounds t) scan.rows has.only)) ∙ append-nil _
@@ -362,7 +362,7 @@ tick-free shape c t scan free =
 
 -- ---- a reserve
 
-reserved-stands : (terms : HopTerms) (c n : ℕ) (scan : Scan) (chan : ChanNo) (contract : Terms) (kind : Kind) (first : Bool) (next : Option LinkNo) (delay up_reach : ℕ) (level reach : Level) → IsContract contract → OffersTerms terms c (Reserve chan contract kind delay up_reach first next) (Is.Offer level reach) → ChannelStands terms c n scan
+reserved-stands : (terms : HopTerms) (c n : ℕ) (scan : Scan) (chan : ChanNo) (contract : Traffic) (kind : Kind) (first : Bool) (next : Option LinkNo) (delay up_reach : ℕ) (level reach : Level) → IsContract contract → OffersTerms terms c (Reserve chan contract kind delay up_reach first next) (Is.Offer level reach) → ChannelStands terms c n scan
     → ChannelStands terms c (offers_with c n (Reserve chan contract kind delay up_reach first next) (Is.Offer level reach)) (record scan { rows = scan.rows ++ new_row (tentative chan contract kind first next up_reach level reach) ∷ [] })
 unfolding keeps_newest_first
 reserved-stands terms c n scan chan contract kind first next delay up_reach level reach valid names stands =
@@ -383,7 +383,7 @@ reserved-stands terms c n scan chan contract kind first next delay up_reach leve
                 valid = subst IsContract tells.contract_is valid;
                 keeps = refl;
                 eligible = ap (map tick_of_packet) (sym was.packets);
-                numbered = subst (AreNumbered 0) (sym was.packets) tt;
+                numbered = subst (AreNumberedAfter 0) (sym was.packets) tt;
                 levels = subst (Each (λ p. p.level ≡ level_number level)) (sym was.packets) tt;
                 nexts = subst (Each (λ p. p.next ≡ terms.next)) (sym was.packets) tt;
                 unplanned = λ later. refl;

@@ -17,7 +17,7 @@ use Rattle.link_steps.specs.Reservation.{tentative}
 use Rattle.link_steps.specs.Rows.{Row, new_row}
 use Rattle.link_steps.specs.Scan.{Scan, clock_of, is_row_of, is_row_at_hop, names_first_hop, relax_row, plan_row, close_row, arrived_packet, arrived_row, with_arrival, without_expired, with_sources, with_best, best_step_at, after_tick, after, scan_of}
 use Rattle.link_steps.specs.Service.{Arrival, here_at, is_here, starts_below}
-use Rattle.link_steps.specs.Sources.{SourceStep, Rests, Brings, Loses, step_of, packet_of, row_after}
+use Rattle.link_steps.specs.Sources.{SourceStep, Rests, Brings, Drops, step_of, packet_of, row_after}
 use Rattle.link_steps.proofs.ChangeFacts.{Each-if_passes}
 use Rattle.link_steps.proofs.ListFacts.{Each-append, Each-find}
 use Rattle.link_steps.specs.Belonging.{own_packets}
@@ -38,7 +38,7 @@ own-packet c number some = and_from (nat_eq c c) (nat_lt 0 number) (eq-eqb c c r
 step-own : (t place : ℕ) (row : Row) (own : List Arrival) (step : SourceStep) → OwnChannel row own → OwnChannel (row_after step t place row) (own ++ packet_of step t place row)
 step-own t place row own (Brings size) each = Each-append (λ p. is_of_channel (channel_of row) p ≡ true) own _ each (own-packet (channel_of row) (suc (length row.ticks)) (omega arith), tt)
 step-own t place row own Rests each = Each-append (λ p. is_of_channel (channel_of row) p ≡ true) own [] each tt
-step-own t place row own Loses each = Each-append (λ p. is_of_channel (channel_of row) p ≡ true) own [] each tt
+step-own t place row own Drops each = Each-append (λ p. is_of_channel (channel_of row) p ≡ true) own [] each tt
 
 tick-own : (shape : LinkShape) (t : ℕ) (scan : Scan) → RowsStand OwnChannel OwnChannel scan.packets scan.gone scan.rows → RowsStand OwnChannel OwnChannel (after_tick shape t scan).packets (after_tick shape t scan).gone (after_tick shape t scan).rows
 unfolding after_tick with_best with_sources without_expired

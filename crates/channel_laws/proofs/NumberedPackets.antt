@@ -17,7 +17,7 @@ use Rattle.link_steps.specs.Replies.{arrive_to, reply_at}
 use Rattle.link_steps.specs.Rows.{Row}
 use Rattle.link_steps.specs.Scan.{Scan, clock_of, is_row_of, with_arrival, without_expired, with_sources, with_best, best_step_at, after_tick, after, scan_of}
 use Rattle.link_steps.specs.Service.{Arrival, here_at}
-use Rattle.link_steps.specs.Sources.{SourceStep, Rests, Brings, Loses, step_of, packet_of, taken_by, source_packets}
+use Rattle.link_steps.specs.Sources.{SourceStep, Rests, Brings, Drops, step_of, packet_of, taken_by, source_packets}
 use Rattle.link_steps.proofs.LegalOrder.{ScanInOrder, legal-order}
 use Rattle.link_steps.proofs.LegalRowFacts.{IsInOrder}
 use Rattle.link_steps.proofs.ListFacts.{Each-append, Each-filter, Each-find}
@@ -29,7 +29,7 @@ pub record HasNumber (bounds : List ℕ) (p : Arrival) : Type 0 where
 
 step-numbers : (shape : LinkShape) (now t place : ℕ) (row : Row) (step : SourceStep) → IsInOrder shape now row → Each (HasNumber shape.bounds) (packet_of step t place row)
 step-numbers shape now t place row Rests order = tt
-step-numbers shape now t place row Loses order = tt
+step-numbers shape now t place row Drops order = tt
 step-numbers shape now t place row (Brings size) order = (record { some = λ few. omega arith; none = λ over. absurd (let most = order.level_most in omega (arith, most, over)) }, tt)
 
 source-numbers : (shape : LinkShape) (now : ℕ) (here : List Arrival) (t taken : ℕ) (rows : List Row) → Each (IsInOrder shape now) rows → Each (HasNumber shape.bounds) (source_packets shape.bounds here t taken rows)
@@ -41,7 +41,7 @@ source-numbers shape now here t taken (row ∷ rows) order =
 
 best-numbers : (bounds : List ℕ) (place t : ℕ) (step : SourceStep) → Each (HasNumber bounds) (best_packet step bounds place t)
 best-numbers bounds place t Rests = tt
-best-numbers bounds place t Loses = tt
+best-numbers bounds place t Drops = tt
 best-numbers bounds place t (Brings size) = (record { some = λ few. absurd (omega (arith, few)); none = λ over. refl }, tt)
 
 tick-numbers : (shape : LinkShape) (t : ℕ) (scan : Scan) → ScanInOrder shape t scan → Each (HasNumber shape.bounds) scan.packets → Each (HasNumber shape.bounds) (after_tick shape t scan).packets

@@ -11,7 +11,7 @@ use Rattle.link_steps.specs.declared.replies.Entry.{Entry}
 use Rattle.link_steps.specs.declared.replies.Reply.{Reply}
 use Rattle.link_steps.specs.declared.replies.Reply.TheVariants as Is
 use Rattle.link_steps.specs.declared.shape.LinkShape.{LinkShape}
-use Rattle.link_steps.specs.Refusals.{Rule, refused_or, first_refusal, not_in_phase, unfit, busy, too_big, too_big_for, first_hop, uncommitted, wrong_number, past_count, big, full}
+use Rattle.link_steps.specs.Refusals.{RefusalRule, refused_or, first_refusal, not_in_phase, unfit, busy, too_big, too_big_for, first_hop, uncommitted, wrong_number, past_count, big, full}
 use Rattle.link_steps.specs.Buffer.{slots_of, held_packets}
 use Rattle.link_steps.specs.Regulator.{eligible_next}
 use Rattle.link_steps.specs.declared.replies.Phase.TheVariants.{Tentative, Committed}
@@ -28,11 +28,11 @@ abbrev IsOther : Reply → Type 0
 IsOther (Is.Offer level reach) = ⊥
 IsOther _ = Unit {0}
 
-rule-other : (rule : Rule) (reply : Reply) → IsOther reply → IsOther (refused_or rule reply)
+rule-other : (rule : RefusalRule) (reply : Reply) → IsOther reply → IsOther (refused_or rule reply)
 rule-other None reply is = is
 rule-other (Some refusal) reply is = tt
 
-rules-other : (rules : List Rule) (reply : Reply) → IsOther reply → IsOther (first_refusal rules reply)
+rules-other : (rules : List RefusalRule) (reply : Reply) → IsOther reply → IsOther (first_refusal rules reply)
 rules-other [] reply is = is
 rules-other (rule ∷ rules) reply is = rule-other rule (first_refusal rules reply) (rules-other rules reply is)
 

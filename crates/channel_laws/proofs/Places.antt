@@ -10,7 +10,7 @@ use Rattle.link_steps.specs.Lists.{Each}
 use Rattle.link_steps.specs.Rows.{Row}
 use Rattle.link_steps.specs.Service.{Arrival}
 use Rattle.link_steps.proofs.ListFacts.{Among}
-use Rattle.channel_laws.specs.Channels.{HopTerms, AreNumbered, RowTells, tick_of_packet}
+use Rattle.channel_laws.specs.Channels.{HopTerms, AreNumberedAfter, RowTells, tick_of_packet}
 
 -- a fact of each is one of the element at an index
 pub Each-at : {X : Type 0} (P : X → Type 0) (xs : List X) (i : ℕ) (x : X) → Each P xs → slice_get xs i ≡ Some x → P x
@@ -31,7 +31,7 @@ pub record PlaceOf (n : ℕ) (own : List Arrival) (p : Arrival) : Type 0 where
   pub number : p.number ≡ suc (n + index)
   pub tick : get_or (map tick_of_packet own) index 0 ≡ p.eligible
 
-pub place-of : (n : ℕ) (own : List Arrival) (p : Arrival) → AreNumbered n own → Among p own → PlaceOf n own p
+pub place-of : (n : ℕ) (own : List Arrival) (p : Arrival) → AreNumberedAfter n own → Among p own → PlaceOf n own p
 place-of n [] p are among = absurd among
 place-of n (q ∷ own) p are (inl same) = record { index = 0; within = omega arith; number = (let e : p.number ≡ q.number = ap (λ x. x.number) same in let f = are.0 in omega (arith, e, f)); tick = ap (λ x. x.eligible) (sym same) }
 place-of n (q ∷ own) p are (inr among) =

@@ -3,20 +3,20 @@ use Rattle.std.proofs.Common.{◌≡◌, Bool, true, false, List, [], ◌∷◌,
 use Rattle.link_steps.specs.declared.replies.Refusal.{Refusal}
 use Rattle.link_steps.specs.declared.replies.Reply.{Reply}
 use Rattle.link_steps.specs.declared.replies.Reply.TheVariants as Is
-use Rattle.link_steps.specs.Refusals.{Rule, unless, refused_or, first_refusal}
+use Rattle.link_steps.specs.Refusals.{RefusalRule, refused_unless, refused_or, first_refusal}
 
-abbrev pub EachRule : (Reply → Type 0) → List Rule → Type 0
+abbrev pub EachRule : (Reply → Type 0) → List RefusalRule → Type 0
 EachRule P [] = Unit {0}
 EachRule P (rule ∷ rules) = ((refusal : Refusal) → rule ≡ Some refusal → P (Is.Refused refusal)) × EachRule P rules
 
-rule-fact : (P : Reply → Type 0) (rule : Rule) (reply : Reply) → ((refusal : Refusal) → rule ≡ Some refusal → P (Is.Refused refusal)) → P reply → P (refused_or rule reply)
+rule-fact : (P : Reply → Type 0) (rule : RefusalRule) (reply : Reply) → ((refusal : Refusal) → rule ≡ Some refusal → P (Is.Refused refusal)) → P reply → P (refused_or rule reply)
 rule-fact P None reply each fact = fact
 rule-fact P (Some refusal) reply each fact = each refusal refl
 
-pub rules-fact : (P : Reply → Type 0) (rules : List Rule) (reply : Reply) → EachRule P rules → P reply → P (first_refusal rules reply)
+pub rules-fact : (P : Reply → Type 0) (rules : List RefusalRule) (reply : Reply) → EachRule P rules → P reply → P (first_refusal rules reply)
 rules-fact P [] reply each fact = fact
 rules-fact P (rule ∷ rules) reply each fact = rule-fact P rule (first_refusal rules reply) each.0 (rules-fact P rules reply each.1 fact)
 
-pub unless-some : (holds : Bool) (own refusal : Refusal) → unless holds own ≡ Some refusal → refusal ≡ own
+pub unless-some : (holds : Bool) (own refusal : Refusal) → refused_unless holds own ≡ Some refusal → refusal ≡ own
 unless-some true own refusal same = cc
 unless-some false own refusal same = cc

@@ -16,14 +16,14 @@ use Rattle.link_steps.specs.Service.{Arrival, Start, leaves_at, work_of, first_i
 use Rattle.link_steps.proofs.Departures.{departed-at, starts-once, leaves-once}
 use Rattle.link_steps.proofs.ListFacts.{Among, Each-among, Among-filter}
 use Rattle.link_steps.proofs.ServiceFacts.{FollowEachOther, starts-follow, starts-begun, HasBegun, starts-fact}
-use Rattle.channel_laws.specs.Channels.{HopTerms, is_of_channel, channel_packets, tick_of_packet, AreNumbered, RowTells}
+use Rattle.channel_laws.specs.Channels.{HopTerms, is_of_channel, channel_packets, tick_of_packet, AreNumberedAfter, RowTells}
 use Rattle.channel_laws.proofs.Places.{Each-at, tick-at, place-of, row-keeps}
 use Rattle.link_steps.proofs.PacketRows.{Among-passes}
 use Rattle.link_steps.proofs.NewPackets.{packets-numbered}
 use Rattle.link_steps.specs.Belonging.{AreNumbered as ArePlaced}
 use Rattle.channel_laws.proofs.DepartureOrder.{leaves-first}
 
--- ---- the start behind a departure
+-- ---- the start after a departure
 
 pub record DepartedBy (rate c : ℕ) (starts : List Start) (p : Arrival) : Type 0 where
   pub start : Start
@@ -120,12 +120,12 @@ spaced-between least ticks j k spaced less within = at-sum (k - j) (omega arith)
   at-sum d same = (let rise = spaced-rise least ticks j d spaced (omega (arith, same, within)) in let e : get_or ticks (j + d) 0 ≡ get_or ticks k 0 = ap (λ i. get_or ticks i 0) same in omega (arith, rise, e))
 
 -- a numbered packet stands at the place of its number
-number-above : (own : List Arrival) (p : Arrival) → Among p own → (n : ℕ) → AreNumbered n own → n < p.number
+number-above : (own : List Arrival) (p : Arrival) → Among p own → (n : ℕ) → AreNumberedAfter n own → n < p.number
 number-above [] p among n are = absurd among
 number-above (q ∷ own) p (inl same) n are = (let e : p.number ≡ q.number = ap (λ x. x.number) same in let f = are.0 in omega (arith, e, f))
 number-above (q ∷ own) p (inr among) n are = (let rest = number-above own p among (suc n) are.1 in omega (arith, rest))
 
-found-at : (own : List Arrival) (p : Arrival) → Among p own → (n : ℕ) → AreNumbered n own → (index : ℕ) → p.number ≡ suc (n + index) → slice_get own index ≡ Some p
+found-at : (own : List Arrival) (p : Arrival) → Among p own → (n : ℕ) → AreNumberedAfter n own → (index : ℕ) → p.number ≡ suc (n + index) → slice_get own index ≡ Some p
 found-at [] p among n are index number = absurd among
 found-at (q ∷ own) p (inl same) n are zero number = ap Some (sym same)
 found-at (q ∷ own) p (inl same) n are (suc index) number = absurd (let e : p.number ≡ q.number = ap (λ x. x.number) same in let f = are.0 in omega (arith, e, f, number))

@@ -11,7 +11,7 @@ use Rattle.net_units.specs.declared.Kind.{Kind}
 use Rattle.net_units.specs.declared.numbers.ChanNo.{ChanNo}
 use Rattle.net_units.specs.declared.numbers.Level.{Level}
 use Rattle.net_units.specs.declared.numbers.LinkNo.{LinkNo}
-use Rattle.traffic_contract.specs.Contract.{Terms}
+use Rattle.traffic_contract.specs.Contract.{Traffic}
 use Rattle.link_steps.specs.declared.asks.Ask.{Ask}
 use Rattle.link_steps.specs.declared.asks.Ask.TheVariants.{Reserve, Relax, Deny, Submit, Release, Arrive, Tick, Pour}
 use Rattle.link_steps.specs.declared.asks.Packet.{Packet}
@@ -154,7 +154,7 @@ held-off shape chan t scan _ _ off opened differ = refl
 
 -- ---- an entry of the channel
 
-pub held-offered : (shape : LinkShape) (chan : ChanNo) (t : ℕ) (scan : Scan) (contract : Terms) (kind : Kind) (delay up_reach : ℕ) (first : Bool) (next : Option LinkNo) (level reach : Level) → held_by chan scan.rows ≡ None → held_by chan (after shape t scan (Reserve chan contract kind delay up_reach first next) (Is.Offer level reach)).rows ≡ Some (tentative chan contract kind first next up_reach level reach)
+pub held-offered : (shape : LinkShape) (chan : ChanNo) (t : ℕ) (scan : Scan) (contract : Traffic) (kind : Kind) (delay up_reach : ℕ) (first : Bool) (next : Option LinkNo) (level reach : Level) → held_by chan scan.rows ≡ None → held_by chan (after shape t scan (Reserve chan contract kind delay up_reach first next) (Is.Offer level reach)).rows ≡ Some (tentative chan contract kind first next up_reach level reach)
 unfolding after
 held-offered shape chan t scan contract kind delay up_reach first next level reach none =
     pushed chan scan.rows (new_row (tentative chan contract kind first next up_reach level reach)) None none ∙ rw (eq-eqb (channel_number chan) (channel_number chan) refl) refl

@@ -4,7 +4,7 @@ use Rattle.std.specs.Prelude.{◌≡◌, ◌≢◌, ◌≤◌, ℕ, suc, Bool, t
 use Rattle.net_units.specs.Numbers.{channel_number, level_number}
 use Rattle.net_units.specs.declared.Kind.{Kind}
 use Rattle.net_units.specs.declared.numbers.LinkNo.{LinkNo}
-use Rattle.traffic_contract.specs.Contract.{Terms, IsContract}
+use Rattle.traffic_contract.specs.Contract.{Traffic, IsContract}
 use Rattle.traffic_contract.specs.Keeping.{keeps_newest_first}
 use Rattle.link_steps.specs.declared.asks.Ask.{Ask}
 use Rattle.link_steps.specs.declared.asks.Ask.TheVariants.{Reserve}
@@ -18,7 +18,7 @@ use Rattle.link_steps.specs.Service.{Arrival}
 
 -- what a channel's reserve at a link names
 pub record HopTerms : Type 0 where
-  pub contract : Terms
+  pub contract : Traffic
   pub kind : Kind
   pub first : Bool
   pub next : Option LinkNo
@@ -50,7 +50,7 @@ offers_to c [] = 0
 offers_to c (e ∷ past) = offers_with c (offers_to c past) e.ask e.reply
 
 -- a reserve of the channel names these terms
-pub record NamesTerms (terms : HopTerms) (contract : Terms) (kind : Kind) (first : Bool) (next : Option LinkNo) : Type 0 where
+pub record NamesTerms (terms : HopTerms) (contract : Traffic) (kind : Kind) (first : Bool) (next : Option LinkNo) : Type 0 where
   pub contract_is : contract ≡ terms.contract
   pub kind_is : kind ≡ terms.kind
   pub first_is : first ≡ terms.first
@@ -67,9 +67,9 @@ AllOfferTerms terms c h = Each (λ e. OffersTerms terms c e.ask e.reply) h
 -- ---- the row of a channel and its packets
 
 -- the packets are numbered from the number after n on
-abbrev pub AreNumbered : ℕ → List Arrival → Type 0
-AreNumbered n [] = Unit {0}
-AreNumbered n (p ∷ packets) = (p.number ≡ suc n) × AreNumbered (suc n) packets
+abbrev pub AreNumberedAfter : ℕ → List Arrival → Type 0
+AreNumberedAfter n [] = Unit {0}
+AreNumberedAfter n (p ∷ packets) = (p.number ≡ suc n) × AreNumberedAfter (suc n) packets
 
 pub record RowTells (terms : HopTerms) (c : ℕ) (row : Row) (own : List Arrival) : Type 0 where
   pub chan : channel_of row ≡ c
@@ -80,7 +80,7 @@ pub record RowTells (terms : HopTerms) (c : ℕ) (row : Row) (own : List Arrival
   pub valid : IsContract terms.contract
   pub keeps : keeps_newest_first terms.contract row.ticks ≡ true
   pub eligible : reverse row.ticks ≡ map tick_of_packet own
-  pub numbered : AreNumbered 0 own
+  pub numbered : AreNumberedAfter 0 own
   pub levels : Each (λ p. p.level ≡ level_number row.terms.level) own
   pub nexts : Each (λ p. p.next ≡ terms.next) own
   pub unplanned : terms.first ≡ false → row.plan ≡ []
@@ -97,14 +97,14 @@ pub record IsFree (c : ℕ) (scan : Scan) : Type 0 where
   pub packets : channel_packets c scan.packets ≡ []
 
 -- its packets are those of one row, and no other held row is of the channel. The row may be gone
-pub record HasRow (terms : HopTerms) (c : ℕ) (scan : Scan) : Type 0 where
+pub record HasOneRow (terms : HopTerms) (c : ℕ) (scan : Scan) : Type 0 where
   pub row : Row
   pub tells : RowTells terms c row (channel_packets c scan.packets)
   pub only : Each (IsOnly c row) scan.rows
 
 pub record ChannelStands (terms : HopTerms) (c offers : ℕ) (scan : Scan) : Type 0 where
   pub free : offers ≡ 0 → IsFree c scan
-  pub known : offers ≡ 1 → HasRow terms c scan
+  pub known : offers ≡ 1 → HasOneRow terms c scan
 
 -- ---- sizes
 

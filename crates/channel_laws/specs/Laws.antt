@@ -5,7 +5,7 @@ use Rattle.net_units.specs.declared.Kind.{Kind}
 use Rattle.net_units.specs.declared.numbers.ChanNo.{ChanNo}
 use Rattle.net_units.specs.declared.numbers.Level.{Level}
 use Rattle.net_units.specs.declared.numbers.LinkNo.{LinkNo}
-use Rattle.traffic_contract.specs.Contract.{Terms}
+use Rattle.traffic_contract.specs.Contract.{Traffic}
 use Rattle.link_steps.specs.declared.asks.Ask.{Ask}
 use Rattle.link_steps.specs.declared.asks.Ask.TheVariants.{Reserve, Relax, Deny, Submit, Release, Arrive, Pour}
 use Rattle.link_steps.specs.declared.asks.Packet.{Packet}
@@ -63,7 +63,7 @@ pub record EntriesChangeTheirReservation : Type 0 where
   -- after one that neither reserves, relaxes nor denies the channel it is the one before, or that one closing
   pub mild : (shape : LinkShape) (h : List Entry) (e : Entry) (chan : ChanNo) (terms : Reservation) → IsAdmissible shape h → IsMild (channel_number chan) e.ask → held_after shape chan (e ∷ h) ≡ Some terms → ComesOf terms (held_after shape chan h)
   -- an offer is held
-  pub offered : (shape : LinkShape) (h : List Entry) (chan : ChanNo) (contract : Terms) (kind : Kind) (delay up_reach : ℕ) (first : Bool) (next : Option LinkNo) (level reach : Level) → held_after shape chan h ≡ None
+  pub offered : (shape : LinkShape) (h : List Entry) (chan : ChanNo) (contract : Traffic) (kind : Kind) (delay up_reach : ℕ) (first : Bool) (next : Option LinkNo) (level reach : Level) → held_after shape chan h ≡ None
       → held_after shape chan (record { ask = Reserve chan contract kind delay up_reach first next; reply = Offer level reach } ∷ h) ≡ Some (tentative chan contract kind first next up_reach level reach)
   -- a relax commits it
   pub relaxed : (shape : LinkShape) (h : List Entry) (chan : ChanNo) (level : Level) (up_bound clock : ℕ) → held_after shape chan (record { ask = Relax chan level up_bound; reply = Relaxed clock } ∷ h) ≡ option_map (committed level up_bound) (held_after shape chan h)

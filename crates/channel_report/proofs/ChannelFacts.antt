@@ -14,13 +14,13 @@ use Rattle.call_script.proofs.FitFacts.{request-fits}
 use Rattle.call_script.specs.Fits.{IsHopOf}
 use Rattle.call_script.specs.Parts.{PlanParts}
 use Rattle.call_script.specs.Plans.{IsPlan}
-use Rattle.call_script.specs.Tasks.{link_of}
+use Rattle.call_script.specs.Tasks.{entry_link}
 use Rattle.call_script.specs.declared.entries.RequestEntry.{RequestEntry}
 use Rattle.run_record.specs.Runs.{part_of}
 use Rattle.run_record.specs.declared.done.Done.{Done}
 use Rattle.run_record.specs.declared.rows.HopRow.{HopRow}
 use Rattle.channel_report.specs.ChannelTallies.{never}
-use Rattle.channel_report.specs.Channels.{established_line, offered_by, sends_refused, told_channel}
+use Rattle.channel_report.specs.Channels.{established_line, offered_for, sends_refused, told_channel}
 use Rattle.channel_report.specs.DelayTallies.{delay_tally_of}
 use Rattle.channel_report.specs.Delays.{delays_in}
 use Rattle.channel_report.specs.Findings.{AreFound}
@@ -45,11 +45,11 @@ route-some parts number entry plan found = (request-fits parts number entry plan
 pub first-within : (parts : PlanParts) (number : ℕ) (entry : RequestEntry) → IsPlan parts → slice_get parts.requests number ≡ Some entry → 1 ≤ length entry.request.route → first_link entry.request.route < length parts.links
 first-within parts number entry plan found some =
     let fits = request-fits parts number entry plan found in
-    omega (arith, first-hop (map link_of parts.links) entry.request.route some fits.hops, length-map parts.links link_of)
+    omega (arith, first-hop (map entry_link parts.links) entry.request.route some fits.hops, length-map parts.links entry_link)
 
 -- the ticks offered
 pub offered-is : (parts : PlanParts) (entries : List Done) (findings : Findings) (number : ℕ) (entry : RequestEntry) (tally : ChannelTally) (clock : ℕ) (ticks : List ℕ) → IsPlan parts → AreFound parts entries findings → slice_get parts.requests number ≡ Some entry → slice_get findings.channels.items number ≡ Some tally → 1 ≤ length entry.request.route
-    → clock ≡ (get_or findings.links.items (first_link entry.request.route) nothing).clock → ticks ≡ filter (is_made clock) tally.ticks.items → ticks ≡ offered_by (reverse entries) entry
+    → clock ≡ (get_or findings.links.items (first_link entry.request.route) nothing).clock → ticks ≡ filter (is_made clock) tally.ticks.items → ticks ≡ offered_for (reverse entries) entry
 offered-is parts entries findings number entry tally clock ticks plan are found at some clocks is =
     let first = first_link entry.request.route in
     let h = part_of first (reverse entries) in
@@ -65,6 +65,6 @@ refused-is parts entries findings number entry tally plan are found at =
     (are.channels.tells number entry tally found at).refuses ∙ ap (λ n. refused_in n (part_of (first_link entry.request.route) (reverse entries))) (sym (plan.planned.requests number entry found))
 
 -- the line
-pub established-is : (rows : List HopRow) (run : List Done) (read entry : RequestEntry) (ticks : List ℕ) (kept : Bool) (delays : DelayTally) (refused : ℕ) → read ≡ entry → ticks ≡ offered_by run entry → kept ≡ keeps read.request.contract ticks → delays ≡ delay_tally_of (delays_in entry.request rows) → refused ≡ sends_refused run entry
+pub established-is : (rows : List HopRow) (run : List Done) (read entry : RequestEntry) (ticks : List ℕ) (kept : Bool) (delays : DelayTally) (refused : ℕ) → read ≡ entry → ticks ≡ offered_for run entry → kept ≡ keeps read.request.contract ticks → delays ≡ delay_tally_of (delays_in entry.request rows) → refused ≡ sends_refused run entry
     → told_channel read.name (length ticks) kept delays.delivered delays.least delays.worst refused ≡ established_line rows run entry
 established-is rows run read entry ticks kept delays refused same offered keeping late refuses = rw (keeping, same, offered, late, refuses) refl

@@ -1,4 +1,4 @@
--- What is kept of all sources behind one entry more of a run.
+-- What is kept of all sources after one entry more of a run.
 use Rattle.std.proofs.Common.{◌≡◌, ℕ, ◌+◌, ◌^◌, ◌<◌, ◌≤◌, Some, List, [], ◌∷◌, ◌++◌, length, set, refl, sym, ap, ◌∙◌, subst, inl, inr, arith, length-set, zero-add}
 use Rattle.std.proofs.lemmas.Bool.{cases_eq, eq-eqb, ne_eqb}
 use Rattle.std.proofs.lemmas.Option.{same_Some}
@@ -14,7 +14,7 @@ use Rattle.interleave_core.proofs.RunLegal.{part-on, part-off}
 use Rattle.run_record.specs.Runs.{part_of}
 use Rattle.run_record.specs.declared.done.Done.{Done}
 use Rattle.channel_report.proofs.LinkTallies.{part-short}
-use Rattle.channel_report.specs.ChannelTallies.{AreChannelTallies, Keeps}
+use Rattle.channel_report.specs.ChannelTallies.{AreChannelTallies, KeepsTally}
 use Rattle.channel_report.specs.Sources.{act_of, chan_of, first_link, planned_after, planned_in, refused_by, refused_in}
 use Rattle.channel_report.specs.declared.channel_tally.ChannelTally.{ChannelTally}
 use Rattle.channel_report.specs.declared.source_act.Act.{Act}
@@ -37,8 +37,8 @@ refused-off n (Cancels chan) off = refl
 refused-off n Nothing off = refl
 
 -- an entry on another link, or for another source
-pub same-source : (n first : ℕ) (done : Done) (past : List Done) (tally : ChannelTally) → (first ≡ link_number done.link → IsOff n (act_of done.ask done.reply)) → Keeps (planned_in n (part_of first past)) (refused_in n (part_of first past)) tally
-    → Keeps (planned_in n (part_of first (done ∷ past))) (refused_in n (part_of first (done ∷ past))) tally
+pub same-source : (n first : ℕ) (done : Done) (past : List Done) (tally : ChannelTally) → (first ≡ link_number done.link → IsOff n (act_of done.ask done.reply)) → KeepsTally (planned_in n (part_of first past)) (refused_in n (part_of first past)) tally
+    → KeepsTally (planned_in n (part_of first (done ∷ past))) (refused_in n (part_of first (done ∷ past))) tally
 unfolding planned_in refused_in
 same-source n first done past tally off keeps =
     elim (cases_eq first (link_number done.link)) [
@@ -49,8 +49,8 @@ same-source n first done past tally off keeps =
     ]
 
 -- an entry for this source
-pub own-source : (n first : ℕ) (done : Done) (past : List Done) (tally : ChannelTally) → first ≡ link_number done.link → Keeps (planned_after n (clock_of (part_of first past)) (planned_in n (part_of first past)) (act_of done.ask done.reply)) (refused_by n (act_of done.ask done.reply) + refused_in n (part_of first past)) tally
-    → Keeps (planned_in n (part_of first (done ∷ past))) (refused_in n (part_of first (done ∷ past))) tally
+pub own-source : (n first : ℕ) (done : Done) (past : List Done) (tally : ChannelTally) → first ≡ link_number done.link → KeepsTally (planned_after n (clock_of (part_of first past)) (planned_in n (part_of first past)) (act_of done.ask done.reply)) (refused_by n (act_of done.ask done.reply) + refused_in n (part_of first past)) tally
+    → KeepsTally (planned_in n (part_of first (done ∷ past))) (refused_in n (part_of first (done ∷ past))) tally
 unfolding planned_in refused_in
 own-source n first done past tally on keeps = rw (part-on first done past (sym on)) keeps
 
@@ -63,11 +63,11 @@ sources-same requests past done tallies are off = record {
   tells = λ n entry tally found at. same-source n (first_link entry.request.route) done past tally (λ on chan of own. off n entry chan found on of own) (are.tells n entry tally found at);
 }
 
--- one source is kept behind the entry
+-- one source is kept after the entry
 pub sources-more : (requests : List RequestEntry) (past : List Done) (done : Done) (old : List ChannelTally) (place : ℕ) (was new : ChannelTally) (own : ChanNo) → AreChannelTallies requests past old → slice_get old place ≡ Some was
     → chan_of (act_of done.ask done.reply) ≡ Some own → channel_number own ≡ place
     → ((entry : RequestEntry) → slice_get requests place ≡ Some entry → first_link entry.request.route ≡ link_number done.link)
-    → ((planned : List ℕ) (refused : ℕ) → Keeps planned refused was → Keeps (planned_after place (clock_of (part_of (link_number done.link) past)) planned (act_of done.ask done.reply)) (refused_by place (act_of done.ask done.reply) + refused) new)
+    → ((planned : List ℕ) (refused : ℕ) → KeepsTally planned refused was → KeepsTally (planned_after place (clock_of (part_of (link_number done.link) past)) planned (act_of done.ask done.reply)) (refused_by place (act_of done.ask done.reply) + refused) new)
     → AreChannelTallies requests (done ∷ past) (set old place new)
 sources-more requests past done old place was new own are at of number first goes = record {
   all = length-set old place new ∙ are.all;
@@ -77,11 +77,11 @@ sources-more requests past done old place was new own are at of number first goe
         let on = first entry here_entry in
         let is : tally ≡ new = get-set-same old place new tally (ap (slice_get (set old place new)) (sym here) ∙ put) in
         let kept = goes (planned_in place (part_of (link_number done.link) past)) (refused_in place (part_of (link_number done.link) past))
-        (subst (λ l. Keeps (planned_in place (part_of l past)) (refused_in place (part_of l past)) was) on (are.tells place entry was here_entry at)) in
-        subst (λ m. Keeps (planned_in m (part_of (first_link entry.request.route) (done ∷ past))) (refused_in m (part_of (first_link entry.request.route) (done ∷ past))) tally) (sym here)
-        (subst (Keeps (planned_in place (part_of (first_link entry.request.route) (done ∷ past))) (refused_in place (part_of (first_link entry.request.route) (done ∷ past)))) (sym is)
+        (subst (λ l. KeepsTally (planned_in place (part_of l past)) (refused_in place (part_of l past)) was) on (are.tells place entry was here_entry at)) in
+        subst (λ m. KeepsTally (planned_in m (part_of (first_link entry.request.route) (done ∷ past))) (refused_in m (part_of (first_link entry.request.route) (done ∷ past))) tally) (sym here)
+        (subst (KeepsTally (planned_in place (part_of (first_link entry.request.route) (done ∷ past))) (refused_in place (part_of (first_link entry.request.route) (done ∷ past)))) (sym is)
         (own-source place (first_link entry.request.route) done past new on
-        (subst (λ l. Keeps (planned_after place (clock_of (part_of l past)) (planned_in place (part_of l past)) (act_of done.ask done.reply)) (refused_by place (act_of done.ask done.reply) + refused_in place (part_of l past)) new) (sym on) kept))))
+        (subst (λ l. KeepsTally (planned_after place (clock_of (part_of l past)) (planned_in place (part_of l past)) (act_of done.ask done.reply)) (refused_by place (act_of done.ask done.reply) + refused_in place (part_of l past)) new) (sym on) kept))))
     | inr apart ↦
         same-source n (first_link entry.request.route) done past tally (λ on chan of' own'. apart (sym own' ∙ ap channel_number (same_Some chan own (sym of' ∙ of)) ∙ number))
         (are.tells n entry tally found (sym (get-set-other old place n new apart) ∙ put))
@@ -90,15 +90,15 @@ sources-more requests past done old place was new own are at of number first goe
 
 -- ---- before the first entry
 
-pub fresh-sources : (requests : List RequestEntry) (tallies : List ChannelTally) → length tallies ≡ length requests → ((n : ℕ) (tally : ChannelTally) → slice_get tallies n ≡ Some tally → Keeps [] 0 tally) → AreChannelTallies requests [] tallies
+pub fresh-sources : (requests : List RequestEntry) (tallies : List ChannelTally) → length tallies ≡ length requests → ((n : ℕ) (tally : ChannelTally) → slice_get tallies n ≡ Some tally → KeepsTally [] 0 tally) → AreChannelTallies requests [] tallies
 unfolding part_of planned_in refused_in
 fresh-sources requests tallies all bare = record { all = all; tells = λ n entry tally found at. bare n tally at }
 
-pub fresh-more : (tallies : List ChannelTally) (new : ChannelTally) → ((n : ℕ) (tally : ChannelTally) → slice_get tallies n ≡ Some tally → Keeps [] 0 tally) → Keeps [] 0 new → (n : ℕ) (tally : ChannelTally) → slice_get (tallies ++ new ∷ []) n ≡ Some tally → Keeps [] 0 tally
+pub fresh-more : (tallies : List ChannelTally) (new : ChannelTally) → ((n : ℕ) (tally : ChannelTally) → slice_get tallies n ≡ Some tally → KeepsTally [] 0 tally) → KeepsTally [] 0 new → (n : ℕ) (tally : ChannelTally) → slice_get (tallies ++ new ∷ []) n ≡ Some tally → KeepsTally [] 0 tally
 fresh-more tallies new bare keeps n tally at =
     elim (get-push tallies new n tally at) [
       | inl before ↦ bare n tally before
-      | inr last ↦ subst (Keeps [] 0) (sym last.1) keeps
+      | inr last ↦ subst (KeepsTally [] 0) (sym last.1) keeps
     ]
 
 -- few sends are refused

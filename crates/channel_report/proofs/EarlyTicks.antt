@@ -17,7 +17,7 @@ use Rattle.call_script.proofs.OwnerFacts.{all-owned}
 use Rattle.call_script.specs.Parts.{PlanParts}
 use Rattle.call_script.specs.Plans.{IsPlan}
 use Rattle.call_script.specs.Tasks.{network_of}
-use Rattle.interleave_core.specs.Answers.{IsAnswered, IsReserveReply, IsRelaxed}
+use Rattle.interleave_core.specs.Answers.{IsReplyOf, IsReserveReply, IsRelaxed}
 use Rattle.interleave_core.specs.Runs.{IsRun}
 use Rattle.interleave_core.proofs.Replying.{asks-answered}
 use Rattle.interleave_core.proofs.RunLegal.{tick-answer}
@@ -47,7 +47,7 @@ arrive-early : (reply : Reply) → IsArriveReply reply → IsEarly reply
 arrive-early (Is.Ticked clock full sent best_sent best_lost) is = absurd is
 arrive-early _ is = tt
 
-answer-early : (link : Link) (h : List Entry) (ask : Ask) (reply : Reply) → IsAnswered ask reply → reply ≡ reply_to link h ask → clock_of h < 2 ^ 63 → IsEarly reply
+answer-early : (link : Link) (h : List Entry) (ask : Ask) (reply : Reply) → IsReplyOf ask reply → reply ≡ reply_to link h ask → clock_of h < 2 ^ 63 → IsEarly reply
 answer-early link h (Reserve chan contract kind delay up_reach first next) reply answered is small = reserve-early reply answered
 answer-early link h (Relax chan level up_bound) reply answered is small = relax-early reply answered
 answer-early link h (Deny chan) reply answered is small = subst IsEarly (sym answered) tt

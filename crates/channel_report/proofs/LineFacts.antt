@@ -26,7 +26,7 @@ line-at parts run number entry version best plan found versions bests =
     ap (λ b. told_link entry.name b (part_of number run)) (bests ∙ ap (λ v. takes_best v entry) versions)
     ∙ ap (λ n. told_link entry.name (takes_best parts.version entry) (part_of n run)) (sym (plan.planned.links number entry found))
 
--- words behind a first one, each behind a space
+-- words after a first one, each after a space
 pub join-levels : (word : List ℕ) (levels : List ℕ) → join_with_byte 32 (word ∷ map decimal levels) ≡ word ++ flat_map (λ level. 32 ∷ decimal level) levels
 join-levels word [] = sym (append-nil word)
 join-levels word (level ∷ levels) = ap (λ rest. word ++ 32 ∷ rest) (join-levels (decimal level) levels)

@@ -10,7 +10,7 @@ use Rattle.call_script.proofs.Walks.{before-at}
 use Rattle.call_script.specs.declared.entries.RequestEntry.{RequestEntry}
 use Rattle.run_record.specs.declared.done.Done.{Done}
 use Rattle.run_record.specs.declared.rows.HopRow.{HopRow}
-use Rattle.channel_report.specs.Channels.{is_accepted}
+use Rattle.channel_report.specs.Channels.{was_accepted}
 use Rattle.channel_report.specs.Links.{one_if}
 use Rattle.channel_report.specs.Summary.{accepts, denies, delivers, is_denied, sums_of, with_request}
 use Rattle.channel_report.specs.Verdicts.{verdict_in}
@@ -43,7 +43,7 @@ one-at-most false = omega arith
 
 pub few-more : (outcome : Option Outcome) (delivered : ℕ) (sums new : Sums) (i : ℕ) → new ≡ with_request outcome delivered sums → delivered < 18446744073709551616 → sums.accepted ≤ i → sums.denied ≤ i → sums.delivered ≤ 18446744073709551616 * i → AreFew new (i + 1)
 few-more outcome delivered sums new i is small accepted denied all =
-    let yes = one-at-most (is_accepted outcome) in
+    let yes = one-at-most (was_accepted outcome) in
     let no = one-at-most (is_denied outcome) in
     subst (λ s. AreFew s (i + 1)) (sym is) (record { accepted = omega (arith, accepted, yes); denied = omega (arith, denied, no); delivered = omega (arith, all, small) })
 

@@ -7,7 +7,7 @@ use Rattle.std.proofs.KnownBytes.{Appends-nil}
 use Rattle.std.specs.Result.{IsErrAnd}
 use Rattle.byte_ends.proofs.Gathering.{gathers-on, gathers-part, gathers-then-part, part-of-longer, rises-later}
 use Rattle.std.specs.Io.KnownBytes.{Appends}
-use Rattle.channel_report.specs.Telling.{IsWhy, Tells, Writes}
+use Rattle.channel_report.specs.Telling.{IsWhy, Tells, WritesText}
 use Rattle.channel_report.specs.declared.fault.ReportFault.{ReportFault}
 use Rattle.channel_report.specs.declared.fault.ReportFault.TheVariants.{Memory, WriteFault}
 
@@ -21,7 +21,7 @@ flat-more line xs i x inside is =
     ap (flat_map line) (take_more xs i x inside ∙ ap (λ y. take i xs ++ y ∷ []) (sym is)) ∙ flat-append line (take i xs) (x ∷ [])
     ∙ ap (λ rest. flat_map line (take i xs) ++ rest) (append-nil (line x))
 
--- the items told, the one at hand, and those behind it are all
+-- the items told, the one at hand, and those after it are all
 flat-split : {X : Type 0} (line : X → List ℕ) (xs : List X) (i : ℕ) → flat_map line (take i xs) ++ flat_map line (drop i xs) ≡ flat_map line xs
 flat-split line xs i = sym (flat-append line (take i xs) (drop i xs)) ∙ ap (flat_map line) (take-append-drop i xs)
 
@@ -85,7 +85,7 @@ pub item-told : {X : Type 0} (line : X → List ℕ) (xs : List X) (i : ℕ) (x 
 item-told line xs i x text a b c gathered gathered' gathered'' inside is tells so_far next =
     told-more line xs i x a b c gathered gathered' gathered'' inside is so_far (subst (Gathers b c gathered' gathered'') tells next)
 
--- ---- two texts, one behind the other
+-- ---- two texts, one after the other
 
 -- the first one fails
 pub first-failed : (result : Result (Unit {0}) ReportFault) (why : ReportFault) (a b : Option (List ℕ)) (gathered gathered' : List ℕ) (f f' : ℕ) (text more : List ℕ) → IsErrAnd result (λ fault. fault ≡ why) → WritesPart a b (gathered ++ text) × IsWhy why f f'
@@ -102,12 +102,12 @@ both-told (Err why) a b c gathered gathered' gathered'' f f' f'' text more first
 -- ---- the end of a text
 
 -- all of a text is written, or a front of it
-pub ended : (a b c : Option (List ℕ)) (gathered : List ℕ) (f f' f'' : ℕ) (text : List ℕ) (result : Result (Unit {0}) ReportFault) → Gathers a b [] gathered text × (f ≤ f') → Tells result b c gathered [] f' f'' [] → Writes result a c f f'' text
+pub ended : (a b c : Option (List ℕ)) (gathered : List ℕ) (f f' f'' : ℕ) (text : List ℕ) (result : Result (Unit {0}) ReportFault) → Gathers a b [] gathered text × (f ≤ f') → Tells result b c gathered [] f' f'' [] → WritesText result a c f f'' text
 ended a b c gathered f f' f'' text (Ok done) told last = (subst (λ t. Appends a c t) (sym (append-nil _) ∙ (gathers-on a b c [] gathered [] text [] told.0 last.0).joined ∙ append-nil text) (gathers-on a b c [] gathered [] text [] told.0 last.0).appends, omega (arith, told.1, last.1))
 ended a b c gathered f f' f'' text (Err why) told last =
     (subst (WritesPart a c) (append-nil text) (gathers-then-part a b c [] gathered text [] told.0 last.0), why-later why f f' f'' told.1 last.1)
 
 -- want of memory before anything is written
-pub nothing-written : (result : Result (Unit {0}) ReportFault) (a : Option (List ℕ)) (f : ℕ) (text : List ℕ) → IsErrAnd result (λ fault. fault ≡ Memory) → Writes result a a f f text
+pub nothing-written : (result : Result (Unit {0}) ReportFault) (a : Option (List ℕ)) (f : ℕ) (text : List ℕ) → IsErrAnd result (λ fault. fault ≡ Memory) → WritesText result a a f f text
 nothing-written (Ok done) a f text is = absurd is
 nothing-written (Err fault) a f text is = (record { front = []; rest = text; appends = Appends-nil a; joined = refl }, subst (λ (e : ReportFault). IsWhy e f f) (sym is) (omega arith))

@@ -18,7 +18,7 @@ same-late clock u v gap count late late' = none-made clock u gap count late ∙ 
 one-made : (clock tick gap k left : ℕ) → tick < clock → k ≡ suc left → filter (is_made clock) (ticks_from tick gap k) ≡ tick ∷ filter (is_made clock) (ticks_from (tick + gap) gap left)
 one-made clock tick gap k left made e = rw (e, lt-ltb tick clock made) refl
 
--- a tick below the clock, and then those behind it; the next one is kept within a number
+-- a tick below the clock, and then those after it; the next one is kept within a number
 pub made-next : (ticks : List ℕ) (clock tick gap next count m : ℕ) (all : List ℕ) → m < count → tick < clock → clock ≤ 2 ^ 63 → next ≡ min (tick + gap) (2 ^ 64 - 1)
     → ticks ++ filter (is_made clock) (ticks_from tick gap (count - m)) ≡ all
     → (ticks ++ tick ∷ []) ++ filter (is_made clock) (ticks_from next gap (count - (m + 1))) ≡ all
@@ -32,7 +32,7 @@ made-next ticks clock tick gap next count m all left made small is so_far =
       | inr over ↦ same-late clock next (tick + gap) gap (count - (m + 1)) (omega arith) (omega arith)
     ]
 
--- a tick that isn't below the clock, and so none behind it
+-- a tick that isn't below the clock, and so none after it
 pub made-end : (ticks : List ℕ) (clock tick gap left : ℕ) (all : List ℕ) → clock ≤ tick → ticks ++ filter (is_made clock) (ticks_from tick gap left) ≡ all → ticks ≡ all
 made-end ticks clock tick gap left all late so_far =
     sym (append-nil ticks) ∙ ap (λ rest. ticks ++ rest) (sym (none-made clock tick gap left late)) ∙ so_far

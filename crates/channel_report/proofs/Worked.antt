@@ -5,6 +5,7 @@ use Rattle.std.specs.Prelude.{Bool, true, false, reverse}
 use Rattle.std.specs.Fmt.{digits}
 use Rattle.net_units.specs.declared.numbers.ActorNo.{ActorNo}
 use Rattle.net_units.specs.declared.numbers.ChanNo.{ChanNo}
+use Rattle.net_units.specs.Numbers.{link_at}
 use Rattle.traffic_contract.specs.Admission.{work_in, work_up_to, load, some_upto, passes_up_to, passes, admits, first_level, best_level}
 use Rattle.traffic_contract.specs.Contract.{terms_of, most_in}
 use Rattle.traffic_contract.specs.Eligible.{first_from, eligible}
@@ -23,7 +24,7 @@ use Rattle.link_steps.specs.Room.{whole_room, room_of}
 use Rattle.link_steps.specs.Rows.{planned_from}
 use Rattle.link_steps.specs.Scan.{clock_of, with_arrival, without_expired, with_sources, with_best, best_step_at, after_tick, after, scan_of}
 use Rattle.link_steps.specs.Service.{goes_before, first_in_line, is_waiting, serve_tick, starts_below, here_at}
-use Rattle.link_steps.specs.Sources.{step_of, source_packets, rows_after, lost_in}
+use Rattle.link_steps.specs.Sources.{step_of, source_packets, rows_after, dropped_in}
 use Rattle.setup_protocol.specs.Setup.{offers_in, behind_offers, reach_after}
 use Rattle.setup_protocol.specs.declared.request.Control.TheVariants.{Rate}
 use Rattle.call_script.specs.Parts.{PlanParts, parts_of}
@@ -35,7 +36,7 @@ use Rattle.interleave_core.specs.Runs.{next_for, run_from}
 use Rattle.interleave_core.specs.Verdicts.{setup_replies}
 use Rattle.run_record.specs.Rows.{links_of, place_in, departures_in, put_row, in_order}
 use Rattle.run_record.specs.Runs.{replies_to, part_of}
-use Rattle.tick_plane.specs.Planes.{link_at, plane_of}
+use Rattle.tick_plane.specs.Planes.{plane_of}
 use Rattle.channel_report.specs.Delays.{first_in, delays_of, least_of, worst_of}
 use Rattle.channel_report.specs.Links.{total_in}
 use Rattle.channel_report.specs.Report.{report_of}
@@ -91,7 +92,7 @@ plan = parts_of One
 
 -- the report of the run of these actors
 unfoldable told : List ActorNo → Bool → List ℕ
-unfolding network_of tasks_of run_from next_for part_of replies_to plane_of standing resumed from_step is_established outcome_in offers_in behind_offers reach_after delay_over bound_at_end allotment reply_to reply_at reserve_reply room_of whole_room relax_reply deny_reply submit_reply release_reply arrive_reply sent_at best_sent_at clock_of scan_of after with_arrival after_tick with_best best_step_at best_step waiting_best change_first without_first without_expired with_sources hold_ended here_at starts_below serve_tick is_waiting first_in_line goes_before held_packets slots_of need_of kept_units free_units planned_from eligible_next step_of source_packets rows_after lost_in work_in work_up_to load some_upto passes_up_to passes admits first_level best_level most_in first_from eligible may_follow setup_replies links_of place_in departures_in put_row in_order first_in delays_of least_of worst_of total_in planned_in refused_in are_spaced keeps digits
+unfolding network_of tasks_of run_from next_for part_of replies_to plane_of standing resumed from_step is_established outcome_in offers_in behind_offers reach_after delay_over bound_at_end allotment reply_to reply_at reserve_reply room_of whole_room relax_reply deny_reply submit_reply release_reply arrive_reply sent_at best_sent_at clock_of scan_of after with_arrival after_tick with_best best_step_at best_step waiting_best change_first without_first without_expired with_sources hold_ended here_at starts_below serve_tick is_waiting first_in_line goes_before held_packets slots_of need_of kept_units free_units planned_from eligible_next step_of source_packets rows_after dropped_in work_in work_up_to load some_upto passes_up_to passes admits first_level best_level most_in first_from eligible may_follow setup_replies links_of place_in departures_in put_row in_order first_in delays_of least_of worst_of total_in planned_in refused_in are_spaced keeps digits
 told actors packets = report_of plan (reverse (run_from (network_of plan) [] actors)) packets
 
 -- all steps: two of the setup, the send, and three ticks

@@ -12,8 +12,8 @@ use Rattle.channel_report.specs.declared.channel_tally.ChannelTally.{ChannelTall
 abbrev pub never : ℕ
 never = 2 ^ 62
 
--- what is kept of such ticks, and of so many refused sends
-pub record Keeps (planned : List ℕ) (refused : ℕ) (tally : ChannelTally) : Type 0 where
+-- what is kept of such ticks, and of the number of refused sends
+pub record KeepsTally (planned : List ℕ) (refused : ℕ) (tally : ChannelTally) : Type 0 where
   pub ticks : tally.ticks.items ≡ filter (is_made never) planned
   pub refuses : tally.refused ≡ refused
 
@@ -21,4 +21,4 @@ pub record Keeps (planned : List ℕ) (refused : ℕ) (tally : ChannelTally) : T
 pub record AreChannelTallies (requests : List RequestEntry) (run : List Done) (tallies : List ChannelTally) : Type 0 where
   pub all : length tallies ≡ length requests
   pub tells : (n : ℕ) (entry : RequestEntry) (tally : ChannelTally) → slice_get requests n ≡ Some entry → slice_get tallies n ≡ Some tally
-      → Keeps (planned_in n (part_of (first_link entry.request.route) run)) (refused_in n (part_of (first_link entry.request.route) run)) tally
+      → KeepsTally (planned_in n (part_of (first_link entry.request.route) run)) (refused_in n (part_of (first_link entry.request.route) run)) tally

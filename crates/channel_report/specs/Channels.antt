@@ -12,7 +12,7 @@ use Rattle.run_record.specs.Runs.{part_of}
 use Rattle.run_record.specs.declared.done.Done.{Done}
 use Rattle.run_record.specs.declared.rows.HopRow.{HopRow}
 use Rattle.channel_report.specs.Delays.{delays_in, least_of, worst_of}
-use Rattle.channel_report.specs.Lines.{line_of}
+use Rattle.channel_report.specs.Lines.{whole_line}
 use Rattle.channel_report.specs.Sources.{first_link, offered_in, refused_in}
 use Rattle.channel_report.specs.Verdicts.{verdict_in}
 
@@ -28,7 +28,7 @@ number_or_dash (Some n) = decimal n
 
 -- channel NAME offered O keeps delivered P least A worst B refused F
 abbrev pub told_channel : List ℕ → ℕ → Bool → ℕ → Option ℕ → Option ℕ → ℕ → List ℕ
-told_channel name offered keeps delivered least worst refused = line_of (
+told_channel name offered keeps delivered least worst refused = whole_line (
     codes "channel" ∷ name
     ∷ codes "offered" ∷ decimal offered
     ∷ keeping keeps
@@ -39,8 +39,8 @@ told_channel name offered keeps delivered least worst refused = line_of (
     ∷ [])
 
 -- the ticks that the source of a request's channel has offered, and the sends on it that were refused
-abbrev pub offered_by : List Done → RequestEntry → List ℕ
-offered_by run entry = offered_in (channel_number entry.request.chan) (part_of (first_link entry.request.route) run)
+abbrev pub offered_for : List Done → RequestEntry → List ℕ
+offered_for run entry = offered_in (channel_number entry.request.chan) (part_of (first_link entry.request.route) run)
 
 abbrev pub sends_refused : List Done → RequestEntry → ℕ
 sends_refused run entry = refused_in (channel_number entry.request.chan) (part_of (first_link entry.request.route) run)
@@ -48,21 +48,21 @@ sends_refused run entry = refused_in (channel_number entry.request.chan) (part_o
 -- the line of an established channel, in a run that has these rows
 abbrev pub established_line : List HopRow → List Done → RequestEntry → List ℕ
 established_line rows run entry = told_channel entry.name
-    (length (offered_by run entry))
-    (keeps entry.request.contract (offered_by run entry))
+    (length (offered_for run entry))
+    (keeps entry.request.contract (offered_for run entry))
     (length (delays_in entry.request rows))
     (least_of (delays_in entry.request rows))
     (worst_of (delays_in entry.request rows))
     (sends_refused run entry)
 
 -- whether a request was accepted
-abbrev pub is_accepted : Option Outcome → Bool
-is_accepted None = false
-is_accepted (Some (Accepts levels delay)) = true
-is_accepted (Some (Denies deny)) = false
+abbrev pub was_accepted : Option Outcome → Bool
+was_accepted None = false
+was_accepted (Some (Accepts levels delay)) = true
+was_accepted (Some (Denies deny)) = false
 
 abbrev pub channel_line : List HopRow → List Done → RequestEntry → List ℕ
-channel_line rows run entry = if is_accepted (verdict_in run entry) then established_line rows run entry else []
+channel_line rows run entry = if was_accepted (verdict_in run entry) then established_line rows run entry else []
 
 -- those of all requests of a plan
 abbrev pub channel_lines : PlanParts → List HopRow → List Done → List ℕ

@@ -3,5 +3,5 @@ use Rattle.std.specs.Prelude.{ℕ, List, [], ◌∷◌, ◌++◌}
 use Rattle.std.specs.List.{join_with_byte}
 
 -- the line of these words
-abbrev pub line_of : List (List ℕ) → List ℕ
-line_of words = join_with_byte 32 words ++ 10 ∷ []
+abbrev pub whole_line : List (List ℕ) → List ℕ
+whole_line words = join_with_byte 32 words ++ 10 ∷ []

@@ -16,7 +16,7 @@ use Rattle.call_script.specs.declared.entries.LinkEntry.{LinkEntry}
 use Rattle.call_script.specs.declared.version.Version.{Version}
 use Rattle.run_record.specs.Runs.{part_of}
 use Rattle.run_record.specs.declared.done.Done.{Done}
-use Rattle.channel_report.specs.Lines.{line_of}
+use Rattle.channel_report.specs.Lines.{whole_line}
 
 -- ---- counts
 
@@ -85,7 +85,7 @@ takes_best version entry = has_best_effort version && not (nat_eq entry.shape.be
 
 -- link NAME clock C sent S full G, and best P lost X refused Y
 abbrev pub told_link : List ℕ → Bool → List Entry → List ℕ
-told_link name best h = line_of (
+told_link name best h = whole_line (
     codes "link" ∷ name
     ∷ codes "clock" ∷ decimal (clock_of h)
     ∷ codes "sent" ∷ decimal (sent_in h)

@@ -8,14 +8,14 @@ use Rattle.call_script.specs.Parts.{PlanParts}
 use Rattle.run_record.specs.Rows.{rows_of}
 use Rattle.run_record.specs.declared.done.Done.{Done}
 use Rattle.channel_report.specs.Channels.{channel_lines}
-use Rattle.channel_report.specs.Lines.{line_of}
+use Rattle.channel_report.specs.Lines.{whole_line}
 use Rattle.channel_report.specs.Links.{link_line}
 use Rattle.channel_report.specs.Table.{table_of}
 use Rattle.channel_report.specs.Verdicts.{request_line}
 
 -- end steps N
 abbrev pub end_line : ℕ → List ℕ
-end_line steps = line_of (codes "end" ∷ codes "steps" ∷ decimal steps ∷ [])
+end_line steps = whole_line (codes "end" ∷ codes "steps" ∷ decimal steps ∷ [])
 
 -- the lines of the requests
 abbrev pub request_lines : PlanParts → List Done → List ℕ

@@ -5,16 +5,16 @@ use Rattle.std.specs.Fmt.{decimal}
 use Rattle.net_units.specs.Numbers.{actor_number}
 use Rattle.call_script.specs.declared.entries.CallerEntry.{CallerEntry}
 use Rattle.call_script.specs.declared.schedule.Do.{Do}
-use Rattle.channel_report.specs.Lines.{line_of}
+use Rattle.channel_report.specs.Lines.{whole_line}
 
--- a caller's name; the actor behind the callers is the plane
+-- a caller's name; the actor after the callers is the plane
 abbrev pub name_of_actor : Option CallerEntry → List ℕ
 name_of_actor None = codes "plane"
 name_of_actor (Some entry) = entry.name
 
 -- do ACTOR COUNT
 abbrev pub do_line : List CallerEntry → Do → List ℕ
-do_line callers item = line_of (codes "do" ∷ name_of_actor (slice_get callers (actor_number item.actor)) ∷ decimal item.count ∷ [])
+do_line callers item = whole_line (codes "do" ∷ name_of_actor (slice_get callers (actor_number item.actor)) ∷ decimal item.count ∷ [])
 
 abbrev pub schedule_of : List CallerEntry → List Do → List ℕ
 schedule_of callers items = flat_map (do_line callers) items

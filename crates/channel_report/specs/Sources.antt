@@ -30,10 +30,10 @@ chan_of (Cancels chan) = Some chan
 chan_of Nothing = None
 
 -- whether this is the channel's number
-abbrev pub is_number : ℕ → ChanNo → Bool
-is_number number chan = nat_eq (channel_number chan) number
+abbrev pub is_channel : ℕ → ChanNo → Bool
+is_channel number chan = nat_eq (channel_number chan) number
 
--- so many ticks, the first at u and then one each gap
+-- a count of ticks, the first at u and then one each gap
 abbrev pub ticks_from : ℕ → ℕ → ℕ → List ℕ
 ticks_from u gap zero = []
 ticks_from u gap (suc count) = u ∷ ticks_from (u + gap) gap count
@@ -42,14 +42,14 @@ ticks_from u gap (suc count) = u ∷ ticks_from (u + gap) gap count
 abbrev pub is_made : ℕ → ℕ → Bool
 is_made clock tick = nat_lt tick clock
 
--- the ticks for which the source of the channel of this number has planned packets behind an entry, where the clock was t
+-- the ticks for which the source of the channel of this number has planned packets after an entry, where the clock was t
 abbrev pub planned_after : ℕ → ℕ → List ℕ → Act → List ℕ
-planned_after number t planned (Plans chan tick gap count) = if is_number number chan then planned ++ ticks_from tick gap count else planned
+planned_after number t planned (Plans chan tick gap count) = if is_channel number chan then planned ++ ticks_from tick gap count else planned
 planned_after number t planned (Refuses chan) = planned
-planned_after number t planned (Cancels chan) = if is_number number chan then filter (is_made t) planned else planned
+planned_after number t planned (Cancels chan) = if is_channel number chan then filter (is_made t) planned else planned
 planned_after number t planned Nothing = planned
 
--- those behind a history, without the cancelled ones
+-- those after a history, without the cancelled ones
 unfoldable pub planned_in : ℕ → List Entry → List ℕ
 planned_in number [] = []
 planned_in number (e ∷ past) = planned_after number (clock_of past) (planned_in number past) (act_of e.ask e.reply)
@@ -61,7 +61,7 @@ offered_in number h = filter (is_made (clock_of h)) (planned_in number h)
 -- how many sends on the channel an entry refuses
 abbrev pub refused_by : ℕ → Act → ℕ
 refused_by number (Plans chan tick gap count) = 0
-refused_by number (Refuses chan) = if is_number number chan then 1 else 0
+refused_by number (Refuses chan) = if is_channel number chan then 1 else 0
 refused_by number (Cancels chan) = 0
 refused_by number Nothing = 0
 

@@ -11,9 +11,9 @@ use Rattle.call_script.specs.declared.entries.RequestEntry.{RequestEntry}
 use Rattle.run_record.specs.Rows.{rows_of}
 use Rattle.run_record.specs.declared.done.Done.{Done}
 use Rattle.run_record.specs.declared.rows.HopRow.{HopRow}
-use Rattle.channel_report.specs.Channels.{is_accepted}
+use Rattle.channel_report.specs.Channels.{was_accepted}
 use Rattle.channel_report.specs.Delays.{delays_in}
-use Rattle.channel_report.specs.Lines.{line_of}
+use Rattle.channel_report.specs.Lines.{whole_line}
 use Rattle.channel_report.specs.Links.{one_if}
 use Rattle.channel_report.specs.Verdicts.{verdict_in}
 use Rattle.channel_report.specs.declared.summary.Sums.{Sums}
@@ -28,7 +28,7 @@ is_denied (Some (Denies deny)) = true
 
 -- one, where the request was accepted or denied in a run that is listed newest first
 abbrev pub accepts : List Done → RequestEntry → ℕ
-accepts run entry = one_if (is_accepted (verdict_in run entry))
+accepts run entry = one_if (was_accepted (verdict_in run entry))
 
 abbrev pub denies : List Done → RequestEntry → ℕ
 denies run entry = one_if (is_denied (verdict_in run entry))
@@ -45,7 +45,7 @@ sums_of rows run requests = record { accepted = total (accepts run) requests; de
 -- with one request more
 abbrev pub with_request : Option Outcome → ℕ → Sums → Sums
 with_request outcome delivered sums = record {
-  accepted = sums.accepted + one_if (is_accepted outcome);
+  accepted = sums.accepted + one_if (was_accepted outcome);
   denied = sums.denied + one_if (is_denied outcome);
   delivered = sums.delivered + delivered;
 }
@@ -54,7 +54,7 @@ with_request outcome delivered sums = record {
 
 -- made NUMBER SIZE accepted A denied D delivered P steps N
 abbrev pub told_summary : ℕ → ℕ → Sums → ℕ → List ℕ
-told_summary number size sums steps = line_of (
+told_summary number size sums steps = whole_line (
     codes "made" ∷ decimal number ∷ decimal size
     ∷ codes "accepted" ∷ decimal sums.accepted
     ∷ codes "denied" ∷ decimal sums.denied

@@ -24,7 +24,7 @@ pub record IsTally (h : List Entry) (tally : LinkTally) : Type 0 where
   pub is : tally ≡ link_tally_of h
   pub few : tally.dropped ≤ 4294967296 * length h
 
--- the counts of so many links, by their numbers, in a run that is listed newest first
+-- the counts of the first n links, by their numbers, in a run that is listed newest first
 pub record AreLinkTallies (count : ℕ) (run : List Done) (tallies : List LinkTally) : Type 0 where
   pub all : length tallies ≡ count
   pub tells : (n : ℕ) (d : LinkTally) → n < count → IsTally (part_of n run) (slice_index_or tallies n d)

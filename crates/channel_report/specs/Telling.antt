@@ -2,7 +2,7 @@
 -- and after, `gathered` what was gathered before and after, and `faults` the sink's count.
 use Rattle.std.specs.Prelude.{ℕ, ◌≤◌, Option, Result, Ok, Err, List, ◌++◌}
 use Rattle.std.specs.Io.KnownBytes.{Appends}
-use Rattle.byte_ends.specs.Faults.{Rises}
+use Rattle.byte_ends.specs.Faults.{FaultsRise}
 use Rattle.byte_ends.specs.Gathering.{Gathers, WritesPart}
 use Rattle.channel_report.specs.declared.fault.ReportFault.{ReportFault}
 use Rattle.channel_report.specs.declared.fault.ReportFault.TheVariants.{Memory, WriteFault}
@@ -10,14 +10,14 @@ use Rattle.channel_report.specs.declared.fault.ReportFault.TheVariants.{Memory, 
 -- why a text wasn't told whole
 abbrev pub IsWhy : ReportFault → ℕ → ℕ → Type 0
 IsWhy Memory faults faults' = faults ≤ faults'
-IsWhy WriteFault faults faults' = Rises faults faults'
+IsWhy WriteFault faults faults' = FaultsRise faults faults'
 
--- all of the text was gathered behind what was gathered before; or a front of both was written
+-- all of the text was gathered after what was gathered before; or a front of both was written
 abbrev pub Tells : {X : Type 0} → Result X ReportFault → Option (List ℕ) → Option (List ℕ) → List ℕ → List ℕ → ℕ → ℕ → List ℕ → Type 0
 Tells (Ok done) written written' gathered gathered' faults faults' text = Gathers written written' gathered gathered' text × (faults ≤ faults')
 Tells (Err why) written written' gathered gathered' faults faults' text = WritesPart written written' (gathered ++ text) × IsWhy why faults faults'
 
 -- the text was written whole, or a front of it
-abbrev pub Writes : {X : Type 0} → Result X ReportFault → Option (List ℕ) → Option (List ℕ) → ℕ → ℕ → List ℕ → Type 0
-Writes (Ok done) written written' faults faults' text = Appends written written' text × (faults ≤ faults')
-Writes (Err why) written written' faults faults' text = WritesPart written written' text × IsWhy why faults faults'
+abbrev pub WritesText : {X : Type 0} → Result X ReportFault → Option (List ℕ) → Option (List ℕ) → ℕ → ℕ → List ℕ → Type 0
+WritesText (Ok done) written written' faults faults' text = Appends written written' text × (faults ≤ faults')
+WritesText (Err why) written written' faults faults' text = WritesPart written written' text × IsWhy why faults faults'

@@ -13,7 +13,7 @@ use Rattle.setup_protocol.specs.declared.verdict.Deny.TheVariants.{Hop, End}
 use Rattle.call_script.specs.declared.entries.RequestEntry.{RequestEntry}
 use Rattle.interleave_core.specs.Verdicts.{setup_replies}
 use Rattle.run_record.specs.declared.done.Done.{Done}
-use Rattle.channel_report.specs.Lines.{line_of}
+use Rattle.channel_report.specs.Lines.{whole_line}
 
 -- schedule SUM BOUND, buffer NEED FREE or wide SMAX CAP; a setup is refused for nothing else
 abbrev pub refusal_words : Refusal → List (List ℕ)
@@ -34,9 +34,9 @@ deny_words (End denial) = codes "end" ∷ denial_words denial
 
 -- accept NAME delay SUM levels L1 .. Lh; deny NAME and why; pending NAME
 abbrev pub verdict_line : List ℕ → Option Outcome → List ℕ
-verdict_line name (Some (Accepts levels delay)) = line_of (codes "accept" ∷ name ∷ codes "delay" ∷ decimal delay ∷ codes "levels" ∷ map decimal levels)
-verdict_line name (Some (Denies deny)) = line_of (codes "deny" ∷ name ∷ deny_words deny)
-verdict_line name None = line_of (codes "pending" ∷ name ∷ [])
+verdict_line name (Some (Accepts levels delay)) = whole_line (codes "accept" ∷ name ∷ codes "delay" ∷ decimal delay ∷ codes "levels" ∷ map decimal levels)
+verdict_line name (Some (Denies deny)) = whole_line (codes "deny" ∷ name ∷ deny_words deny)
+verdict_line name None = whole_line (codes "pending" ∷ name ∷ [])
 
 -- what a request has come to in a run, which is listed newest first
 abbrev pub verdict_in : List Done → RequestEntry → Option Outcome

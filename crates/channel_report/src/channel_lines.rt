@@ -5,7 +5,7 @@ ghost use Rattle.call_script.specs.declared.entries.RequestEntry.{RequestEntry a
 ghost use Rattle.run_record.specs.Rows.{rows_of};
 ghost use Rattle.setup_protocol.specs.State.{outcome_of};
 ghost use Rattle.run_record.specs.declared.done.Done.{Done as Step};
-ghost use Rattle.channel_report.specs.Channels.{channel_line, channel_lines, established_line, is_accepted, told_channel};
+ghost use Rattle.channel_report.specs.Channels.{channel_line, channel_lines, established_line, was_accepted, told_channel};
 ghost use Rattle.channel_report.specs.Findings.{AreFound};
 ghost use Rattle.channel_report.specs.Sources.{first_link};
 ghost use Rattle.channel_report.specs.Telling.{Tells};
@@ -136,7 +136,7 @@ fn push_channel(
 
 // Whether a request was accepted.
 fn is_accepted(verdict: &Option<Verdict>) -> bool
-    ensures { result ≡ is_accepted (option_map outcome_of verdict.now) }
+    ensures { result ≡ was_accepted (option_map outcome_of verdict.now) }
 {
     match verdict {
         Some(Verdict::Accepted { .. }) => true,

@@ -21,11 +21,11 @@ pub(crate) struct ChannelTally {
 }
 
 impl ChannelTally {
-    ghost use Rattle.channel_report.specs.ChannelTallies.{Keeps, never};
+    ghost use Rattle.channel_report.specs.ChannelTallies.{KeepsTally, never};
 
     // Before the first entry.
     pub(crate) fn new(alloc: Global) -> ChannelTally
-        ensures { Keeps [] 0 result }
+        ensures { KeepsTally [] 0 result }
     {
         ChannelTally {
             ticks: Vec::new(alloc),
@@ -33,11 +33,11 @@ impl ChannelTally {
         }
     }
 
-    // Keeps what an entry does for this source, where the link's clock was this.
+    // KeepsTally what an entry does for this source, where the link's clock was this.
     pub(crate) fn keep(&mut self, alloc: Global, clock: u64, act: &Act) -> Result<(), OutOfMemory>
         requires few { self.old.refused < 2 ^ 62 }
-        ensures { OnOk result ((number : ℕ) (chan : Chan) (planned : List ℕ) (refused : ℕ) → chan_of act.now ≡ Some chan → channel_number chan ≡ number → Keeps planned refused self.old
-            → Keeps (planned_after number clock planned act.now) (refused_by number act.now + refused) self.new) }
+        ensures { OnOk result ((number : ℕ) (chan : Chan) (planned : List ℕ) (refused : ℕ) → chan_of act.now ≡ Some chan → channel_number chan ≡ number → KeepsTally planned refused self.old
+            → KeepsTally (planned_after number clock planned act.now) (refused_by number act.now + refused) self.new) }
     {
         match act {
             Act::Plans {
@@ -58,7 +58,7 @@ impl ChannelTally {
         }
     }
 
-    // Plans so many packets, the first at a tick and then one each gap.
+    // Plans `count` packets, the first at a tick and then one each gap.
     fn plan(&mut self, tick: u64, gap: u64, count: u64) -> Result<(), OutOfMemory>
         ensures ticks { OnOk result (self.new.ticks.items ≡ self.old.ticks.items ++ filter (is_made never) (ticks_from tick gap count)) }
         ensures refused { self.new.refused ≡ self.old.refused }

@@ -46,7 +46,7 @@ pub(crate) fn count_run(alloc: Global, plan: &Plan, run: &Record) -> Result<Coun
     Ok(Counts { links, channels })
 }
 
-// Of so many channels, before the first entry.
+// Of a number of channels, before the first entry.
 fn new_tallies(alloc: Global, count: usize) -> Result<Vec<ChannelTally>, OutOfMemory>
     ensures { IfOk result (λ tallies. (requests : List Asked) → length requests ≡ count → AreChannelTallies requests [] tallies.items) }
 {

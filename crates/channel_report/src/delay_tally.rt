@@ -107,7 +107,7 @@ fn delay_of(plan: &Plan, first: &Option<HopRow>, row: &HopRow) -> Option<u128>
     delay_from(first, row, route.hop(route.len()).prop)
 }
 
-// The delay of the packet of a row, behind this row of a first hop, with the last link's propagation.
+// The delay of the packet of a row, after this row of a first hop, with the last link's propagation.
 fn delay_from(first: &Option<HopRow>, row: &HopRow, prop: u32) -> Option<u128>
     ensures some { IfSome result (λ delay. delay_from prop row.now first.now ≡ delay ∷ []) }
     ensures none { IfNone result (delay_from prop row.now first.now ≡ []) }

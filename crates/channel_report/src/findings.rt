@@ -18,7 +18,7 @@ use std::alloc::Global;
 // What was found of a run.
 #[derive(Drop)]
 pub(crate) struct Findings {
-    // The actors behind it.
+    // The actors after it.
     pub(crate) actors: Actors,
     // The counts of the links, by their numbers.
     pub(crate) links: Vec<LinkTally>,

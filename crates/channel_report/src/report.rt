@@ -7,7 +7,7 @@ ghost use Rattle.run_record.specs.Rows.{rows_of};
 ghost use Rattle.channel_report.specs.Channels.{channel_lines};
 ghost use Rattle.channel_report.specs.Findings.{AreFound};
 ghost use Rattle.channel_report.specs.Report.{end_line, link_lines, report_of, request_lines, table_if};
-ghost use Rattle.channel_report.specs.Telling.{Tells, Writes};
+ghost use Rattle.channel_report.specs.Telling.{Tells, WritesText};
 
 use crate::channel_lines::tell_channels;
 use crate::end_line::tell_end;
@@ -22,7 +22,7 @@ use call_script::Plan;
 use run_record::Record;
 use std::alloc::Global;
 
-/// Writes the report of a run of this plan: its requests, its established channels, its links, the number of its steps, and, where it is asked for, the
+/// WritesText the report of a run of this plan: its requests, its established channels, its links, the number of its steps, and, where it is asked for, the
 /// table of its packets. A write fault comes only where
 /// the sink's count of faults rose in this call. Where the report isn't written whole, a front of it is.
 pub fn write_report<K: Sink>(
@@ -33,7 +33,7 @@ pub fn write_report<K: Sink>(
     sink: &mut K,
 ) -> Result<(), ReportFault>
     requires { IsRun (network_of plan.now) (reverse run.now.entries) }
-    ensures { Writes result (K.written sink.old) (K.written sink.new) (K.faults sink.old) (K.faults sink.new) (report_of plan.now run.now.entries packets) }
+    ensures { WritesText result (K.written sink.old) (K.written sink.new) (K.faults sink.old) (K.faults sink.new) (report_of plan.now run.now.entries packets) }
 {
     let findings = Findings::new(alloc, plan, run)?;
     let mut gather = Gather::new(alloc)?;
@@ -41,7 +41,7 @@ pub fn write_report<K: Sink>(
     finish(gather, sink)
 }
 
-// Tells the lines of the requests, and those behind them.
+// Tells the lines of the requests, and those after them.
 fn tell_report<K: Sink>(
     alloc: Global,
     plan: &Plan,
@@ -57,7 +57,7 @@ fn tell_report<K: Sink>(
     tell_carried(alloc, plan, findings, packets, gather, sink)
 }
 
-// Tells the lines of the channels, and those behind them.
+// Tells the lines of the channels, and those after them.
 fn tell_carried<K: Sink>(
     alloc: Global,
     plan: &Plan,
@@ -73,7 +73,7 @@ fn tell_carried<K: Sink>(
     tell_network(alloc, plan, findings, packets, gather, sink)
 }
 
-// Tells the lines of the links, and those behind them.
+// Tells the lines of the links, and those after them.
 fn tell_network<K: Sink>(
     alloc: Global,
     plan: &Plan,

@@ -121,7 +121,7 @@ fn push_late(text: &mut String, name: Name, denial: &EndDenial) -> Result<(), Al
     }
 }
 
-// The numbers of the levels, each behind a space.
+// The numbers of the levels, each after a space.
 fn push_levels(text: &mut String, levels: &Levels) -> Result<(), AllocError>
     ensures { OnOk result (string_bytes text.new ≡ string_bytes text.old ++ flat_map (λ level. 32 ∷ decimal level) (levels_of levels.now)) }
 {

@@ -5,7 +5,7 @@ ghost use Rattle.net_units.specs.Numbers.{actor_number};
 ghost use Rattle.link_steps.specs.Lists.{Each};
 ghost use Rattle.call_script.specs.declared.schedule.Do.{Do as Item};
 ghost use Rattle.channel_report.specs.Schedule.{do_line, name_of_actor, schedule_of};
-ghost use Rattle.channel_report.specs.Telling.{Tells, Writes};
+ghost use Rattle.channel_report.specs.Telling.{Tells, WritesText};
 
 use crate::fault::ReportFault;
 use crate::telling::{finish, tell};
@@ -14,7 +14,7 @@ use call_script::{Do, Plan, Schedule};
 use net_units::ActorNo;
 use std::alloc::{AllocError, Global};
 
-/// Writes the `do` lines of a schedule whose actors are those of the plan. A write fault comes only where the sink's count of
+/// WritesText the `do` lines of a schedule whose actors are those of the plan. A write fault comes only where the sink's count of
 /// faults rose in this call. Where the lines aren't all written, a front of them is.
 pub fn write_schedule<K: Sink>(
     alloc: Global,
@@ -23,7 +23,7 @@ pub fn write_schedule<K: Sink>(
     sink: &mut K,
 ) -> Result<(), ReportFault>
     requires { Each (λ item. actor_number item.actor ≤ length plan.now.callers) schedule.now.items }
-    ensures { Writes result (K.written sink.old) (K.written sink.new) (K.faults sink.old) (K.faults sink.new) (schedule_of plan.now.callers schedule.now.items) }
+    ensures { WritesText result (K.written sink.old) (K.written sink.new) (K.faults sink.old) (K.faults sink.new) (schedule_of plan.now.callers schedule.now.items) }
 {
     let mut gather = Gather::new(alloc)?;
     tell_items(alloc, plan, schedule.items.as_slice(), &mut gather, sink)?;
@@ -61,7 +61,7 @@ fn tell_item<K: Sink>(
     tell(gather, sink, line.as_bytes())
 }
 
-// The line of so many steps of an actor.
+// The line of a count of steps of an actor.
 fn push_item(text: &mut String, plan: &Plan, actor: ActorNo, count: u64) -> Result<(), AllocError>
     ensures { OnOk result ((item : Item) → item.actor ≡ actor → item.count ≡ count → string_bytes text.new ≡ string_bytes text.old ++ do_line plan.now.callers item) }
 {

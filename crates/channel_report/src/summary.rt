@@ -10,7 +10,7 @@ ghost use Rattle.run_record.specs.declared.done.Done.{Done as Step};
 ghost use Rattle.setup_protocol.specs.State.{outcome_of};
 ghost use Rattle.channel_report.specs.Findings.{AreFound};
 ghost use Rattle.channel_report.specs.Summary.{delivers, summary_of, sums_of, told_summary, with_request};
-ghost use Rattle.channel_report.specs.Telling.{Writes};
+ghost use Rattle.channel_report.specs.Telling.{WritesText};
 
 use crate::fault::ReportFault;
 use crate::findings::Findings;
@@ -55,7 +55,7 @@ impl Sums {
     }
 }
 
-/// Writes the summary of a run of this plan, which was made from this number with so many requests: how many requests were accepted and how
+/// WritesText the summary of a run of this plan, which was made from this number with so many requests: how many requests were accepted and how
 /// many denied, how many packets were delivered, and how many steps the run has. A write fault comes only where the sink's count of faults rose in
 /// this call. Where the line isn't written whole, a front of it is.
 pub fn write_summary<K: Sink>(
@@ -67,7 +67,7 @@ pub fn write_summary<K: Sink>(
     sink: &mut K,
 ) -> Result<(), ReportFault>
     requires { IsRun (network_of plan.now) (reverse run.now.entries) }
-    ensures { Writes result (K.written sink.old) (K.written sink.new) (K.faults sink.old) (K.faults sink.new) (summary_of number size plan.now run.now.entries) }
+    ensures { WritesText result (K.written sink.old) (K.written sink.new) (K.faults sink.old) (K.faults sink.new) (summary_of number size plan.now run.now.entries) }
 {
     let findings = Findings::new(alloc, plan, run)?;
     let sums = sum_up(plan, &findings);
@@ -75,9 +75,9 @@ pub fn write_summary<K: Sink>(
     put_line(sink, line.as_bytes())
 }
 
-// Writes a line.
+// WritesText a line.
 fn put_line<K: Sink>(sink: &mut K, line: &[u8]) -> Result<(), ReportFault>
-    ensures { Writes result (K.written sink.old) (K.written sink.new) (K.faults sink.old) (K.faults sink.new) line.now }
+    ensures { WritesText result (K.written sink.old) (K.written sink.new) (K.faults sink.old) (K.faults sink.new) line.now }
 {
     match put_all(sink, line) {
         Ok(()) => Ok(()),

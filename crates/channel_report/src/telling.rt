@@ -5,7 +5,7 @@ ghost use Rattle.channel_report.specs.Telling.{Tells};
 use crate::fault::ReportFault;
 use byte_ends::{Gather, Sink};
 
-// Tells a text behind what was gathered.
+// Tells a text after what was gathered.
 pub(crate) fn tell<K: Sink>(
     gather: &mut Gather,
     sink: &mut K,

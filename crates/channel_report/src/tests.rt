@@ -4,7 +4,7 @@ ghost use Rattle.net_units.specs.Numbers.{link_number, channel_number};
 ghost use Rattle.call_script.specs.OneLink.{IsThatLink, IsThatRequest, IsThatScript};
 ghost use Rattle.call_script.specs.Tasks.{network_of};
 ghost use Rattle.interleave_core.specs.Runs.{IsRun};
-ghost use Rattle.interleave_core.specs.Standing.{Stands};
+ghost use Rattle.interleave_core.specs.Standing.{CoreStands};
 
 use super::*;
 use byte_ends::MemSink;
@@ -107,8 +107,8 @@ fn plan(alloc: Global) -> Result<Plan, Fail> {
 
 // So many steps of one actor.
 fn steps(core: &mut Core, plan: &Plan, actor: u8, count: u64) -> Result<(), Fail>
-    requires { Stands plan.now core.old }
-    ensures { OnOk result (Stands plan.now core.new) }
+    requires { CoreStands plan.now core.old }
+    ensures { OnOk result (CoreStands plan.now core.new) }
 {
     let actor = ActorNo::new(actor).ok_or("actor")?;
     for _step in 0..count {

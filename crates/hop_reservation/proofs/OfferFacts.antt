@@ -32,7 +32,7 @@ AreLevels-at [] (level ∷ levels) i hop are found within = absurd are
 AreLevels-at (first ∷ hops) (level ∷ levels) zero hop are found within = (let same : first ≡ hop = cc in subst (λ h. IsLevelOf h level) same are.0)
 AreLevels-at (first ∷ hops) (level ∷ levels) (suc i) hop are found within = AreLevels-at hops levels i hop are.1 found (omega arith)
 
--- the first hop without a level is the one behind those that have one
+-- the first hop without a level is the one after those that have one
 pub next_levels-at : (hops : List Hop) (levels : List ℕ) (hop : Hop) → slice_get hops (length levels) ≡ Some hop → next_levels hops levels ≡ length hop.bounds
 unfolding next_levels
 next_levels-at [] levels hop found = absurd (let clash : None ≡ Some hop = found in cc)

@@ -8,7 +8,7 @@ use Rattle.std.proofs.lemmas.List.{append_assoc, append-nil, drop-replicate, get
 use Rattle.std.proofs.lemmas.List.Folds.{list_any_at, list_any_none}
 use Rattle.std.proofs.lemmas.List.Quantifiers.{all_pairs_push}
 use Rattle.hop_reservation.specs.declared.route.Hop.{Hop}
-use Rattle.hop_reservation.specs.Routes.{link_of, is_by, stands_among, repeated_from, repeated_in, fault_in, IsRoute, filled, IsFilled}
+use Rattle.hop_reservation.specs.Routes.{link_of, is_over_link, stands_among, repeated_from, repeated_in, fault_in, IsRoute, filled, IsFilled}
 
 -- two hops are by different links
 abbrev pub AreApart : Hop → Hop → Type 0
@@ -19,14 +19,14 @@ AreApart one other = link_of one ≢ link_of other
 -- each of the hops is by another link than one whose link stands nowhere among them
 pub each-other : (before : List Hop) (hop : Hop) → stands_among before (link_of hop) ≡ false → (k : ℕ) (d : Hop) → k < length before → AreApart (get_or before k d) hop
 each-other before hop none k d within same =
-    let found : list_any (is_by (link_of hop)) before ≡ true = list_any_at (is_by (link_of hop)) before k d within (eq-eqb (link_of (get_or before k d)) (link_of hop) same) in
+    let found : list_any (is_over_link (link_of hop)) before ≡ true = list_any_at (is_over_link (link_of hop)) before k d within (eq-eqb (link_of (get_or before k d)) (link_of hop) same) in
     let clash : true ≡ false = sym found ∙ none in
     cc
 
 -- the link of a hop that is apart from all of them stands nowhere among them
 pub none_among : (before : List Hop) (hop : Hop) (hops : List Hop) → AllPairs AreApart (before ++ hop ∷ hops) → stands_among before (link_of hop) ≡ false
 none_among before hop hops apart =
-    list_any_none (is_by (link_of hop)) before (λ i d within.
+    list_any_none (is_over_link (link_of hop)) before (λ i d within.
     let pair : AreApart (get_or (before ++ hop ∷ hops) i d) (get_or (before ++ hop ∷ hops) (length before) d) = apart i (length before) d within (fits before hop hops) in
     let left = get_or_append_left before (hop ∷ hops) d i within in
     let right = get_or-append_seam before hop hops d in
@@ -35,7 +35,7 @@ none_among before hop hops apart =
       fits [] hop hops = omega arith
       fits (first ∷ before) hop hops = omega (arith, fits before hop hops)
 
--- where no link is repeated behind hops that are apart, all are apart
+-- where no link is repeated after hops that are apart, all are apart
 pub apart-from_none : (before hops : List Hop) → AllPairs AreApart before → repeated_from before hops ≡ None → AllPairs AreApart (before ++ hops)
 unfolding repeated_from
 apart-from_none before [] apart none = subst (AllPairs AreApart) (sym (append-nil before)) apart
@@ -64,7 +64,7 @@ repeated-found hops index d within found = rw (drop-cons hops index d within) (r
   place : {n : ℕ} → n ≡ index → suc n ≡ index + 1
   place same = omega (arith, same)
 
--- its link is new: the search goes on behind it
+-- its link is new: the search goes on after it
 pub repeated-goes_on : (hops : List Hop) (index : ℕ) (d : Hop) → index < length hops → stands_among (take index hops) (link_of (get_or hops index d)) ≡ false
     → repeated_from (take index hops) (drop index hops) ≡ repeated_from (take (index + 1) hops) (drop (index + 1) hops)
 unfolding repeated_from
@@ -103,7 +103,7 @@ none-from_route (hop ∷ hops) is = rw (le-ltb 16 (length (hop ∷ hops)) is.mos
 
 -- ---- a filled array
 
--- behind an array's first hops stands the first one again
+-- after an array's first hops stands the first one again
 pub filled-is : (first : Hop) (hops : List Hop) → slice_get hops 0 ≡ Some first → hops ++ drop (length hops) (replicate 16 first) ≡ filled hops
 filled-is first [] found = absurd (let clash : None ≡ Some first = found in cc)
 filled-is first (hop ∷ hops) found =

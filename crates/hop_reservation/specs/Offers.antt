@@ -4,6 +4,7 @@
 -- the bound of that level, so its reserve carries it.
 use Rattle.std.specs.Prelude.{◌≡◌, ℕ, ◌+◌, ◌*◌, ◌^◌, ◌≤◌, List, [], ◌∷◌, length}
 use Rattle.net_units.specs.LevelBounds.{bound_at}
+use Rattle.net_units.specs.Limits.{most_bound}
 use Rattle.hop_reservation.specs.Routes.{IsRoute}
 use Rattle.hop_reservation.specs.declared.route.Hop.{Hop}
 
@@ -54,6 +55,6 @@ AreLevels (hop ∷ hops) (level ∷ levels) = IsLevelOf hop level × AreLevels h
 pub record AreOffers (route : List Hop) (levels : List ℕ) (reach delay : ℕ) : Type 0 where
   pub is_route : IsRoute route
   pub are_levels : AreLevels route levels
-  pub reach_most : reach ≤ 1048576
+  pub reach_most : reach ≤ most_bound
   pub delay_is : delay ≡ delay_over route levels
   pub delay_most : delay ≤ length levels * 2 ^ 33

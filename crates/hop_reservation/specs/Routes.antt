@@ -12,14 +12,14 @@ abbrev pub link_of : Hop → ℕ
 link_of hop = link_number hop.link
 
 -- whether a hop is by this link
-abbrev pub is_by : ℕ → Hop → Bool
-is_by link hop = link_of hop == link
+abbrev pub is_over_link : ℕ → Hop → Bool
+is_over_link link hop = link_of hop == link
 
 -- whether one of the hops is by this link
 abbrev pub stands_among : List Hop → ℕ → Bool
-stands_among hops link = list_any (is_by link) hops
+stands_among hops link = list_any (is_over_link link) hops
 
--- the first place of the hops behind these whose link stood before
+-- the first place of the hops after these whose link stood before
 unfoldable pub repeated_from : List Hop → List Hop → Option ℕ
 repeated_from before [] = None
 repeated_from before (hop ∷ hops) = if stands_among before (link_of hop) then Some (suc (length before)) else repeated_from (before ++ hop ∷ []) hops
@@ -39,12 +39,12 @@ pub record IsRoute (hops : List Hop) : Type 0 where
   pub most : length hops ≤ 16
   pub apart : AllPairs (λ one other. link_of one ≢ link_of other) hops
 
--- the hops in a fixed array: behind the last one stands the first again, so that the same hops are the same array
+-- the hops in a fixed array: after the last one stands the first again, so that the same hops are the same array
 abbrev pub filled : List Hop → List Hop
 filled [] = []
 filled (hop ∷ hops) = (hop ∷ hops) ++ replicate (16 - length (hop ∷ hops)) hop
 
--- the array has `len` hops, and is filled behind them
+-- the array has `len` hops, and is filled after them
 pub record IsFilled (len : ℕ) (cells : List Hop) : Type 0 where
   pub whole : filled (take len cells) ≡ cells
   pub count : length (take len cells) ≡ len

@@ -2,6 +2,7 @@
 ghost use Rattle.std.specs.Prelude.{◌≡◌, ◌+◌, ◌-◌, ◌<◌, ◌≤◌, [], ◌∷◌, ◌++◌, length, slice_index, Some};
 ghost use Rattle.std.specs.List.{slice_get};
 ghost use Rattle.net_units.specs.Numbers.{level_number};
+ghost use Rattle.net_units.specs.Limits.{most_bound};
 ghost use Rattle.hop_reservation.specs.Offers.{delay_over, next_bound, next_levels, AreLevels, IsLevelOf};
 ghost use Rattle.hop_reservation.specs.Routes.{IsRoute};
 
@@ -84,7 +85,7 @@ impl Itinerary {
     /// The bound of the last reach in ticks, which the reserve at the next hop carries, or 0 before the first offer.
     pub fn reach_before(&self) -> u64
         ensures value { result ≡ self.now.reach }
-        ensures most { result ≤ 1048576 }
+        ensures most { result ≤ most_bound }
     {
         u64::from(self.reach)
     }

@@ -115,7 +115,7 @@ fn stands_in(hops: &[Hop], link: LinkNo) -> bool
     hops.iter().any(|hop| hop.link.get() == link.get())
 }
 
-// The hops, and the first of them again in the places behind them.
+// The hops, and the first of them again in the places after them.
 fn with_first(first: Hop, hops: &[Hop]) -> [Hop; MOST_HOPS as usize]
     requires first { slice_get hops.now 0 ≡ Some first }
     requires most { length hops.now ≤ 16 }

@@ -13,18 +13,18 @@ use Rattle.call_script.proofs.FitFacts.{plan-fits}
 use Rattle.call_script.proofs.OwnerFacts.{all-owned}
 use Rattle.call_script.specs.Parts.{PlanParts}
 use Rattle.call_script.specs.Scripts.{ask_at, expects, script_ask, standing_of}
-use Rattle.call_script.specs.Standing.{Stands as CallerStands, HasAskLeft, standing_in}
-use Rattle.call_script.specs.Tasks.{link_of, network_of}
+use Rattle.call_script.specs.Standing.{CallerStands, HasAskLeft, standing_in}
+use Rattle.call_script.specs.Tasks.{entry_link, network_of}
 use Rattle.call_script.specs.declared.actor.Actor.{Actor}
 use Rattle.interleave_core.specs.Runs.{plane_no, next_for}
-use Rattle.interleave_core.specs.Standing.{CallersStand, PlaneStands, ActorsStand, IsDue}
+use Rattle.interleave_core.specs.Standing.{CallersStand, PlaneStands, ActorsStand, IsDueStep}
 use Rattle.interleave_core.specs.declared.actors.Actors.{Actors}
 use Rattle.interleave_core.proofs.Lookups.{get-push, get-set-same, get-set-other}
 use Rattle.interleave_core.proofs.Replying.{replies-expected}
 use Rattle.interleave_core.proofs.RunLegal.{AsksOf, asked-plane, asked-caller, caller-next, plane-next, plane-by, plane-off, replies-by, replies-off}
 use Rattle.run_record.specs.Runs.{replies_to}
 use Rattle.run_record.specs.declared.done.Done.{Done}
-use Rattle.tick_plane.specs.Kept.{Kept}
+use Rattle.tick_plane.specs.Kept.{KeptPlane}
 use Rattle.tick_plane.specs.Planes.{Plane, next_due, plane_after, plane_ask, plane_expects, plane_of, plane_start}
 
 -- the plane's number is the number of callers
@@ -63,9 +63,9 @@ pub all-made : (parts : PlanParts) (callers : List Actor) → length callers ≡
 unfolding replies_to
 all-made parts callers long made = record { same = long; numbers = made.numbers; stand = made.fresh }
 
-pub plane-made : (parts : PlanParts) (plane : Kept) → plane.links ≡ length parts.links → plane.rounds ≡ parts.rounds + parts.tail → plane.at ≡ plane_start → PlaneStands (network_of parts) plane []
+pub plane-made : (parts : PlanParts) (plane : KeptPlane) → plane.links ≡ length parts.links → plane.rounds ≡ parts.rounds + parts.tail → plane.at ≡ plane_start → PlaneStands (network_of parts) plane []
 unfolding network_of plane_of replies_to
-plane-made parts plane links rounds at = record { links = links ∙ sym (length-map parts.links link_of); rounds = rounds; at = at }
+plane-made parts plane links rounds at = record { links = links ∙ sym (length-map parts.links entry_link); rounds = rounds; at = at }
 
 -- ---- what is asked next
 
@@ -91,13 +91,13 @@ none-asks parts actors actor run stand past =
 
 -- ---- the plane's step
 
-pub plane-left : (parts : PlanParts) (actors : Actors) (past : List Done) (done : Done) → IsDue parts actors past done → actor_number done.actor ≡ length actors.callers.items → actors.plane.at.round < actors.plane.rounds
+pub plane-left : (parts : PlanParts) (actors : Actors) (past : List Done) (done : Done) → IsDueStep parts actors past done → actor_number done.actor ≡ length actors.callers.items → actors.plane.at.round < actors.plane.rounds
 plane-left parts actors past done due same =
     let asks = plane-next (network_of parts) past done due.next (same ∙ sym (plane-place parts actors.callers.items past due.stand.callers)) in
     let at = ap (λ (p : Plane). p.round) due.stand.plane.at in
     omega (arith, asks.early, at, due.stand.plane.rounds)
 
-pub plane-expected : (parts : PlanParts) (actors : Actors) (past : List Done) (done : Done) → IsDue parts actors past done → actor_number done.actor ≡ length actors.callers.items → plane_expects (next_due actors.plane.at) done.reply ≡ true
+pub plane-expected : (parts : PlanParts) (actors : Actors) (past : List Done) (done : Done) → IsDueStep parts actors past done → actor_number done.actor ≡ length actors.callers.items → plane_expects (next_due actors.plane.at) done.reply ≡ true
 plane-expected parts actors past done due same =
     ap (λ (p : Plane). plane_expects (next_due p) done.reply) due.stand.plane.at
     ∙ replies-expected.plane (network_of parts) past done due.next (same ∙ sym (plane-place parts actors.callers.items past due.stand.callers))
@@ -112,7 +112,7 @@ callers-same parts callers past done stand same = record {
       subst (CallerStands parts caller) (sym (replies-off n done past (λ is. absurd (omega (arith, is, same, within))))) (stand.stand n caller found);
 }
 
-pub plane-taken : (parts : PlanParts) (old new : Actors) (past : List Done) (done : Done) → IsDue parts old past done → actor_number done.actor ≡ length old.callers.items → new.callers.items ≡ old.callers.items
+pub plane-taken : (parts : PlanParts) (old new : Actors) (past : List Done) (done : Done) → IsDueStep parts old past done → actor_number done.actor ≡ length old.callers.items → new.callers.items ≡ old.callers.items
     → new.plane.at ≡ plane_after old.plane.links done.reply old.plane.at → new.plane.links ≡ old.plane.links → new.plane.rounds ≡ old.plane.rounds → ActorsStand parts new (done ∷ past)
 plane-taken parts old new past done due same callers at links rounds =
     let place = plane-place parts old.callers.items past due.stand.callers in
@@ -129,24 +129,24 @@ plane-taken parts old new past done due same callers at links rounds =
 -- ---- a caller's step
 
 -- the step is of a caller, and its script is there
-caller-of : (parts : PlanParts) (actors : Actors) (past : List Done) (done : Done) → IsDue parts actors past done → actor_number done.actor ≢ length actors.callers.items → AsksOf (network_of parts) past (actor_number done.actor) done.link done.ask
+caller-of : (parts : PlanParts) (actors : Actors) (past : List Done) (done : Done) → IsDueStep parts actors past done → actor_number done.actor ≢ length actors.callers.items → AsksOf (network_of parts) past (actor_number done.actor) done.link done.ask
 caller-of parts actors past done due other =
     let place = plane-place parts actors.callers.items past due.stand.callers in
     caller-next (network_of parts) past done due.next (λ same. other (same ∙ place))
 
-pub caller-within : (parts : PlanParts) (actors : Actors) (past : List Done) (done : Done) → IsDue parts actors past done → actor_number done.actor ≢ length actors.callers.items → actor_number done.actor < length actors.callers.items
+pub caller-within : (parts : PlanParts) (actors : Actors) (past : List Done) (done : Done) → IsDueStep parts actors past done → actor_number done.actor ≢ length actors.callers.items → actor_number done.actor < length actors.callers.items
 caller-within parts actors past done due other =
     let place = plane-place parts actors.callers.items past due.stand.callers in
     let asks = caller-of parts actors past done due other in
     let within = slice_get_within (network_of parts).scripts (actor_number done.actor) asks.tasks asks.found in
     omega (arith, within, place)
 
-pub caller-left : (parts : PlanParts) (actors : Actors) (past : List Done) (done : Done) (caller : Actor) → IsDue parts actors past done → slice_get actors.callers.items (actor_number done.actor) ≡ Some caller → HasAskLeft parts caller (replies_to (actor_number done.actor) past)
+pub caller-left : (parts : PlanParts) (actors : Actors) (past : List Done) (done : Done) (caller : Actor) → IsDueStep parts actors past done → slice_get actors.callers.items (actor_number done.actor) ≡ Some caller → HasAskLeft parts caller (replies_to (actor_number done.actor) past)
 caller-left parts actors past done caller due found =
     let asks = caller-asks parts actors (actor_number done.actor) caller past due.stand found ∙ due.next.asked in
     record { stands = due.stand.callers.stand (actor_number done.actor) caller found; left = subst (λ (next : Option (LinkNo × Ask)). IsSome next) (sym asks) refl }
 
-pub caller-expected : (parts : PlanParts) (actors : Actors) (past : List Done) (done : Done) (caller : Actor) → IsDue parts actors past done → slice_get actors.callers.items (actor_number done.actor) ≡ Some caller
+pub caller-expected : (parts : PlanParts) (actors : Actors) (past : List Done) (done : Done) (caller : Actor) → IsDueStep parts actors past done → slice_get actors.callers.items (actor_number done.actor) ≡ Some caller
     → expects (standing_in parts (actor_number caller.caller) (replies_to (actor_number done.actor) past)) done.reply ≡ true
 caller-expected parts actors past done caller due found =
     let within = slice_get_within actors.callers.items (actor_number done.actor) caller found in
@@ -182,7 +182,7 @@ callers-with parts callers past done new stand number stands =
           ];
     }
 
-pub caller-taken : (parts : PlanParts) (old new : Actors) (past : List Done) (done : Done) (caller next : Actor) → IsDue parts old past done → slice_get old.callers.items (actor_number done.actor) ≡ Some caller → new.callers.items ≡ set old.callers.items (actor_number done.actor) next
+pub caller-taken : (parts : PlanParts) (old new : Actors) (past : List Done) (done : Done) (caller next : Actor) → IsDueStep parts old past done → slice_get old.callers.items (actor_number done.actor) ≡ Some caller → new.callers.items ≡ set old.callers.items (actor_number done.actor) next
     → new.plane ≡ old.plane → next.caller ≡ caller.caller → ((replies : List Reply) → CallerStands parts caller replies → CallerStands parts next (done.reply ∷ replies)) → ActorsStand parts new (done ∷ past)
 caller-taken parts old new past done caller next due found callers plane same taken =
     let within = slice_get_within old.callers.items (actor_number done.actor) caller found in
@@ -191,7 +191,7 @@ caller-taken parts old new past done caller next due found callers plane same ta
     record {
       callers = subst (λ cs. CallersStand parts cs (done ∷ past)) (sym callers)
           (callers-with parts old.callers.items past done next due.stand.callers (ap actor_number same ∙ due.stand.callers.numbers (actor_number done.actor) caller found) (taken (replies_to (actor_number done.actor) past) was));
-      plane = subst (λ (p : Kept). PlaneStands (network_of parts) p (done ∷ past)) (sym plane)
+      plane = subst (λ (p : KeptPlane). PlaneStands (network_of parts) p (done ∷ past)) (sym plane)
           (record {
             links = due.stand.plane.links;
             rounds = due.stand.plane.rounds;

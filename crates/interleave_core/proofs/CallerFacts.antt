@@ -142,7 +142,7 @@ pub tested-asks : (request : Request) (offers : List ℕ) (count : ℕ) (denial 
 tested-asks request offers count (Some denial) to ask same is = undone-asks request _ _ to ask same is
 tested-asks request offers count None to ask same is = relaxing-asks request _ _ to ask same is
 
--- an offer behind another reply isn't at the front
+-- an offer after another reply isn't at the front
 offers-behind : (replies : List Reply) (first reply : Reply) (rest : List Reply) → behind_offers replies ≡ first ∷ rest → offers_in (replies ++ reply ∷ []) ≡ offers_in replies
 unfolding offers_in behind_offers
 offers-behind [] first reply rest behind = cc

@@ -12,7 +12,7 @@ use Rattle.link_steps.proofs.PacketRows.{Among-passes}
 use Rattle.setup_protocol.specs.declared.request.Request.{Request}
 use Rattle.call_script.specs.Fits.{RequestFits, NetworkFits}
 use Rattle.call_script.specs.Tasks.{Network}
-use Rattle.channel_laws.specs.Channels.{is_of_channel, offers_to, AllOfferTerms, HasRow, ChannelStands}
+use Rattle.channel_laws.specs.Channels.{is_of_channel, offers_to, AllOfferTerms, HasOneRow, ChannelStands}
 use Rattle.channel_laws.proofs.ChannelRows.{legal-stands, legal-free}
 use Rattle.interleave_core.specs.Hops.{packets_on, terms_at, OnRoute, ChannelAsked}
 use Rattle.interleave_core.specs.Runs.{IsRun}
@@ -31,7 +31,7 @@ stands-at network request run i hop n link fits is asked stands number linked =
 -- the link of a channel's packet is of a hop, and all packets of the channel there are those of one row
 pub record RowAt (request : Request) (n : ℕ) (scan : Scan) : Type 0 where
   pub route : OnRoute request n
-  pub row : HasRow (terms_at request route.index) (channel_number request.chan) scan
+  pub row : HasOneRow (terms_at request route.index) (channel_number request.chan) scan
 
 offered-row : (network : Network) (request : Request) (run : List Done) (n : ℕ) (link : Link) → NetworkFits network → IsRun network run → ChannelAsked request run → slice_get network.links n ≡ Some link → 1 ≤ offers_to (channel_number request.chan) (part_of n run) → RowAt request n (scan_of link.shape (part_of n run))
 offered-row network request run n link fits is asked linked some =

@@ -139,7 +139,7 @@ pub committed-comes : (terms : Reservation) (before : Option Reservation) → te
 committed-comes terms before phase (Stays is) = is
 committed-comes terms before phase (Closed old count is closed) = absurd (let clash : Ph.Committed ≡ Ph.Closing = sym phase ∙ ap (λ k. k.phase) closed in cc)
 
--- ---- the first hop behind its release
+-- ---- the first hop after its release
 
 pub record Frozen (network : Network) (request : Request) (first : HopAt network request 0) (run : List Done) (told : ℕ) : Type 0 where
   pub upto : count_at network request 0 first run ≤ told

@@ -7,7 +7,7 @@ use Rattle.std.proofs.lemmas.Option.{slice_get_within}
 use Rattle.std.specs.List.{slice_get}
 use Rattle.std.specs.Prelude.{nat_eq, find}
 use Rattle.net_units.specs.LevelBounds.{bound_at}
-use Rattle.net_units.specs.Numbers.{link_number, actor_number}
+use Rattle.net_units.specs.Numbers.{link_number, actor_number, link_at}
 use Rattle.net_units.specs.declared.numbers.LinkNo.{LinkNo}
 use Rattle.link_steps.specs.declared.asks.Ask.{Ask}
 use Rattle.link_steps.specs.declared.asks.Ask.TheVariants.{Tick}
@@ -30,7 +30,7 @@ use Rattle.call_script.specs.Fits.{NetworkFits}
 use Rattle.interleave_core.specs.Hops.{packets_on, ComesFrom}
 use Rattle.call_script.specs.Tasks.{Network}
 use Rattle.tick_plane.specs.declared.flight.Flight.{Flight}
-use Rattle.tick_plane.specs.Planes.{Plane, link_at, is_due, next_due, ask_due, flight_to, flight_in, tick_made, plane_with, plane_of}
+use Rattle.tick_plane.specs.Planes.{Plane, is_due, next_due, ask_due, flight_to, flight_in, tick_made, plane_with, plane_of}
 use Rattle.run_record.specs.Runs.{entry_of, part_of, replies_to}
 use Rattle.interleave_core.specs.Flights.{FlightsStand}
 use Rattle.interleave_core.specs.Runs.{plane_no, plane_at, IsNext, IsRun}

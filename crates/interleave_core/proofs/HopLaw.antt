@@ -13,7 +13,7 @@ use Rattle.net_units.specs.Numbers.{link_number, actor_number, channel_number}
 use Rattle.net_units.specs.declared.Kind.{Kind}
 use Rattle.net_units.specs.declared.Kind.TheVariants.{Rate, Jitter}
 use Rattle.net_units.specs.declared.numbers.LinkNo.{LinkNo}
-use Rattle.traffic_contract.specs.Contract.{Terms, IsContract}
+use Rattle.traffic_contract.specs.Contract.{Traffic, IsContract}
 use Rattle.traffic_contract.specs.Eligible.{IsEligible, eligible}
 use Rattle.traffic_contract.specs.Keeping.{Keeps, keeps_newest_first}
 use Rattle.traffic_contract.proofs.ContractFacts.{burst-least}
@@ -36,10 +36,10 @@ use Rattle.link_steps.specs.Service.{Arrival}
 use Rattle.link_steps.proofs.LegalChannels.{legal-channels}
 use Rattle.link_steps.proofs.ListFacts.{Among, Each-among, Each-find}
 use Rattle.setup_protocol.specs.Requests.{kind_of}
-use Rattle.setup_protocol.specs.Setup.{link_in}
+use Rattle.setup_protocol.specs.Setup.{hop_link}
 use Rattle.setup_protocol.specs.declared.request.Request.{Request}
 use Rattle.run_record.specs.declared.done.Done.{Done}
-use Rattle.channel_laws.specs.Channels.{is_of_channel, channel_packets, tick_of_packet, ticks_at, channel_of, offers_to, RowTells, IsElsewhere, IsOnly, HasRow}
+use Rattle.channel_laws.specs.Channels.{is_of_channel, channel_packets, tick_of_packet, ticks_at, channel_of, offers_to, RowTells, IsElsewhere, IsOnly, HasOneRow}
 use Rattle.call_script.specs.Fits.{RequestFits, NetworkFits}
 use Rattle.interleave_core.specs.Hops.{packets_on, terms_at, ChannelAsked, ComesFrom}
 use Rattle.call_script.specs.Tasks.{Network}
@@ -139,15 +139,17 @@ far_ticks network request i two run = ticks_at (channel_number request.chan) (pa
 waits-most : (kind : Kind) (first : Bool) (t due : ℕ) → t ≤ due → waits_until kind first t due ≤ due
 waits-most Jitter false t due early = omega (arith, early)
 waits-most Jitter true t due early = early
-waits-most Rate first t due early = early
+waits-most Rate true t due early = early
+waits-most Rate false t due early = early
 
 waits-exact : (kind : Kind) (first : Bool) (t due : ℕ) → kind ≡ Jitter → first ≡ false → due ≤ waits_until kind first t due
 waits-exact Jitter false t due is later = omega arith
 waits-exact Jitter true t due is later = cc
-waits-exact Rate first t due is later = cc
+waits-exact Rate true t due is later = cc
+waits-exact Rate false t due is later = cc
 
--- the link behind a hop that names the next one
-pub next-link : (found : Option Hop) (to : LinkNo) → option_map link_in found ≡ Some to → (hop : Hop) × (found ≡ Some hop) × (hop.link ≡ to)
+-- the link after a hop that names the next one
+pub next-link : (found : Option Hop) (to : LinkNo) → option_map hop_link found ≡ Some to → (hop : Hop) × (found ≡ Some hop) × (hop.link ≡ to)
 next-link None to is = cc
 next-link (Some hop) to is = (hop, refl, same_Some hop.link to is)
 
@@ -170,7 +172,7 @@ from-near network request i two past done packet fits sound run asked comes chan
     let mine : is_of_channel (channel_number request.chan) from.taken ≡ true = and_from (nat_eq (channel_number from.taken.chan) (channel_number request.chan)) (nat_lt 0 from.taken.number) (eq-eqb (channel_number from.taken.chan) (channel_number request.chan) own) (lt-ltb 0 from.taken.number from.numbered) in
     let row = packet-offered network request past from.n from.link from.taken fits run asked sound from.linked mine from.among in
     let packets : Among from.taken (channel_packets (channel_number request.chan) (packets_on from.link from.n past)) = Among-passes (is_of_channel (channel_number request.chan)) from.taken (packets_on from.link from.n past) mine from.among in
-    let next : from.taken.next ≡ option_map link_in (slice_get request.route (suc row.route.index)) = Each-among (λ p. p.next ≡ (terms_at request row.route.index).next) from.taken _ row.row.tells.nexts packets in
+    let next : from.taken.next ≡ option_map hop_link (slice_get request.route (suc row.route.index)) = Each-among (λ p. p.next ≡ (terms_at request row.route.index).next) from.taken _ row.row.tells.nexts packets in
     let behind = next-link (slice_get request.route (suc row.route.index)) comes.flight.to (sym next ∙ from.next) in
     let number : link_of behind.0 ≡ link_of two.behind = ap link_number (behind.2 ∙ comes.to) ∙ at in
     let index : suc row.route.index ≡ suc i = index-apart request.route (suc row.route.index) (suc i) behind.0 two.behind sound.route behind.1 two.follows number in
@@ -191,7 +193,7 @@ from-near network request i two past done packet fits sound run asked comes chan
 
 -- ---- one packet more at the far hop
 
-pub eligible-same : (c : Terms) (a b : List ℕ) (low e : ℕ) → a ≡ b → IsEligible c a low e → IsEligible c b low e
+pub eligible-same : (c : Traffic) (a b : List ℕ) (low e : ℕ) → a ≡ b → IsEligible c a low e → IsEligible c b low e
 eligible-same c a b low e same is = subst (λ ticks. IsEligible c ticks low e) same is
 
 -- the row that is found at the far hop
@@ -257,11 +259,11 @@ taken-behind network request i two past done packet row level clock e held fits 
     mapped-length [] = refl
     mapped-length (p ∷ ps) = ap suc (mapped-length ps)
 
-    has-row : (j : ℕ) (hop : Hop) (n : ℕ) (link : Link) → link_number hop.link ≡ n → slice_get request.route j ≡ Some hop → slice_get network.links n ≡ Some link → (p : Arrival) → is_of_channel (channel_number request.chan) p ≡ true → Among p (packets_on link n past) → HasRow (terms_at request j) (channel_number request.chan) (scan_of link.shape (part_of n past))
+    has-row : (j : ℕ) (hop : Hop) (n : ℕ) (link : Link) → link_number hop.link ≡ n → slice_get request.route j ≡ Some hop → slice_get network.links n ≡ Some link → (p : Arrival) → is_of_channel (channel_number request.chan) p ≡ true → Among p (packets_on link n past) → HasOneRow (terms_at request j) (channel_number request.chan) (scan_of link.shape (part_of n past))
     has-row j hop n link number stands linked p chan among =
         let row-at = packet-offered network request past n link p fits run asked sound linked chan among in
         let same : row-at.route.index ≡ j = index-apart request.route row-at.route.index j row-at.route.hop hop sound.route row-at.route.stands stands (row-at.route.number ∙ sym number) in
-        subst (λ k. HasRow (terms_at request k) (channel_number request.chan) (scan_of link.shape (part_of n past))) same row-at.row
+        subst (λ k. HasOneRow (terms_at request k) (channel_number request.chan) (scan_of link.shape (part_of n past))) same row-at.row
 
 -- ---- each entry at the far hop
 

@@ -5,7 +5,7 @@ use Rattle.std.proofs.lemmas.List.{get_or_append_left, get_or_push, length_push}
 use Rattle.net_units.specs.declared.Kind.{Kind}
 use Rattle.net_units.specs.declared.Kind.TheVariants.{Jitter}
 use Rattle.std.proofs.lemmas.List.{length-append}
-use Rattle.traffic_contract.specs.Contract.{Terms, burst_of}
+use Rattle.traffic_contract.specs.Contract.{Traffic, burst_of}
 use Rattle.traffic_contract.specs.Eligible.{IsEligible}
 use Rattle.traffic_contract.specs.Keeping.{Keeps, Spaced}
 use Rattle.interleave_core.specs.Paths.{IsBehind}
@@ -33,7 +33,7 @@ spaced-more gap least shift before ticks some far near more behind = record {
 }
 
 -- the due tick is one that keeps the contract, so the eligible tick is no later
-pub eligible-behind : (c : Terms) (before ticks : List ℕ) (shift low e : ℕ) → 1 ≤ burst_of c → Keeps c before → Keeps c ticks → length ticks < length before → IsBehind shift before ticks → low ≤ get_or before (length ticks) 0 + shift → IsEligible c ticks low e
+pub eligible-behind : (c : Traffic) (before ticks : List ℕ) (shift low e : ℕ) → 1 ≤ burst_of c → Keeps c before → Keeps c ticks → length ticks < length before → IsBehind shift before ticks → low ≤ get_or before (length ticks) 0 + shift → IsEligible c ticks low e
     → e ≤ get_or before (length ticks) 0 + shift
 eligible-behind c before ticks shift low e burst far near more behind early is =
     is.least (get_or before (length ticks) 0 + shift) early (record {
@@ -41,7 +41,7 @@ eligible-behind c before ticks shift low e burst far near more behind early is =
       bursts = spaced-more (burst_of c) c.interval shift before ticks burst far.bursts near.bursts more behind;
     })
 
--- so one packet more is behind too
+-- so one packet more is after too
 pub behind-more : (shift e : ℕ) (before ticks : List ℕ) → length ticks < length before → IsBehind shift before ticks → e ≤ get_or before (length ticks) 0 + shift → IsBehind shift before (ticks ++ e ∷ [])
 behind-more shift e before ticks more behind under =
     let count = length_push ticks e in

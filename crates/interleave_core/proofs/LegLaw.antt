@@ -23,7 +23,7 @@ use Rattle.link_steps.specs.Rows.{Row}
 use Rattle.link_steps.specs.Scan.{Scan, clock_with, clock_of, scan_of, is_row_of, arrived_packet, with_arrival, after}
 use Rattle.link_steps.specs.Service.{Arrival}
 use Rattle.link_steps.proofs.ListFacts.{Among, Each-among}
-use Rattle.setup_protocol.specs.Setup.{link_in}
+use Rattle.setup_protocol.specs.Setup.{hop_link}
 use Rattle.setup_protocol.specs.declared.request.Request.{Request}
 use Rattle.run_record.specs.declared.done.Done.{Done}
 use Rattle.channel_laws.specs.Channels.{is_of_channel, channel_packets, SizeWithin}
@@ -141,7 +141,7 @@ near-sends network request i two run p fits sound is asked among chan =
       tells = row.row.tells;
       link = two.behind.link;
       number = refl;
-      next = ap (λ k. option_map link_in (slice_get request.route (suc k))) index ∙ ap (option_map link_in) two.follows;
+      next = ap (λ k. option_map hop_link (slice_get request.route (suc k))) index ∙ ap (option_map hop_link) two.follows;
     }
 
 -- a packet of the channel that goes to the far link is at the near hop's
@@ -150,7 +150,7 @@ pub leg-near : (network : Network) (request : Request) (i : ℕ) (two : TwoHops 
 leg-near network request i two run n link p to fits sound is asked linked among chan next at =
     let row = packet-offered network request run n link p fits is asked sound linked chan among in
     let packets : Among p (channel_packets (channel_number request.chan) (packets_on link n run)) = Among-passes (is_of_channel (channel_number request.chan)) p (packets_on link n run) chan among in
-    let named : p.next ≡ option_map link_in (slice_get request.route (suc row.route.index)) = Each-among (λ q. q.next ≡ (terms_at request row.route.index).next) p _ row.row.tells.nexts packets in
+    let named : p.next ≡ option_map hop_link (slice_get request.route (suc row.route.index)) = Each-among (λ q. q.next ≡ (terms_at request row.route.index).next) p _ row.row.tells.nexts packets in
     let behind = next-link (slice_get request.route (suc row.route.index)) to (sym named ∙ next) in
     let index : suc row.route.index ≡ suc i = index-apart request.route (suc row.route.index) (suc i) behind.0 two.behind sound.route behind.1 two.follows (ap link_number behind.2 ∙ at) in
     let same : row.route.index ≡ i = omega (arith, index) in
@@ -302,7 +302,7 @@ due-number network request i two plane (Some flight) done past packet punctual d
     let mine : leg (channel_number request.chan) (link_number two.behind.link) flight ≡ true = and_from (nat_eq (channel_number flight.packet.chan) (channel_number request.chan)) (nat_eq (link_number flight.to) (link_number two.behind.link)) (eq-eqb (channel_number flight.packet.chan) (channel_number request.chan) (ap (λ p. channel_number p.chan) same ∙ chan)) (eq-eqb (link_number flight.to) (link_number two.behind.link) (ap link_number to ∙ at)) in
     ap (λ p. p.number) (sym same) ∙ (queue-head (leg (channel_number request.chan) (link_number two.behind.link)) (far_count network request i two past) _ 0 _ plane.round plane.flights flight punctual due mine is).0
 
--- an arrive of the channel at the far hop has the number behind those taken there
+-- an arrive of the channel at the far hop has the number after those taken there
 pub arrive-in-turn : (network : Network) (request : Request) (i : ℕ) (two : TwoHops network request i) (done : Done) (past : List Done) (packet : Packet) → NetworkFits network → IsRun network past → (next : IsNext network past done) → done.ask ≡ Arrive packet → channel_number packet.chan ≡ channel_number request.chan → link_number done.link ≡ link_number two.behind.link → LegStands network request i two past → packet.number ≡ suc (far_count network request i two past)
 arrive-in-turn network request i two done past packet fits run next arrives chan at is =
     elim (cases_Bool (nat_eq (actor_number done.actor) (plane_no network))) [

@@ -6,13 +6,13 @@ use Rattle.std.proofs.lemmas.Option.{slice_get_within, slice_get-map}
 use Rattle.std.specs.List.{slice_get}
 use Rattle.std.specs.Prelude.{nat_eq}
 use Rattle.net_units.specs.Numbers.{actor_number}
-use Rattle.link_server.specs.State.{Stands as LinkStands, stands-clock}
+use Rattle.link_server.specs.State.{LinkStands, stands-clock}
 use Rattle.link_server.specs.declared.link_state.LinkState.{LinkState}
 use Rattle.link_steps.specs.Scan.{clock_of}
 use Rattle.link_steps.specs.Split.{Link, whole}
 use Rattle.link_steps.specs.declared.replies.Reply.{Reply}
 use Rattle.call_script.specs.Fits.{NetworkFits}
-use Rattle.call_script.specs.Tasks.{Network, link_of}
+use Rattle.call_script.specs.Tasks.{Network, entry_link}
 use Rattle.call_script.specs.declared.entries.LinkEntry.{LinkEntry}
 use Rattle.interleave_core.specs.Runs.{plane_no, plane_at, IsRun}
 use Rattle.interleave_core.specs.Standing.{LinksStand}
@@ -96,7 +96,7 @@ links-with network old new number run more long others same parts at stand = rec
 
 -- so many links of these entries are made
 pub record LinksMade (entries : List LinkEntry) (links : List LinkState) : Type 0 where
-  pub linked : (n : ℕ) (link : LinkState) → slice_get links n ≡ Some link → slice_get (map link_of entries) n ≡ Some (whole link.shape)
+  pub linked : (n : ℕ) (link : LinkState) → slice_get links n ≡ Some link → slice_get (map entry_link entries) n ≡ Some (whole link.shape)
   pub fresh : (n : ℕ) (link : LinkState) → slice_get links n ≡ Some link → LinkStands link []
 
 pub none-made : (entries : List LinkEntry) → LinksMade entries []
@@ -108,7 +108,7 @@ one-made entries links entry link made found shape stands = record {
       elim (get-push links link n at is) [
         | inl before ↦ made.linked n at before
         | inr last ↦
-            slice_get-map link_of entries n ∙ ap (λ m. option_map link_of (slice_get entries m)) last.0 ∙ ap (option_map link_of) found
+            slice_get-map entry_link entries n ∙ ap (λ m. option_map entry_link (slice_get entries m)) last.0 ∙ ap (option_map entry_link) found
             ∙ ap (λ s. Some (whole s)) (sym shape) ∙ ap (λ (l : LinkState). Some (whole l.shape)) (sym last.1)
       ];
   fresh = λ n at is.
@@ -118,6 +118,6 @@ one-made entries links entry link made found shape stands = record {
       ];
 }
 
-pub all-made : (entries : List LinkEntry) (links : List LinkState) → length links ≡ length entries → LinksMade entries links → LinksStand (map link_of entries) links []
+pub all-made : (entries : List LinkEntry) (links : List LinkState) → length links ≡ length entries → LinksMade entries links → LinksStand (map entry_link entries) links []
 unfolding part_of
-all-made entries links long made = record { same = long ∙ sym (length-map entries link_of); linked = made.linked; parts = made.fresh }
+all-made entries links long made = record { same = long ∙ sym (length-map entries entry_link); linked = made.linked; parts = made.fresh }

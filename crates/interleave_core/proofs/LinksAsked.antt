@@ -5,7 +5,7 @@ use Rattle.std.proofs.lemmas.Bool.{cases_Bool, eqb-true, eqb-false}
 use Rattle.std.proofs.lemmas.Option.{same_Some, slice_get_cases}
 use Rattle.std.specs.List.{slice_get}
 use Rattle.std.specs.Prelude.{nat_eq, nat_lt, filter, find, ◌&&◌, not}
-use Rattle.net_units.specs.Numbers.{link_number, actor_number}
+use Rattle.net_units.specs.Numbers.{link_number, actor_number, link_at}
 use Rattle.net_units.specs.declared.numbers.LinkNo.{LinkNo}
 use Rattle.hop_reservation.specs.declared.route.Hop.{Hop}
 use Rattle.link_steps.specs.declared.asks.Ask.{Ask}
@@ -23,22 +23,22 @@ use Rattle.link_steps.specs.Replies.{sent_at, sent_of, tick_reply, reply_at, rep
 use Rattle.link_steps.specs.Rows.{Row}
 use Rattle.link_steps.specs.Scan.{Scan, clock_of, is_row_of, is_row_at_hop, names_first_hop, relax_row, plan_row, close_row, arrived_row, with_arrival, without_expired, with_sources, with_best, best_step_at, after_tick, after, scan_of}
 use Rattle.link_steps.specs.Service.{Arrival, Start, here_at, leaves_at, starts_below}
-use Rattle.link_steps.specs.Sources.{SourceStep, Rests, Brings, Loses, step_of, row_after, rows_after, packet_of, taken_by, source_packets}
+use Rattle.link_steps.specs.Sources.{SourceStep, Rests, Brings, Drops, step_of, row_after, rows_after, packet_of, taken_by, source_packets}
 use Rattle.link_steps.specs.Split.{Link}
 use Rattle.link_steps.proofs.ListFacts.{Each-append, Each-filter, Each-find, Each-change_first, Each-without_first}
 use Rattle.link_steps.proofs.ServiceFacts.{starts-fact}
-use Rattle.setup_protocol.specs.Setup.{Progress, Reserving, Undoing, Relaxing, Settled, asked, asked_of, link_in, progress_of}
+use Rattle.setup_protocol.specs.Setup.{Progress, Reserving, Undoing, Relaxing, Settled, asked, asked_of, hop_link, progress_of}
 use Rattle.setup_protocol.specs.declared.request.Request.{Request}
 use Rattle.call_script.specs.Fits.{IsHopOf, TaskFits, NetworkFits}
 use Rattle.call_script.specs.Scripts.{first_ask, ask_at, script_ask, standing, task_ask}
 use Rattle.call_script.specs.Tasks.{Network}
 use Rattle.call_script.specs.declared.tasks.Task.{Task}
 use Rattle.call_script.specs.declared.tasks.Task.TheVariants.{Opens, Sends, Closes, Pours}
-use Rattle.tick_plane.specs.Planes.{Plane, link_at, is_due, next_due, ask_due, plane_ask, flight_to, flight_of, flight_in, plane_with, plane_of}
+use Rattle.tick_plane.specs.Planes.{Plane, is_due, next_due, ask_due, plane_ask, flight_to, flight_of, flight_in, plane_with, plane_of}
 use Rattle.tick_plane.specs.declared.flight.Flight.{Flight}
 use Rattle.run_record.specs.Runs.{replies_to, part_of}
 use Rattle.run_record.specs.declared.done.Done.{Done}
-use Rattle.interleave_core.specs.Linked.{IsLinked, EveryAskGoesToALink}
+use Rattle.interleave_core.specs.Linked.{IsLinkThere, EveryAskGoesToALink}
 use Rattle.interleave_core.specs.Runs.{plane_no, plane_at, IsNext, IsRun}
 use Rattle.channel_laws.proofs.Places.{Each-at}
 use Rattle.interleave_core.proofs.RunLegal.{asked-plane, asked-caller, caller-next, plane-next, plane-off, plane-by, part-on, part-off, made-flights, link_at-number, run-stands}
@@ -46,7 +46,7 @@ use Rattle.interleave_core.proofs.RunLegal.{asked-plane, asked-caller, caller-ne
 -- a link that comes next, if there is one, is there
 abbrev NextLinked : List Link → Option LinkNo → Type 0
 NextLinked links None = Unit {0}
-NextLinked links (Some to) = IsLinked links to
+NextLinked links (Some to) = IsLinkThere links to
 
 -- so is the one that a reserve names
 abbrev ReservesNext : List Link → Ask → Type 0
@@ -56,13 +56,13 @@ ReservesNext links _ = Unit {0}
 -- ---- what a caller asks
 
 record AsksThere (links : List Link) (to : LinkNo) (ask : Ask) : Type 0 where
-  linked : IsLinked links to
+  linked : IsLinkThere links to
   next : ReservesNext links ask
 
-hop-linked : (links : List Link) (hop : Hop) → IsHopOf links hop → IsLinked links hop.link
+hop-linked : (links : List Link) (hop : Hop) → IsHopOf links hop → IsLinkThere links hop.link
 hop-linked links hop is = record { link = is.link; found = is.linked }
 
-found-hop : (links : List Link) (route : List Hop) (i : ℕ) (found : Option Hop) → Each (IsHopOf links) route → slice_get route i ≡ found → NextLinked links (option_map link_in found)
+found-hop : (links : List Link) (route : List Hop) (i : ℕ) (found : Option Hop) → Each (IsHopOf links) route → slice_get route i ≡ found → NextLinked links (option_map hop_link found)
 found-hop links route i None hops is = tt
 found-hop links route i (Some hop) hops is = hop-linked links hop (Each-at (IsHopOf links) route i hop hops is)
 
@@ -71,7 +71,7 @@ asks-hop links route i None own to ask hops is next same = cc
 asks-hop links route i (Some hop) own to ask hops is next same =
     let both = same_Some (hop.link, own hop) (to, ask) same in
     record {
-      linked = subst (IsLinked links) (ap (λ pair. pair.0) both) (hop-linked links hop (Each-at (IsHopOf links) route i hop hops is));
+      linked = subst (IsLinkThere links) (ap (λ pair. pair.0) both) (hop-linked links hop (Each-at (IsHopOf links) route i hop hops is));
       next = subst (ReservesNext links) (ap (λ pair. pair.1) both) (next hop);
     }
 
@@ -91,7 +91,7 @@ task-there links (Closes request) replies to ask fits same = asks-hop links requ
 task-there links (Pours at count gap size) [] to ask fits same =
     let both = same_Some (at, Pour count gap size) (to, ask) same in
     record {
-      linked = subst (IsLinked links) (ap (λ pair. pair.0) both) (record { link = fits.link; found = fits.linked });
+      linked = subst (IsLinkThere links) (ap (λ pair. pair.0) both) (record { link = fits.link; found = fits.linked });
       next = subst (ReservesNext links) (ap (λ pair. pair.1) both) tt;
     }
 task-there links (Pours at count gap size) (reply ∷ replies) to ask fits same = cc
@@ -109,12 +109,12 @@ record NextsThere (links : List Link) (scan : Scan) : Type 0 where
 
 step-there : (links : List Link) (t place : ℕ) (row : Row) (step : SourceStep) → NextLinked links row.terms.next → Each (λ p. NextLinked links p.next) (packet_of step t place row)
 step-there links t place row Rests next = tt
-step-there links t place row Loses next = tt
+step-there links t place row Drops next = tt
 step-there links t place row (Brings size) next = (next, tt)
 
 row-there : (links : List Link) (t place : ℕ) (row : Row) (step : SourceStep) → NextLinked links row.terms.next → NextLinked links (row_after step t place row).terms.next
 row-there links t place row Rests next = next
-row-there links t place row Loses next = next
+row-there links t place row Drops next = next
 row-there links t place row (Brings size) next = next
 
 sources-there : (links : List Link) (bounds : List ℕ) (here : List Arrival) (t taken : ℕ) (rows : List Row) → Each (λ row. NextLinked links row.terms.next) rows → Each (λ p. NextLinked links p.next) (source_packets bounds here t taken rows)
@@ -132,7 +132,7 @@ rows-there links bounds here t taken (row ∷ rows) nexts =
 
 best-there : (links : List Link) (bounds : List ℕ) (place t : ℕ) (step : SourceStep) → Each (λ p. NextLinked links p.next) (best_packet step bounds place t)
 best-there links bounds place t Rests = tt
-best-there links bounds place t Loses = tt
+best-there links bounds place t Drops = tt
 best-there links bounds place t (Brings size) = (tt, tt)
 
 tick-there : (links : List Link) (shape : LinkShape) (t : ℕ) (scan : Scan) → NextsThere links scan → NextsThere links (after_tick shape t scan)
@@ -177,47 +177,47 @@ sent-there links shape t (start ∷ earlier) sent nexts same =
       | inr stays' ↦ (let none : None ≡ Some sent = rw stays' at same in cc)
     ]
 
-to-there : (links : List Link) (sent : Sent) (next : Option LinkNo) → NextLinked links next → Each (λ flight. IsLinked links flight.to) (flight_to sent next)
+to-there : (links : List Link) (sent : Sent) (next : Option LinkNo) → NextLinked links next → Each (λ flight. IsLinkThere links flight.to) (flight_to sent next)
 to-there links sent None is = tt
 to-there links sent (Some to) is = (is, tt)
 
-of-there : (links : List Link) (shape : LinkShape) (t : ℕ) (starts : List Start) (sent : Option Sent) → Each (λ start. NextLinked links start.packet.next) starts → sent_at shape t starts ≡ sent → Each (λ flight. IsLinked links flight.to) (flight_of sent)
+of-there : (links : List Link) (shape : LinkShape) (t : ℕ) (starts : List Start) (sent : Option Sent) → Each (λ start. NextLinked links start.packet.next) starts → sent_at shape t starts ≡ sent → Each (λ flight. IsLinkThere links flight.to) (flight_of sent)
 of-there links shape t starts None nexts same = tt
 of-there links shape t starts (Some sent) nexts same = to-there links sent sent.next (sent-there links shape t starts sent nexts same)
 
 -- the flight of a tick's reply
-tick-flight : (links : List Link) (shape : LinkShape) (t : ℕ) (scan : Scan) (reply : Reply) → reply ≡ tick_reply shape t scan → NextsThere links scan → Each (λ flight. IsLinked links flight.to) (flight_in reply)
+tick-flight : (links : List Link) (shape : LinkShape) (t : ℕ) (scan : Scan) (reply : Reply) → reply ≡ tick_reply shape t scan → NextsThere links scan → Each (λ flight. IsLinkThere links flight.to) (flight_in reply)
 tick-flight links shape t scan reply same nexts =
     let after' = tick-there links shape t scan nexts in
     let starts = starts-fact (λ p. NextLinked links p.next) shape.rate (after_tick shape t scan).packets (suc t) after'.packets in
-    subst (λ r. Each (λ flight. IsLinked links flight.to) (flight_in r)) (sym same) (of-there links shape (suc t) (starts_below shape.rate (after_tick shape t scan).packets (suc t)) _ starts refl)
+    subst (λ r. Each (λ flight. IsLinkThere links flight.to) (flight_in r)) (sym same) (of-there links shape (suc t) (starts_below shape.rate (after_tick shape t scan).packets (suc t)) _ starts refl)
 
 -- ---- every run
 
 record RunLinked (network : Network) (run : List Done) : Type 0 where
   parts : (n : ℕ) (link : Link) → slice_get network.links n ≡ Some link → NextsThere network.links (scan_of link.shape (part_of n run))
-  flights : Each (λ flight. IsLinked network.links flight.to) (plane_at network run).flights
+  flights : Each (λ flight. IsLinkThere network.links flight.to) (plane_at network run).flights
 
 caller-there : (network : Network) (past : List Done) (actor : ℕ) (tasks : List Task) (to : LinkNo) (ask : Ask) → NetworkFits network → IsRun network past → slice_get network.scripts actor ≡ Some tasks → ask_at (standing tasks (replies_to actor past)) ≡ Some (to, ask) → AsksThere network.links to ask
 caller-there network past actor tasks to ask fits run found asks =
     tasks-there network.links (standing tasks (replies_to actor past)).tasks (standing tasks (replies_to actor past)).replies to ask ((run-stands network past fits run).callers actor tasks found).tasks asks
 
-due-there : (network : Network) (plane : Plane) (found : Option Flight) (to : LinkNo) (ask : Ask) → NetworkFits network → plane.ticked < length network.links → Each (λ flight. IsLinked network.links flight.to) plane.flights → next_due plane ≡ found → ask_due plane.ticked found ≡ (to, ask) → AsksThere network.links to ask
+due-there : (network : Network) (plane : Plane) (found : Option Flight) (to : LinkNo) (ask : Ask) → NetworkFits network → plane.ticked < length network.links → Each (λ flight. IsLinkThere network.links flight.to) plane.flights → next_due plane ≡ found → ask_due plane.ticked found ≡ (to, ask) → AsksThere network.links to ask
 due-there network plane None to ask fits within flights is same =
     let few = fits.few in
     let number : link_number (link_at plane.ticked) ≡ plane.ticked = link_at-number plane.ticked (omega (arith, few, within)) in
     record {
-      linked = subst (IsLinked network.links) (ap (λ pair. pair.0) same) (there number);
+      linked = subst (IsLinkThere network.links) (ap (λ pair. pair.0) same) (there number);
       next = subst (ReservesNext network.links) (ap (λ pair. pair.1) same) tt;
     } where
-      there : link_number (link_at plane.ticked) ≡ plane.ticked → IsLinked network.links (link_at plane.ticked)
+      there : link_number (link_at plane.ticked) ≡ plane.ticked → IsLinkThere network.links (link_at plane.ticked)
       there number =
           elim (slice_get_cases network.links plane.ticked).1 [
             | inl at ↦ record { link = at.0; found = ap (slice_get network.links) number ∙ at.2 }
             | inr past ↦ absurd (omega (arith, past.0, within))
           ]
 due-there network plane (Some flight) to ask fits within flights is same = record {
-  linked = subst (IsLinked network.links) (ap (λ pair. pair.0) same) (Each-find (λ f. IsLinked network.links f.to) (is_due plane.round) plane.flights flight flights is);
+  linked = subst (IsLinkThere network.links) (ap (λ pair. pair.0) same) (Each-find (λ f. IsLinkThere network.links f.to) (is_due plane.round) plane.flights flight flights is);
   next = subst (ReservesNext network.links) (ap (λ pair. pair.1) same) tt;
 }
 
@@ -245,15 +245,15 @@ parts-there network past done was next own n link found =
 
 -- the flights after the plane's step
 flights-there : (network : Network) (past : List Done) (done : Done) (found : Option Flight) → RunLinked network past → (next : IsNext network past done) → ask_due (plane_at network past).ticked found ≡ (done.link, done.ask)
-    → Each (λ flight. IsLinked network.links flight.to) (plane_with (length network.links) (plane_at network past) found done.reply).flights
+    → Each (λ flight. IsLinkThere network.links flight.to) (plane_with (length network.links) (plane_at network past) found done.reply).flights
 unfolding reply_to reply_at
 flights-there network past done None was next asks =
     let tick : Tick ≡ done.ask = ap (λ pair. pair.1) asks in
     let h : List Entry = part_of (link_number done.link) past in
     let is : done.reply ≡ tick_reply next.link.shape (clock_of (part_of (link_number done.link) past)) (scan_of next.link.shape (part_of (link_number done.link) past)) = next.answered ∙ ap (reply_to next.link (part_of (link_number done.link) past)) (sym tick) in
-    made-flights (λ flight. IsLinked network.links flight.to) (length network.links) (plane_at network past) (flight_in done.reply) was.flights
+    made-flights (λ flight. IsLinkThere network.links flight.to) (length network.links) (plane_at network past) (flight_in done.reply) was.flights
     (tick-flight network.links next.link.shape (clock_of h) (scan_of next.link.shape h) done.reply is (was.parts (link_number done.link) next.link next.linked))
-flights-there network past done (Some flight) was next asks = Each-without_first (λ f. IsLinked network.links f.to) (is_due (plane_at network past).round) (plane_at network past).flights was.flights
+flights-there network past done (Some flight) was next asks = Each-without_first (λ f. IsLinkThere network.links f.to) (is_due (plane_at network past).round) (plane_at network past).flights was.flights
 
 linked-next : (network : Network) (past : List Done) (done : Done) → NetworkFits network → IsRun network past → RunLinked network past → IsNext network past done → RunLinked network (done ∷ past)
 linked-next network past done fits run was next = record {
@@ -262,9 +262,9 @@ linked-next network past done fits run was next = record {
       elim (cases_Bool (nat_eq (actor_number done.actor) (plane_no network))) [
         | inl plane ↦
             (let same = eqb-true (actor_number done.actor) (plane_no network) plane in
-            subst (λ p. Each (λ flight. IsLinked network.links flight.to) p.flights) (sym (plane-by network done past same))
+            subst (λ p. Each (λ flight. IsLinkThere network.links flight.to) p.flights) (sym (plane-by network done past same))
             (flights-there network past done (next_due (plane_at network past)) was next (plane-next network past done next same).asks))
-        | inr caller ↦ subst (λ p. Each (λ flight. IsLinked network.links flight.to) p.flights) (sym (plane-off network done past (eqb-false (actor_number done.actor) (plane_no network) caller))) was.flights
+        | inr caller ↦ subst (λ p. Each (λ flight. IsLinkThere network.links flight.to) p.flights) (sym (plane-off network done past (eqb-false (actor_number done.actor) (plane_no network) caller))) was.flights
       ];
 }
 

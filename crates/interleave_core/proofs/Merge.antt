@@ -8,7 +8,7 @@ use Rattle.std.specs.Prelude.{filter, nat_eq, nat_lt}
 use Rattle.net_units.specs.Numbers.{link_number}
 use Rattle.link_steps.specs.Lists.{Each}
 use Rattle.link_steps.proofs.ListFacts.{Among, Each-among}
-use Rattle.interleave_core.specs.Weave.{Stamped, put, put_all, woven_of, IsUnder, Falls, IsUnlike, AreApart, PairsApart, AreOf, InOne, StandsIn}
+use Rattle.interleave_core.specs.Weave.{Stamped, put, put_all, woven_of, IsUnder, Falls, IsUnlike, AreStampedApart, PairsApart, AreOf, InOne, StandsIn}
 
 each-put : (P : Stamped → Type 0) (x : Stamped) (xs : List Stamped) → P x → Each P xs → Each P (put x xs)
 unfolding put
@@ -49,13 +49,13 @@ falls-put x (y ∷ ys) unlike falls =
 -- no stamp of a journal stands in the merge of the later ones
 abbrev pub AllApart : List (List Stamped) → Type 0
 AllApart [] = Unit {0}
-AllApart (journal ∷ journals) = AreApart journal (woven_of journals) × AllApart journals
+AllApart (journal ∷ journals) = AreStampedApart journal (woven_of journals) × AllApart journals
 
 unlike-under : (x : Stamped) (xs : List Stamped) → Each (IsUnder x.stamp) xs → Each (IsUnlike x) xs
 unlike-under x [] each = tt
 unlike-under x (y ∷ ys) each = ((λ same. (let h = each.0 in omega (arith, h, same))), unlike-under x ys each.1)
 
-falls-put_all : (xs ys : List Stamped) → Falls xs → Falls ys → AreApart xs ys → Falls (put_all xs ys)
+falls-put_all : (xs ys : List Stamped) → Falls xs → Falls ys → AreStampedApart xs ys → Falls (put_all xs ys)
 unfolding put_all
 falls-put_all [] ys own falls apart = falls
 falls-put_all (x ∷ xs) ys own falls apart = falls-put x (put_all xs ys) (each-put_all (IsUnlike x) xs ys (unlike-under x xs own.0) apart.0) (falls-put_all xs ys own.1 falls apart.1)
@@ -113,7 +113,7 @@ unfolding put_all
 put_all-off test [] ys off = refl
 put_all-off test (x ∷ xs) ys off = put-off test x (put_all xs ys) off.0 ∙ put_all-off test xs ys off.1
 
-put_all-on : (test : Stamped → Bool) (xs ys : List Stamped) → Each (λ x. test x ≡ true) xs → Falls xs → Falls ys → AreApart xs ys → filter test ys ≡ [] → filter test (put_all xs ys) ≡ xs
+put_all-on : (test : Stamped → Bool) (xs ys : List Stamped) → Each (λ x. test x ≡ true) xs → Falls xs → Falls ys → AreStampedApart xs ys → filter test ys ≡ [] → filter test (put_all xs ys) ≡ xs
 unfolding put_all
 put_all-on test [] ys on own falls apart none = none
 put_all-on test (x ∷ xs) ys on own falls apart none =
@@ -221,14 +221,14 @@ in-woven x [] (StandsIn k journal found among) = cc
 in-woven x (first ∷ journals) (StandsIn zero journal found among) = put_all-among x first (woven_of journals) (inl (subst (Among x) (sym (same_Some first journal found)) among))
 in-woven x (first ∷ journals) (StandsIn (suc k) journal found among) = put_all-among x first (woven_of journals) (inr (in-woven x journals (StandsIn k journal found among)))
 
-apart-woven : (journal : List Stamped) (journals : List (List Stamped)) → Each (AreApart journal) journals → AreApart journal (woven_of journals)
+apart-woven : (journal : List Stamped) (journals : List (List Stamped)) → Each (AreStampedApart journal) journals → AreStampedApart journal (woven_of journals)
 apart-woven [] journals each = tt
 apart-woven (x ∷ xs) journals each = (each-woven (IsUnlike x) journals (heads journals each), apart-woven xs journals (tails journals each)) where
-  heads : (js : List (List Stamped)) → Each (AreApart (x ∷ xs)) js → Each (Each (IsUnlike x)) js
+  heads : (js : List (List Stamped)) → Each (AreStampedApart (x ∷ xs)) js → Each (Each (IsUnlike x)) js
   heads [] all = tt
   heads (j ∷ js) all = (all.0.0, heads js all.1)
 
-  tails : (js : List (List Stamped)) → Each (AreApart (x ∷ xs)) js → Each (AreApart xs) js
+  tails : (js : List (List Stamped)) → Each (AreStampedApart (x ∷ xs)) js → Each (AreStampedApart xs) js
   tails [] all = tt
   tails (j ∷ js) all = (all.0.1, tails js all.1)
 

@@ -29,7 +29,7 @@ use Rattle.channel_laws.specs.Departing.{ticked, IsSent, gone_of, TickSends, Sen
 abbrev pub leg : ℕ → ℕ → Flight → Bool
 leg c to f = nat_eq (channel_number f.packet.chan) c && nat_eq (link_number f.to) to
 
--- the flights of channel c to link `to`, n of whose packets were taken there, behind history h of the near link
+-- the flights of channel c to link `to`, n of whose packets were taken there, after history h of the near link
 abbrev pub QueueOf : LinkShape → ℕ → ℕ → ℕ → List Entry → List Flight → Type 0
 QueueOf shape c to n h flights = IsQueue (leg c to) n (gone_of shape c h) 0 (clock_of h + shape.prop) flights
 

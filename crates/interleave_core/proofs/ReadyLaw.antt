@@ -19,7 +19,7 @@ use Rattle.link_steps.specs.Buffer.{slots_of, held_packets}
 use Rattle.link_steps.specs.Lists.{Each}
 use Rattle.link_steps.specs.declared.replies.Refusal.TheVariants.{Full, Stray}
 use Rattle.link_steps.specs.declared.replies.Why.TheVariants.{FirstHop, Uncommitted, WrongNumber, Big}
-use Rattle.link_steps.specs.Refusals.{Rule, unless, first_refusal, first_hop, uncommitted, wrong_number, past_count, big, full}
+use Rattle.link_steps.specs.Refusals.{RefusalRule, refused_unless, first_refusal, first_hop, uncommitted, wrong_number, past_count, big, full}
 use Rattle.link_steps.specs.Regulator.{eligible_next}
 use Rattle.link_steps.specs.Replies.{arrive_reply, arrive_to, reply_at, reply_to}
 use Rattle.link_steps.specs.Reservation.{Reservation, is_phase}
@@ -65,19 +65,19 @@ counts-on terms taken counts = by-phase terms.phase refl where
         | inr less ↦ rw (is, less) refl
       ]
 
-passes : (a b c d e f : Rule) (r : Reply) → a ≡ None → b ≡ None → c ≡ None → d ≡ None → e ≡ None → f ≡ None → first_refusal (a ∷ b ∷ c ∷ d ∷ e ∷ f ∷ []) r ≡ r
+passes : (a b c d e f : RefusalRule) (r : Reply) → a ≡ None → b ≡ None → c ≡ None → d ≡ None → e ≡ None → f ≡ None → first_refusal (a ∷ b ∷ c ∷ d ∷ e ∷ f ∷ []) r ≡ r
 passes a b c d e f r pa pb pc pd pe pf = rw (pa, pb, pc, pd, pe, pf) refl
 
 pub taken-reply : (bounds : List ℕ) (t : ℕ) (packet : Packet) (terms : Reservation) (taken held e : ℕ) → terms.first ≡ false → (terms.phase ≡ Tentative → ⊥) → packet.number ≡ suc taken → (terms.phase ≡ Closing → taken < terms.count) → packet.size ≤ terms.contract.smax → held < slots_of bounds terms → arrive_reply bounds t packet terms taken held e ≡ Is.Taken t e
 unfolding arrive_reply
 taken-reply bounds t packet terms taken held e first settled number counts small slot =
     passes (first_hop terms) (uncommitted terms) (wrong_number packet.number (suc taken)) (past_count terms taken) (big terms packet.size) (full held (slots_of bounds terms)) (Is.Taken t e)
-    (ap (λ b. unless (not b) (Stray FirstHop)) first)
-    (ap (λ b. unless (not b) (Stray Uncommitted)) (not-tentative terms.phase settled))
-    (ap (λ b. unless b (Stray (WrongNumber (suc taken)))) (eq-eqb packet.number (suc taken) number))
+    (ap (λ b. refused_unless (not b) (Stray FirstHop)) first)
+    (ap (λ b. refused_unless (not b) (Stray Uncommitted)) (not-tentative terms.phase settled))
+    (ap (λ b. refused_unless b (Stray (WrongNumber (suc taken)))) (eq-eqb packet.number (suc taken) number))
     (counts-on terms taken counts)
-    (ap (λ b. unless b (Stray (Big terms.contract.smax))) (le-leb packet.size terms.contract.smax small))
-    (ap (λ b. unless b (Full held (slots_of bounds terms))) (lt-ltb held (slots_of bounds terms) slot))
+    (ap (λ b. refused_unless b (Stray (Big terms.contract.smax))) (le-leb packet.size terms.contract.smax small))
+    (ap (λ b. refused_unless b (Full held (slots_of bounds terms))) (lt-ltb held (slots_of bounds terms) slot))
 
 -- what the arrive leaves
 counted : (c t : ℕ) (shape : LinkShape) (packet : Packet) (scan : Scan) (row : Row) (e : ℕ) → 1 ≤ packet.number → find (is_row_of packet.chan) scan.rows ≡ Some row → channel_of row ≡ c → length (channel_packets c (after shape t scan (Arrive packet) (Is.Taken t e)).packets) ≡ suc (length (channel_packets c scan.packets))

@@ -26,7 +26,7 @@ use Rattle.link_steps.specs.Service.{Arrival}
 use Rattle.link_steps.proofs.LegalOrder.{legal-order}
 use Rattle.link_steps.proofs.LegalRowFacts.{IsInOrder}
 use Rattle.link_steps.proofs.ListFacts.{Among, Each-find}
-use Rattle.setup_protocol.specs.Setup.{link_in}
+use Rattle.setup_protocol.specs.Setup.{hop_link}
 use Rattle.setup_protocol.specs.declared.request.Request.{Request}
 use Rattle.run_record.specs.declared.done.Done.{Done}
 use Rattle.channel_laws.specs.Channels.{is_of_channel, channel_packets, tick_of_packet, channel_of, offers_to}
@@ -224,7 +224,7 @@ arrives-at network request done past packet fits sound asked run next arrives ch
     let mine : is_of_channel (channel_number request.chan) from.taken ≡ true = and_from (nat_eq (channel_number from.taken.chan) (channel_number request.chan)) (nat_lt 0 from.taken.number) (eq-eqb (channel_number from.taken.chan) (channel_number request.chan) own) (lt-ltb 0 from.taken.number from.numbered) in
     let row = packet-offered network request past from.n from.link from.taken fits run asked sound from.linked mine from.among in
     let packets : Among from.taken (channel_packets (channel_number request.chan) (packets_on from.link from.n past)) = Among-passes (is_of_channel (channel_number request.chan)) from.taken (packets_on from.link from.n past) mine from.among in
-    let named : from.taken.next ≡ option_map link_in (slice_get request.route (suc row.route.index)) = Rattle.link_steps.proofs.ListFacts.Each-among (λ p. p.next ≡ (terms_at request row.route.index).next) from.taken _ row.row.tells.nexts packets in
+    let named : from.taken.next ≡ option_map hop_link (slice_get request.route (suc row.route.index)) = Rattle.link_steps.proofs.ListFacts.Each-among (λ p. p.next ≡ (terms_at request row.route.index).next) from.taken _ row.row.tells.nexts packets in
     let behind = next-link (slice_get request.route (suc row.route.index)) comes.flight.to (sym named ∙ from.next) in
     let within = slice_get_within request.route (suc row.route.index) behind.0 behind.1 in
     let far = hop-at network request (suc row.route.index) sound within in

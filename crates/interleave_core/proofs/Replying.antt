@@ -30,7 +30,7 @@ use Rattle.call_script.specs.declared.tasks.Task.TheVariants.{Opens, Sends, Clos
 use Rattle.channel_laws.specs.Reservations.{IsSendReply, IsReleased, IsArriveReply}
 use Rattle.channel_laws.proofs.ArriveReplies.{arrive-answered}
 use Rattle.channel_laws.proofs.SendReplies.{pour-answered}
-use Rattle.interleave_core.specs.Answers.{IsReserveReply, IsRelaxed, IsTicked, IsAnswered}
+use Rattle.interleave_core.specs.Answers.{IsReserveReply, IsRelaxed, IsTicked, IsReplyOf}
 use Rattle.interleave_core.specs.Laws.{EveryReplyIsExpected, EveryAskIsAnswered}
 use Rattle.interleave_core.specs.Runs.{plane_no, plane_at, IsNext, IsRun}
 use Rattle.run_record.specs.Runs.{replies_to, part_of}
@@ -74,11 +74,11 @@ relax-answered _ is = cc
 
 -- ---- the ask under way and its replies
 
-hop-answered : (found : Option Hop) (to : LinkNo) (ask : Ask) (own : Hop → Ask) (reply : Reply) → asked_of found own ≡ Some (to, ask) → ((hop : Hop) → IsAnswered (own hop) reply) → IsAnswered ask reply
+hop-answered : (found : Option Hop) (to : LinkNo) (ask : Ask) (own : Hop → Ask) (reply : Reply) → asked_of found own ≡ Some (to, ask) → ((hop : Hop) → IsReplyOf (own hop) reply) → IsReplyOf ask reply
 hop-answered None to ask own reply same is = cc
-hop-answered (Some hop) to ask own reply same is = subst (λ a. IsAnswered a reply) (ap (λ pair. pair.1) (same_Some (hop.link, own hop) (to, ask) same)) (is hop)
+hop-answered (Some hop) to ask own reply same is = subst (λ a. IsReplyOf a reply) (ap (λ pair. pair.1) (same_Some (hop.link, own hop) (to, ask) same)) (is hop)
 
-setup-answered : (request : Request) (p : Progress) (to : LinkNo) (ask : Ask) (reply : Reply) → asked request p ≡ Some (to, ask) → is_expected request p reply ≡ true → IsAnswered ask reply
+setup-answered : (request : Request) (p : Progress) (to : LinkNo) (ask : Ask) (reply : Reply) → asked request p ≡ Some (to, ask) → is_expected request p reply ≡ true → IsReplyOf ask reply
 setup-answered request (Reserving offers reach) to ask reply same is = hop-answered (slice_get request.route (length offers)) to ask _ reply same (λ hop. reserve-answered (next_levels request.route offers) reply is)
 setup-answered request (Undoing left deny) to ask reply same is = hop-answered _ to ask _ reply same (λ hop. deny-answered reply is)
 setup-answered request (Relaxing left levels) to ask reply same is = hop-answered _ to ask _ reply same (λ hop. relax-answered reply is)
@@ -87,7 +87,7 @@ setup-answered request (Settled outcome) to ask reply same is = cc
 -- what stands of a reply to a caller
 record Expected (tasks : List Task) (replies : List Reply) (ask : Ask) (reply : Reply) : Type 0 where
   is : first_expects tasks replies reply ≡ true
-  answered : IsAnswered ask reply
+  answered : IsReplyOf ask reply
 
 opens-expected : (request : Request) (rest : List Task) (replies : List Reply) (to : LinkNo) (ask : Ask) (reply : Reply) → next_ask request replies ≡ Some (to, ask) → is_expected request (progress_of request replies) reply ≡ true → Expected (Opens request ∷ rest) replies ask reply
 opens-expected request rest replies to ask reply same is = record { is = is; answered = setup-answered request (progress_of request replies) to ask reply same is }
@@ -108,7 +108,7 @@ unfolding reply_to reply_at
 pour-reply link h ask count gap size same = subst (λ a. IsSendReply (reply_to link h a)) (sym same) (pour-answered (clock_of h) link.shape.cap size _)
 
 pours-expected : (at : LinkNo) (count gap size : ℕ) (rest : List Task) (replies : List Reply) (to : LinkNo) (ask : Ask) (reply : Reply) → pour_next at count gap size replies ≡ Some (to, ask) → IsSendReply reply → Expected (Pours at count gap size ∷ rest) replies ask reply
-pours-expected at count gap size rest replies to ask reply same is = record { is = send-expected reply is; answered = subst (λ a. IsAnswered a reply) (sym (poured at count gap size replies to ask same)) is }
+pours-expected at count gap size rest replies to ask reply same is = record { is = send-expected reply is; answered = subst (λ a. IsReplyOf a reply) (sym (poured at count gap size replies to ask same)) is }
 
 -- ---- the owner of a channel opens it by its own request
 
@@ -208,18 +208,18 @@ caller-expected network past done tasks step other = by-tasks (stand past done t
 
 -- ---- each reply to the plane
 
-due-expected : (link : Link) (h : List Entry) (found : Option Flight) (ticked : ℕ) (to : LinkNo) (ask : Ask) (reply : Reply) → ask_due ticked found ≡ (to, ask) → reply ≡ reply_to link h ask → (plane_expects found reply ≡ true) × IsAnswered ask reply
+due-expected : (link : Link) (h : List Entry) (found : Option Flight) (ticked : ℕ) (to : LinkNo) (ask : Ask) (reply : Reply) → ask_due ticked found ≡ (to, ask) → reply ≡ reply_to link h ask → (plane_expects found reply ≡ true) × IsReplyOf ask reply
 unfolding reply_to reply_at
 due-expected link h None ticked to ask reply asks same =
     let tick : Tick ≡ ask = ap (λ pair. pair.1) asks in
     let is : reply ≡ tick_reply link.shape (clock_of h) (scan_of link.shape h) = same ∙ ap (reply_to link h) (sym tick) in
-    (ap answers_tick is, subst (λ a. IsAnswered a reply) tick (subst IsTicked (sym is) tt))
+    (ap answers_tick is, subst (λ a. IsReplyOf a reply) tick (subst IsTicked (sym is) tt))
 due-expected link h (Some flight) ticked to ask reply asks same =
     let arrive : Arrive flight.packet ≡ ask = ap (λ pair. pair.1) asks in
     let told : IsArriveReply reply = subst IsArriveReply (sym (same ∙ ap (reply_to link h) (sym arrive))) (arrive-answered link.shape (clock_of h) (scan_of link.shape h).packets flight.packet (find (is_row_of flight.packet.chan) (scan_of link.shape h).rows)) in
-    (arrive-expected reply told, subst (λ a. IsAnswered a reply) arrive told)
+    (arrive-expected reply told, subst (λ a. IsReplyOf a reply) arrive told)
 
-plane-expected : (network : Network) (past : List Done) (done : Done) → (next : IsNext network past done) → actor_number done.actor ≡ plane_no network → (plane_expects (next_due (plane_at network past)) done.reply ≡ true) × IsAnswered done.ask done.reply
+plane-expected : (network : Network) (past : List Done) (done : Done) → (next : IsNext network past done) → actor_number done.actor ≡ plane_no network → (plane_expects (next_due (plane_at network past)) done.reply ≡ true) × IsReplyOf done.ask done.reply
 plane-expected network past done next same =
     let asks = plane-next network past done next same in
     due-expected next.link (part_of (link_number done.link) past) (next_due (plane_at network past)) (plane_at network past).ticked done.link done.ask done.reply asks.asks next.answered

@@ -482,7 +482,7 @@ setup-goes network request replies done past fits sound run next are rows asks =
   by-view (Forth left few whole tested is) =
       forth-goes network request replies done past left (allotted request.route (offers_in replies) request.delay (jitter_of request.control)) fits sound run next rows few whole (allotted-fit request.route (offers_in replies) request.delay (jitter_of request.control) sound.bounds are tested).0 is asks
 
--- ---- behind the last reply
+-- ---- after the last reply
 
 -- a reservation that a hop holds then isn't tentative, and has the level that the hop was allotted
 pub record KeptTerms (request : Request) (levels : List ℕ) (i : ℕ) (terms : Reservation) : Type 0 where

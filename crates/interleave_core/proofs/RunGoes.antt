@@ -137,7 +137,7 @@ rows-none network request run some none = record {
   up = λ alone. refl;
 }
 
--- ---- behind the setup
+-- ---- after the setup
 
 pub off-mild : (c : ℕ) (ask : Ask) → IsOff c ask → IsMild c ask
 off-mild c (Reserve chan contract kind delay up_reach first next) off = off

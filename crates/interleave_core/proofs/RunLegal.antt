@@ -6,7 +6,7 @@ use Rattle.std.proofs.lemmas.Option.{same_Some, slice_get_within}
 use Rattle.std.specs.List.{slice_get}
 use Rattle.std.specs.Prelude.{nat_eq, nat_lt}
 use Rattle.net_units.specs.LevelBounds.{bound_at}
-use Rattle.net_units.specs.Numbers.{link_number, actor_number}
+use Rattle.net_units.specs.Numbers.{link_number, actor_number, link_at}
 use Rattle.net_units.specs.declared.numbers.LinkNo.{LinkNo}
 use Rattle.link_steps.specs.declared.asks.Ask.{Ask}
 use Rattle.link_steps.specs.declared.asks.Ask.TheVariants.{Reserve, Relax, Deny, Submit, Release, Arrive, Tick, Pour}
@@ -33,7 +33,7 @@ use Rattle.call_script.specs.declared.tasks.Task.{Task}
 use Rattle.call_script.specs.Tasks.{Network}
 use Rattle.call_script.specs.Scripts.{standing, ask_at}
 use Rattle.tick_plane.specs.declared.flight.Flight.{Flight}
-use Rattle.tick_plane.specs.Planes.{Plane, link_at, is_due, next_due, ask_due, plane_ask, flight_to, flight_in, tick_made, plane_with, plane_after, plane_of}
+use Rattle.tick_plane.specs.Planes.{Plane, is_due, next_due, ask_due, plane_ask, flight_to, flight_in, tick_made, plane_with, plane_after, plane_of}
 use Rattle.run_record.specs.Runs.{entry_of, replies_to, part_of}
 use Rattle.interleave_core.specs.Runs.{plane_no, plane_at, next_for, IsNext, IsRun}
 use Rattle.call_script.specs.Scripts.{script_ask}

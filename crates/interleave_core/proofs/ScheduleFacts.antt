@@ -1,7 +1,7 @@
 -- A schedule comes to a run, or asks too much: to exactly one of these, and to one run or one line. What it comes to is a run.
 use Rattle.std.proofs.Common.{◌≡◌, ℕ, zero, suc, ◌+◌, ◌-◌, ◌<◌, ◌≤◌, Bool, true, false, Option, Some, None, IsSome, List, [], ◌∷◌, ◌++◌, length, map, drop, get_or, refl, sym, ap, ◌∙◌, subst, arith}
 use Rattle.std.proofs.lemmas.List.{append_assoc, append-nil, map-append}
-use Rattle.net_units.specs.Numbers.{actor_number}
+use Rattle.net_units.specs.Numbers.{actor_number, actor_at}
 use Rattle.net_units.specs.declared.numbers.ActorNo.{ActorNo}
 use Rattle.net_units.specs.declared.numbers.LinkNo.{LinkNo}
 use Rattle.link_steps.specs.declared.asks.Ask.{Ask}
@@ -10,7 +10,7 @@ use Rattle.call_script.specs.Tasks.{Network}
 use Rattle.call_script.specs.declared.schedule.Do.{Do}
 use Rattle.call_script.specs.declared.schedule.Schedule.{Schedule}
 use Rattle.interleave_core.specs.Runs.{plane_no, next_for, IsRun, step, run_from}
-use Rattle.interleave_core.specs.Schedules.{Turn, actor_in, turn_of, repeated, lined_turns, turns_of, HaveSteps, Follows, Stops, actor_at, StepsOut, PlayedOut, PlayedBy, StopsBy, ComesTo, ARun, TooMuch, SchedulesComeToOneEnd}
+use Rattle.interleave_core.specs.Schedules.{Turn, actor_in, turn_of, repeated, lined_turns, turns_of, HaveSteps, FollowsTurns, Stops, StepsOut, PlayedOut, PlayedBy, StopsBy, ComesTo, ARun, TooMuch, SchedulesComeToOneEnd}
 use Rattle.interleave_core.specs.Turns.{most_left}
 use Rattle.interleave_core.proofs.RunOf.{step-run, none-run}
 use Rattle.interleave_core.proofs.TurnFacts.{makes-one}
@@ -30,18 +30,18 @@ from-append network past [] second = refl
 from-append network past (actor ∷ first) second = from-append network (step network actor past) first second
 
 -- no turn
-pub follows-none : (network : Network) (past : List Done) → Follows network past [] past
+pub follows-none : (network : Network) (past : List Done) → FollowsTurns network past [] past
 unfolding HaveSteps run_from
 follows-none network past = record { served = tt; is = refl }
 
-pub follows-more : (network : Network) (past mid run : List Done) (first second : List ActorNo) → Follows network past first mid → Follows network mid second run → Follows network past (first ++ second) run
+pub follows-more : (network : Network) (past mid run : List Done) (first second : List ActorNo) → FollowsTurns network past first mid → FollowsTurns network mid second run → FollowsTurns network past (first ++ second) run
 follows-more network past mid run first second one two = record {
   served = have-append network past first second one.served (subst (λ m. HaveSteps network m second) one.is two.served);
   is = two.is ∙ ap (λ m. run_from network m second) one.is ∙ sym (from-append network past first second);
 }
 
 -- one turn
-pub follows-one : (network : Network) (past run : List Done) (actor : ActorNo) → IsSome (next_for network (actor_number actor) past) → run ≡ step network actor past → Follows network past (actor ∷ []) run
+pub follows-one : (network : Network) (past run : List Done) (actor : ActorNo) → IsSome (next_for network (actor_number actor) past) → run ≡ step network actor past → FollowsTurns network past (actor ∷ []) run
 unfolding HaveSteps run_from
 follows-one network past run actor some is = record { served = (some, tt); is = is }
 
@@ -92,7 +92,7 @@ turns-one item = ap (map actor_in) (lined-one item) ∙ repeated-actors item.cou
 -- ---- where turns stop
 
 -- turns before them find their steps
-pub stops-behind : (network : Network) (past mid : List Done) (first second : List Turn) (line made : ℕ) → Follows network past (map actor_in first) mid → Stops network mid second line made → Stops network past (first ++ second) line made
+pub stops-behind : (network : Network) (past mid : List Done) (first second : List Turn) (line made : ℕ) → FollowsTurns network past (map actor_in first) mid → Stops network mid second line made → Stops network past (first ++ second) line made
 stops-behind network past mid first second line made one stop =
     let all : map actor_in (first ++ stop.before) ≡ map actor_in first ++ map actor_in stop.before = map-append actor_in first stop.before in
     let there : run_from network past (map actor_in (first ++ stop.before)) ≡ run_from network mid (map actor_in stop.before) =
@@ -108,7 +108,7 @@ stops-behind network past mid first second line made one stop =
       has_made = stop.has_made ∙ ap (λ run. length (replies_to (actor_number stop.turn.actor) run)) (sym there);
     }
 
--- whatever turns come behind
+-- whatever turns come after
 pub stops-before : (network : Network) (past : List Done) (first second : List Turn) (line made : ℕ) → Stops network past first line made → Stops network past (first ++ second) line made
 stops-before network past first second line made stop = record {
   before = stop.before;
@@ -157,7 +157,7 @@ not-left : (next : Option (LinkNo × Ask)) → next ≡ None → IsSome next →
 not-left None none some = cc
 not-left (Some to) none some = cc
 
-follows-or-stops : (network : Network) (past run : List Done) (turns : List Turn) (line made : ℕ) → Follows network past (map actor_in turns) run → Stops network past turns line made → ⊥
+follows-or-stops : (network : Network) (past run : List Done) (turns : List Turn) (line made : ℕ) → FollowsTurns network past (map actor_in turns) run → Stops network past turns line made → ⊥
 follows-or-stops network past run turns line made one stop =
     not-left _ stop.over (left-at network past stop.before stop.turn stop.behind (subst (λ ts. HaveSteps network past (map actor_in ts)) stop.are one.served))
 
@@ -198,7 +198,7 @@ stops-once network past turns line made line_other made_other one two =
 -- ---- each actor to its end
 
 -- an actor comes to its end once
-same-end : (network : Network) (past run other : List Done) (actor : ActorNo) (count count_other : ℕ) → Follows network past (repeated count actor) run → Follows network past (repeated count_other actor) other → next_for network (actor_number actor) run ≡ None → next_for network (actor_number actor) other ≡ None → run ≡ other
+same-end : (network : Network) (past run other : List Done) (actor : ActorNo) (count count_other : ℕ) → FollowsTurns network past (repeated count actor) run → FollowsTurns network past (repeated count_other actor) other → next_for network (actor_number actor) run ≡ None → next_for network (actor_number actor) other ≡ None → run ≡ other
 unfolding repeated HaveSteps run_from
 same-end network past run other actor zero zero one two over over_other = one.is ∙ sym two.is
 same-end network past run other actor zero (suc count) one two over over_other = absurd (not-left _ (ap (next_for network (actor_number actor)) (sym one.is) ∙ over) two.served.0)

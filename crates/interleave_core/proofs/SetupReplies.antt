@@ -8,7 +8,7 @@ use Rattle.net_units.specs.Numbers.{level_number}
 use Rattle.net_units.specs.declared.numbers.ChanNo.{ChanNo}
 use Rattle.net_units.specs.declared.numbers.Level.{Level}
 use Rattle.net_units.proofs.BoundFacts.{bounds_parts, within_count, level_largest}
-use Rattle.traffic_contract.specs.Contract.{Terms}
+use Rattle.traffic_contract.specs.Contract.{Traffic}
 use Rattle.link_steps.specs.declared.replies.Phase.TheVariants.{Tentative}
 use Rattle.link_steps.specs.declared.replies.Refusal.{Refusal}
 use Rattle.link_steps.specs.declared.replies.Refusal.TheVariants.{NoLevel}
@@ -43,7 +43,7 @@ level-refusal (Some level) sum bound refusal same = cc
 twice-refusal : (found : Option Reservation) (refusal : Refusal) → found ≡ None → twice found ≡ Some refusal → ⊥
 twice-refusal found refusal none same = (let clash : None ≡ Some refusal = ap twice (sym none) ∙ same in cc)
 
-usual-in : (shape : LinkShape) (held : List Reservation) (chan : ChanNo) (contract : Terms) (delay up_reach : ℕ) (room : Room) → find (is_of chan) held ≡ None → IsUsual (reserve_reply_in shape held chan contract delay up_reach room)
+usual-in : (shape : LinkShape) (held : List Reservation) (chan : ChanNo) (contract : Traffic) (delay up_reach : ℕ) (room : Room) → find (is_of chan) held ≡ None → IsUsual (reserve_reply_in shape held chan contract delay up_reach room)
 usual-in shape held chan contract delay up_reach room none =
     rules-fact IsUsual (reserve_rules shape held chan contract delay up_reach room) (best_offer shape delay room) (
       λ refusal same. usual-refusal _ refusal (unless-some _ _ refusal same) refl,
@@ -68,7 +68,7 @@ IsReserved shape delay (Is.Offer level reach) = (level_number reach ≡ levels_w
 IsReserved shape delay (Is.Refused refusal) = is_reserve_refusal refusal ≡ true
 IsReserved shape delay _ = ⊥
 
-offer-reserved : (shape : LinkShape) (held : List Reservation) (chan : ChanNo) (contract : Terms) (delay up_reach : ℕ) (level reach : Level) → MayOffer shape held chan contract delay up_reach level reach → IsReserved shape delay (Is.Offer level reach)
+offer-reserved : (shape : LinkShape) (held : List Reservation) (chan : ChanNo) (contract : Traffic) (delay up_reach : ℕ) (level reach : Level) → MayOffer shape held chan contract delay up_reach level reach → IsReserved shape delay (Is.Offer level reach)
 offer-reserved shape held chan contract delay up_reach level reach may =
     let parts = bounds_parts shape.bounds shape.bounds_rise in
     let few = parts.most in
@@ -79,7 +79,7 @@ offer-reserved shape held chan contract delay up_reach level reach may =
     let reached : level_number reach ≡ levels_within shape.bounds (max delay (bound_at shape.bounds (level_number level))) = ap level_number may.reach_is ∙ level_of-number (levels_within shape.bounds (max delay (bound_at shape.bounds (level_number level)))) (omega (arith, least, from)) (omega (arith, most, few)) in
     (reached, upto, may-reach shape held chan contract delay up_reach level reach may)
 
-pub reserve-reply : (link : Link) (held : List Reservation) (chan : ChanNo) (contract : Terms) (delay up_reach : ℕ) (reply : Reply) → find (is_of chan) held ≡ None → reply ≡ reserve_reply link held chan contract delay up_reach → MayReply link.shape held chan contract delay up_reach reply → IsReserved link.shape delay reply
+pub reserve-reply : (link : Link) (held : List Reservation) (chan : ChanNo) (contract : Traffic) (delay up_reach : ℕ) (reply : Reply) → find (is_of chan) held ≡ None → reply ≡ reserve_reply link held chan contract delay up_reach → MayReply link.shape held chan contract delay up_reach reply → IsReserved link.shape delay reply
 unfolding reserve_reply
 reserve-reply link held chan contract delay up_reach reply none same may = by-reply reply may (subst IsUsual (sym same) (usual-in link.shape held chan contract delay up_reach (room_of link held chan contract) none)) where
   by-reply : (r : Reply) → MayReply link.shape held chan contract delay up_reach r → IsUsual r → IsReserved link.shape delay r

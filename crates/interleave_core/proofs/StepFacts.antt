@@ -8,7 +8,7 @@ use Rattle.std.specs.List.{slice_get}
 use Rattle.net_units.specs.Numbers.{link_number, actor_number}
 use Rattle.net_units.specs.declared.numbers.ActorNo.{ActorNo}
 use Rattle.net_units.specs.declared.numbers.LinkNo.{LinkNo}
-use Rattle.link_server.specs.State.{Stands as LinkStands}
+use Rattle.link_server.specs.State.{LinkStands}
 use Rattle.link_server.specs.declared.link_state.LinkState.{LinkState}
 use Rattle.link_steps.specs.Legal.{AskFits}
 use Rattle.link_steps.specs.Replies.{reply_to}
@@ -22,10 +22,10 @@ use Rattle.call_script.proofs.Walks.{before-at}
 use Rattle.call_script.specs.Parts.{PlanParts}
 use Rattle.call_script.specs.Plans.{IsPlan}
 use Rattle.call_script.specs.Rules.{are_few}
-use Rattle.call_script.specs.Tasks.{link_of, network_of}
-use Rattle.interleave_core.specs.Linked.{IsLinked}
+use Rattle.call_script.specs.Tasks.{entry_link, network_of}
+use Rattle.interleave_core.specs.Linked.{IsLinkThere}
 use Rattle.interleave_core.specs.Runs.{next_for, IsNext, IsRun}
-use Rattle.interleave_core.specs.Standing.{LinksStand, ActorsStand, Stands, run_in}
+use Rattle.interleave_core.specs.Standing.{LinksStand, ActorsStand, CoreStands, run_in}
 use Rattle.interleave_core.specs.declared.stepping.Core.{Core}
 use Rattle.interleave_core.proofs.LinksAsked.{asks-linked}
 use Rattle.interleave_core.proofs.LinkFacts.{links-with}
@@ -54,14 +54,14 @@ pub has-few : (parts : PlanParts) → IsPlan parts → HasFew parts
 unfolding network_of
 has-few parts plan =
     let fits = plan-fits parts plan in
-    let same = length-map parts.links link_of in
+    let same = length-map parts.links entry_link in
     record { some = omega (arith, fits.some, same); few = omega (arith, fits.few, same); rounds = fits.rounds }
 
 -- ---- the link that is asked
 
 pub asked-within : (parts : PlanParts) (links : List LinkState) (past : List Done) (actor : ℕ) (to : LinkNo) (ask : Ask) → IsPlan parts → IsRun (network_of parts) past → LinksStand (network_of parts).links links past → next_for (network_of parts) actor past ≡ Some (to, ask) → link_number to < length links
 asked-within parts links past actor to ask plan run stand asked =
-    let there : IsLinked (network_of parts).links to = asks-linked (network_of parts) past actor to ask (plan-fits parts plan) run asked in
+    let there : IsLinkThere (network_of parts).links to = asks-linked (network_of parts) past actor to ask (plan-fits parts plan) run asked in
     let within = slice_get_within (network_of parts).links (link_number to) there.link there.found in
     omega (arith, within, stand.same)
 
@@ -103,7 +103,7 @@ pub record Asking (parts : PlanParts) (links : List LinkState) (past : List Done
   pub asked : next_for (network_of parts) (actor_number actor) past ≡ Some (to, ask)
   pub is : link_number to ≡ number
 
-pub asking : (parts : PlanParts) (core : Core) (links : List LinkState) (actor : ActorNo) (to : LinkNo) (ask : Ask) (next : Option (LinkNo × Ask)) (own number : ℕ) → Stands parts core → links ≡ core.links.items → next ≡ next_for (network_of parts) (actor_number actor) (run_in core) → next ≡ Some (to, ask)
+pub asking : (parts : PlanParts) (core : Core) (links : List LinkState) (actor : ActorNo) (to : LinkNo) (ask : Ask) (next : Option (LinkNo × Ask)) (own number : ℕ) → CoreStands parts core → links ≡ core.links.items → next ≡ next_for (network_of parts) (actor_number actor) (run_in core) → next ≡ Some (to, ask)
     → number ≡ own → own ≡ link_number to → Asking parts links (run_in core) actor to ask number
 asking parts core links actor to ask next own number stands same asks some from get = record {
   plan = stands.plan;
@@ -128,7 +128,7 @@ recorded old ready new done spare left kept pushed =
     ap (λ (e : Entries). reverse e.entries) pushed ∙ ap (λ (e : Entries). reverse (e.entries ++ done ∷ [])) kept ∙ reverse-append old.entries (done ∷ [])
 
 -- it stands, where all its parts stand for the run that it has recorded
-pub stands-by : (parts : PlanParts) (core : Core) (run : List Done) → run_in core ≡ run → IsPlan parts → IsRun (network_of parts) run → LinksStand (network_of parts).links core.links.items run → ActorsStand parts core.actors run → Stands parts core
+pub stands-by : (parts : PlanParts) (core : Core) (run : List Done) → run_in core ≡ run → IsPlan parts → IsRun (network_of parts) run → LinksStand (network_of parts).links core.links.items run → ActorsStand parts core.actors run → CoreStands parts core
 stands-by parts core run is plan runs links actors = record {
   plan = plan;
   run = subst (IsRun (network_of parts)) (sym is) runs;

@@ -50,7 +50,7 @@ relaxed-some : (request : Request) (left : ℕ) (levels : List ℕ) (to : LinkNo
 relaxed-some request zero levels to ask same = cc
 relaxed-some request (suc left) levels to ask same = omega arith
 
--- on the way forward, with the replies behind the offers
+-- on the way forward, with the replies after the offers
 way-few : (request : Request) (offers : List ℕ) (reach : ℕ) (behind : List Reply) (to : LinkNo) (ask : Ask) → length offers < length request.route → asked request (on_the_way offers reach behind) ≡ Some (to, ask) → length offers + length behind < 2 * length request.route
 way-few request offers reach [] to ask fewer same = omega (arith, fewer)
 way-few request offers reach (reply ∷ denied) to ask fewer same =
@@ -61,7 +61,7 @@ tested-few : (request : Request) (offers : List ℕ) (count : ℕ) (denial : Opt
 tested-few request offers count (Some denial) to ask same = (let some = undone-some request (length request.route - count) _ to ask same in omega (arith, some))
 tested-few request offers count None to ask same = (let some = relaxed-some request (length request.route - count) _ to ask same in omega (arith, some))
 
--- the offers at the front of the replies and those behind them are all
+-- the offers at the front of the replies and those after them are all
 front-and-behind : (replies : List Reply) → length replies ≡ length (offers_in replies) + length (behind_offers replies)
 unfolding offers_in behind_offers
 front-and-behind [] = refl

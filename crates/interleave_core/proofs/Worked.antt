@@ -3,11 +3,11 @@
 use Rattle.std.proofs.Common.{◌≡◌, ℕ, suc, zero, List, [], ◌∷◌, ◌++◌, Option, Some, None, refl, lit≤, lit<}
 use Rattle.std.specs.Prelude.{map, reverse, false}
 use Rattle.std.specs.List.{slice_get}
-use Rattle.net_units.specs.Numbers.{actor_number}
+use Rattle.net_units.specs.Numbers.{actor_number, link_at}
 use Rattle.net_units.specs.declared.numbers.ActorNo.{ActorNo}
 use Rattle.net_units.specs.declared.numbers.ChanNo.{ChanNo}
 use Rattle.traffic_contract.specs.Admission.{work_in, work_up_to, load, some_upto, passes_up_to, passes, admits, first_level, best_level}
-use Rattle.traffic_contract.specs.Contract.{Terms, terms_of, most_in}
+use Rattle.traffic_contract.specs.Contract.{Traffic, terms_of, most_in}
 use Rattle.traffic_contract.specs.Eligible.{first_from, eligible}
 use Rattle.traffic_contract.specs.Keeping.{may_follow}
 use Rattle.traffic_contract.specs.declared.admission.Test.TheVariants.{Whole}
@@ -30,7 +30,7 @@ use Rattle.link_steps.specs.Room.{whole_room, room_of}
 use Rattle.link_steps.specs.Rows.{planned_from}
 use Rattle.link_steps.specs.Scan.{clock_of, with_arrival, without_expired, with_sources, with_best, best_step_at, after_tick, after, scan_of}
 use Rattle.link_steps.specs.Service.{goes_before, first_in_line, is_waiting, serve_tick, starts_below, here_at}
-use Rattle.link_steps.specs.Sources.{step_of, source_packets, rows_after, lost_in}
+use Rattle.link_steps.specs.Sources.{step_of, source_packets, rows_after, dropped_in}
 use Rattle.link_steps.specs.Split.{whole}
 use Rattle.setup_protocol.specs.Setup.{Outcome, Accepts, Denies, offers_in, behind_offers, reach_after}
 use Rattle.setup_protocol.specs.declared.request.Request.{Request}
@@ -43,7 +43,7 @@ use Rattle.call_script.specs.declared.tasks.Task.TheVariants.{Opens, Sends}
 use Rattle.interleave_core.specs.Runs.{next_for, run_from}
 use Rattle.run_record.specs.Runs.{replies_to, part_of}
 use Rattle.run_record.specs.declared.done.Done.{Done}
-use Rattle.tick_plane.specs.Planes.{link_at, plane_of}
+use Rattle.tick_plane.specs.Planes.{plane_of}
 
 -- ---- two callers, their channels, and links that carry a unit a tick
 
@@ -64,7 +64,7 @@ abbrev chan1 : ChanNo
 chan1 = record { number = 1; small = lit< tt }
 
 -- packets of up to 2 units, at least 5 ticks apart, and 10 on average over 20
-abbrev voice : Terms
+abbrev voice : Traffic
 voice = terms_of 5 10 20 2
 
 -- a link of one level of 10 ticks
@@ -131,12 +131,12 @@ outcomes_in (Some tasks) actor run = (standing tasks (replies_to actor run)).out
 
 -- the replies, in the order of time
 unfoldable played : Network → List ActorNo → List Reply
-unfolding run_from next_for part_of replies_to plane_of standing resumed from_step is_established offers_in behind_offers reach_after delay_over bound_at_end allotment reply_to reply_at reserve_reply room_of whole_room relax_reply deny_reply submit_reply release_reply arrive_reply sent_at best_sent_at clock_of scan_of after with_arrival after_tick with_best best_step_at best_step waiting_best change_first without_first without_expired with_sources hold_ended here_at starts_below serve_tick is_waiting first_in_line goes_before held_packets slots_of need_of kept_units free_units planned_from eligible_next step_of source_packets rows_after lost_in work_in work_up_to load some_upto passes_up_to passes admits first_level best_level most_in first_from eligible may_follow
+unfolding run_from next_for part_of replies_to plane_of standing resumed from_step is_established offers_in behind_offers reach_after delay_over bound_at_end allotment reply_to reply_at reserve_reply room_of whole_room relax_reply deny_reply submit_reply release_reply arrive_reply sent_at best_sent_at clock_of scan_of after with_arrival after_tick with_best best_step_at best_step waiting_best change_first without_first without_expired with_sources hold_ended here_at starts_below serve_tick is_waiting first_in_line goes_before held_packets slots_of need_of kept_units free_units planned_from eligible_next step_of source_packets rows_after dropped_in work_in work_up_to load some_upto passes_up_to passes admits first_level best_level most_in first_from eligible may_follow
 played network actors = reverse (map reply_of (run_from network [] actors))
 
 -- what a caller's request has come to
 unfoldable settled : Network → List ActorNo → ActorNo → ChanNo → Option Outcome
-unfolding run_from next_for part_of replies_to plane_of standing resumed from_step is_established outcome_in offers_in behind_offers reach_after delay_over bound_at_end allotment reply_to reply_at reserve_reply room_of whole_room relax_reply deny_reply submit_reply release_reply arrive_reply sent_at best_sent_at clock_of scan_of after with_arrival after_tick with_best best_step_at best_step waiting_best change_first without_first without_expired with_sources hold_ended here_at starts_below serve_tick is_waiting first_in_line goes_before held_packets slots_of need_of kept_units free_units planned_from eligible_next step_of source_packets rows_after lost_in work_in work_up_to load some_upto passes_up_to passes admits first_level best_level most_in first_from eligible may_follow
+unfolding run_from next_for part_of replies_to plane_of standing resumed from_step is_established outcome_in offers_in behind_offers reach_after delay_over bound_at_end allotment reply_to reply_at reserve_reply room_of whole_room relax_reply deny_reply submit_reply release_reply arrive_reply sent_at best_sent_at clock_of scan_of after with_arrival after_tick with_best best_step_at best_step waiting_best change_first without_first without_expired with_sources hold_ended here_at starts_below serve_tick is_waiting first_in_line goes_before held_packets slots_of need_of kept_units free_units planned_from eligible_next step_of source_packets rows_after dropped_in work_in work_up_to load some_upto passes_up_to passes admits first_level best_level most_in first_from eligible may_follow
 settled network actors caller chan = outcome_in chan (outcomes_in (slice_get network.scripts (actor_number caller)) (actor_number caller) (run_from network [] actors))
 
 abbrev offer : ℕ → ℕ → Reply

@@ -23,12 +23,12 @@ IsTicked (Ticked clock full sent best_sent best_lost) = Unit {0}
 IsTicked _ = ⊥
 
 -- the ask gets one of its replies
-abbrev pub IsAnswered : Ask → Reply → Type 0
-IsAnswered (Reserve chan contract kind delay up_reach first next) reply = IsReserveReply reply
-IsAnswered (Relax chan level up_bound) reply = IsRelaxed reply
-IsAnswered (Deny chan) reply = reply ≡ Denied
-IsAnswered (Submit chan count gap size) reply = IsSendReply reply
-IsAnswered (Release chan upstream) reply = IsReleased reply
-IsAnswered (Arrive packet) reply = IsArriveReply reply
-IsAnswered Tick reply = IsTicked reply
-IsAnswered (Pour count gap size) reply = IsSendReply reply
+abbrev pub IsReplyOf : Ask → Reply → Type 0
+IsReplyOf (Reserve chan contract kind delay up_reach first next) reply = IsReserveReply reply
+IsReplyOf (Relax chan level up_bound) reply = IsRelaxed reply
+IsReplyOf (Deny chan) reply = reply ≡ Denied
+IsReplyOf (Submit chan count gap size) reply = IsSendReply reply
+IsReplyOf (Release chan upstream) reply = IsReleased reply
+IsReplyOf (Arrive packet) reply = IsArriveReply reply
+IsReplyOf Tick reply = IsTicked reply
+IsReplyOf (Pour count gap size) reply = IsSendReply reply

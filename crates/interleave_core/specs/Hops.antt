@@ -8,7 +8,7 @@ use Rattle.link_steps.specs.Scan.{scan_of}
 use Rattle.link_steps.specs.Service.{Arrival}
 use Rattle.link_steps.specs.Split.{Link}
 use Rattle.setup_protocol.specs.Requests.{kind_of}
-use Rattle.setup_protocol.specs.Setup.{link_in}
+use Rattle.setup_protocol.specs.Setup.{hop_link}
 use Rattle.setup_protocol.specs.declared.request.Request.{Request}
 use Rattle.channel_laws.specs.Channels.{HopTerms, AllOfferTerms, offers_to}
 use Rattle.link_steps.proofs.ListFacts.{Among}
@@ -23,7 +23,7 @@ packets_on link n run = (scan_of link.shape (part_of n run)).packets
 
 -- what the reserve at the hop of this index names
 abbrev pub terms_at : Request → ℕ → HopTerms
-terms_at request i = record { contract = request.contract; kind = kind_of request.control; first = nat_eq i 0; next = option_map link_in (slice_get request.route (suc i)) }
+terms_at request i = record { contract = request.contract; kind = kind_of request.control; first = nat_eq i 0; next = option_map hop_link (slice_get request.route (suc i)) }
 
 -- a hop of the route is over the link of this number
 pub record OnRoute (request : Request) (n : ℕ) : Type 0 where

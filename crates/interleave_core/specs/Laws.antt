@@ -15,7 +15,7 @@ use Rattle.call_script.specs.Owners.{OwnedFully, AllOwned}
 use Rattle.call_script.specs.Scripts.{standing, expects, outcome_in}
 use Rattle.call_script.specs.Tasks.{Network}
 use Rattle.call_script.specs.declared.tasks.Task.{Task}
-use Rattle.interleave_core.specs.Answers.{IsAnswered}
+use Rattle.interleave_core.specs.Answers.{IsReplyOf}
 use Rattle.interleave_core.specs.Flights.{IsPunctual, FlightsStand}
 use Rattle.interleave_core.specs.Guarantee.{Guaranteed}
 use Rattle.interleave_core.specs.Kept.{VerdictSums}
@@ -67,7 +67,7 @@ pub record NoFlightIsLate : Type 0 where
 
 -- each ask of a run gets one of its replies
 abbrev pub EveryAskIsAnswered : Type 0
-EveryAskIsAnswered = (network : Network) (past : List Done) (done : Done) → NetworkFits network → AllOwned network → IsRun network past → IsNext network past done → IsAnswered done.ask done.reply
+EveryAskIsAnswered = (network : Network) (past : List Done) (done : Done) → NetworkFits network → AllOwned network → IsRun network past → IsNext network past done → IsReplyOf done.ask done.reply
 
 -- each reply to a caller is one that it expects, and so is each reply to the plane
 pub record EveryReplyIsExpected : Type 0 where

@@ -11,9 +11,9 @@ use Rattle.interleave_core.specs.Runs.{next_for, IsRun}
 use Rattle.run_record.specs.declared.done.Done.{Done}
 
 -- the link of this number is there
-pub record IsLinked (links : List Link) (to : LinkNo) : Type 0 where
+pub record IsLinkThere (links : List Link) (to : LinkNo) : Type 0 where
   pub link : Link
   pub found : slice_get links (link_number to) ≡ Some link
 
 abbrev pub EveryAskGoesToALink : Type 0
-EveryAskGoesToALink = (network : Network) (past : List Done) (actor : ℕ) (to : LinkNo) (ask : Ask) → NetworkFits network → IsRun network past → next_for network actor past ≡ Some (to, ask) → IsLinked network.links to
+EveryAskGoesToALink = (network : Network) (past : List Done) (actor : ℕ) (to : LinkNo) (ask : Ask) → NetworkFits network → IsRun network past → next_for network actor past ≡ Some (to, ask) → IsLinkThere network.links to

@@ -16,7 +16,7 @@ use Rattle.interleave_core.specs.Runs.{plane_no}
 abbrev pub reply_of : Done → Reply
 reply_of done = done.reply
 
--- what an actor asks next behind its own replies
+-- what an actor asks next after its own replies
 abbrev pub next_behind : Network → ℕ → List Reply → Option (LinkNo × Ask)
 next_behind network actor replies = if nat_eq actor (plane_no network) then plane_ask network.rounds (plane_of (length network.links) replies) else script_ask (slice_get network.scripts actor) replies
 

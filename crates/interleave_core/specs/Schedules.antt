@@ -5,7 +5,7 @@
 use Rattle.std.specs.Prelude.{◌≡◌, ℕ, zero, suc, ◌≤◌, min, Bool, true, false, None, IsSome, List, [], ◌∷◌, ◌++◌, length, map}
 use Rattle.std.proofs.Common.{lit<}
 use Rattle.std.proofs.Math.Nat.{min-le_left, lt_of_le_of_lt}
-use Rattle.net_units.specs.Numbers.{actor_number}
+use Rattle.net_units.specs.Numbers.{actor_number, actor_at}
 use Rattle.net_units.specs.declared.numbers.ActorNo.{ActorNo}
 use Rattle.call_script.specs.Fits.{NetworkFits}
 use Rattle.call_script.specs.Parts.{PlanParts}
@@ -31,7 +31,7 @@ actor_in turn = turn.actor
 abbrev pub turn_of : Do → Turn
 turn_of item = record { actor = item.actor; line = item.line }
 
--- so many of the same
+-- a number of the same
 unfoldable pub repeated : {X : Type 0} → ℕ → X → List X
 repeated zero x = []
 repeated (suc n) x = x ∷ repeated n x
@@ -53,7 +53,7 @@ HaveSteps network past [] = Unit {0}
 HaveSteps network past (actor ∷ actors) = IsSome (next_for network (actor_number actor) past) × HaveSteps network (step network actor past) actors
 
 -- the run goes on by a step for each turn
-pub record Follows (network : Network) (past : List Done) (actors : List ActorNo) (run : List Done) : Type 0 where
+pub record FollowsTurns (network : Network) (past : List Done) (actors : List ActorNo) (run : List Done) : Type 0 where
   pub served : HaveSteps network past actors
   pub is : run ≡ run_from network past actors
 
@@ -70,17 +70,13 @@ pub record Stops (network : Network) (past : List Done) (turns : List Turn) (lin
 
 -- ---- each actor to its end
 
--- the actor of this number, for a number below 65
-abbrev pub actor_at : ℕ → ActorNo
-actor_at n = record { number = min 64 n; small = lt_of_le_of_lt (min-le_left 64 n) (lit< tt) }
-
 -- the actor makes its steps until it has none left
 pub record StepsOut (network : Network) (past : List Done) (actor : ActorNo) (run : List Done) : Type 0 where
   pub count : ℕ
-  pub steps : Follows network past (repeated count actor) run
+  pub steps : FollowsTurns network past (repeated count actor) run
   pub over : next_for network (actor_number actor) run ≡ None
 
--- the first actors, so many, have done so one after the other
+-- the first n actors have done so one after the other
 unfoldable pub PlayedOut : Network → ℕ → List Done → Type 0
 PlayedOut network zero run = run ≡ []
 PlayedOut network (suc n) run = (past : List Done) × PlayedOut network n past × StepsOut network past (actor_at n) run
@@ -92,7 +88,7 @@ abbrev pub IsActorOf : PlanParts → Do → Type 0
 IsActorOf parts item = actor_number item.actor ≤ length parts.callers
 
 abbrev pub PlayedBy : Network → Bool → List Do → List Done → Type 0
-PlayedBy network true items run = Follows network [] (turns_of items) run
+PlayedBy network true items run = FollowsTurns network [] (turns_of items) run
 PlayedBy network false items run = PlayedOut network (suc (plane_no network)) run
 
 -- the run of a schedule

@@ -4,13 +4,13 @@ use Rattle.std.specs.Prelude.{◌≡◌, ℕ, suc, ◌-◌, ◌≤◌, None, Som
 use Rattle.std.specs.List.{slice_get}
 use Rattle.net_units.specs.Numbers.{actor_number}
 use Rattle.net_units.specs.declared.numbers.ActorNo.{ActorNo}
-use Rattle.link_server.specs.State.{Stands as LinkStands}
+use Rattle.link_server.specs.State.{LinkStands}
 use Rattle.link_server.specs.declared.link_state.LinkState.{LinkState}
 use Rattle.link_steps.specs.Split.{Link, whole}
 use Rattle.link_steps.specs.declared.replies.Reply.{Reply}
 use Rattle.call_script.specs.Parts.{PlanParts}
 use Rattle.call_script.specs.Plans.{IsPlan}
-use Rattle.call_script.specs.Standing.{Stands as CallerStands}
+use Rattle.call_script.specs.Standing.{CallerStands}
 use Rattle.call_script.specs.Tasks.{Network, network_of}
 use Rattle.call_script.specs.declared.actor.Actor.{Actor}
 use Rattle.interleave_core.specs.Guarantee.{Guaranteed}
@@ -22,7 +22,7 @@ use Rattle.interleave_core.specs.declared.refusal.CoreRefusal.{CoreRefusal}
 use Rattle.interleave_core.specs.declared.refusal.CoreRefusal.TheVariants.{NoSuchActor, NoStepLeft, Memory}
 use Rattle.run_record.specs.Runs.{replies_to, part_of}
 use Rattle.run_record.specs.declared.done.Done.{Done}
-use Rattle.tick_plane.specs.Kept.{Kept}
+use Rattle.tick_plane.specs.Kept.{KeptPlane}
 
 -- ---- the parts of a core
 
@@ -38,7 +38,7 @@ pub record CallersStand (parts : PlanParts) (callers : List Actor) (run : List D
   pub numbers : (n : ℕ) (caller : Actor) → slice_get callers n ≡ Some caller → actor_number caller.caller ≡ n
   pub stand : (n : ℕ) (caller : Actor) → slice_get callers n ≡ Some caller → CallerStands parts caller (replies_to n run)
 
-pub record PlaneStands (network : Network) (plane : Kept) (run : List Done) : Type 0 where
+pub record PlaneStands (network : Network) (plane : KeptPlane) (run : List Done) : Type 0 where
   pub links : plane.links ≡ length network.links
   pub rounds : plane.rounds ≡ network.rounds
   pub at : plane.at ≡ plane_at network run
@@ -53,7 +53,7 @@ pub record ActorsStand (parts : PlanParts) (actors : Actors) (run : List Done) :
 abbrev pub run_in : Core → List Done
 run_in core = reverse core.steps.entries
 
-pub record Stands (parts : PlanParts) (core : Core) : Type 0 where
+pub record CoreStands (parts : PlanParts) (core : Core) : Type 0 where
   pub plan : IsPlan parts
   pub run : IsRun (network_of parts) (run_in core)
   pub links : LinksStand (network_of parts).links core.links.items (run_in core)
@@ -67,7 +67,7 @@ pub record IsGuaranteedRun (parts : PlanParts) (run : List Done) : Type 0 where
   pub guaranteed : AfterEachEntry (Guaranteed (network_of parts)) run
 
 -- the actors stand for a run, are ready for its next step, and this is that step
-pub record IsDue (parts : PlanParts) (actors : Actors) (past : List Done) (done : Done) : Type 0 where
+pub record IsDueStep (parts : PlanParts) (actors : Actors) (past : List Done) (done : Done) : Type 0 where
   pub plan : IsPlan parts
   pub run : IsRun (network_of parts) past
   pub next : IsNext (network_of parts) past done
@@ -83,14 +83,14 @@ pub record StepsTo (network : Network) (actor : ActorNo) (past : List Done) (rep
   pub is : run ≡ done ∷ past
   pub goes : run ≡ step network actor past
 
--- why one of so many callers and the plane, by its number, has no step left
+-- why one of the callers and the plane, by its number, has no step left
 abbrev pub IsLeft : ℕ → ℕ → List Done → CoreRefusal → Type 0
 IsLeft callers actor run (NoSuchActor actors) = (actors ≡ suc callers) × (actors ≤ actor)
 IsLeft callers actor run (NoStepLeft made) = (actor ≤ callers) × (made ≡ length (replies_to actor run))
 IsLeft callers actor run Memory = ⊥
 
 -- a refusal is right: without such an actor, or a step of it left, memory isn't wanted
-abbrev pub IsRefused : PlanParts → ℕ → List Done → CoreRefusal → Type 0
-IsRefused parts actor run (NoSuchActor actors) = (actors ≡ suc (length parts.callers)) × (actors ≤ actor)
-IsRefused parts actor run (NoStepLeft made) = (actor ≤ length parts.callers) × (next_for (network_of parts) actor run ≡ None) × (made ≡ length (replies_to actor run))
-IsRefused parts actor run Memory = IsSome (next_for (network_of parts) actor run)
+abbrev pub IsRightRefusal : PlanParts → ℕ → List Done → CoreRefusal → Type 0
+IsRightRefusal parts actor run (NoSuchActor actors) = (actors ≡ suc (length parts.callers)) × (actors ≤ actor)
+IsRightRefusal parts actor run (NoStepLeft made) = (actor ≤ length parts.callers) × (next_for (network_of parts) actor run ≡ None) × (made ≡ length (replies_to actor run))
+IsRightRefusal parts actor run Memory = IsSome (next_for (network_of parts) actor run)

@@ -51,14 +51,14 @@ abbrev pub IsUnlike : Stamped → Stamped → Type 0
 IsUnlike x y = x.stamp ≢ y.stamp
 
 -- no stamp of one list stands in the other
-abbrev pub AreApart : List Stamped → List Stamped → Type 0
-AreApart [] ys = Unit {0}
-AreApart (x ∷ xs) ys = Each (IsUnlike x) ys × AreApart xs ys
+abbrev pub AreStampedApart : List Stamped → List Stamped → Type 0
+AreStampedApart [] ys = Unit {0}
+AreStampedApart (x ∷ xs) ys = Each (IsUnlike x) ys × AreStampedApart xs ys
 
 -- no stamp of one journal stands in a later one
 abbrev pub PairsApart : List (List Stamped) → Type 0
 PairsApart [] = Unit {0}
-PairsApart (journal ∷ journals) = Each (AreApart journal) journals × PairsApart journals
+PairsApart (journal ∷ journals) = Each (AreStampedApart journal) journals × PairsApart journals
 
 -- ---- journals
 

@@ -10,7 +10,7 @@ ghost use Rattle.call_script.specs.Tasks.{network_of};
 ghost use Rattle.call_script.specs.declared.entries.RequestEntry.{RequestEntry as Asked};
 ghost use Rattle.interleave_core.specs.Runs.{next_for, IsRun};
 ghost use Rattle.interleave_core.specs.Verdicts.{setup_replies};
-ghost use Rattle.interleave_core.specs.Standing.{ActorsStand, CallersStand, IsDue};
+ghost use Rattle.interleave_core.specs.Standing.{ActorsStand, CallersStand, IsDueStep};
 ghost use Rattle.run_record.specs.declared.done.Done.{Done as Entry};
 
 use call_script::{Actor, Plan};
@@ -74,8 +74,8 @@ impl Actors {
 
     // Hands the reply of the next step to the actor that made it.
     pub(crate) fn take(&mut self, plan: &Plan, done: &Done)
-        requires { (past : List Entry) × IsDue plan.now self.old past done.now }
-        ensures { (past : List Entry) → IsDue plan.now self.old past done.now → ActorsStand plan.now self.new (done.now ∷ past) }
+        requires { (past : List Entry) × IsDueStep plan.now self.old past done.now }
+        ensures { (past : List Entry) → IsDueStep plan.now self.old past done.now → ActorsStand plan.now self.new (done.now ∷ past) }
     {
         let number = usize::from(done.actor.get());
         if number == self.callers.len() {
@@ -86,7 +86,7 @@ impl Actors {
     }
 }
 
-/// The actors of a plan behind a run of it. An `Err` comes only for want of memory.
+/// The actors of a plan after a run of it. An `Err` comes only for want of memory.
 pub fn replay(alloc: Global, plan: &Plan, run: &Record) -> Result<Actors, OutOfMemory>
     requires { IsRun (network_of plan.now) (reverse run.now.entries) }
     ensures { IfOk result (λ actors. ActorsStand plan.now actors (reverse run.now.entries)) }

@@ -108,7 +108,7 @@ pub fn runs_follow_their_actors()
 {}
 
 /// A list of entries on links of the network is a run where its part on each link is a legal history of that link, and each
-/// actor's entries are what it asks next behind its own replies. So any order of the steps that keeps the order on each
+/// actor's entries are what it asks next after its own replies. So any order of the steps that keeps the order on each
 /// link and of each actor is one of a run.
 pub fn fitting_parts_make_a_run()
     ensures { FittingPartsMakeARun }

@@ -4,7 +4,7 @@ ghost use Rattle.std.specs.List.{slice_get};
 ghost use Rattle.call_script.specs.Plans.{IsPlan};
 ghost use Rattle.call_script.specs.Tasks.{network_of};
 ghost use Rattle.interleave_core.specs.Standing.{LinksStand};
-ghost use Rattle.link_server.specs.State.{Stands as LinkStands};
+ghost use Rattle.link_server.specs.State.{LinkStands};
 ghost use Rattle.link_server.specs.declared.link_state.LinkState.{LinkState as Kept};
 ghost use Rattle.link_steps.specs.Legal.{AskFits};
 ghost use Rattle.link_steps.specs.Replies.{reply_to};

@@ -1,10 +1,10 @@
 //! Runs that are played by a schedule.
 ghost use Rattle.std.specs.Prelude.{◌≡◌, ◌+◌, ◌<◌, ◌≤◌, ◌∷◌, [], IfOk, IfErr, OnOk, length, reverse};
 ghost use Rattle.call_script.specs.Tasks.{network_of};
-ghost use Rattle.interleave_core.specs.Schedules.{Follows, IsActorOf, IsFaultOf, IsMissing, IsPlayed, IsStop, IsWanted, PlayedOut, StepsOut, actor_at, lined_turns, repeated, turn_of, turns_of};
-ghost use Rattle.interleave_core.specs.Standing.{IsGuaranteedRun, Stands, run_in};
+ghost use Rattle.interleave_core.specs.Schedules.{FollowsTurns, IsActorOf, IsFaultOf, IsMissing, IsPlayed, IsStop, IsWanted, PlayedOut, StepsOut, lined_turns, repeated, turn_of, turns_of};
+ghost use Rattle.interleave_core.specs.Standing.{IsGuaranteedRun, CoreStands, run_in};
 ghost use Rattle.link_steps.specs.Lists.{Each};
-ghost use Rattle.net_units.specs.Numbers.{actor_number};
+ghost use Rattle.net_units.specs.Numbers.{actor_number, actor_at};
 
 use crate::refusal::CoreRefusal;
 use crate::stepping::Core;
@@ -18,7 +18,7 @@ use std::alloc::Global;
 pub enum PlayFault {
     /// Memory was wanted.
     Memory,
-    /// The item on this line asks for a step that isn't left: its actor has made so many by then, and has no other.
+    /// The item on this line asks for a step that isn't left: its actor has made `made` by then, and has no other.
     Step { line: u64, made: u64 },
 }
 
@@ -56,11 +56,11 @@ pub fn play(alloc: Global, plan: &Plan, schedule: &Schedule) -> Result<Record, P
 
 // Plays the items of a schedule in their order.
 fn play_items(core: &mut Core, plan: &Plan, items: &[Do]) -> Result<(), PlayFault>
-    requires stands { Stands plan.now core.old }
+    requires stands { CoreStands plan.now core.old }
     requires none { run_in core.old ≡ [] }
     requires actors { Each (IsActorOf plan.now) items.now }
-    ensures stands { Stands plan.now core.new }
-    ensures follows { OnOk result (Follows (network_of plan.now) [] (turns_of items.now) (run_in core.new)) }
+    ensures stands { CoreStands plan.now core.new }
+    ensures follows { OnOk result (FollowsTurns (network_of plan.now) [] (turns_of items.now) (run_in core.new)) }
     ensures fault { IfErr result (IsStop (network_of plan.now) [] (lined_turns items.now)) }
 {
     for item in items {
@@ -71,10 +71,10 @@ fn play_items(core: &mut Core, plan: &Plan, items: &[Do]) -> Result<(), PlayFaul
 
 // Makes the steps of one item.
 fn play_item(core: &mut Core, plan: &Plan, item: &Do) -> Result<(), PlayFault>
-    requires stands { Stands plan.now core.old }
+    requires stands { CoreStands plan.now core.old }
     requires actor { IsActorOf plan.now item.now }
-    ensures stands { Stands plan.now core.new }
-    ensures follows { OnOk result (Follows (network_of plan.now) (run_in core.old) (repeated item.now.count item.now.actor) (run_in core.new)) }
+    ensures stands { CoreStands plan.now core.new }
+    ensures follows { OnOk result (FollowsTurns (network_of plan.now) (run_in core.old) (repeated item.now.count item.now.actor) (run_in core.new)) }
     ensures fault { IfErr result (IsStop (network_of plan.now) (run_in core.old) (repeated item.now.count (turn_of item.now))) }
 {
     for _ in 0..item.count {
@@ -85,9 +85,9 @@ fn play_item(core: &mut Core, plan: &Plan, item: &Do) -> Result<(), PlayFault>
 
 // Lets the callers in their order, and then the plane, each make their steps.
 fn play_all(core: &mut Core, plan: &Plan) -> Result<(), PlayFault>
-    requires stands { Stands plan.now core.old }
+    requires stands { CoreStands plan.now core.old }
     requires none { run_in core.old ≡ [] }
-    ensures stands { Stands plan.now core.new }
+    ensures stands { CoreStands plan.now core.new }
     ensures played { OnOk result (PlayedOut (network_of plan.now) (length plan.now.callers + 1) (run_in core.new)) }
     ensures fault { IfErr result IsWanted }
 {
@@ -99,9 +99,9 @@ fn play_all(core: &mut Core, plan: &Plan) -> Result<(), PlayFault>
 
 // Lets the actor make its steps until it has none left.
 fn play_out(core: &mut Core, plan: &Plan, actor: ActorNo) -> Result<(), PlayFault>
-    requires stands { Stands plan.now core.old }
+    requires stands { CoreStands plan.now core.old }
     requires actor { actor_number actor ≤ length plan.now.callers }
-    ensures stands { Stands plan.now core.new }
+    ensures stands { CoreStands plan.now core.new }
     ensures out { OnOk result (StepsOut (network_of plan.now) (run_in core.old) actor (run_in core.new)) }
     ensures fault { IfErr result IsWanted }
 {
@@ -113,10 +113,10 @@ fn play_out(core: &mut Core, plan: &Plan, actor: ActorNo) -> Result<(), PlayFaul
 
 // Makes one step of the actor, which the line asks for.
 fn make_turn(core: &mut Core, plan: &Plan, actor: ActorNo, line: u64) -> Result<(), PlayFault>
-    requires stands { Stands plan.now core.old }
+    requires stands { CoreStands plan.now core.old }
     requires actor { actor_number actor ≤ length plan.now.callers }
-    ensures stands { Stands plan.now core.new }
-    ensures follows { OnOk result (Follows (network_of plan.now) (run_in core.old) (actor ∷ []) (run_in core.new)) }
+    ensures stands { CoreStands plan.now core.new }
+    ensures follows { OnOk result (FollowsTurns (network_of plan.now) (run_in core.old) (actor ∷ []) (run_in core.new)) }
     ensures fault { IfErr result (IsMissing (network_of plan.now) (run_in core.old) (record { actor = actor; line = line })) }
 {
     match core.step(plan, actor) {

@@ -4,7 +4,7 @@ ghost use Rattle.net_units.specs.Numbers.{actor_number};
 ghost use Rattle.call_script.specs.Parts.{PlanParts};
 ghost use Rattle.call_script.specs.Tasks.{network_of};
 ghost use Rattle.interleave_core.specs.Runs.{next_for};
-ghost use Rattle.interleave_core.specs.Standing.{IsGuaranteedRun, IsLeft, IsRefused, Stands, StepsTo, run_in};
+ghost use Rattle.interleave_core.specs.Standing.{IsGuaranteedRun, IsLeft, IsRightRefusal, CoreStands, StepsTo, run_in};
 ghost use Rattle.run_record.specs.Runs.{replies_to};
 
 use crate::actors::Actors;
@@ -19,7 +19,7 @@ use std::alloc::Global;
 
 /// The links and the actors of a plan, which each call is given, and the record of the steps that they have made.
 ///
-/// What it keeps stands for the run that it has recorded (`Stands`): that is a run of the plan's network, so every law of
+/// What it keeps stands for the run that it has recorded (`CoreStands`): that is a run of the plan's network, so every law of
 /// runs holds of it, in whatever order its actors make their steps.
 #[derive(Drop)]
 pub struct Core {
@@ -31,7 +31,7 @@ pub struct Core {
 impl Core {
     /// The links and the actors of a plan, before any step. An `Err` comes only for want of memory.
     pub fn new(alloc: Global, plan: &Plan) -> Result<Core, OutOfMemory>
-        ensures stands { IfOk result (Stands plan.now) }
+        ensures stands { IfOk result (CoreStands plan.now) }
         ensures none { IfOk result (λ core. run_in core ≡ []) }
     {
         let links = new_links(alloc, plan)?;
@@ -45,7 +45,7 @@ impl Core {
 
     /// Whether the actor has a step left: false where there is no such actor. The plan is the one that it was made for.
     pub fn has_step(&self, plan: &Plan, actor: ActorNo) -> bool
-        requires { Stands plan.now self.now }
+        requires { CoreStands plan.now self.now }
         ensures { IsTrue result ↔ IsSome (next_for (network_of plan.now) (actor_number actor) (run_in self.now)) }
     {
         self.actors.next_ask(plan, actor).is_some()
@@ -55,10 +55,10 @@ impl Core {
     /// it was made for. The run has the whole guarantee at its beginning and after each of its entries. A refusal leaves the run as it was: there is no such actor, or it has no step left, or memory was
     /// wanted.
     pub fn step(&mut self, plan: &Plan, actor: ActorNo) -> Result<Reply, CoreRefusal>
-        requires { Stands plan.now self.old }
-        ensures stands { Stands plan.now self.new }
+        requires { CoreStands plan.now self.old }
+        ensures stands { CoreStands plan.now self.new }
         ensures made { IfOk result (λ reply. StepsTo (network_of plan.now) actor (run_in self.old) reply (run_in self.new)) }
-        ensures refused { IfErr result (IsRefused plan.now (actor_number actor) (run_in self.old)) }
+        ensures refused { IfErr result (IsRightRefusal plan.now (actor_number actor) (run_in self.old)) }
         ensures guaranteed { IsGuaranteedRun plan.now (run_in self.new) }
         ensures unchanged { OnErr result (run_in self.new ≡ run_in self.old) }
     {
@@ -69,17 +69,17 @@ impl Core {
     /// and after each of its entries.
     pub fn finish(self) -> Record
         ensures steps { result ≡ self.steps }
-        ensures guaranteed { (parts : PlanParts) → Stands parts self → IsGuaranteedRun parts (reverse result.entries) }
+        ensures guaranteed { (parts : PlanParts) → CoreStands parts self → IsGuaranteedRun parts (reverse result.entries) }
     {
         self.steps
     }
 
     // The step, without what the laws of runs say of it.
     fn make_step(&mut self, plan: &Plan, actor: ActorNo) -> Result<Reply, CoreRefusal>
-        requires { Stands plan.now self.old }
-        ensures stands { Stands plan.now self.new }
+        requires { CoreStands plan.now self.old }
+        ensures stands { CoreStands plan.now self.new }
         ensures made { IfOk result (λ reply. StepsTo (network_of plan.now) actor (run_in self.old) reply (run_in self.new)) }
-        ensures refused { IfErr result (IsRefused plan.now (actor_number actor) (run_in self.old)) }
+        ensures refused { IfErr result (IsRightRefusal plan.now (actor_number actor) (run_in self.old)) }
         ensures unchanged { OnErr result (run_in self.new ≡ run_in self.old) }
     {
         let (link, ask) = match self.actors.next_ask(plan, actor) {

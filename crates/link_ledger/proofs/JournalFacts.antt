@@ -2,7 +2,7 @@
 use Rattle.std.proofs.Common.{◌≡◌, ℕ, suc, ◌≤◌, List, [], ◌∷◌, ◌++◌, map, length, refl, ap, ◌∙◌, subst, arith}
 use Rattle.std.proofs.lemmas.List.{map-append, reverse-append, length-reverse, length-map}
 use Rattle.std.specs.Prelude.{reverse}
-use Rattle.link_steps.specs.Journals.{GoesOn}
+use Rattle.link_steps.specs.Journals.{JournalGoesOn}
 use Rattle.link_steps.specs.Legal.{IsLegal}
 use Rattle.link_steps.specs.Replies.{reply_to}
 use Rattle.link_steps.specs.Scan.{clock_of, clock_with}
@@ -13,7 +13,7 @@ use Rattle.link_steps.specs.declared.replies.Entry.{Entry as Done}
 use Rattle.link_steps.specs.declared.replies.Reply.{Reply}
 use Rattle.link_steps.proofs.JournalFacts.{journals-are-histories}
 use Rattle.step_stamp.specs.declared.marks.Mark.{Mark}
-use Rattle.link_ledger.specs.Journals.{mark_in, done_in, marks_in, history_in, entry_of, done_of, told_after, journal_of}
+use Rattle.link_ledger.specs.Journals.{mark_in, done_in, marks_in, history_in, journal_entry_of, history_entry_of, told_after, journal_of}
 use Rattle.link_ledger.specs.declared.entries.Entry.{Entry}
 
 -- ---- one entry more
@@ -51,14 +51,14 @@ journal-clock-most entries =
 
 -- ---- what marks tell
 
--- marks tell the journal of legal entries, behind any history
-told : (link : Link) (past : List Done) (entries : List Entry) → GoesOn link past (map done_in entries) → told_after link past (marks_in entries) ≡ entries
-unfolding told_after GoesOn
+-- marks tell the journal of legal entries, after any history
+told : (link : Link) (past : List Done) (entries : List Entry) → JournalGoesOn link past (map done_in entries) → told_after link past (marks_in entries) ≡ entries
+unfolding told_after JournalGoesOn
 told link past [] on = refl
 told link past (e ∷ entries) on =
     let answered : e.reply ≡ reply_to link past e.ask = on.0.answered in
     let rest = told link (done_in e ∷ past) entries on.1 in
-    subst (λ (reply : Reply). entry_of (mark_in e) reply ∷ told_after link (done_of (mark_in e) reply ∷ past) (marks_in entries) ≡ e ∷ entries) answered (ap (λ es. e ∷ es) rest)
+    subst (λ (reply : Reply). journal_entry_of (mark_in e) reply ∷ told_after link (history_entry_of (mark_in e) reply ∷ past) (marks_in entries) ≡ e ∷ entries) answered (ap (λ es. e ∷ es) rest)
 
 pub journal-told : (link : Link) (entries : List Entry) → IsLegal link (history_in entries) → journal_of link (marks_in entries) ≡ entries
 journal-told link entries legal = told link [] entries ((journals-are-histories link (map done_in entries)).1 legal)
@@ -66,9 +66,9 @@ journal-told link entries legal = told link [] entries ((journals-are-histories 
 -- what marks tell in two parts
 unfoldable pub past_after : Link → List Done → List Mark → List Done
 past_after link past [] = past
-past_after link past (m ∷ ms) = past_after link (done_of m (reply_to link past m.ask) ∷ past) ms
+past_after link past (m ∷ ms) = past_after link (history_entry_of m (reply_to link past m.ask) ∷ past) ms
 
 pub told-append : (link : Link) (past : List Done) (xs ys : List Mark) → told_after link past (xs ++ ys) ≡ told_after link past xs ++ told_after link (past_after link past xs) ys
 unfolding past_after told_after
 told-append link past [] ys = refl
-told-append link past (x ∷ xs) ys = ap (λ es. entry_of x (reply_to link past x.ask) ∷ es) (told-append link (done_of x (reply_to link past x.ask) ∷ past) xs ys)
+told-append link past (x ∷ xs) ys = ap (λ es. journal_entry_of x (reply_to link past x.ask) ∷ es) (told-append link (history_entry_of x (reply_to link past x.ask) ∷ past) xs ys)

@@ -15,15 +15,15 @@ use Rattle.link_steps.specs.declared.asks.Ask.{Ask}
 use Rattle.link_steps.specs.declared.replies.Entry.{Entry as Done}
 use Rattle.link_steps.proofs.ListFacts.{Each-if, Each-append}
 use Rattle.step_stamp.specs.Lists.{Has}
-use Rattle.step_stamp.specs.Marks.{Rises, drawn_for, marks_of}
+use Rattle.step_stamp.specs.Marks.{StampsRise, drawn_for, marks_of}
 use Rattle.step_stamp.specs.Views.{known_of}
 use Rattle.step_stamp.specs.declared.marks.Drawn.{Drawn}
 use Rattle.step_stamp.specs.declared.marks.Mark.{Mark}
 use Rattle.step_stamp.specs.declared.views.View.{View}
 use Rattle.step_stamp.proofs.ListFacts.{has_right, has_kept, filter_none}
 use Rattle.step_stamp.proofs.MarkFacts.{rises_apart}
-use Rattle.link_ledger.specs.Journals.{mark_in, marks_in, history_in, entry_of, done_of, told_after, journal_of, entries_of}
-use Rattle.link_ledger.specs.Own.{own_mark, own_drawn, own_entry, own_at, IsPlaced, IsExact, Owns, Acted}
+use Rattle.link_ledger.specs.Journals.{mark_in, marks_in, history_in, journal_entry_of, history_entry_of, told_after, journal_of, entries_of}
+use Rattle.link_ledger.specs.Own.{own_mark, own_drawn, own_entry, own_at, IsAtPlace, IsExact, Owns, Acted}
 use Rattle.link_ledger.specs.declared.entries.Entry.{Entry}
 use Rattle.link_ledger.specs.declared.entries.OwnEntry.{OwnEntry}
 use Rattle.link_ledger.proofs.JournalFacts.{history-more, marks-more, journal-told, past_after, told-append}
@@ -61,7 +61,7 @@ none_at l k own e is other =
 -- ---- what the pass didn't know
 
 -- what the link's list has more than the pass knew has no mark of its actor
-pub rest_none : (a : ActorNo) (l : ℕ) (v : View) (own : List OwnEntry) (rest : List Mark) → IsExact a v own → Has (actor_number a) v.actors → Rises (known_of l v ++ rest)
+pub rest_none : (a : ActorNo) (l : ℕ) (v : View) (own : List OwnEntry) (rest : List Mark) → IsExact a v own → Has (actor_number a) v.actors → StampsRise (known_of l v ++ rest)
     → ((m : Mark) → Has m (known_of l v ++ rest) → Has (actor_number m.actor) v.actors → Has (drawn_for l m) v.drawn) → marks_of (actor_number a) rest ≡ []
 rest_none a l v own rest exact acts rises drew =
     filter_none (λ (m : Mark). eqb (actor_number m.actor) (actor_number a)) rest
@@ -78,11 +78,11 @@ unfolding told_after
 entries_none link a past [] none = refl
 entries_none link a past (m ∷ ms) none =
     elim (eqb (actor_number m.actor) a)
-    as (λ b. cond b (m ∷ marks_of a ms) (marks_of a ms) ≡ [] → cond b (entry_of m (reply_to link past m.ask) ∷ entries_of a (told_after link (done_of m (reply_to link past m.ask) ∷ past) ms)) (entries_of a (told_after link (done_of m (reply_to link past m.ask) ∷ past) ms)) ≡ [])
-    [ true ↦ λ is. absurd (cc is) | false ↦ λ is. entries_none link a (done_of m (reply_to link past m.ask) ∷ past) ms is ] none
+    as (λ b. cond b (m ∷ marks_of a ms) (marks_of a ms) ≡ [] → cond b (journal_entry_of m (reply_to link past m.ask) ∷ entries_of a (told_after link (history_entry_of m (reply_to link past m.ask) ∷ past) ms)) (entries_of a (told_after link (history_entry_of m (reply_to link past m.ask) ∷ past) ms)) ≡ [])
+    [ true ↦ λ is. absurd (cc is) | false ↦ λ is. entries_none link a (history_entry_of m (reply_to link past m.ask) ∷ past) ms is ] none
 
 module _ (link : Link) (l : ℕ) (a : ActorNo) (ask : Ask) (v v' : View) (entries : List Entry) (own : List OwnEntry) (e : OwnEntry) (acts : Has (actor_number a) v.actors) (exact : IsExact a v own) (acted : Acted link l a ask v v' entries e) where
-  -- the rest of the list, behind what the pass knew
+  -- the rest of the list, after what the pass knew
   abbrev rest : List Mark
   rest = acted.begins.0
 
@@ -90,7 +90,7 @@ module _ (link : Link) (l : ℕ) (a : ActorNo) (ask : Ask) (v v' : View) (entrie
   whole = acted.begins.1
 
   none : marks_of (actor_number a) rest ≡ []
-  none = rest_none a l v own rest exact acts (subst Rises (sym whole) acted.rises) (λ m has on. acted.own m (subst (Has m) whole has) on)
+  none = rest_none a l v own rest exact acts (subst StampsRise (sym whole) acted.rises) (λ m has on. acted.own m (subst (Has m) whole has) on)
 
   -- the marks known of this link after the step
   known_now : marks_of (actor_number a) (known_of l v') ≡ map (own_mark a) (own_at l (own ++ e ∷ []))
@@ -106,7 +106,7 @@ module _ (link : Link) (l : ℕ) (a : ActorNo) (ask : Ask) (v v' : View) (entrie
       ∙ sym (ap (map (own_mark a)) (one_at l own e acted.link_is))
 
   -- an entry that had its place has it still, and the new one has the last
-  placed_still : (o : OwnEntry) → IsPlaced a v o → IsPlaced a v' o
+  placed_still : (o : OwnEntry) → IsAtPlace a v o → IsAtPlace a v' o
   placed_still o was = record {
     least = was.least;
     here = ⊎_elim
@@ -119,7 +119,7 @@ module _ (link : Link) (l : ℕ) (a : ActorNo) (ask : Ask) (v v' : View) (entrie
         (cases_eq (link_number o.link) l);
   }
 
-  placed_last : IsPlaced a v' e
+  placed_last : IsAtPlace a v' e
   placed_last =
       let place = acted.place in
       let long = length-map entries mark_in in
@@ -139,7 +139,7 @@ module _ (link : Link) (l : ℕ) (a : ActorNo) (ask : Ask) (v v' : View) (entrie
             (λ (is : k ≡ l). subst (λ j. marks_of n (known_of j v') ≡ map (own_mark a) (own_at j (own ++ e ∷ []))) (sym is) known_now)
             (λ other. ap (marks_of n) (acted.others k other) ∙ exact.known k ∙ sym (ap (map (own_mark a)) (none_at l k own e acted.link_is other)))
             (cases_eq k l);
-        placed = Each-append (IsPlaced a v') own (e ∷ []) (Each-if (IsPlaced a v) (IsPlaced a v') own placed_still exact.placed) (placed_last, tt);
+        placed = Each-append (IsAtPlace a v') own (e ∷ []) (Each-if (IsAtPlace a v) (IsAtPlace a v') own placed_still exact.placed) (placed_last, tt);
       }
 
   -- the journal before the step is legal

@@ -11,12 +11,12 @@ use Rattle.link_steps.specs.declared.asks.Ask.{Ask}
 use Rattle.link_steps.specs.declared.replies.Entry.{Entry as Done}
 use Rattle.link_steps.specs.declared.replies.Reply.{Reply}
 use Rattle.step_stamp.specs.Lists.{Has}
-use Rattle.step_stamp.specs.Marks.{Rises, drawn_for}
+use Rattle.step_stamp.specs.Marks.{StampsRise, drawn_for}
 use Rattle.step_stamp.specs.Seats.{Meets, DrawsMark, EntersMark}
 use Rattle.step_stamp.specs.Views.{known_of}
 use Rattle.step_stamp.specs.declared.marks.Mark.{Mark}
 use Rattle.step_stamp.specs.declared.views.View.{View}
-use Rattle.link_ledger.specs.Journals.{marks_in, history_in, entry_of}
+use Rattle.link_ledger.specs.Journals.{marks_in, history_in, journal_entry_of}
 use Rattle.link_ledger.specs.Order.{HeldLink, IsInOrder}
 use Rattle.link_ledger.specs.Own.{own_mark, own_entry, Acted}
 use Rattle.link_ledger.specs.Owners.{OwnsAsk, NextBelow}
@@ -46,7 +46,7 @@ module _ (stands stands' : List Done → Type 0) (owners : List ActorNo) (links 
       let le' = le-max_left k.seen v.seen in
       omega (arith, above, both, saw, le, le', seen_is)
 
-  may_enter : MayEnter stands' owners links held (entry_of m reply)
+  may_enter : MayEnter stands' owners links held (journal_entry_of m reply)
   may_enter = record {
     above = above_link;
     most = drew.most;
@@ -61,20 +61,20 @@ module _ (stands stands' : List Done → Type 0) (owners : List ActorNo) (links 
   list_now : known_of l k2 ≡ held.list ++ m ∷ []
   list_now = entered.list ∙ ap (λ ms. ms ++ m ∷ []) (met.keeps ∙ sym list_is)
 
-  pub step-order : (held' : HeldLink) → held'.rules ≡ held.rules → held'.entries ≡ held.entries ++ entry_of m reply ∷ [] → held'.list ≡ known_of l k2 → k2.seen ≤ held'.seen → IsInOrder stands' owners links held'
+  pub step-order : (held' : HeldLink) → held'.rules ≡ held.rules → held'.entries ≡ held.entries ++ journal_entry_of m reply ∷ [] → held'.list ≡ known_of l k2 → k2.seen ≤ held'.seen → IsInOrder stands' owners links held'
   step-order held' rules entries list le =
       let saw = entered.saw in
-      in_order-more stands stands' owners links held held' (entry_of m reply) o may_enter rules entries (list ∙ list_now) (omega (arith, saw, le))
+      in_order-more stands stands' owners links held held' (journal_entry_of m reply) o may_enter rules entries (list ∙ list_now) (omega (arith, saw, le))
 
   -- the pass has met it again: what it knows then is the journal's marks with this one
   pub step-acted : (v3 k3 : View) (e : OwnEntry) → Meets l v2 k2 v3 k3 → link_number e.link ≡ l → e.place ≡ length held.entries + 1 → e.stamp ≡ m.stamp → e.ask ≡ ask → e.reply ≡ reply → Acted held.rules l actor ask v v3 held.entries e
   unfolding IsLegal
   step-acted v3 k3 e again link place stamp ask_is reply_is =
       let mark_is : m ≡ own_mark actor e = λ i. record { stamp = sym stamp i; actor = drew.actor_is i; ask = (drew.ask_is ∙ sym ask_is) i } in
-      let entry_is : entry_of m reply ≡ own_entry actor e = λ i. record { stamp = sym stamp i; actor = drew.actor_is i; ask = (drew.ask_is ∙ sym ask_is) i; reply = sym reply_is i } in
+      let entry_is : journal_entry_of m reply ≡ own_entry actor e = λ i. record { stamp = sym stamp i; actor = drew.actor_is i; ask = (drew.ask_is ∙ sym ask_is) i; reply = sym reply_is i } in
       let marks : marks_in held.entries ≡ known_of l k = o.marks ∙ list_is in
-      let legal : IsLegal held.rules (history_in (held.entries ++ entry_of m reply ∷ [])) =
-      subst (IsLegal held.rules) (sym (history-more held.entries (entry_of m reply))) (o.legal, record { fits = may_enter.fits; answered = may_enter.answered }) in
+      let legal : IsLegal held.rules (history_in (held.entries ++ journal_entry_of m reply ∷ [])) =
+      subst (IsLegal held.rules) (sym (history-more held.entries (journal_entry_of m reply))) (o.legal, record { fits = may_enter.fits; answered = may_enter.answered }) in
       let above = above_pass in
       let drew_saw = drew.saw in
       let entered_saw = entered.saw in
@@ -85,7 +85,7 @@ module _ (stands stands' : List Done → Type 0) (owners : List ActorNo) (links 
       record {
         legal = subst (λ x. IsLegal held.rules (history_in (held.entries ++ x ∷ []))) entry_is legal;
         begins = subst (IsPrefix (known_of l v)) (sym marks) met.begins;
-        rises = subst Rises (sym marks) met.rises;
+        rises = subst StampsRise (sym marks) met.rises;
         own = λ x has acts. met.own x (subst (Has x) marks has) acts;
         knows = again.knows ∙ list_now ∙ ap (λ ms. ms ++ m ∷ []) (sym o.marks) ∙ ap (λ x. marks_in held.entries ++ x ∷ []) mark_is;
         others = λ j other. again.others j other ∙ drew.knows j ∙ met.others j other;

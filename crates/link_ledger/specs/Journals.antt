@@ -30,16 +30,16 @@ abbrev pub entries_of : ℕ → List Entry → List Entry
 entries_of actor entries = filter (λ (e : Entry). actor_number e.actor == actor) entries
 
 -- a mark with a reply
-abbrev pub entry_of : Mark → Reply → Entry
-entry_of m reply = record { stamp = m.stamp; actor = m.actor; ask = m.ask; reply = reply }
+abbrev pub journal_entry_of : Mark → Reply → Entry
+journal_entry_of m reply = record { stamp = m.stamp; actor = m.actor; ask = m.ask; reply = reply }
 
-abbrev pub done_of : Mark → Reply → Done
-done_of m reply = record { ask = m.ask; reply = reply }
+abbrev pub history_entry_of : Mark → Reply → Done
+history_entry_of m reply = record { ask = m.ask; reply = reply }
 
--- the journal that marks tell behind a history: each ask gets the reply of the rules
+-- the journal that marks tell after a history: each ask gets the reply of the rules
 unfoldable pub told_after : Link → List Done → List Mark → List Entry
 told_after link past [] = []
-told_after link past (m ∷ ms) = entry_of m (reply_to link past m.ask) ∷ told_after link (done_of m (reply_to link past m.ask) ∷ past) ms
+told_after link past (m ∷ ms) = journal_entry_of m (reply_to link past m.ask) ∷ told_after link (history_entry_of m (reply_to link past m.ask) ∷ past) ms
 
 -- and from the beginning
 abbrev pub journal_of : Link → List Mark → List Entry

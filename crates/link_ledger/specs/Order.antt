@@ -10,7 +10,7 @@ use Rattle.link_steps.specs.Legal.{IsLegal}
 use Rattle.link_steps.specs.Lists.{Each}
 use Rattle.link_steps.specs.Split.{Link, SplitFits}
 use Rattle.link_steps.specs.declared.replies.Entry.{Entry as Done}
-use Rattle.step_stamp.specs.Marks.{Rises}
+use Rattle.step_stamp.specs.Marks.{StampsRise}
 use Rattle.step_stamp.specs.declared.marks.Mark.{Mark}
 use Rattle.link_ledger.specs.Journals.{marks_in, history_in}
 use Rattle.link_ledger.specs.Owners.{OwnsAsk, NextBelow}
@@ -33,7 +33,7 @@ pub record IsInOrder (stands : List Done → Type 0) (owners : List ActorNo) (li
   pub legal : IsLegal held.rules (history_in held.entries)
   pub guaranteed : HopGuarantee held.rules.shape (history_in held.entries)
   pub marks : marks_in held.entries ≡ held.list
-  pub rises : Rises held.list
+  pub rises : StampsRise held.list
   pub most_seen : Each (λ (m : Mark). m.stamp ≤ held.seen) held.list
   pub owned : Each (λ (m : Mark). OwnsAsk owners m.actor m.ask) held.list
   pub next : Each (λ (m : Mark). NextBelow links m.ask) held.list
@@ -41,7 +41,7 @@ pub record IsInOrder (stands : List Done → Type 0) (owners : List ActorNo) (li
 
 -- the same of marks alone, as a pass knows them
 pub record AreInOrder (owners : List ActorNo) (links : ℕ) (marks : List Mark) : Type 0 where
-  pub rises : Rises marks
+  pub rises : StampsRise marks
   pub owned : Each (λ (m : Mark). OwnsAsk owners m.actor m.ask) marks
   pub next : Each (λ (m : Mark). NextBelow links m.ask) marks
   pub most : Each (λ (m : Mark). m.stamp ≤ 65 * 2 ^ 40) marks

@@ -12,7 +12,7 @@ use Rattle.link_steps.specs.Split.{Link}
 use Rattle.link_steps.specs.declared.asks.Ask.{Ask}
 use Rattle.link_steps.specs.declared.replies.Reply.{Reply}
 use Rattle.step_stamp.specs.Lists.{Has}
-use Rattle.step_stamp.specs.Marks.{Rises, drawn_for, marks_of}
+use Rattle.step_stamp.specs.Marks.{StampsRise, drawn_for, marks_of}
 use Rattle.step_stamp.specs.Views.{known_of}
 use Rattle.step_stamp.specs.declared.marks.Drawn.{Drawn}
 use Rattle.step_stamp.specs.declared.marks.Mark.{Mark}
@@ -36,7 +36,7 @@ abbrev pub own_at : ℕ → List OwnEntry → List OwnEntry
 own_at l own = filter (λ (e : OwnEntry). link_number e.link == l) own
 
 -- an own entry stands at its place in what is known of its link
-pub record IsPlaced (actor : ActorNo) (v : View) (e : OwnEntry) : Type 0 where
+pub record IsAtPlace (actor : ActorNo) (v : View) (e : OwnEntry) : Type 0 where
   pub least : 1 ≤ e.place
   pub here : slice_get (known_of (link_number e.link) v) (e.place - 1) ≡ Some (own_mark actor e)
 
@@ -44,7 +44,7 @@ pub record IsPlaced (actor : ActorNo) (v : View) (e : OwnEntry) : Type 0 where
 pub record IsExact (actor : ActorNo) (v : View) (own : List OwnEntry) : Type 0 where
   pub drawn : v.drawn ≡ map (own_drawn actor) own
   pub known : (l : ℕ) → marks_of (actor_number actor) (known_of l v) ≡ map (own_mark actor) (own_at l own)
-  pub placed : Each (IsPlaced actor v) own
+  pub placed : Each (IsAtPlace actor v) own
 
 -- the actor's entries in the journal that a view knows of a link are the own entries of that link, replies included
 abbrev pub Owns : Link → ℕ → ActorNo → View → List OwnEntry → Type 0
@@ -63,7 +63,7 @@ AreAnswered link l actor v own = Each (IsAnswered link (known_of l v) actor) (ow
 pub record Acted (link : Link) (l : ℕ) (actor : ActorNo) (ask : Ask) (pass pass' : View) (entries : List Entry) (e : OwnEntry) : Type 0 where
   pub legal : IsLegal link (history_in (entries ++ own_entry actor e ∷ []))
   pub begins : IsPrefix (known_of l pass) (marks_in entries)
-  pub rises : Rises (marks_in entries)
+  pub rises : StampsRise (marks_in entries)
   pub own : (m : Mark) → Has m (marks_in entries) → Has (actor_number m.actor) pass.actors → Has (drawn_for l m) pass.drawn
   pub knows : known_of l pass' ≡ marks_in entries ++ own_mark actor e ∷ []
   pub others : (k : ℕ) → (k ≡ l → ⊥) → known_of k pass' ≡ known_of k pass

@@ -36,9 +36,9 @@ pub record KeepsSeat (actor : ActorNo) (seat : PassSeat) (own : List OwnEntry) (
   pub actor_is : seat.actor ≡ actor
   pub exact : spent ≡ false → IsExact actor (pass_view seat) own
 
-abbrev pub Keeps : ActorNo → Option PassSeat → List OwnEntry → Bool → Type 0
-Keeps actor (Some seat) own spent = KeepsSeat actor seat own spent
-Keeps actor None own spent = Unit {0}
+abbrev pub KeepsToken : ActorNo → Option PassSeat → List OwnEntry → Bool → Type 0
+KeepsToken actor (Some seat) own spent = KeepsSeat actor seat own spent
+KeepsToken actor None own spent = Unit {0}
 
 -- ---- at a link of a network, by the list of its links
 
@@ -57,7 +57,7 @@ OwnsAt links l pass = (link : Link) → IsLink links l link → Owns link l pass
 abbrev pub AnsweredAt : List Link → ℕ → Token → Type 0
 AnsweredAt links l pass = (link : Link) → IsLink links l link → AreAnswered link l pass.actor pass.view pass.own
 
--- a step at a link, as the seat of the pass tells it, behind some journal of the link
+-- a step at a link, as the seat of the pass tells it, after some journal of the link
 pub record ActedAt (links : List Link) (l : ℕ) (actor : ActorNo) (ask : Ask) (pass pass' : View) (e : OwnEntry) : Type 0 where
   pub link : Link
   pub is_link : IsLink links l link

@@ -2,7 +2,7 @@
 ghost use Rattle.std.specs.Prelude.{◌≡◌, ℕ, ◌^◌, ◌<◌, ◌+◌, ◌++◌, ◌∷◌, [], length, IfOk, OnErr, Some, slice_get};
 ghost use Rattle.net_units.specs.Numbers.{link_number};
 ghost use Rattle.link_steps.specs.Legal.{AskFits};
-ghost use Rattle.step_stamp.specs.Seats.{table_of, pass_table, pass_view};
+ghost use Rattle.step_stamp.specs.Seats.{stamps_table, pass_table, pass_view};
 ghost use Rattle.step_stamp.specs.Views.{known_of};
 ghost use Rattle.link_ledger.specs.Owners.{OwnsAsk, NextBelow};
 ghost use Rattle.link_ledger.specs.Own.{Acted, DrewOneAtMost, EnteredOneAtMost, own_entry};
@@ -27,26 +27,26 @@ pub struct Held<L: LinkStep, H: Home> {
 
 impl<L: LinkStep, H: Home> Model for Held<L, H> {
     ghost use Rattle.std.specs.Prelude.{◌≡◌, length};
-    ghost use Rattle.step_stamp.specs.Seats.{link_table, link_of, list_of, link_view};
+    ghost use Rattle.step_stamp.specs.Seats.{link_table, seat_link, list_of, link_view};
     ghost use Rattle.link_ledger.specs.Order.{HeldLink, IsInOrder};
     ghost use Rattle.link_ledger.specs.Tokens.{IsLink};
 
     ghost Value = { HeldLink };
 
-    ghost view = { λ s. record { number = link_of s.seat; rules = L.link_of s.link; entries = s.entries.items; list = list_of s.seat; seen = (link_view s.seat).seen; table = link_table s.seat } };
+    ghost view = { λ s. record { number = seat_link s.seat; rules = L.link_of s.link; entries = s.entries.items; list = list_of s.seat; seen = (link_view s.seat).seen; table = link_table s.seat } };
 
-    ghost invariant = { λ s. (link_table s.seat ≡ H.table) × IsLink H.links (link_of s.seat) (L.link_of s.link) × IsInOrder (L.stands_for s.link) H.owners (length H.links) (record { number = link_of s.seat; rules = L.link_of s.link; entries = s.entries.items; list = list_of s.seat; seen = (link_view s.seat).seen; table = link_table s.seat }) };
+    ghost invariant = { λ s. (link_table s.seat ≡ H.table) × IsLink H.links (seat_link s.seat) (L.link_of s.link) × IsInOrder (L.stands_for s.link) H.owners (length H.links) (record { number = seat_link s.seat; rules = L.link_of s.link; entries = s.entries.items; list = list_of s.seat; seen = (link_view s.seat).seen; table = link_table s.seat }) };
 }
 
 impl<L: LinkStep, H: Home> Held<L, H> {
     ghost use Rattle.link_steps.specs.Split.{SplitFits};
-    ghost use Rattle.step_stamp.specs.Seats.{link_table, link_of, list_of, link_view};
+    ghost use Rattle.step_stamp.specs.Seats.{link_table, seat_link, list_of, link_view};
     ghost use Rattle.link_ledger.specs.Order.{IsOrdered, AreInOrder};
 
     /// A link of the empty history with an empty seat.
     pub fn new(alloc: Global, link: L, seat: LinkSeat) -> Held<L, H>
         requires table { link_table seat ≡ H.table }
-        requires rules { IsLink H.links (link_of seat) (L.link_of link) }
+        requires rules { IsLink H.links (seat_link seat) (L.link_of link) }
         requires split { SplitFits (L.link_of link) }
         requires stands { L.stands_for link [] }
         requires empty { list_of seat ≡ [] }
@@ -62,7 +62,7 @@ impl<L: LinkStep, H: Home> Held<L, H> {
     /// The journal's entries and the seat.
     pub fn into_parts(self) -> (Vec<Entry>, LinkSeat)
         ensures entries { result.0.items ≡ self.entries }
-        ensures seat { (link_table result.1 ≡ self.table) × (link_of result.1 ≡ self.number) × (list_of result.1 ≡ self.list) × ((link_view result.1).seen ≡ self.seen) }
+        ensures seat { (link_table result.1 ≡ self.table) × (seat_link result.1 ≡ self.number) × (list_of result.1 ≡ self.list) × ((link_view result.1).seen ≡ self.seen) }
         ensures table { self.table ≡ H.table }
         ensures rules { IsLink H.links self.number self.rules }
         ensures order { IsOrdered H.owners (length H.links) self }
@@ -92,8 +92,8 @@ impl<L: LinkStep, H: Home> Held<L, H> {
         pass: &mut PassSeat,
         ask: &Ask,
     ) -> Result<OwnEntry, OutOfMemory>
-        requires table { table_of stamps.now ≡ H.table }
-        requires pass { pass_table pass.old ≡ table_of stamps.now }
+        requires table { stamps_table stamps.now ≡ H.table }
+        requires pass { pass_table pass.old ≡ stamps_table stamps.now }
         requires few { length (pass_view pass.old).drawn < 2 ^ 40 }
         requires fits { AskFits self.old.rules.shape ask.now }
         requires owned { OwnsAsk H.owners pass.old.actor ask.now }

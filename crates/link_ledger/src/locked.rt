@@ -3,7 +3,7 @@ ghost use Rattle.std.specs.Prelude.{◌≡◌, ℕ, ◌^◌, ◌<◌, [], length
 ghost use Rattle.net_units.specs.Numbers.{link_number};
 ghost use Rattle.link_steps.specs.Legal.{AskFits};
 ghost use Rattle.link_steps.specs.Split.{Link};
-ghost use Rattle.step_stamp.specs.Seats.{table_of, pass_table, pass_view};
+ghost use Rattle.step_stamp.specs.Seats.{stamps_table, pass_table, pass_view};
 ghost use Rattle.step_stamp.specs.Views.{known_of};
 ghost use Rattle.link_ledger.specs.Owners.{OwnsAsk, NextBelow};
 ghost use Rattle.link_ledger.specs.Own.{DrewOneAtMost};
@@ -40,7 +40,7 @@ impl<L: LinkStep + Send, H: Home> LockedLink<L, H> {
     ghost use Rattle.link_steps.specs.Split.{SplitFits};
     ghost use Rattle.link_steps.specs.Journals.{IsLegalJournal};
     ghost use Rattle.net_units.specs.declared.numbers.ActorNo.{ActorNo};
-    ghost use Rattle.step_stamp.specs.Seats.{link_table, link_of, list_of, link_view};
+    ghost use Rattle.step_stamp.specs.Seats.{link_table, seat_link, list_of, link_view};
     ghost use Rattle.link_ledger.specs.Journals.{marks_in, done_in};
     ghost use Rattle.link_ledger.specs.Order.{IsOrdered, AreInOrder};
 
@@ -55,7 +55,7 @@ impl<L: LinkStep + Send, H: Home> LockedLink<L, H> {
         links: u32,
     ) -> Result<LockedLink<L, H>, OutOfMemory>
         requires table { link_table seat ≡ H.table }
-        requires rules { IsLink H.links (link_of seat) (L.link_of link) }
+        requires rules { IsLink H.links (seat_link seat) (L.link_of link) }
         requires owners { owners.items ≡ H.owners }
         requires links { links ≡ length H.links }
         requires split { SplitFits (L.link_of link) }
@@ -80,7 +80,7 @@ impl<L: LinkStep + Send, H: Home> LockedLink<L, H> {
         ensures link { result.0.link ≡ result.1.link }
         ensures table { link_table result.1 ≡ H.table }
         ensures marks { marks_in result.0.entries.items ≡ list_of result.1 }
-        ensures journal { (rules : Link) × IsLink H.links (link_of result.1) rules × IsLegalJournal rules (map done_in result.0.entries.items) × IsOrdered H.owners (length H.links) (record { number = link_of result.1; rules = rules; entries = result.0.entries.items; list = list_of result.1; seen = (link_view result.1).seen; table = link_table result.1 }) }
+        ensures journal { (rules : Link) × IsLink H.links (seat_link result.1) rules × IsLegalJournal rules (map done_in result.0.entries.items) × IsOrdered H.owners (length H.links) (record { number = seat_link result.1; rules = rules; entries = result.0.entries.items; list = list_of result.1; seen = (link_view result.1).seen; table = link_table result.1 }) }
     {
         self.unlock().into_journal()
     }
@@ -136,8 +136,8 @@ impl<L: LinkStep + Send, H: Home> LockedLink<L, H> {
         gate: &G,
         ask: &Ask,
     ) -> Result<Reply, StepFault>
-        requires table { table_of stamps.now ≡ H.table }
-        requires seat { (pass.old.has_seat ≡ true) × (pass.old.table ≡ table_of stamps.now) }
+        requires table { stamps_table stamps.now ≡ H.table }
+        requires seat { (pass.old.has_seat ≡ true) × (pass.old.table ≡ stamps_table stamps.now) }
         requires unspent { pass.old.spent ≡ false }
         requires own { OwnsAt H.links (link_number self.now.link) pass.old }
         requires few { length pass.old.view.drawn < 2 ^ 40 }
@@ -181,8 +181,8 @@ impl<L: LinkStep + Send, H: Home> LockedLink<L, H> {
         gate: &G,
         ask: &Ask,
     ) -> Result<OwnEntry, OutOfMemory>
-        requires table { table_of stamps.now ≡ H.table }
-        requires pass { pass_table seat.old ≡ table_of stamps.now }
+        requires table { stamps_table stamps.now ≡ H.table }
+        requires pass { pass_table seat.old ≡ stamps_table stamps.now }
         requires few { length (pass_view seat.old).drawn < 2 ^ 40 }
         requires fits { AskFits self.now.shape ask.now }
         requires owned { OwnsAsk H.owners seat.old.actor ask.now }
@@ -208,8 +208,8 @@ impl<L: LinkStep + Send, H: Home> LockedLink<L, H> {
         gate: &G,
         ask: &Ask,
     ) -> Result<OwnEntry, OutOfMemory>
-        requires table { table_of stamps.now ≡ H.table }
-        requires pass { pass_table seat.old ≡ table_of stamps.now }
+        requires table { stamps_table stamps.now ≡ H.table }
+        requires pass { pass_table seat.old ≡ stamps_table stamps.now }
         requires few { length (pass_view seat.old).drawn < 2 ^ 40 }
         requires fits { AskFits self.now.shape ask.now }
         requires owned { OwnsAsk H.owners seat.old.actor ask.now }

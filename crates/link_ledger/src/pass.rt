@@ -19,19 +19,19 @@ pub struct Pass {
 }
 
 impl Model for Pass {
-    ghost use Rattle.link_ledger.specs.Tokens.{Token, token_of, Keeps};
+    ghost use Rattle.link_ledger.specs.Tokens.{Token, token_of, KeepsToken};
 
     ghost Value = { Token };
 
     ghost view = { λ p. token_of p.actor p.seat p.own.items p.spent };
 
-    ghost invariant = { λ p. Keeps p.actor p.seat p.own.items p.spent };
+    ghost invariant = { λ p. KeepsToken p.actor p.seat p.own.items p.spent };
 }
 
 impl Pass {
     ghost use Rattle.net_units.specs.Numbers.{actor_number};
     ghost use Rattle.step_stamp.specs.Marks.{marks_of};
-    ghost use Rattle.step_stamp.specs.Seats.{table_of, pass_table, pass_view, knows_of, actor_of};
+    ghost use Rattle.step_stamp.specs.Seats.{stamps_table, pass_table, pass_view, knows_of, seat_actor};
     ghost use Rattle.step_stamp.specs.Views.{saw};
     ghost use Rattle.link_steps.specs.Split.{Link};
     ghost use Rattle.link_ledger.specs.Tokens.{OwnsAt, AnsweredAt};
@@ -40,7 +40,7 @@ impl Pass {
     /// entries, of which there are none, at every link (`owns`).
     pub fn new(alloc: Global, seat: PassSeat) -> Pass
         requires drawn { (pass_view seat).drawn ≡ [] }
-        requires known { (l : ℕ) → marks_of (actor_of seat) (knows_of seat l) ≡ [] }
+        requires known { (l : ℕ) → marks_of (seat_actor seat) (knows_of seat l) ≡ [] }
         ensures actor { result.actor ≡ seat.actor }
         ensures seat { (result.has_seat ≡ true) × (result.table ≡ pass_table seat) × (result.view ≡ pass_view seat) }
         ensures own { result.own ≡ [] }
@@ -89,7 +89,7 @@ impl Pass {
     /// How many stamps were drawn by all so far: at least every stamp that the pass had seen. It then counts as seen.
     pub fn seen(&mut self, stamps: &Stamps) -> u64
         requires seat { self.old.has_seat ≡ true }
-        requires table { self.old.table ≡ table_of stamps.now }
+        requires table { self.old.table ≡ stamps_table stamps.now }
         ensures least { self.old.view.seen ≤ result }
         ensures saw { self.new ≡ record self.old { view = saw result self.old.view } }
     {

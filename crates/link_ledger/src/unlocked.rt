@@ -23,7 +23,7 @@ pub struct Unlocked<L: LinkStep, H: Home> {
 
 impl<L: LinkStep + Send, H: Home> Unlocked<L, H> {
     ghost use Rattle.link_steps.specs.Journals.{IsLegalJournal};
-    ghost use Rattle.step_stamp.specs.Seats.{link_table, link_of, list_of, link_view};
+    ghost use Rattle.step_stamp.specs.Seats.{link_table, seat_link, list_of, link_view};
     ghost use Rattle.link_ledger.specs.Journals.{marks_in, done_in};
     ghost use Rattle.link_ledger.specs.Order.{IsOrdered};
 
@@ -49,7 +49,7 @@ impl<L: LinkStep + Send, H: Home> Unlocked<L, H> {
         ensures link { result.0.link ≡ result.1.link }
         ensures table { link_table result.1 ≡ H.table }
         ensures marks { marks_in result.0.entries.items ≡ list_of result.1 }
-        ensures journal { (rules : Link) × IsLink H.links (link_of result.1) rules × IsLegalJournal rules (map done_in result.0.entries.items) × IsOrdered H.owners (length H.links) (record { number = link_of result.1; rules = rules; entries = result.0.entries.items; list = list_of result.1; seen = (link_view result.1).seen; table = link_table result.1 }) }
+        ensures journal { (rules : Link) × IsLink H.links (seat_link result.1) rules × IsLegalJournal rules (map done_in result.0.entries.items) × IsOrdered H.owners (length H.links) (record { number = seat_link result.1; rules = rules; entries = result.0.entries.items; list = list_of result.1; seen = (link_view result.1).seen; table = link_table result.1 }) }
     {
         let Unlocked {
             held,

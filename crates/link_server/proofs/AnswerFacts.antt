@@ -8,7 +8,7 @@ use Rattle.link_steps.specs.Buffer.{kept_units}
 use Rattle.link_steps.specs.Reservation.{Reservation}
 use Rattle.link_server.specs.declared.served_row.ServedRow.{ServedRow}
 use Rattle.link_server.specs.Planned.{left_in}
-use Rattle.link_server.specs.Rows.{terms_in, row_in, is_row_of, is_row_at_hop, HasNone, IsPlace, IsAbsent, IsPlaceOf}
+use Rattle.link_server.specs.Rows.{reservation_in, row_in, is_served_row_of, is_served_at_hop, NoRowPasses, IsFirstPlace, IsAbsent, IsPlaceOf}
 use Rattle.link_server.specs.Account.{account}
 use Rattle.link_server.specs.Wants.{ask_for, MayHold}
 use Rattle.link_server.specs.declared.served_row.Offered.{Offered}
@@ -18,9 +18,9 @@ use Rattle.link_server.proofs.PlaceFacts.{terms-found, terms-absent, kept-found,
 use Rattle.std.specs.List.{remove}
 use Rattle.net_units.specs.declared.numbers.ChanNo.{ChanNo}
 use Rattle.net_units.specs.declared.numbers.Level.{Level}
-use Rattle.net_units.specs.LevelBounds.{last_bound}
+use Rattle.net_units.specs.LevelBounds.{last_bound, reach_of}
 use Rattle.traffic_contract.specs.Admission.{best_level, refused_sum}
-use Rattle.traffic_contract.specs.Contract.{Terms}
+use Rattle.traffic_contract.specs.Contract.{Traffic}
 use Rattle.link_steps.specs.declared.asks.Ask.TheVariants.{Relax, Deny, Submit}
 use Rattle.link_steps.specs.declared.replies.Phase.TheVariants.{Tentative, Committed}
 use Rattle.link_steps.specs.declared.replies.Refusal.{Refusal}
@@ -33,17 +33,17 @@ use Rattle.link_steps.specs.Levels.{level_of}
 use Rattle.link_steps.specs.Refusals.{not_in_phase, unfit, busy, too_big}
 use Rattle.link_steps.specs.Split.{whole}
 use Rattle.link_steps.specs.Room.{room_of, whole_room}
-use Rattle.link_steps.specs.Replies.{reserve_reply, relax_reply, deny_reply, submit_reply, reach_of}
+use Rattle.link_steps.specs.Replies.{reserve_reply, relax_reply, deny_reply, submit_reply}
 use Rattle.link_steps.specs.Reservation.{tentative, admitted, is_of}
 use Rattle.link_steps.specs.Shape.{server_of}
 use Rattle.link_steps.proofs.ReplyFacts.{whole-offer-may}
 
 -- one row more keeps its units
-pub units-more : (bounds : List ℕ) (rows : List ServedRow) (i : ℕ) (row : ServedRow) → i < length rows → row ≡ get_or rows i row → total (kept_units bounds) (map terms_in (take (i + 1) rows)) ≡ total (kept_units bounds) (map terms_in (take i rows)) + kept_units bounds (terms_in row)
+pub units-more : (bounds : List ℕ) (rows : List ServedRow) (i : ℕ) (row : ServedRow) → i < length rows → row ≡ get_or rows i row → total (kept_units bounds) (map reservation_in (take (i + 1) rows)) ≡ total (kept_units bounds) (map reservation_in (take i rows)) + kept_units bounds (reservation_in row)
 units-more bounds rows i row inside same =
     let front : take (i + 1) rows ≡ take i rows ++ row ∷ [] = take_more rows i row inside ∙ ap (λ r. take i rows ++ r ∷ []) (sym same) in
-    let terms : map terms_in (take (i + 1) rows) ≡ map terms_in (take i rows) ++ terms_in row ∷ [] = ap (map terms_in) front ∙ map_push terms_in (take i rows) row in
-    ap (total (kept_units bounds)) terms ∙ total-push (kept_units bounds) (map terms_in (take i rows)) (terms_in row)
+    let terms : map reservation_in (take (i + 1) rows) ≡ map reservation_in (take i rows) ++ reservation_in row ∷ [] = ap (map reservation_in) front ∙ map_push reservation_in (take i rows) row in
+    ap (total (kept_units bounds)) terms ∙ total-push (kept_units bounds) (map reservation_in (take i rows)) (reservation_in row)
 
 -- ---- a deny
 
@@ -51,11 +51,11 @@ pub deny-absent : (shape : LinkShape) (t : ℕ) (packets : Packets) (chan : Chan
 unfolding kept_reply deny_reply
 deny-absent shape t packets chan rows absent = rw (terms-absent chan rows absent) refl
 
-pub deny-refused : (shape : LinkShape) (t : ℕ) (packets : Packets) (chan : ChanNo) (rows : List ServedRow) (i : ℕ) (d : ServedRow) (refusal : Refusal) → IsPlaceOf chan rows i → Some refusal ≡ not_in_phase Tentative (terms_in (get_or rows i d)) → Refused refusal ≡ kept_reply (whole shape) (account t packets rows) (Deny chan)
+pub deny-refused : (shape : LinkShape) (t : ℕ) (packets : Packets) (chan : ChanNo) (rows : List ServedRow) (i : ℕ) (d : ServedRow) (refusal : Refusal) → IsPlaceOf chan rows i → Some refusal ≡ not_in_phase Tentative (reservation_in (get_or rows i d)) → Refused refusal ≡ kept_reply (whole shape) (account t packets rows) (Deny chan)
 unfolding kept_reply deny_reply
 deny-refused shape t packets chan rows i d refusal place phase = rw (terms-found chan rows i d place, sym phase) refl
 
-pub deny-denied : (shape : LinkShape) (t : ℕ) (packets : Packets) (chan : ChanNo) (rows : List ServedRow) (i : ℕ) (d : ServedRow) → IsPlaceOf chan rows i → None ≡ not_in_phase Tentative (terms_in (get_or rows i d)) → Denied ≡ kept_reply (whole shape) (account t packets rows) (Deny chan)
+pub deny-denied : (shape : LinkShape) (t : ℕ) (packets : Packets) (chan : ChanNo) (rows : List ServedRow) (i : ℕ) (d : ServedRow) → IsPlaceOf chan rows i → None ≡ not_in_phase Tentative (reservation_in (get_or rows i d)) → Denied ≡ kept_reply (whole shape) (account t packets rows) (Deny chan)
 unfolding kept_reply deny_reply
 deny-denied shape t packets chan rows i d place phase = rw (terms-found chan rows i d place, sym phase) refl
 
@@ -75,15 +75,15 @@ pub relax-absent : (shape : LinkShape) (t : ℕ) (packets : Packets) (chan : Cha
 unfolding kept_reply relax_reply
 relax-absent shape t packets chan level up_bound rows absent = rw (terms-absent chan rows absent) refl
 
-pub relax-phase : (shape : LinkShape) (t : ℕ) (packets : Packets) (chan : ChanNo) (level : Level) (up_bound : ℕ) (rows : List ServedRow) (i : ℕ) (d : ServedRow) (refusal : Refusal) → IsPlaceOf chan rows i → Some refusal ≡ not_in_phase Tentative (terms_in (get_or rows i d)) → Refused refusal ≡ kept_reply (whole shape) (account t packets rows) (Relax chan level up_bound)
+pub relax-phase : (shape : LinkShape) (t : ℕ) (packets : Packets) (chan : ChanNo) (level : Level) (up_bound : ℕ) (rows : List ServedRow) (i : ℕ) (d : ServedRow) (refusal : Refusal) → IsPlaceOf chan rows i → Some refusal ≡ not_in_phase Tentative (reservation_in (get_or rows i d)) → Refused refusal ≡ kept_reply (whole shape) (account t packets rows) (Relax chan level up_bound)
 unfolding kept_reply relax_reply
 relax-phase shape t packets chan level up_bound rows i d refusal place phase = rw (terms-found chan rows i d place, sym phase) refl
 
-pub relax-unfit : (shape : LinkShape) (t : ℕ) (packets : Packets) (chan : ChanNo) (level : Level) (up_bound : ℕ) (rows : List ServedRow) (i : ℕ) (d : ServedRow) (refusal : Refusal) → IsPlaceOf chan rows i → None ≡ not_in_phase Tentative (terms_in (get_or rows i d)) → Some refusal ≡ unfit (terms_in (get_or rows i d)) level up_bound → Refused refusal ≡ kept_reply (whole shape) (account t packets rows) (Relax chan level up_bound)
+pub relax-unfit : (shape : LinkShape) (t : ℕ) (packets : Packets) (chan : ChanNo) (level : Level) (up_bound : ℕ) (rows : List ServedRow) (i : ℕ) (d : ServedRow) (refusal : Refusal) → IsPlaceOf chan rows i → None ≡ not_in_phase Tentative (reservation_in (get_or rows i d)) → Some refusal ≡ unfit (reservation_in (get_or rows i d)) level up_bound → Refused refusal ≡ kept_reply (whole shape) (account t packets rows) (Relax chan level up_bound)
 unfolding kept_reply relax_reply
 relax-unfit shape t packets chan level up_bound rows i d refusal place phase fits = rw (terms-found chan rows i d place, sym phase, sym fits) refl
 
-pub relax-relaxed : (shape : LinkShape) (t : ℕ) (packets : Packets) (chan : ChanNo) (level : Level) (up_bound : ℕ) (rows : List ServedRow) (i : ℕ) (d : ServedRow) → IsPlaceOf chan rows i → None ≡ not_in_phase Tentative (terms_in (get_or rows i d)) → None ≡ unfit (terms_in (get_or rows i d)) level up_bound → Relaxed t ≡ kept_reply (whole shape) (account t packets rows) (Relax chan level up_bound)
+pub relax-relaxed : (shape : LinkShape) (t : ℕ) (packets : Packets) (chan : ChanNo) (level : Level) (up_bound : ℕ) (rows : List ServedRow) (i : ℕ) (d : ServedRow) → IsPlaceOf chan rows i → None ≡ not_in_phase Tentative (reservation_in (get_or rows i d)) → None ≡ unfit (reservation_in (get_or rows i d)) level up_bound → Relaxed t ≡ kept_reply (whole shape) (account t packets rows) (Relax chan level up_bound)
 unfolding kept_reply relax_reply
 relax-relaxed shape t packets chan level up_bound rows i d place phase fits = rw (terms-found chan rows i d place, sym phase, sym fits) refl
 
@@ -95,27 +95,27 @@ relax-same shape k chan level up_bound refusal = refl
 pub relax-kept : (shape : LinkShape) (t : ℕ) (packets : Packets) (chan : ChanNo) (level : Level) (up_bound clock : ℕ) (rows : List ServedRow) (i : ℕ) (new d : ServedRow) → IsPlaceOf chan rows i → row_in new ≡ kept_relaxed level up_bound (row_in (get_or rows i d)) → account t packets (set rows i new) ≡ kept_after shape (account t packets rows) (Relax chan level up_bound) (Relaxed clock)
 unfolding kept_after
 relax-kept shape t packets chan level up_bound clock rows i new d place same =
-    ap (with_kept_rows (account t packets rows)) (kept-changed (is_row_of chan) (is_kept_of chan) (kept_relaxed level up_bound) (λ row. refl) rows i new d place same)
+    ap (with_kept_rows (account t packets rows)) (kept-changed (is_served_row_of chan) (is_kept_of chan) (kept_relaxed level up_bound) (λ row. refl) rows i new d place same)
 
 -- ---- a reserve, over the reservations that are held
 
-pub reserve-wide : (shape : LinkShape) (held : List Reservation) (chan : ChanNo) (contract : Terms) (delay up_reach : ℕ) → nat_le contract.smax shape.cap ≡ false → Refused (TooWide contract.smax shape.cap) ≡ reserve_reply (whole shape) held chan contract delay up_reach
+pub reserve-wide : (shape : LinkShape) (held : List Reservation) (chan : ChanNo) (contract : Traffic) (delay up_reach : ℕ) → nat_le contract.smax shape.cap ≡ false → Refused (TooWide contract.smax shape.cap) ≡ reserve_reply (whole shape) held chan contract delay up_reach
 unfolding reserve_reply room_of whole_room
 reserve-wide shape held chan contract delay up_reach wide = rw wide refl
 
-pub reserve-twice : (shape : LinkShape) (held : List Reservation) (chan : ChanNo) (contract : Terms) (delay up_reach : ℕ) (terms : Reservation) → nat_le contract.smax shape.cap ≡ true → find (is_of chan) held ≡ Some terms → Refused (Twice terms.phase) ≡ reserve_reply (whole shape) held chan contract delay up_reach
+pub reserve-twice : (shape : LinkShape) (held : List Reservation) (chan : ChanNo) (contract : Traffic) (delay up_reach : ℕ) (terms : Reservation) → nat_le contract.smax shape.cap ≡ true → find (is_of chan) held ≡ Some terms → Refused (Twice terms.phase) ≡ reserve_reply (whole shape) held chan contract delay up_reach
 unfolding reserve_reply room_of whole_room
 reserve-twice shape held chan contract delay up_reach terms wide found = rw (wide, found) refl
 
-pub reserve-no_level : (shape : LinkShape) (held : List Reservation) (chan : ChanNo) (contract : Terms) (delay up_reach : ℕ) → nat_le contract.smax shape.cap ≡ true → find (is_of chan) held ≡ None → best_level (server_of shape) (map admitted held) contract ≡ None → Refused (NoLevel (refused_sum (server_of shape) (map admitted held) contract) (last_bound shape.bounds)) ≡ reserve_reply (whole shape) held chan contract delay up_reach
+pub reserve-no_level : (shape : LinkShape) (held : List Reservation) (chan : ChanNo) (contract : Traffic) (delay up_reach : ℕ) → nat_le contract.smax shape.cap ≡ true → find (is_of chan) held ≡ None → best_level (server_of shape) (map admitted held) contract ≡ None → Refused (NoLevel (refused_sum (server_of shape) (map admitted held) contract) (last_bound shape.bounds)) ≡ reserve_reply (whole shape) held chan contract delay up_reach
 unfolding reserve_reply room_of whole_room
 reserve-no_level shape held chan contract delay up_reach wide found best = rw (wide, found, best) refl
 
-pub reserve-no_buffer : (shape : LinkShape) (held : List Reservation) (chan : ChanNo) (contract : Terms) (delay up_reach m : ℕ) → nat_le contract.smax shape.cap ≡ true → find (is_of chan) held ≡ None → best_level (server_of shape) (map admitted held) contract ≡ Some m → nat_le (need_of shape.bounds contract up_reach (reach_of shape.bounds delay m)) (free_units shape held) ≡ false → Refused (NoBuffer (need_of shape.bounds contract up_reach (reach_of shape.bounds delay m)) (free_units shape held)) ≡ reserve_reply (whole shape) held chan contract delay up_reach
+pub reserve-no_buffer : (shape : LinkShape) (held : List Reservation) (chan : ChanNo) (contract : Traffic) (delay up_reach m : ℕ) → nat_le contract.smax shape.cap ≡ true → find (is_of chan) held ≡ None → best_level (server_of shape) (map admitted held) contract ≡ Some m → nat_le (need_of shape.bounds contract up_reach (reach_of shape.bounds delay m)) (free_units shape held) ≡ false → Refused (NoBuffer (need_of shape.bounds contract up_reach (reach_of shape.bounds delay m)) (free_units shape held)) ≡ reserve_reply (whole shape) held chan contract delay up_reach
 unfolding reserve_reply room_of whole_room
 reserve-no_buffer shape held chan contract delay up_reach m wide found best room = rw (wide, found, best, room) refl
 
-pub reserve-offer : (shape : LinkShape) (held : List Reservation) (chan : ChanNo) (contract : Terms) (delay up_reach m : ℕ) → nat_le contract.smax shape.cap ≡ true → find (is_of chan) held ≡ None → best_level (server_of shape) (map admitted held) contract ≡ Some m → nat_le (need_of shape.bounds contract up_reach (reach_of shape.bounds delay m)) (free_units shape held) ≡ true → Offer (level_of m) (level_of (reach_of shape.bounds delay m)) ≡ reserve_reply (whole shape) held chan contract delay up_reach
+pub reserve-offer : (shape : LinkShape) (held : List Reservation) (chan : ChanNo) (contract : Traffic) (delay up_reach m : ℕ) → nat_le contract.smax shape.cap ≡ true → find (is_of chan) held ≡ None → best_level (server_of shape) (map admitted held) contract ≡ Some m → nat_le (need_of shape.bounds contract up_reach (reach_of shape.bounds delay m)) (free_units shape held) ≡ true → Offer (level_of m) (level_of (reach_of shape.bounds delay m)) ≡ reserve_reply (whole shape) held chan contract delay up_reach
 unfolding reserve_reply room_of whole_room
 reserve-offer shape held chan contract delay up_reach m wide found best room = rw (wide, found, best, room) refl
 
@@ -137,28 +137,28 @@ reserve-kept shape t packets wanted level reach rows new same =
 
 -- ---- a submit
 
-pub submit-absent : (shape : LinkShape) (t : ℕ) (packets : Packets) (chan : ChanNo) (count gap size : ℕ) (rows : List ServedRow) → HasNone (is_row_at_hop chan true) rows → Refused NoSuch ≡ kept_reply (whole shape) (account t packets rows) (Submit chan count gap size)
+pub submit-absent : (shape : LinkShape) (t : ℕ) (packets : Packets) (chan : ChanNo) (count gap size : ℕ) (rows : List ServedRow) → NoRowPasses (is_served_at_hop chan true) rows → Refused NoSuch ≡ kept_reply (whole shape) (account t packets rows) (Submit chan count gap size)
 unfolding kept_reply
-submit-absent shape t packets chan count gap size rows absent = rw (kept-absent (is_row_at_hop chan true) (is_kept_at_hop chan true) (λ row. refl) rows absent) refl
+submit-absent shape t packets chan count gap size rows absent = rw (kept-absent (is_served_at_hop chan true) (is_kept_at_hop chan true) (λ row. refl) rows absent) refl
 
 -- the reply is that of the row at the place
-submit-found : (shape : LinkShape) (t : ℕ) (packets : Packets) (chan : ChanNo) (count gap size : ℕ) (rows : List ServedRow) (i : ℕ) (d : ServedRow) → IsPlace (is_row_at_hop chan true) rows i → kept_reply (whole shape) (account t packets rows) (Submit chan count gap size) ≡ submit_reply t size (terms_in (get_or rows i d)) (length (left_in (get_or rows i d).planned))
+submit-found : (shape : LinkShape) (t : ℕ) (packets : Packets) (chan : ChanNo) (count gap size : ℕ) (rows : List ServedRow) (i : ℕ) (d : ServedRow) → IsFirstPlace (is_served_at_hop chan true) rows i → kept_reply (whole shape) (account t packets rows) (Submit chan count gap size) ≡ submit_reply t size (reservation_in (get_or rows i d)) (length (left_in (get_or rows i d).planned))
 unfolding kept_reply
-submit-found shape t packets chan count gap size rows i d place = ap (kept_submit t size) (kept-found (is_row_at_hop chan true) (is_kept_at_hop chan true) (λ row. refl) rows i d place)
+submit-found shape t packets chan count gap size rows i d place = ap (kept_submit t size) (kept-found (is_served_at_hop chan true) (is_kept_at_hop chan true) (λ row. refl) rows i d place)
 
-pub submit-phase : (shape : LinkShape) (t : ℕ) (packets : Packets) (chan : ChanNo) (count gap size : ℕ) (rows : List ServedRow) (i : ℕ) (d : ServedRow) (refusal : Refusal) → IsPlace (is_row_at_hop chan true) rows i → Some refusal ≡ not_in_phase Committed (terms_in (get_or rows i d)) → Refused refusal ≡ kept_reply (whole shape) (account t packets rows) (Submit chan count gap size)
+pub submit-phase : (shape : LinkShape) (t : ℕ) (packets : Packets) (chan : ChanNo) (count gap size : ℕ) (rows : List ServedRow) (i : ℕ) (d : ServedRow) (refusal : Refusal) → IsFirstPlace (is_served_at_hop chan true) rows i → Some refusal ≡ not_in_phase Committed (reservation_in (get_or rows i d)) → Refused refusal ≡ kept_reply (whole shape) (account t packets rows) (Submit chan count gap size)
 unfolding submit_reply
 submit-phase shape t packets chan count gap size rows i d refusal place phase = rw (submit-found shape t packets chan count gap size rows i d place, sym phase) refl
 
-pub submit-busy : (shape : LinkShape) (t : ℕ) (packets : Packets) (chan : ChanNo) (count gap size : ℕ) (rows : List ServedRow) (i : ℕ) (d : ServedRow) (refusal : Refusal) → IsPlace (is_row_at_hop chan true) rows i → None ≡ not_in_phase Committed (terms_in (get_or rows i d)) → Some refusal ≡ busy (length (left_in (get_or rows i d).planned)) → Refused refusal ≡ kept_reply (whole shape) (account t packets rows) (Submit chan count gap size)
+pub submit-busy : (shape : LinkShape) (t : ℕ) (packets : Packets) (chan : ChanNo) (count gap size : ℕ) (rows : List ServedRow) (i : ℕ) (d : ServedRow) (refusal : Refusal) → IsFirstPlace (is_served_at_hop chan true) rows i → None ≡ not_in_phase Committed (reservation_in (get_or rows i d)) → Some refusal ≡ busy (length (left_in (get_or rows i d).planned)) → Refused refusal ≡ kept_reply (whole shape) (account t packets rows) (Submit chan count gap size)
 unfolding submit_reply
 submit-busy shape t packets chan count gap size rows i d refusal place phase left = rw (submit-found shape t packets chan count gap size rows i d place, sym phase, sym left) refl
 
-pub submit-big : (shape : LinkShape) (t : ℕ) (packets : Packets) (chan : ChanNo) (count gap size : ℕ) (rows : List ServedRow) (i : ℕ) (d : ServedRow) (refusal : Refusal) → IsPlace (is_row_at_hop chan true) rows i → None ≡ not_in_phase Committed (terms_in (get_or rows i d)) → None ≡ busy (length (left_in (get_or rows i d).planned)) → Some refusal ≡ too_big (terms_in (get_or rows i d)) size → Refused refusal ≡ kept_reply (whole shape) (account t packets rows) (Submit chan count gap size)
+pub submit-big : (shape : LinkShape) (t : ℕ) (packets : Packets) (chan : ChanNo) (count gap size : ℕ) (rows : List ServedRow) (i : ℕ) (d : ServedRow) (refusal : Refusal) → IsFirstPlace (is_served_at_hop chan true) rows i → None ≡ not_in_phase Committed (reservation_in (get_or rows i d)) → None ≡ busy (length (left_in (get_or rows i d).planned)) → Some refusal ≡ too_big (reservation_in (get_or rows i d)) size → Refused refusal ≡ kept_reply (whole shape) (account t packets rows) (Submit chan count gap size)
 unfolding submit_reply
 submit-big shape t packets chan count gap size rows i d refusal place phase left large = rw (submit-found shape t packets chan count gap size rows i d place, sym phase, sym left, sym large) refl
 
-pub submit-planned : (shape : LinkShape) (t : ℕ) (packets : Packets) (chan : ChanNo) (count gap size : ℕ) (rows : List ServedRow) (i : ℕ) (d : ServedRow) → IsPlace (is_row_at_hop chan true) rows i → None ≡ not_in_phase Committed (terms_in (get_or rows i d)) → None ≡ busy (length (left_in (get_or rows i d).planned)) → None ≡ too_big (terms_in (get_or rows i d)) size → Planned t ≡ kept_reply (whole shape) (account t packets rows) (Submit chan count gap size)
+pub submit-planned : (shape : LinkShape) (t : ℕ) (packets : Packets) (chan : ChanNo) (count gap size : ℕ) (rows : List ServedRow) (i : ℕ) (d : ServedRow) → IsFirstPlace (is_served_at_hop chan true) rows i → None ≡ not_in_phase Committed (reservation_in (get_or rows i d)) → None ≡ busy (length (left_in (get_or rows i d).planned)) → None ≡ too_big (reservation_in (get_or rows i d)) size → Planned t ≡ kept_reply (whole shape) (account t packets rows) (Submit chan count gap size)
 unfolding submit_reply
 submit-planned shape t packets chan count gap size rows i d place phase left large = rw (submit-found shape t packets chan count gap size rows i d place, sym phase, sym left, sym large) refl
 
@@ -167,7 +167,7 @@ unfolding kept_after
 submit-same shape k chan count gap size refusal = refl
 
 -- a submit plans the row's packets
-pub submit-kept : (shape : LinkShape) (t : ℕ) (packets : Packets) (chan : ChanNo) (count gap size clock : ℕ) (rows : List ServedRow) (i : ℕ) (new d : ServedRow) → IsPlace (is_row_at_hop chan true) rows i → row_in new ≡ kept_planned t count gap size (row_in (get_or rows i d)) → account t packets (set rows i new) ≡ kept_after shape (account t packets rows) (Submit chan count gap size) (Planned clock)
+pub submit-kept : (shape : LinkShape) (t : ℕ) (packets : Packets) (chan : ChanNo) (count gap size clock : ℕ) (rows : List ServedRow) (i : ℕ) (new d : ServedRow) → IsFirstPlace (is_served_at_hop chan true) rows i → row_in new ≡ kept_planned t count gap size (row_in (get_or rows i d)) → account t packets (set rows i new) ≡ kept_after shape (account t packets rows) (Submit chan count gap size) (Planned clock)
 unfolding kept_after
 submit-kept shape t packets chan count gap size clock rows i new d place same =
-    ap (with_kept_rows (account t packets rows)) (kept-changed (is_row_at_hop chan true) (is_kept_at_hop chan true) (kept_planned t count gap size) (λ row. refl) rows i new d place same)
+    ap (with_kept_rows (account t packets rows)) (kept-changed (is_served_at_hop chan true) (is_kept_at_hop chan true) (kept_planned t count gap size) (λ row. refl) rows i new d place same)

@@ -5,13 +5,13 @@ use Rattle.std.specs.Prelude.{◌↔◌, option_map, slice_get}
 use Rattle.std.proofs.lemmas.Option.{slice_get-map, slice_get_read, slice_get_past}
 use Rattle.std.proofs.lemmas.Bool.{cases_lt, le-leb}
 use Rattle.net_units.proofs.BoundFacts.{bounds_parts, within_count, level_largest}
-use Rattle.net_units.specs.LevelBounds.{bound_at}
+use Rattle.net_units.specs.LevelBounds.{bound_at, reach_of}
 use Rattle.net_units.specs.Numbers.{level_number}
 use Rattle.net_units.specs.declared.numbers.ChanNo.{ChanNo}
 use Rattle.net_units.specs.declared.numbers.Level.{Level}
 use Rattle.traffic_contract.proofs.AdmissionFacts.{best_level-is}
 use Rattle.traffic_contract.specs.Admission.{best_level}
-use Rattle.traffic_contract.specs.Contract.{Terms}
+use Rattle.traffic_contract.specs.Contract.{Traffic}
 use Rattle.link_steps.specs.declared.asks.Ask.{Ask}
 use Rattle.link_steps.specs.declared.asks.Ask.TheVariants.{Reserve, Relax, Deny, Submit, Release, Arrive, Tick, Pour}
 use Rattle.link_steps.specs.declared.replies.Entry.{Entry}
@@ -23,7 +23,7 @@ use Rattle.link_steps.specs.Kept.{HasContract, StandsFor, Kept, kept_at, kept_ro
 use Rattle.link_steps.specs.Legal.{AskFits, ReserveFits}
 use Rattle.link_steps.specs.Levels.{level_of}
 use Rattle.link_steps.specs.Lists.{Each}
-use Rattle.link_steps.specs.Replies.{reach_of, reserve_reply, reply_to}
+use Rattle.link_steps.specs.Replies.{reserve_reply, reply_to}
 use Rattle.link_steps.specs.Reservation.{Reservation, admitted}
 use Rattle.link_steps.specs.Room.{room_of, whole_room}
 use Rattle.link_steps.specs.Rows.{Row, row_terms}
@@ -34,7 +34,7 @@ use Rattle.link_steps.proofs.Account.{stands-reply}
 use Rattle.link_steps.proofs.LevelFacts.{level_of-number, level_of-level}
 use Rattle.link_steps.proofs.ReplyFacts.{offer-best, offer-numbers}
 use Rattle.link_server.specs.Held.{seen, seen_at, reach_at, MayReserve, IsBestFor}
-use Rattle.link_server.specs.Rows.{terms_in, row_in}
+use Rattle.link_server.specs.Rows.{reservation_in, row_in}
 use Rattle.link_server.specs.declared.held_row.HeldRow.{HeldRow}
 use Rattle.link_server.specs.declared.served_row.ServedRow.{ServedRow}
 use Rattle.link_server.specs.declared.served_row.Offered.{Offered}
@@ -59,12 +59,12 @@ pub seen-stand : (shape : LinkShape) (k : Kept) (place : ℕ) (row : Option Held
 seen-stand shape k place row same h stands = same ∙ ap (λ held. seen_at shape.bounds held place) (terms-stand shape k h stands)
 
 -- what is seen at a place is the row there, and nothing past the last row
-seen-kept : (bounds : List ℕ) (rows : List ServedRow) (place : ℕ) (found : Option ServedRow) → slice_get rows place ≡ found → option_map (seen bounds) (option_map terms_in found) ≡ seen_at bounds (map kept_terms (map row_in rows)) place
+seen-kept : (bounds : List ℕ) (rows : List ServedRow) (place : ℕ) (found : Option ServedRow) → slice_get rows place ≡ found → option_map (seen bounds) (option_map reservation_in found) ≡ seen_at bounds (map kept_terms (map row_in rows)) place
 seen-kept bounds rows place found at =
-    ap (option_map (seen bounds)) (ap (option_map terms_in) (sym at) ∙ sym (slice_get-map terms_in rows place) ∙ ap (λ held. slice_get held place) (sym (terms-kept rows)))
+    ap (option_map (seen bounds)) (ap (option_map reservation_in) (sym at) ∙ sym (slice_get-map reservation_in rows place) ∙ ap (λ held. slice_get held place) (sym (terms-kept rows)))
     ∙ sym (slice_get-map (seen bounds) (map kept_terms (map row_in rows)) place)
 
-pub seen-row : (bounds : List ℕ) (rows : List ServedRow) (place : ℕ) (row : ServedRow) → place < length rows → row ≡ get_or rows place row → Some (seen bounds (terms_in row)) ≡ seen_at bounds (map kept_terms (map row_in rows)) place
+pub seen-row : (bounds : List ℕ) (rows : List ServedRow) (place : ℕ) (row : ServedRow) → place < length rows → row ≡ get_or rows place row → Some (seen bounds (reservation_in row)) ≡ seen_at bounds (map kept_terms (map row_in rows)) place
 seen-row bounds rows place row inside at = seen-kept bounds rows place (Some row) (slice_get_read rows (length rows) place row refl inside at)
 
 pub seen-none : (bounds : List ℕ) (rows : List ServedRow) (place : ℕ) → length rows ≤ place → None ≡ seen_at bounds (map kept_terms (map row_in rows)) place
@@ -104,7 +104,7 @@ offer-admissible shape k (Pour count gap size) level reach fits may same h stand
 -- ---- legal
 
 -- a level with the legal offer is the best
-legal-best : (shape : LinkShape) (held : List Reservation) (chan : ChanNo) (contract : Terms) (delay up_reach : ℕ) (level reach : Level) → Offer level reach ≡ reserve_reply (whole shape) held chan contract delay up_reach → best_level (server_of shape) (map admitted held) contract ≡ Some (level_number level)
+legal-best : (shape : LinkShape) (held : List Reservation) (chan : ChanNo) (contract : Traffic) (delay up_reach : ℕ) (level reach : Level) → Offer level reach ≡ reserve_reply (whole shape) held chan contract delay up_reach → best_level (server_of shape) (map admitted held) contract ≡ Some (level_number level)
 unfolding reserve_reply room_of whole_room
 legal-best shape held chan contract delay up_reach level reach same =
     let offers = offer-best shape held chan contract delay up_reach (whole_room (whole shape) held contract) level reach same in
@@ -129,7 +129,7 @@ reach-number shape delay level upto =
     level_of-number (reach_of shape.bounds delay (level_number level)) (omega (arith, least, level.least)) (omega (arith, within, (bounds_parts shape.bounds shape.bounds_rise).most))
 
 -- the offer of the best level, which the link may make, is the legal one
-best-legal : (shape : LinkShape) (held : List Reservation) (chan : ChanNo) (contract : Terms) (delay up_reach : ℕ) (level : Level) → MayOffer shape held chan contract delay up_reach level (level_of (reach_of shape.bounds delay (level_number level))) → best_level (server_of shape) (map admitted held) contract ≡ Some (level_number level) → Offer level (level_of (reach_of shape.bounds delay (level_number level))) ≡ reserve_reply (whole shape) held chan contract delay up_reach
+best-legal : (shape : LinkShape) (held : List Reservation) (chan : ChanNo) (contract : Traffic) (delay up_reach : ℕ) (level : Level) → MayOffer shape held chan contract delay up_reach level (level_of (reach_of shape.bounds delay (level_number level))) → best_level (server_of shape) (map admitted held) contract ≡ Some (level_number level) → Offer level (level_of (reach_of shape.bounds delay (level_number level))) ≡ reserve_reply (whole shape) held chan contract delay up_reach
 best-legal shape held chan contract delay up_reach level may best =
     let free = subst (λ far. need_of shape.bounds contract up_reach far ≤ free_units shape held) (reach-number shape delay level may.level_most) may.free in
     ap (λ at. Offer at (level_of (reach_of shape.bounds delay (level_number level)))) (sym (level_of-level level))

@@ -9,7 +9,7 @@ use Rattle.rcsp_admission.specs.Sums.{key_of, IsDistinct}
 use Rattle.link_steps.specs.Hold.{hold_ended}
 use Rattle.link_steps.specs.Kept.{KeptRow, kept_stays}
 use Rattle.link_steps.specs.Lists.{Each}
-use Rattle.link_server.specs.Rows.{terms_in, row_in, is_row_of, summed, IsPlaceOf}
+use Rattle.link_server.specs.Rows.{reservation_in, row_in, is_served_row_of, summed, IsPlaceOf}
 use Rattle.link_server.specs.declared.served_row.ServedRow.{ServedRow}
 use Rattle.link_server.proofs.SumsFacts.{distinct-later}
 
@@ -32,11 +32,11 @@ place-distinct (row ∷ rows) (suc i) d distinct inside =
       other-channel : (row : ServedRow) (rows : List ServedRow) (i : ℕ) (d : ServedRow) → IsDistinct (map summed (row ∷ rows)) → i < length rows → channel_number row.chan ≡ channel_number (get_or rows i d).chan → ⊥
       other-channel row rows i d distinct inside same = distinct.apart 0 (suc i) (summed row) (omega arith) (let long = length-map rows summed in omega (arith, long, inside)) (same ∙ sym (ap key_of (get_or-map summed rows i d (summed row) inside)))
 
-      place-before : (row : ServedRow) (rows : List ServedRow) (i : ℕ) (found : ServedRow) → (channel_number row.chan ≡ channel_number found.chan → ⊥) → IsPlaceOf found.chan rows i → (k : ℕ) (d : ServedRow) → k < suc i → is_row_of found.chan (get_or (row ∷ rows) k d) ≡ false
+      place-before : (row : ServedRow) (rows : List ServedRow) (i : ℕ) (found : ServedRow) → (channel_number row.chan ≡ channel_number found.chan → ⊥) → IsPlaceOf found.chan rows i → (k : ℕ) (d : ServedRow) → k < suc i → is_served_row_of found.chan (get_or (row ∷ rows) k d) ≡ false
       place-before row rows i found other later zero d below = ne_eqb (channel_number row.chan) (channel_number found.chan) other
       place-before row rows i found other later (suc k) d below = later.before k d (omega arith)
 
--- the row taken out at a place leaves the rows before it and those behind it
+-- the row taken out at a place leaves the rows before it and those after it
 take-remove : {X : Type 0} (xs : List X) (i : ℕ) → take i (remove xs i) ≡ take i xs
 take-remove [] zero = refl
 take-remove [] (suc i) = refl
@@ -50,8 +50,8 @@ drop-remove (x ∷ xs) zero = refl
 drop-remove (x ∷ xs) (suc i) = drop-remove xs i
 
 -- a row stays where its hold hasn't ended
-pub stays-is : (bounds : List ℕ) (t : ℕ) (row : ServedRow) (ended : Bool) → ended ≡ hold_ended bounds (terms_in row) row.taken row.last t → kept_stays bounds t (row_in row) ≡ not ended
-stays-is bounds t row ended same = ap (λ last. not (hold_ended bounds (terms_in row) row.taken last t)) (sym row.newest) ∙ ap not (sym same)
+pub stays-is : (bounds : List ℕ) (t : ℕ) (row : ServedRow) (ended : Bool) → ended ≡ hold_ended bounds (reservation_in row) row.taken row.last t → kept_stays bounds t (row_in row) ≡ not ended
+stays-is bounds t row ended same = ap (λ last. not (hold_ended bounds (reservation_in row) row.taken last t)) (sym row.newest) ∙ ap not (sym same)
 
 -- what stays of the rows, the first so many of which were judged and stay
 abbrev pub staying : List ℕ → ℕ → ℕ → List ServedRow → List KeptRow

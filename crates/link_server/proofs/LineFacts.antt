@@ -36,7 +36,7 @@ pub behind-more : (read : List (Bor HeldPacket)) (packet : Bor HeldPacket) → b
 behind-more read packet =
     ap reverse (map-append (λ (p : Bor HeldPacket). p.now) read (packet ∷ [])) ∙ reverse-append (map (λ (p : Bor HeldPacket). p.now) read) (packet.now ∷ [])
 
--- one more packet that is eligible is compared with the first of those behind it
+-- one more packet that is eligible is compared with the first of those after it
 pub first-more : (tick : ℕ) (best : Option Arrival) (read : List (Bor HeldPacket)) (packet : Bor HeldPacket) → best ≡ first_in_line (filter (is_eligible_by tick) (here_in (behind read))) → packet.now.eligible ≤ tick → Some (sooner (arrival_in packet.now) best) ≡ first_in_line (filter (is_eligible_by tick) (here_in (behind (read ++ packet ∷ []))))
 unfolding first_in_line
 first-more tick best read packet same eligible =

@@ -16,7 +16,7 @@ use Rattle.link_server.specs.declared.line.Rank.{Rank}
 use Rattle.link_server.specs.InLine.{is_rank_of, is_off, IsIn, AreIn, AreRising, HasRank, IsStale}
 use Rattle.link_server.specs.Line.{IsAfter, AreAfter, IsBehind, IsNext}
 use Rattle.link_server.specs.Rank.{stands_before}
-use Rattle.link_server.specs.Sound.{is_at}
+use Rattle.link_server.specs.Sound.{has_arrival_number}
 use Rattle.link_server.proofs.ServingFacts.{IsDue, are-due}
 
 -- ---- a packet and its rank
@@ -134,7 +134,7 @@ first-head tick x xs above go by =
           (Each-both (IsDue tick) (λ p. (x.place < p.place) × LetsGo tick x p) (filter (is_eligible_by tick) xs) (are-due tick xs)
           (Each-filter (λ p. (x.place < p.place) × LetsGo tick x p) (is_eligible_by tick) xs (Each-both (λ p. x.place < p.place) (LetsGo tick x) xs above go)))
 
--- or behind one that doesn't go before it
+-- or after one that doesn't go before it
 first-behind : (tick : ℕ) (x q : Arrival) (xs : List Arrival) → x.place ≢ q.place → LetsGo tick q x → first_in_line (filter (is_eligible_by tick) xs) ≡ Some q → first_in_line (filter (is_eligible_by tick) (x ∷ xs)) ≡ Some q
 unfolding first_in_line
 first-behind tick x q xs apart go found =
@@ -146,10 +146,10 @@ first-behind tick x q xs apart go found =
       | inr late ↦ rw late found
     ]
 
-pub first-is : (tick low : ℕ) (here : List Arrival) (q : Arrival) → AreRising low here → find (is_at q.place) here ≡ Some q → q.eligible ≤ tick → Each (LetsGo tick q) here → first_in_line (filter (is_eligible_by tick) here) ≡ Some q
+pub first-is : (tick low : ℕ) (here : List Arrival) (q : Arrival) → AreRising low here → find (has_arrival_number q.place) here ≡ Some q → q.eligible ≤ tick → Each (LetsGo tick q) here → first_in_line (filter (is_eligible_by tick) here) ≡ Some q
 first-is tick low [] q rising found by go = cc
 first-is tick low (x ∷ xs) q rising found by go =
-    elim (cases_Bool (is_at q.place x)) [
+    elim (cases_Bool (has_arrival_number q.place x)) [
       | inl at ↦ (
           let same : x ≡ q = same_Some x q (rw at at found) in
           subst (λ p. first_in_line (filter (is_eligible_by tick) (x ∷ xs)) ≡ Some p) same

@@ -8,7 +8,7 @@ use Rattle.link_steps.specs.Refusals.{busy}
 use Rattle.link_steps.proofs.AccountOfRows.{left_at-planned}
 use Rattle.link_steps.proofs.RefusalFacts.{unless-none}
 use Rattle.link_steps.specs.Rows.{SourcePacket, planned_from, is_for, left_at}
-use Rattle.link_server.specs.Planned.{IsFrom, size_of}
+use Rattle.link_server.specs.Planned.{IsPlannedFrom, size_of}
 
 -- as many packets are planned as are counted
 pub planned-length : (u gap size count : ℕ) → length (planned_from u gap size count) ≡ count
@@ -16,7 +16,7 @@ unfolding planned_from
 planned-length u gap size zero = refl
 planned-length u gap size (suc count) = ap suc (planned-length (u + gap) gap size count)
 
--- what is planned behind no packets is all that is planned
+-- what is planned after no packets is all that is planned
 pub behind-none : (left more : List SourcePacket) → length left ≡ 0 → more ≡ left ++ more
 behind-none [] more none = refl
 behind-none (p ∷ left) more none = absurd (omega arith)
@@ -32,20 +32,20 @@ for-none t u gap size zero later = refl
 for-none t u gap size (suc count) later = rw (ne_eqb u t (λ same. omega (arith, later, same))) (for-none t (u + gap) gap size count (omega (arith, later)))
 
 -- packets ahead of the clock, of which the first isn't for its tick, have none for it, and all are left behind it
-pub none-due : (t u gap size count : ℕ) → Each (IsFrom t) (planned_from u gap size count) → (u ≡ t → ⊥) → find (is_for t) (planned_from u gap size count) ≡ None
+pub none-due : (t u gap size count : ℕ) → Each (IsPlannedFrom t) (planned_from u gap size count) → (u ≡ t → ⊥) → find (is_for t) (planned_from u gap size count) ≡ None
 unfolding planned_from
 none-due t u gap size zero ahead other = refl
 none-due t u gap size (suc count) ahead other = for-none t u gap size (suc count) (omega (arith, ahead.0, other))
 
-all-behind : (t u gap size count : ℕ) → Each (IsFrom t) (planned_from u gap size count) → (u ≡ t → ⊥) → left_at (t + 1) (planned_from u gap size count) ≡ planned_from u gap size count
+all-behind : (t u gap size count : ℕ) → Each (IsPlannedFrom t) (planned_from u gap size count) → (u ≡ t → ⊥) → left_at (t + 1) (planned_from u gap size count) ≡ planned_from u gap size count
 unfolding planned_from
 all-behind t u gap size zero ahead other = refl
 all-behind t u gap size (suc count) ahead other = left_at-planned (t + 1) u gap size (suc count) (omega (arith, ahead.0, other))
 
-pub none-due-size : (t u gap size count : ℕ) → Each (IsFrom t) (planned_from u gap size count) → (u ≡ t → ⊥) → None ≡ size_of (find (is_for t) (planned_from u gap size count))
+pub none-due-size : (t u gap size count : ℕ) → Each (IsPlannedFrom t) (planned_from u gap size count) → (u ≡ t → ⊥) → None ≡ size_of (find (is_for t) (planned_from u gap size count))
 none-due-size t u gap size count ahead other = sym (ap size_of (none-due t u gap size count ahead other))
 
-pub none-due-left : (t u gap size count : ℕ) → Each (IsFrom t) (planned_from u gap size count) → (u ≡ t → ⊥) → planned_from u gap size count ≡ left_at (t + 1) (planned_from u gap size count)
+pub none-due-left : (t u gap size count : ℕ) → Each (IsPlannedFrom t) (planned_from u gap size count) → (u ≡ t → ⊥) → planned_from u gap size count ≡ left_at (t + 1) (planned_from u gap size count)
 none-due-left t u gap size count ahead other = sym (all-behind t u gap size count ahead other)
 
 -- no packets have none for a tick
@@ -64,7 +64,7 @@ unfolding planned_from
 empty-due-left t u gap size zero none = refl
 empty-due-left t u gap size (suc count) none = absurd (omega (arith, none))
 
--- the first is for the tick of the clock, and those behind it are left
+-- the first is for the tick of the clock, and those after it are left
 pub due-size : (t u gap size count : ℕ) → (count ≡ 0 → ⊥) → u ≡ t → Some size ≡ size_of (find (is_for t) (planned_from u gap size count))
 unfolding planned_from
 due-size t u gap size zero some now = absurd (some refl)

@@ -16,7 +16,7 @@ use Rattle.link_steps.specs.Refusals.{busy}
 use Rattle.link_steps.specs.Replies.{pour_reply}
 use Rattle.link_steps.specs.Rows.{SourcePacket, planned_from, is_for}
 use Rattle.link_steps.specs.BestEffort.{best_step, best_arrival}
-use Rattle.link_steps.specs.Sources.{Rests, Brings, Loses, source_step}
+use Rattle.link_steps.specs.Sources.{Rests, Brings, Drops, source_step}
 use Rattle.link_steps.specs.Split.{whole}
 use Rattle.link_server.specs.Account.{account}
 use Rattle.link_server.specs.Planned.{left_in, size_of}
@@ -58,7 +58,7 @@ pub best-rests : (fits : Bool) (found : Option SourcePacket) → None ≡ size_o
 best-rests fits None none = refl
 best-rests fits (Some p) none = cc
 
-pub best-loses : (fits : Bool) (found : Option SourcePacket) (size : ℕ) → Some size ≡ size_of found → fits ≡ false → source_step fits found ≡ Loses
+pub best-loses : (fits : Bool) (found : Option SourcePacket) (size : ℕ) → Some size ≡ size_of found → fits ≡ false → source_step fits found ≡ Drops
 best-loses fits None size some full = cc
 best-loses fits (Some p) size some full = rw full refl
 

@@ -14,22 +14,22 @@ use Rattle.link_steps.specs.Service.{Arrival}
 use Rattle.link_steps.specs.Sources.{Rests}
 use Rattle.link_steps.proofs.ListFacts.{Each-append, Each-from, Each-if}
 use Rattle.net_units.specs.declared.numbers.Level.{Level}
-use Rattle.link_server.specs.Planned.{IsFrom}
+use Rattle.link_server.specs.Planned.{IsPlannedFrom}
 use Rattle.link_server.specs.Quiet.{StaysUntil, IsQuiet, AreQuiet}
-use Rattle.link_server.specs.Rows.{terms_in, row_in}
+use Rattle.link_server.specs.Rows.{reservation_in, row_in}
 use Rattle.link_server.specs.declared.served_row.ServedRow.{ServedRow}
 use Rattle.link_server.proofs.HoldFacts.{hold-open, hold-closing}
 
 -- ---- a quiet tick
 
 -- no packet is planned for it
-quiet-plan : (until t : ℕ) (left : List SourcePacket) → Each (IsFrom until) left → t < until → find (is_for t) left ≡ None
+quiet-plan : (until t : ℕ) (left : List SourcePacket) → Each (IsPlannedFrom until) left → t < until → find (is_for t) left ≡ None
 quiet-plan until t [] plans before = refl
 quiet-plan until t (p ∷ left) plans before =
     rw (ne_eqb p.tick t (λ same. (let from = plans.0 in omega (arith, from, before, same)))) (quiet-plan until t left plans.1 before)
 
 -- so all that are planned are left behind it
-quiet-left : (until t : ℕ) (left : List SourcePacket) → Each (IsFrom until) left → t < until → left_at (suc t) left ≡ left
+quiet-left : (until t : ℕ) (left : List SourcePacket) → Each (IsPlannedFrom until) left → t < until → left_at (suc t) left ≡ left
 quiet-left until t [] plans before = refl
 quiet-left until t (p ∷ left) plans before =
     let from = plans.0 in
@@ -74,7 +74,7 @@ quiet-lost bounds here until t (row ∷ rows) quiet before =
 -- what is quiet is so until every earlier tick
 quiet-less : (bounds : List ℕ) (until earlier : ℕ) (row : KeptRow) → earlier ≤ until → IsQuiet bounds until row → IsQuiet bounds earlier row
 quiet-less bounds until earlier row less quiet = record {
-  plans = Each-if (IsFrom until) (IsFrom earlier) row.left (λ p from. omega (arith, from, less)) quiet.plans;
+  plans = Each-if (IsPlannedFrom until) (IsPlannedFrom earlier) row.left (λ p from. omega (arith, from, less)) quiet.plans;
   stays = λ t before. quiet.stays t (omega (arith, before, less));
 }
 
@@ -82,19 +82,19 @@ pub all-quiet-less : (bounds : List ℕ) (until earlier : ℕ) (rows : List Kept
 all-quiet-less bounds until earlier rows less = Each-if (IsQuiet bounds until) (IsQuiet bounds earlier) rows (λ row. quiet-less bounds until earlier row less)
 
 -- a row's plan and its hold
-pub quiet-both : (bounds : List ℕ) (planned held until : ℕ) (row : KeptRow) → until ≤ planned → until ≤ held → Each (IsFrom planned) row.left → StaysUntil bounds held row → IsQuiet bounds until row
+pub quiet-both : (bounds : List ℕ) (planned held until : ℕ) (row : KeptRow) → until ≤ planned → until ≤ held → Each (IsPlannedFrom planned) row.left → StaysUntil bounds held row → IsQuiet bounds until row
 quiet-both bounds planned held until row first second plans stays = record {
-  plans = Each-if (IsFrom planned) (IsFrom until) row.left (λ p from. omega (arith, from, first)) plans;
+  plans = Each-if (IsPlannedFrom planned) (IsPlannedFrom until) row.left (λ p from. omega (arith, from, first)) plans;
   stays = λ t before. stays t (omega (arith, before, second));
 }
 
 -- packets that are planned from a tick on are for none before it
-pub planned-quiet : (until u gap size count : ℕ) → until ≤ u → Each (IsFrom until) (planned_from u gap size count)
+pub planned-quiet : (until u gap size count : ℕ) → until ≤ u → Each (IsPlannedFrom until) (planned_from u gap size count)
 unfolding planned_from
 planned-quiet until u gap size zero from = tt
 planned-quiet until u gap size (suc count) from = (from, planned-quiet until (u + gap) gap size count (omega (arith, from)))
 
-pub none-quiet : (until u gap size count : ℕ) → count ≡ 0 → Each (IsFrom until) (planned_from u gap size count)
+pub none-quiet : (until u gap size count : ℕ) → count ≡ 0 → Each (IsPlannedFrom until) (planned_from u gap size count)
 unfolding planned_from
 none-quiet until u gap size zero none = tt
 none-quiet until u gap size (suc count) none = absurd (omega (arith, none))
@@ -113,8 +113,8 @@ closing-stays bounds terms taken last t phase some later =
 
 pub row-stays : (bounds : List ℕ) (until : ℕ) (row : ServedRow) → row.phase ≡ Closing → (row.count ≡ 0 → ⊥) → (row.taken ≡ row.count → until ≤ row.last + last_bound bounds) → StaysUntil bounds until (row_in row)
 row-stays bounds until row phase some later t before =
-    ap (λ last. not (hold_ended bounds (terms_in row) row.taken last t)) (sym row.newest)
-    ∙ ap not (sym (closing-stays bounds (terms_in row) row.taken row.last t phase some (λ all. (let most = later all in omega (arith, most, before)))))
+    ap (λ last. not (hold_ended bounds (reservation_in row) row.taken last t)) (sym row.newest)
+    ∙ ap not (sym (closing-stays bounds (reservation_in row) row.taken row.last t phase some (λ all. (let most = later all in omega (arith, most, before)))))
 
 -- ---- rows that come, change and go
 
@@ -154,4 +154,4 @@ quiet-more bounds until due least rows i row quiet inside is its first second =
 
 -- nothing is known to be due before the first tick
 pub quiet-at-once : (bounds : List ℕ) (rows : List KeptRow) → AreQuiet bounds 0 rows
-quiet-at-once bounds rows = Each-from (IsQuiet bounds 0) rows (λ row. record { plans = Each-from (IsFrom 0) row.left (λ p. omega arith); stays = λ t before. absurd (omega (arith, before)) })
+quiet-at-once bounds rows = Each-from (IsQuiet bounds 0) rows (λ row. record { plans = Each-from (IsPlannedFrom 0) row.left (λ p. omega arith); stays = λ t before. absurd (omega (arith, before)) })

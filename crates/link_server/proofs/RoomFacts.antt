@@ -5,14 +5,14 @@ use Rattle.traffic_contract.specs.Admission.{total}
 use Rattle.traffic_contract.proofs.AdmissionFacts.{total-push}
 use Rattle.link_steps.specs.Buffer.{slots_of}
 use Rattle.link_server.specs.Packets.{arrival_in, here_in}
-use Rattle.link_server.specs.Rows.{terms_in, row_in}
+use Rattle.link_server.specs.Rows.{reservation_in, row_in}
 use Rattle.link_server.specs.Sound.{all_places_of, most_places}
 use Rattle.link_server.specs.declared.served_row.ServedRow.{ServedRow}
 use Rattle.link_server.specs.declared.held_packet.HeldPacket.{HeldPacket}
 
 -- one row more has its places
 pub places-more : (bounds : List ℕ) (rows : List ServedRow) (i : ℕ) (d : ServedRow) → i < length rows
-    → total (all_places_of bounds) (map row_in (take (i + 1) rows)) ≡ total (all_places_of bounds) (map row_in (take i rows)) + suc (slots_of bounds (terms_in (get_or rows i d)))
+    → total (all_places_of bounds) (map row_in (take (i + 1) rows)) ≡ total (all_places_of bounds) (map row_in (take i rows)) + suc (slots_of bounds (reservation_in (get_or rows i d)))
 places-more bounds rows i d inside =
     ap (λ all. total (all_places_of bounds) (map row_in all)) (take_more rows i d inside)
     ∙ ap (total (all_places_of bounds)) (map_push row_in (take i rows) (get_or rows i d))

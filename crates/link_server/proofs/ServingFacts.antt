@@ -14,7 +14,7 @@ use Rattle.traffic_contract.proofs.LoadFacts.{ceil_quotient-some}
 use Rattle.link_server.specs.declared.held_packet.HeldPacket.{HeldPacket}
 use Rattle.link_server.specs.declared.held_packet.Running.{Running}
 use Rattle.link_server.specs.Packets.{here_in, on_in, start_in}
-use Rattle.link_server.specs.Serving.{GoesOn, CanServe}
+use Rattle.link_server.specs.Serving.{ServiceGoesOn, CanServe}
 
 -- those of the packets here that are eligible
 abbrev pub IsDue : ℕ → Arrival → Type 0
@@ -29,16 +29,16 @@ are-due clock (p ∷ here) =
     (λ _. rest)
 
 -- one that starts in the tick leaves later
-starts-on : (shape : LinkShape) (clock : ℕ) (best : Option Arrival) (start : Start) → ((p : Arrival) → best ≡ Some p → IsDue clock p) → start_at clock best ≡ Some start → 1 ≤ start.packet.size → GoesOn shape clock start
+starts-on : (shape : LinkShape) (clock : ℕ) (best : Option Arrival) (start : Start) → ((p : Arrival) → best ≡ Some p → IsDue clock p) → start_at clock best ≡ Some start → 1 ≤ start.packet.size → ServiceGoesOn shape clock start
 starts-on shape clock None start can starts some = cc
 starts-on shape clock (Some p) start can starts some =
     let first : record { packet = p; tick = clock } ≡ start = cc in
     let size : p.size ≡ start.packet.size = ap (λ (s : Start). s.packet.size) first in
     let work = ceil_quotient-some p.size shape.rate shape.rate_least (omega (arith, size, some)) in
-    subst (GoesOn shape clock) first (record { eligible = can p refl; leaves_later = omega (arith, work) })
+    subst (ServiceGoesOn shape clock) first (record { eligible = can p refl; leaves_later = omega (arith, work) })
 
 -- the packet that occupies the link can go on
-goes-on : (shape : LinkShape) (clock : ℕ) (here : List Arrival) (on : Option Start) (start : Start) → CanServe shape clock on → served clock here on ≡ Some start → 1 ≤ start.packet.size → GoesOn shape clock start
+goes-on : (shape : LinkShape) (clock : ℕ) (here : List Arrival) (on : Option Start) (start : Start) → CanServe shape clock on → served clock here on ≡ Some start → 1 ≤ start.packet.size → ServiceGoesOn shape clock start
 goes-on shape clock here (Some went) start can same some = can.goes_on start same
 goes-on shape clock here None start can same some =
     starts-on shape clock (first_in_line (filter (is_eligible_by clock) here)) start
@@ -46,12 +46,12 @@ goes-on shape clock here None start can same some =
     same some
 
 -- so can the one that the code finds to occupy it
-pub running-goes-on : (shape : LinkShape) (clock : ℕ) (here : List HeldPacket) (on occupant : Option Running) (running : Running) → CanServe shape clock (on_in on) → on_in occupant ≡ served clock (here_in here) (on_in on) → occupant ≡ Some running → GoesOn shape clock (start_in running)
+pub running-goes-on : (shape : LinkShape) (clock : ℕ) (here : List HeldPacket) (on occupant : Option Running) (running : Running) → CanServe shape clock (on_in on) → on_in occupant ≡ served clock (here_in here) (on_in on) → occupant ≡ Some running → ServiceGoesOn shape clock (start_in running)
 running-goes-on shape clock here on occupant running can same is =
     goes-on shape clock (here_in here) (on_in on) (start_in running) can (sym same ∙ ap on_in is) running.packet.has_size
 
 -- where its last tick is over it departs
-pub departs-now : (shape : LinkShape) (clock : ℕ) (occupies : Option Start) (occupant : Option Running) (running : Running) (sent : Option Sent) → GoesOn shape clock (start_in running) → on_in occupant ≡ occupies → occupant ≡ Some running → leaves_at shape.rate (start_in running) ≤ clock + 1
+pub departs-now : (shape : LinkShape) (clock : ℕ) (occupies : Option Start) (occupant : Option Running) (running : Running) (sent : Option Sent) → ServiceGoesOn shape clock (start_in running) → on_in occupant ≡ occupies → occupant ≡ Some running → leaves_at shape.rate (start_in running) ≤ clock + 1
     → sent ≡ cond (is_best shape.bounds (start_in running).packet) None (Some (sent_of shape (start_in running))) → sent ≡ departs shape clock occupies
 departs-now shape clock occupies occupant running sent goes same is last made =
     let later = goes.leaves_later in
@@ -60,7 +60,7 @@ departs-now shape clock occupies occupant running sent goes same is last made =
       by-best true = refl
       by-best false = refl
 
-pub best-departs-now : (shape : LinkShape) (clock : ℕ) (occupies : Option Start) (occupant : Option Running) (running : Running) (best : Bool) → GoesOn shape clock (start_in running) → on_in occupant ≡ occupies → occupant ≡ Some running → leaves_at shape.rate (start_in running) ≤ clock + 1
+pub best-departs-now : (shape : LinkShape) (clock : ℕ) (occupies : Option Start) (occupant : Option Running) (running : Running) (best : Bool) → ServiceGoesOn shape clock (start_in running) → on_in occupant ≡ occupies → occupant ≡ Some running → leaves_at shape.rate (start_in running) ≤ clock + 1
     → best ≡ is_best shape.bounds (start_in running).packet → best ≡ best_departs shape clock occupies
 best-departs-now shape clock occupies occupant running best goes same is last made =
     let later = goes.leaves_later in

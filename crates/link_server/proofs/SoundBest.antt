@@ -11,9 +11,9 @@ use Rattle.link_steps.specs.Kept.{Kept, waits_here, is_other, kept_waiting, kept
 use Rattle.link_steps.specs.Lists.{Each}
 use Rattle.link_steps.specs.Rows.{SourcePacket, is_for}
 use Rattle.link_steps.specs.Service.{Arrival, Start}
-use Rattle.link_steps.specs.Sources.{SourceStep, Rests, Brings, Loses, source_step}
+use Rattle.link_steps.specs.Sources.{SourceStep, Rests, Brings, Drops, source_step}
 use Rattle.link_steps.proofs.ListFacts.{Each-filter, Each-find, Each-if, filter-all, filter-none, filter-filter}
-use Rattle.link_server.specs.Sound.{of_channels, best_count, AreNumbered, IsSoundPacket, HasSize, AreAhead}
+use Rattle.link_server.specs.Sound.{of_channels, best_count, AreNumberedWithin, IsSoundPacket, HasSize, AreAhead}
 use Rattle.link_server.proofs.SoundPackets.{HasLead, packets-lead, numbered-filter, count-upto}
 use Rattle.link_server.proofs.SoundRows.{ahead-sizes}
 use Rattle.link_server.proofs.SoundService.{LeavesOne, one-leaves}
@@ -95,7 +95,7 @@ held-channels bounds here lead =
     omega (arith, same, both)
 
 -- those here are as many as wait, and the one that occupies the link
-pub waits-count : (bounds : List ℕ) (here : List Arrival) (on : Option Start) (levels taken : ℕ) → AreNumbered 0 here taken → Each (IsSoundPacket levels taken) here → best_count bounds here ≤ suc (length (filter (waits_here bounds on) here))
+pub waits-count : (bounds : List ℕ) (here : List Arrival) (on : Option Start) (levels taken : ℕ) → AreNumberedWithin 0 here taken → Each (IsSoundPacket levels taken) here → best_count bounds here ≤ suc (length (filter (waits_here bounds on) here))
 unfolding best_count
 waits-count bounds here None levels taken numbered each = omega arith
 waits-count bounds here (Some start) levels taken numbered each =
@@ -110,7 +110,7 @@ waits-count bounds here (Some start) levels taken numbered each =
 abbrev pub IsBestStep : ℕ → ℕ → SourceStep → Type 0
 IsBestStep waiting most (Brings size) = (waiting < most) × (1 ≤ size) × (size ≤ 65536)
 IsBestStep waiting most Rests = Unit {0}
-IsBestStep waiting most Loses = Unit {0}
+IsBestStep waiting most Drops = Unit {0}
 
 best_step-is : (waiting most t u : ℕ) (plan : List SourcePacket) → AreAhead u plan → IsBestStep waiting most (best_step waiting most t plan)
 unfolding best_step
@@ -127,10 +127,10 @@ pub kept_best-is : (shape : LinkShape) (k : Kept) → AreAhead k.clock k.best_le
 unfolding kept_best
 kept_best-is shape k ahead = best_step-is (kept_waiting shape k) shape.best k.clock k.clock k.best_left ahead
 
-pub best-numbered : (step : SourceStep) (bounds : List ℕ) (n t : ℕ) → AreNumbered n (best_packet step bounds (suc n) t) (n + length (best_packet step bounds (suc n) t))
+pub best-numbered : (step : SourceStep) (bounds : List ℕ) (n t : ℕ) → AreNumberedWithin n (best_packet step bounds (suc n) t) (n + length (best_packet step bounds (suc n) t))
 best-numbered (Brings size) bounds n t = (omega arith, omega arith)
 best-numbered Rests bounds n t = omega arith
-best-numbered Loses bounds n t = omega arith
+best-numbered Drops bounds n t = omega arith
 
 pub best-sound : (step : SourceStep) (bounds : List ℕ) (waiting most n more t : ℕ) → IsBestStep waiting most step → n + length (best_packet step bounds (suc n) t) ≤ more → Each (IsSoundPacket (length bounds) more) (best_packet step bounds (suc n) t)
 best-sound (Brings size) bounds waiting most n more t is upto = (
@@ -145,7 +145,7 @@ best-sound (Brings size) bounds waiting most n more t is upto = (
   tt,
 )
 best-sound Rests bounds waiting most n more t is upto = tt
-best-sound Loses bounds waiting most n more t is upto = tt
+best-sound Drops bounds waiting most n more t is upto = tt
 
 -- it is none of a channel's, and one more best-effort packet
 pub best-channels : (step : SourceStep) (bounds : List ℕ) (here : List Arrival) (place t : ℕ) → of_channels bounds (here ++ best_packet step bounds place t) ≡ of_channels bounds here
@@ -154,7 +154,7 @@ best-channels step bounds here place t = filter-append (λ p. not (is_best bound
   by-step : (s : SourceStep) → filter (λ p. not (is_best bounds p)) here ++ filter (λ p. not (is_best bounds p)) (best_packet s bounds place t) ≡ filter (λ p. not (is_best bounds p)) here
   by-step (Brings size) = (let best = lt-ltb (length bounds) (suc (length bounds)) (omega arith) in rw best (append-nil (filter (λ p. not (is_best bounds p)) here)))
   by-step Rests = append-nil (filter (λ p. not (is_best bounds p)) here)
-  by-step Loses = append-nil (filter (λ p. not (is_best bounds p)) here)
+  by-step Drops = append-nil (filter (λ p. not (is_best bounds p)) here)
 
 pub best-upto : (step : SourceStep) (bounds : List ℕ) (here : List Arrival) (place t : ℕ) → best_count bounds (here ++ best_packet step bounds place t) ≤ best_count bounds here + length (best_packet step bounds place t)
 unfolding best_count
@@ -163,8 +163,8 @@ best-upto step bounds here place t =
     omega (arith, both, count-upto (is_best bounds) (best_packet step bounds place t))
 
 -- with it there are no more than may be
-pub best-fits : (shape : LinkShape) (k : Kept) (place t : ℕ) (step : SourceStep) → IsBestStep (kept_waiting shape k) shape.best step → AreNumbered 0 k.here k.taken → Each (IsSoundPacket (length shape.bounds) k.taken) k.here → best_count shape.bounds k.here ≤ suc shape.best → best_count shape.bounds k.here + length (best_packet step shape.bounds place t) ≤ suc shape.best
+pub best-fits : (shape : LinkShape) (k : Kept) (place t : ℕ) (step : SourceStep) → IsBestStep (kept_waiting shape k) shape.best step → AreNumberedWithin 0 k.here k.taken → Each (IsSoundPacket (length shape.bounds) k.taken) k.here → best_count shape.bounds k.here ≤ suc shape.best → best_count shape.bounds k.here + length (best_packet step shape.bounds place t) ≤ suc shape.best
 unfolding kept_waiting
 best-fits shape k place t (Brings size) is numbered each few = omega (arith, is.0, waits-count shape.bounds k.here k.on (length shape.bounds) k.taken numbered each)
 best-fits shape k place t Rests is numbered each few = omega (arith, few)
-best-fits shape k place t Loses is numbered each few = omega (arith, few)
+best-fits shape k place t Drops is numbered each few = omega (arith, few)

@@ -11,7 +11,7 @@ use Rattle.link_steps.specs.Lists.{Each}
 use Rattle.link_steps.specs.Rows.{SourcePacket}
 use Rattle.link_steps.specs.Service.{Arrival}
 use Rattle.link_steps.proofs.ListFacts.{Each-both, Each-if}
-use Rattle.link_server.specs.Planned.{IsFrom}
+use Rattle.link_server.specs.Planned.{IsPlannedFrom}
 use Rattle.link_server.specs.Sources.{IsReady}
 use Rattle.link_server.specs.Sound.{of_channels, places_of, all_places_of, places, most_places, AreAhead, IsSoundRow, IsSound}
 use Rattle.link_server.proofs.SoundBest.{both-count, waits-count, kept_best-is, best-fits}
@@ -40,7 +40,7 @@ brought-room shape room k sound =
 pub sources-room : (shape : LinkShape) (room : ℕ) (k : Kept) → IsSound shape room k → length k.here + length (from_sources shape k) ≤ room
 sources-room shape room k sound = omega (arith, brought-room shape room k sound, length-append (from_sources shape k) (from_best shape k))
 
--- and for a best-effort packet behind them, where fewer wait than may
+-- and for a best-effort packet after them, where fewer wait than may
 pub best-room : (shape : LinkShape) (room : ℕ) (k : Kept) → IsSound shape room k → kept_waiting shape k < shape.best → length k.here + length (from_sources shape k) < room
 unfolding places kept_waiting
 best-room shape room k sound free =
@@ -60,7 +60,7 @@ brought-small shape room k early few sound = omega (arith, sound.taken_most, bro
 -- ---- a row in a tick
 
 -- nothing is planned for an earlier tick
-pub ahead-from : (t u : ℕ) (plan : List SourcePacket) → t ≤ u → AreAhead u plan → Each (IsFrom t) plan
+pub ahead-from : (t u : ℕ) (plan : List SourcePacket) → t ≤ u → AreAhead u plan → Each (IsPlannedFrom t) plan
 ahead-from t u [] from ahead = tt
 ahead-from t u (p ∷ plan) from ahead = (omega (arith, ahead.0), ahead-from t (suc p.tick) plan (omega (arith, ahead.0)) ahead.2)
 

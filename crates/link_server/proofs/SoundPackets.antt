@@ -8,30 +8,30 @@ use Rattle.link_steps.specs.Lists.{Each}
 use Rattle.link_steps.specs.Service.{Arrival}
 use Rattle.link_steps.specs.Sources.{lead_with}
 use Rattle.link_steps.proofs.ListFacts.{Each-if, filter-none}
-use Rattle.link_server.specs.Sound.{AreNumbered, IsSoundPacket}
+use Rattle.link_server.specs.Sound.{AreNumberedWithin, IsSoundPacket}
 use Rattle.link_server.proofs.SoundRows.{lead_with-later}
 
 -- ---- arrival numbers
 
-numbered-lower : (low lower : ℕ) (ps : List Arrival) (high : ℕ) → lower ≤ low → AreNumbered low ps high → AreNumbered lower ps high
+numbered-lower : (low lower : ℕ) (ps : List Arrival) (high : ℕ) → lower ≤ low → AreNumberedWithin low ps high → AreNumberedWithin lower ps high
 numbered-lower low lower [] high less numbered = omega (arith, numbered)
 numbered-lower low lower (p ∷ ps) high less numbered = (omega (arith, numbered.0), numbered.1)
 
--- packets behind others, with arrival numbers above theirs
-pub numbered-append : (low mid high : ℕ) (ps qs : List Arrival) → AreNumbered low ps mid → AreNumbered mid qs high → AreNumbered low (ps ++ qs) high
+-- packets after others, with arrival numbers above theirs
+pub numbered-append : (low mid high : ℕ) (ps qs : List Arrival) → AreNumberedWithin low ps mid → AreNumberedWithin mid qs high → AreNumberedWithin low (ps ++ qs) high
 numbered-append low mid high [] qs first second = numbered-lower mid low qs high first second
 numbered-append low mid high (p ∷ ps) qs first second = (first.0, numbered-append p.place mid high ps qs first.1 second)
 
-pub numbered-filter : (test : Arrival → Bool) (low : ℕ) (ps : List Arrival) (high : ℕ) → AreNumbered low ps high → AreNumbered low (filter test ps) high
+pub numbered-filter : (test : Arrival → Bool) (low : ℕ) (ps : List Arrival) (high : ℕ) → AreNumberedWithin low ps high → AreNumberedWithin low (filter test ps) high
 numbered-filter test low [] high numbered = numbered
 numbered-filter test low (p ∷ ps) high numbered =
     let rest = numbered-filter test p.place ps high numbered.1 in
-    cond_both (test p) (p ∷ filter test ps) (filter test ps) (λ qs. AreNumbered low qs high)
+    cond_both (test p) (p ∷ filter test ps) (filter test ps) (λ qs. AreNumberedWithin low qs high)
     (λ _. (numbered.0, rest))
     (λ _. numbered-lower p.place low (filter test ps) high (omega (arith, numbered.0)) rest)
 
 -- each is above the least
-pub numbered-above : (low : ℕ) (ps : List Arrival) (high : ℕ) → AreNumbered low ps high → Each (λ p. low < p.place) ps
+pub numbered-above : (low : ℕ) (ps : List Arrival) (high : ℕ) → AreNumberedWithin low ps high → Each (λ p. low < p.place) ps
 numbered-above low [] high numbered = tt
 numbered-above low (p ∷ ps) high numbered =
     (numbered.0, Each-if (λ q. p.place < q.place) (λ q. low < q.place) ps (λ q above. omega (arith, numbered.0, above)) (numbered-above p.place ps high numbered.1))

@@ -7,38 +7,38 @@ use Rattle.link_steps.specs.Lists.{change_first, without_first, Each}
 use Rattle.link_steps.specs.Rows.{SourcePacket, planned_from, is_from, left_at}
 use Rattle.link_steps.specs.Sources.{lead_with}
 use Rattle.link_steps.proofs.ListFacts.{Each-append, Each-filter, Each-if, Each-change_first, Each-without_first}
-use Rattle.link_server.specs.Sound.{HasSize, AreAhead, IsApartFrom, AreApart}
+use Rattle.link_server.specs.Sound.{HasSize, AreAhead, IsApartFrom, HaveOwnLeads}
 
 -- ---- leads
 
 -- rows that are taken out leave the others apart
-pub AreApart-filter : (test : KeptRow → Bool) (rows : List KeptRow) → AreApart rows → AreApart (filter test rows)
+pub AreApart-filter : (test : KeptRow → Bool) (rows : List KeptRow) → HaveOwnLeads rows → HaveOwnLeads (filter test rows)
 AreApart-filter test [] apart = tt
 AreApart-filter test (row ∷ rows) apart =
-    cond_both (test row) (row ∷ filter test rows) (filter test rows) AreApart
+    cond_both (test row) (row ∷ filter test rows) (filter test rows) HaveOwnLeads
     (λ _. (Each-filter (IsApartFrom row.lead) test rows apart.0, AreApart-filter test rows apart.1))
     (λ _. AreApart-filter test rows apart.1)
 
-pub AreApart-without_first : (test : KeptRow → Bool) (rows : List KeptRow) → AreApart rows → AreApart (without_first test rows)
+pub AreApart-without_first : (test : KeptRow → Bool) (rows : List KeptRow) → HaveOwnLeads rows → HaveOwnLeads (without_first test rows)
 unfolding without_first
 AreApart-without_first test [] apart = tt
 AreApart-without_first test (row ∷ rows) apart =
-    cond_both (test row) rows (row ∷ without_first test rows) AreApart
+    cond_both (test row) rows (row ∷ without_first test rows) HaveOwnLeads
     (λ _. apart.1)
     (λ _. (Each-without_first (IsApartFrom row.lead) test rows apart.0, AreApart-without_first test rows apart.1))
 
 -- a row that has taken no packet is apart from all
-pub AreApart-push : (rows : List KeptRow) (new : KeptRow) → new.lead ≡ 0 → AreApart rows → AreApart (rows ++ new ∷ [])
+pub AreApart-push : (rows : List KeptRow) (new : KeptRow) → new.lead ≡ 0 → HaveOwnLeads rows → HaveOwnLeads (rows ++ new ∷ [])
 AreApart-push [] new none apart = (tt, tt)
 AreApart-push (row ∷ rows) new none apart =
     (Each-append (IsApartFrom row.lead) rows (new ∷ []) apart.0 (λ same. omega (arith, same, none), tt), AreApart-push rows new none apart.1)
 
 -- a change that keeps the lead
-pub AreApart-changed : (test : KeptRow → Bool) (change : KeptRow → KeptRow) → ((row : KeptRow) → (change row).lead ≡ row.lead) → (rows : List KeptRow) → AreApart rows → AreApart (change_first test change rows)
+pub AreApart-changed : (test : KeptRow → Bool) (change : KeptRow → KeptRow) → ((row : KeptRow) → (change row).lead ≡ row.lead) → (rows : List KeptRow) → HaveOwnLeads rows → HaveOwnLeads (change_first test change rows)
 unfolding change_first
 AreApart-changed test change same [] apart = tt
 AreApart-changed test change same (row ∷ rows) apart =
-    cond_both (test row) (change row ∷ rows) (row ∷ change_first test change rows) AreApart
+    cond_both (test row) (change row ∷ rows) (row ∷ change_first test change rows) HaveOwnLeads
     (λ _. (subst (λ lead. Each (IsApartFrom lead) rows) (sym (same row)) apart.0, apart.1))
     (λ _. (Each-change_first (IsApartFrom row.lead) test change rows (λ other h. subst (λ lead. lead ≡ row.lead → row.lead ≡ 0) (sym (same other)) h) apart.0, AreApart-changed test change same rows apart.1))
 
@@ -67,11 +67,11 @@ lead_with-apart place lead other low apart same =
     (cases_eq other 0)
 
 -- a row that takes a packet stays apart from the others
-pub AreApart-taken : (test : KeptRow → Bool) (change : KeptRow → KeptRow) (place : ℕ) → ((row : KeptRow) → (change row).lead ≡ lead_with row.lead place) → (rows : List KeptRow) → Each (λ row. row.lead < place) rows → AreApart rows → AreApart (change_first test change rows)
+pub AreApart-taken : (test : KeptRow → Bool) (change : KeptRow → KeptRow) (place : ℕ) → ((row : KeptRow) → (change row).lead ≡ lead_with row.lead place) → (rows : List KeptRow) → Each (λ row. row.lead < place) rows → HaveOwnLeads rows → HaveOwnLeads (change_first test change rows)
 unfolding change_first
 AreApart-taken test change place is [] low apart = tt
 AreApart-taken test change place is (row ∷ rows) low apart =
-    cond_both (test row) (change row ∷ rows) (row ∷ change_first test change rows) AreApart
+    cond_both (test row) (change row ∷ rows) (row ∷ change_first test change rows) HaveOwnLeads
     (λ _. (subst (λ lead. Each (IsApartFrom lead) rows) (sym (is row)) (apart-lead_with place row.lead rows low.1 apart.0), apart.1))
     (λ _. (
       Each-change_first (IsApartFrom row.lead) test change rows (λ other h. subst (λ lead. lead ≡ row.lead → row.lead ≡ 0) (sym (is other)) (lead_with-apart place row.lead other.lead low.0 h)) apart.0,

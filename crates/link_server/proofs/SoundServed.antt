@@ -10,13 +10,13 @@ use Rattle.link_steps.specs.Kept.{Kept, leaves_by, still_on, is_other, still_her
 use Rattle.link_steps.specs.Lists.{Each}
 use Rattle.link_steps.specs.Service.{Arrival, Start, leaves_at}
 use Rattle.link_steps.proofs.ListFacts.{Each-filter}
-use Rattle.link_server.specs.Sound.{of_channels, AreNumbered, AreAhead, IsSoundPacket, IsRunning, IsSoundRow, IsSound}
+use Rattle.link_server.specs.Sound.{of_channels, AreNumberedWithin, AreAhead, IsSoundPacket, IsRunning, IsSoundRow, IsSound}
 use Rattle.link_server.proofs.SoundPackets.{HasLead, packets-lead, numbered-filter}
 use Rattle.link_server.proofs.SoundService.{LeavesOne, one-leaves, left-places}
 use Rattle.link_server.proofs.SoundBest.{channels-filter, best-fewer}
 
 -- of the channels' packets one leaves at most
-channels-leave : (start : Start) (bounds : List ℕ) (here : List Arrival) (levels taken : ℕ) → AreNumbered 0 here taken → Each (IsSoundPacket levels taken) here → LeavesOne (of_channels bounds here) (filter (is_other start) (of_channels bounds here))
+channels-leave : (start : Start) (bounds : List ℕ) (here : List Arrival) (levels taken : ℕ) → AreNumberedWithin 0 here taken → Each (IsSoundPacket levels taken) here → LeavesOne (of_channels bounds here) (filter (is_other start) (of_channels bounds here))
 unfolding of_channels
 channels-leave start bounds here levels taken numbered each =
     one-leaves start 0 (filter (λ p. not (is_best bounds p)) here) taken (numbered-filter (λ p. not (is_best bounds p)) 0 here taken numbered) (Each-filter HasLead (λ p. not (is_best bounds p)) here (packets-lead levels taken here each))

@@ -14,16 +14,16 @@ use Rattle.link_steps.proofs.ChangeFacts.{Each-passes}
 use Rattle.link_steps.proofs.ListFacts.{Each-both, Each-filter, Each-if, filter-all}
 use Rattle.link_steps.proofs.ServiceFacts.{first_in_line-fact}
 use Rattle.traffic_contract.proofs.LoadFacts.{ceil_quotient-some}
-use Rattle.link_server.specs.Sound.{places_of, places, AreNumbered, IsApartFrom, AreApart, IsSoundPacket, is_at, IsRunning}
+use Rattle.link_server.specs.Sound.{places_of, places, AreNumberedWithin, IsApartFrom, HaveOwnLeads, IsSoundPacket, has_arrival_number, IsRunning}
 use Rattle.link_server.proofs.SoundPackets.{HasLead, numbered-above}
 
 -- ---- the packet that occupies the link
 
 -- each packet here is the one of its arrival number
 abbrev IsFound : List Arrival → Arrival → Type 0
-IsFound here p = find (is_at p.place) here ≡ Some p
+IsFound here p = find (has_arrival_number p.place) here ≡ Some p
 
-numbered-found : (low : ℕ) (here : List Arrival) (high : ℕ) → AreNumbered low here high → Each (IsFound here) here
+numbered-found : (low : ℕ) (here : List Arrival) (high : ℕ) → AreNumberedWithin low here high → Each (IsFound here) here
 numbered-found low [] high numbered = tt
 numbered-found low (p ∷ here) high numbered = (
   rw (eq-eqb p.place p.place refl) refl,
@@ -38,7 +38,7 @@ record CanStart (t : ℕ) (here : List Arrival) (p : Arrival) : Type 0 where
   eligible : p.eligible ≤ t
   size : 1 ≤ p.size
 
-can-start : (levels taken t : ℕ) (here : List Arrival) → AreNumbered 0 here taken → Each (IsSoundPacket levels taken) here → Each (CanStart t here) (filter (is_eligible_by t) here)
+can-start : (levels taken t : ℕ) (here : List Arrival) → AreNumberedWithin 0 here taken → Each (IsSoundPacket levels taken) here → Each (CanStart t here) (filter (is_eligible_by t) here)
 can-start levels taken t here numbered each =
     let both = Each-both (IsFound here) (IsSoundPacket levels taken) here (numbered-found 0 here taken numbered) each in
     let facts : Each (λ p. IsFound here p × IsSoundPacket levels taken p) (filter (is_eligible_by t) here) = Each-filter (λ p. IsFound here p × IsSoundPacket levels taken p) (is_eligible_by t) here both in
@@ -56,7 +56,7 @@ starts-running shape t here (Some p) can = λ start some.
     subst (IsRunning shape.rate t here) first (record { is_here = starts.is_here; eligible = starts.eligible; begun = omega arith; leaves_later = omega (arith, work) })
 
 -- the one that occupies the link in the tick
-pub served-running : (shape : LinkShape) (levels taken t : ℕ) (here : List Arrival) (on : Option Start) → AreNumbered 0 here taken → Each (IsSoundPacket levels taken) here → ForSome on (IsRunning shape.rate t here) → ForSome (served t here on) (IsRunning shape.rate t here)
+pub served-running : (shape : LinkShape) (levels taken t : ℕ) (here : List Arrival) (on : Option Start) → AreNumberedWithin 0 here taken → Each (IsSoundPacket levels taken) here → ForSome on (IsRunning shape.rate t here) → ForSome (served t here on) (IsRunning shape.rate t here)
 served-running shape levels taken t here (Some start) numbered each running = running
 served-running shape levels taken t here None numbered each running =
     starts-running shape t here (first_in_line (filter (is_eligible_by t) here))
@@ -78,7 +78,7 @@ above-others : (start : Start) (p : Arrival) (here : List Arrival) → start.pac
 above-others start p here same above =
     filter-all (is_other start) here (Each-if (λ q. p.place < q.place) (λ q. is_other start q ≡ true) here (λ q later. ap not (ne_eqb start.packet.place q.place (λ e. absurd (omega (arith, same, later, e))))) above)
 
-pub one-leaves : (start : Start) (low : ℕ) (here : List Arrival) (high : ℕ) → AreNumbered low here high → Each HasLead here → LeavesOne here (filter (is_other start) here)
+pub one-leaves : (start : Start) (low : ℕ) (here : List Arrival) (high : ℕ) → AreNumberedWithin low here high → Each HasLead here → LeavesOne here (filter (is_other start) here)
 unfolding held_packets
 one-leaves start low [] high numbered leads = record {
   lead = 0;
@@ -131,7 +131,7 @@ gain-none lead count (row ∷ rows) some apart =
     ]
 
 -- of rows whose leads are apart one gains at most
-gain-one : (lead count : ℕ) (rows : List KeptRow) → count ≤ lead → AreApart rows → total (gain lead count) rows ≤ count
+gain-one : (lead count : ℕ) (rows : List KeptRow) → count ≤ lead → HaveOwnLeads rows → total (gain lead count) rows ≤ count
 gain-one lead count [] some apart = omega arith
 gain-one lead count (row ∷ rows) some apart =
     elim (cases_Bool (nat_eq lead row.lead)) [
@@ -146,7 +146,7 @@ total-le-both f g h [] less = omega arith
 total-le-both f g h (x ∷ xs) less = omega (arith, less x, total-le-both f g h xs less)
 
 -- so the places are enough for the packets that are left
-pub left-places : (bounds : List ℕ) (here others : List Arrival) (rows : List KeptRow) → AreApart rows → LeavesOne here others → places bounds others rows ≤ places bounds here rows
+pub left-places : (bounds : List ℕ) (here others : List Arrival) (rows : List KeptRow) → HaveOwnLeads rows → LeavesOne here others → places bounds others rows ≤ places bounds here rows
 unfolding places
 left-places bounds here others rows apart leaves =
     let gained = gain-one leaves.lead leaves.count rows leaves.has_lead apart in

@@ -11,7 +11,7 @@ use Rattle.net_units.specs.declared.numbers.Level.{Level}
 use Rattle.net_units.specs.declared.numbers.LinkNo.{LinkNo}
 use Rattle.traffic_contract.proofs.AdmissionFacts.{total-le}
 use Rattle.traffic_contract.proofs.LongerWindows.{most_in-mono}
-use Rattle.traffic_contract.specs.Contract.{Terms, IsContract, most_in}
+use Rattle.traffic_contract.specs.Contract.{Traffic, IsContract, most_in}
 use Rattle.link_steps.specs.declared.asks.Ask.TheVariants.{Relax, Deny, Submit, Release, Pour}
 use Rattle.link_steps.specs.declared.replies.Phase.TheVariants.{Committed}
 use Rattle.link_steps.specs.declared.replies.Reply.{Reply}
@@ -31,7 +31,7 @@ use Rattle.link_steps.specs.Service.{Arrival}
 use Rattle.link_steps.proofs.ChangeFacts.{Each-change_found}
 use Rattle.link_steps.proofs.ListFacts.{Each-append, Each-find, Each-without_first, find-map, total-change_first-le, total-without_first-le}
 use Rattle.link_steps.proofs.ReplyFacts.{may-reach, FitsOffer, relax-tells, submit-tells, release-tells, pour-tells}
-use Rattle.link_server.specs.Sound.{of_channels, best_count, places_of, all_places_of, places, most_places, AreAhead, AreApart, IsSoundRow, IsSound}
+use Rattle.link_server.specs.Sound.{of_channels, best_count, places_of, all_places_of, places, most_places, AreAhead, HaveOwnLeads, IsSoundRow, IsSound}
 use Rattle.link_server.proofs.SoundBest.{both-count}
 use Rattle.link_server.proofs.SoundRows.{AreApart-without_first, AreApart-push, AreApart-changed, planned-ahead}
 
@@ -73,7 +73,7 @@ abbrev pub AreSoundRows : LinkShape → Kept → List KeptRow → Type 0
 AreSoundRows shape k rows = Each (IsSoundRow (length shape.bounds) k.clock k.taken) rows
 
 -- the account with other rows
-pub sound-rows : (shape : LinkShape) (room larger : ℕ) (k : Kept) (rows : List KeptRow) → IsSound shape room k → AreApart rows → AreSoundRows shape k rows → places shape.bounds (of_channels shape.bounds k.here) rows + suc shape.best ≤ larger → IsSound shape larger (with_kept_rows k rows)
+pub sound-rows : (shape : LinkShape) (room larger : ℕ) (k : Kept) (rows : List KeptRow) → IsSound shape room k → HaveOwnLeads rows → AreSoundRows shape k rows → places shape.bounds (of_channels shape.bounds k.here) rows + suc shape.best ≤ larger → IsSound shape larger (with_kept_rows k rows)
 sound-rows shape room larger k rows sound apart each fits = record {
   taken_most = sound.taken_most;
   numbered = sound.numbered;
@@ -225,7 +225,7 @@ unfolding places most_places
 places-most bounds here rows = omega (arith, both-count bounds here, total-le (places_of bounds (of_channels bounds here)) (all_places_of bounds) rows (λ k d inside. omega arith))
 
 -- a new row is sound
-new-sound : (levels clock taken : ℕ) (chan : ChanNo) (contract : Terms) (kind : Kind) (first : Bool) (next : Option LinkNo) (up_reach : ℕ) (level reach : Level) → ReserveFits contract up_reach first → level_number level ≤ levels → level_number reach ≤ levels → IsSoundRow levels clock taken (new_kept (tentative chan contract kind first next up_reach level reach))
+new-sound : (levels clock taken : ℕ) (chan : ChanNo) (contract : Traffic) (kind : Kind) (first : Bool) (next : Option LinkNo) (up_reach : ℕ) (level reach : Level) → ReserveFits contract up_reach first → level_number level ≤ levels → level_number reach ≤ levels → IsSoundRow levels clock taken (new_kept (tentative chan contract kind first next up_reach level reach))
 new-sound levels clock taken chan contract kind first next up_reach level reach fits level_most reach_most = record {
   contract = fits.is_contract;
   level_most = level_most;
@@ -238,7 +238,7 @@ new-sound levels clock taken chan contract kind first next up_reach level reach 
 }
 
 -- the account with a row more, at an offer that the link may make, where its places are made room for
-pub sound-reserve : (shape : LinkShape) (room : ℕ) (k : Kept) (chan : ChanNo) (contract : Terms) (kind : Kind) (delay up_reach : ℕ) (first : Bool) (next : Option LinkNo) (level reach : Level) → ReserveFits contract up_reach first → IsSound shape room k → MayOffer shape (map kept_terms k.rows) chan contract delay up_reach level reach → most_places shape.bounds k.here (k.rows ++ new_kept (tentative chan contract kind first next up_reach level reach) ∷ []) + suc shape.best ≤ room → IsSound shape room (with_kept_rows k (k.rows ++ new_kept (tentative chan contract kind first next up_reach level reach) ∷ []))
+pub sound-reserve : (shape : LinkShape) (room : ℕ) (k : Kept) (chan : ChanNo) (contract : Traffic) (kind : Kind) (delay up_reach : ℕ) (first : Bool) (next : Option LinkNo) (level reach : Level) → ReserveFits contract up_reach first → IsSound shape room k → MayOffer shape (map kept_terms k.rows) chan contract delay up_reach level reach → most_places shape.bounds k.here (k.rows ++ new_kept (tentative chan contract kind first next up_reach level reach) ∷ []) + suc shape.best ≤ room → IsSound shape room (with_kept_rows k (k.rows ++ new_kept (tentative chan contract kind first next up_reach level reach) ∷ []))
 sound-reserve shape room k chan contract kind delay up_reach first next level reach fits sound may enough =
     let row : KeptRow = new_kept (tentative chan contract kind first next up_reach level reach) in
     sound-rows shape room room k (k.rows ++ row ∷ []) sound

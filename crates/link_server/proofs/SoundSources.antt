@@ -11,9 +11,9 @@ use Rattle.link_steps.specs.Kept.{Kept, KeptRow, kept_stays, kept_step, kept_tic
 use Rattle.link_steps.specs.Lists.{Each}
 use Rattle.link_steps.specs.Rows.{SourcePacket, is_for, left_at}
 use Rattle.link_steps.specs.Service.{Arrival}
-use Rattle.link_steps.specs.Sources.{SourceStep, Rests, Brings, Loses, lead_with, source_step, taken_by}
+use Rattle.link_steps.specs.Sources.{SourceStep, Rests, Brings, Drops, lead_with, source_step, taken_by}
 use Rattle.link_steps.proofs.ListFacts.{Each-append, Each-filter, Each-find, Each-if}
-use Rattle.link_server.specs.Sound.{places_of, places, of_channels, best_count, AreNumbered, HasSize, AreAhead, IsApartFrom, AreApart, IsSoundPacket, IsSoundRow, IsSound, with_brought}
+use Rattle.link_server.specs.Sound.{places_of, places, of_channels, best_count, AreNumberedWithin, HasSize, AreAhead, IsApartFrom, HaveOwnLeads, IsSoundPacket, IsSoundRow, IsSound, with_brought}
 use Rattle.link_server.proofs.SoundPackets.{HasLead, packets-lead, numbered-append, held-more, held-taken}
 use Rattle.link_server.proofs.SoundBest.{IsChannels, held-channels, channels-more, channels-lead, best-more, kept_best-is, best-numbered, best-sound, best-channels, best-upto, best-fits}
 use Rattle.link_server.proofs.SoundRows.{AreApart-filter, apart-lead_with, lead_with-first, lead_with-later, ahead-earlier, ahead-sizes, left-ahead}
@@ -26,7 +26,7 @@ use Rattle.link_server.proofs.SoundTaking.{lead_with-most, taken-sound, more-sou
 abbrev pub IsStep : List ℕ → List Arrival → KeptRow → SourceStep → Type 0
 IsStep bounds here row (Brings size) = (held_packets row.lead here < slots_of bounds row.terms) × (1 ≤ size) × (size ≤ 65536)
 IsStep bounds here row Rests = Unit {0}
-IsStep bounds here row Loses = Unit {0}
+IsStep bounds here row Drops = Unit {0}
 
 pub kept_step-is : (bounds : List ℕ) (here : List Arrival) (t u : ℕ) (row : KeptRow) → AreAhead u row.left → IsStep bounds here row (kept_step bounds here t row)
 unfolding kept_step
@@ -40,17 +40,17 @@ kept_step-is bounds here t u row ahead = by-found (has_slot bounds row.terms row
       (ltb-true (held_packets row.lead here) (slots_of bounds row.terms) free, size.least, size.most)
 
 -- the packet, if there is one, has the next arrival number
-packet-numbered : (step : SourceStep) (t taken : ℕ) (row : KeptRow) → AreNumbered taken (kept_packet step t (suc taken) row) (taken + taken_by step)
+packet-numbered : (step : SourceStep) (t taken : ℕ) (row : KeptRow) → AreNumberedWithin taken (kept_packet step t (suc taken) row) (taken + taken_by step)
 packet-numbered (Brings size) t taken row = (omega arith, omega arith)
 packet-numbered Rests t taken row = omega arith
-packet-numbered Loses t taken row = omega arith
+packet-numbered Drops t taken row = omega arith
 
 -- its place is one of the row's free slots
 step-places : (bounds : List ℕ) (here chans before behind : List Arrival) (t place : ℕ) (row : KeptRow) (step : SourceStep) → ((l : ℕ) → held_packets l chans ≤ held_packets l here) → Each HasLead chans → IsStep bounds here row step → taken_by step + places_of bounds (chans ++ (before ++ (kept_packet step t place row ++ behind))) (kept_after_step step t place row) ≤ places_of bounds chans row
 step-places bounds here chans before behind t place row (Brings size) less leads is =
     omega (arith, places-taken bounds chans (chans ++ (before ++ (kept_packet (Brings size) t place row ++ behind))) place (kept_tick row t) row (omega (arith, is.0, less row.lead)) (held-taken row.lead place chans before _ behind leads refl))
 step-places bounds here chans before behind t place row Rests less leads is = omega (arith, held-more row.lead chans (before ++ behind))
-step-places bounds here chans before behind t place row Loses less leads is = omega (arith, held-more row.lead chans (before ++ behind))
+step-places bounds here chans before behind t place row Drops less leads is = omega (arith, held-more row.lead chans (before ++ behind))
 
 -- the row without what was planned for the tick
 past-sound : (levels t taken : ℕ) (row : KeptRow) → IsSoundRow levels t taken row → IsSoundRow levels (suc t) taken (past_tick t row)
@@ -70,25 +70,25 @@ step-sound : (levels t before_all taken more : ℕ) (row : KeptRow) (step : Sour
 step-sound levels t before_all taken more row (Brings size) less upto sound =
     taken-sound levels (suc t) before_all more (suc taken) (kept_tick row t) (past_tick t row) (omega arith) (omega arith) (omega (arith, sound.taken_most)) (past-sound levels t before_all row sound)
 step-sound levels t before_all taken more row Rests less upto sound = more-sound levels (suc t) before_all more (past_tick t row) (omega arith) (past-sound levels t before_all row sound)
-step-sound levels t before_all taken more row Loses less upto sound = more-sound levels (suc t) before_all more (past_tick t row) (omega arith) (past-sound levels t before_all row sound)
+step-sound levels t before_all taken more row Drops less upto sound = more-sound levels (suc t) before_all more (past_tick t row) (omega arith) (past-sound levels t before_all row sound)
 
 -- the packet that it brings
 step-packet : (levels t before_all taken more : ℕ) (bounds : List ℕ) (here : List Arrival) (row : KeptRow) (step : SourceStep) → before_all ≤ taken → taken + taken_by step ≤ more → IsStep bounds here row step → IsSoundRow levels t before_all row → Each (IsSoundPacket levels more) (kept_packet step t (suc taken) row)
 step-packet levels t before_all taken more bounds here row (Brings size) less upto is sound =
     (packet-sound levels t before_all more (suc taken) (suc row.taken) size t (kept_tick row t) row (omega arith) (omega arith) (omega arith) is.1 is.2 sound, tt)
 step-packet levels t before_all taken more bounds here row Rests less upto is sound = tt
-step-packet levels t before_all taken more bounds here row Loses less upto is sound = tt
+step-packet levels t before_all taken more bounds here row Drops less upto is sound = tt
 
 -- its lead afterwards: the one that it had, or else the new arrival number
 step-lead : (P : ℕ → Type 0) (t place : ℕ) (row : KeptRow) (step : SourceStep) → P row.lead → P (lead_with row.lead place) → P (kept_after_step step t place row).lead
 step-lead P t place row (Brings size) before new = new
 step-lead P t place row Rests before new = before
-step-lead P t place row Loses before new = before
+step-lead P t place row Drops before new = before
 
 step-lead-most : (t taken : ℕ) (row : KeptRow) (step : SourceStep) → row.lead ≤ taken → (kept_after_step step t (suc taken) row).lead ≤ taken + taken_by step
 step-lead-most t taken row (Brings size) most = omega (arith, lead_with-most row.lead (suc taken) (suc taken) (omega arith) (omega arith))
 step-lead-most t taken row Rests most = omega arith
-step-lead-most t taken row Loses most = omega arith
+step-lead-most t taken row Drops most = omega arith
 
 -- ---- all rows
 
@@ -113,7 +113,7 @@ sources-places bounds here chans before t taken (row ∷ rows) less leads steps 
     omega (arith, first, rest, length-append packet behind, packet-length step t (suc taken) row)
 
 -- they have the next arrival numbers
-pub sources-numbered : (bounds : List ℕ) (here : List Arrival) (t taken : ℕ) (rows : List KeptRow) → AreNumbered taken (kept_packets bounds here t taken rows) (taken + length (kept_packets bounds here t taken rows))
+pub sources-numbered : (bounds : List ℕ) (here : List Arrival) (t taken : ℕ) (rows : List KeptRow) → AreNumberedWithin taken (kept_packets bounds here t taken rows) (taken + length (kept_packets bounds here t taken rows))
 unfolding kept_packets
 sources-numbered bounds here t taken [] = omega arith
 sources-numbered bounds here t taken (row ∷ rows) =
@@ -121,7 +121,7 @@ sources-numbered bounds here t taken (row ∷ rows) =
     let packet : List Arrival = kept_packet (kept_step bounds here t row) t (suc taken) row in
     let behind : List Arrival = kept_packets bounds here t (taken + taken_by (kept_step bounds here t row)) rows in
     let e : taken + length (packet ++ behind) ≡ taken + taken_by step + length behind = omega (arith, length-append packet behind, packet-length step t (suc taken) row) in
-    subst (AreNumbered taken (packet ++ behind)) (sym e)
+    subst (AreNumberedWithin taken (packet ++ behind)) (sym e)
     (numbered-append taken (taken + taken_by step) (taken + taken_by step + length behind) packet behind (packet-numbered step t taken row) (sources-numbered bounds here t (taken + taken_by step) rows))
 
 -- and are sound
@@ -163,7 +163,7 @@ leads-after P bounds here t taken (row ∷ rows) new each = (
 )
 
 -- and their leads are apart
-pub sources-apart : (bounds : List ℕ) (here : List Arrival) (t taken : ℕ) (rows : List KeptRow) → Each (λ row. row.lead ≤ taken) rows → AreApart rows → AreApart (kept_rows_after bounds here t taken rows)
+pub sources-apart : (bounds : List ℕ) (here : List Arrival) (t taken : ℕ) (rows : List KeptRow) → Each (λ row. row.lead ≤ taken) rows → HaveOwnLeads rows → HaveOwnLeads (kept_rows_after bounds here t taken rows)
 unfolding kept_rows_after
 sources-apart bounds here t taken [] most apart = tt
 sources-apart bounds here t taken (row ∷ rows) most apart =
@@ -192,7 +192,7 @@ sources-channels bounds here levels t before_all taken (row ∷ rows) less each 
       one : (step : SourceStep) → Each (IsChannels bounds) (kept_packet step t (suc taken) row)
       one (Brings size) = (omega (arith, less, each.0.level_most), tt)
       one Rests = tt
-      one Loses = tt
+      one Drops = tt
 
 pub brought-channels : (shape : LinkShape) (room : ℕ) (k : Kept) → IsSound shape room k → Each (IsChannels shape.bounds) (from_sources shape k)
 brought-channels shape room k sound = sources-channels shape.bounds k.here (length shape.bounds) k.clock k.taken k.taken (held_rows shape k) (omega arith) (held-sound shape room k sound)
@@ -246,7 +246,7 @@ brought-sound shape room k sound =
     record {
       taken_most = omega (arith, sound.taken_most, longer);
       numbered = numbered-append 0 k.taken more k.here (brought shape k) sound.numbered
-          (subst (AreNumbered k.taken (brought shape k)) (omega (arith, parts))
+          (subst (AreNumberedWithin k.taken (brought shape k)) (omega (arith, parts))
           (numbered-append k.taken (k.taken + length src) (k.taken + length src + length best) src best (sources-numbered shape.bounds k.here k.clock k.taken rows) (best-numbered (kept_best shape k) shape.bounds (k.taken + length src) k.clock)));
       packets = Each-append (IsSoundPacket levels more) k.here (brought shape k) (packets-more levels k.taken more k.here (omega arith) sound.packets)
           (Each-append (IsSoundPacket levels more) src best

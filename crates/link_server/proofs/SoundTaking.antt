@@ -23,7 +23,7 @@ use Rattle.link_steps.specs.Service.{Arrival, Start}
 use Rattle.link_steps.specs.Sources.{lead_with, arrival_at}
 use Rattle.link_steps.proofs.ListFacts.{Each-append, Each-find, Each-if}
 use Rattle.link_steps.proofs.ReplyFacts.{arrive-tells}
-use Rattle.link_server.specs.Sound.{places_of, places, of_channels, IsSoundPacket, is_at, IsRunning, IsSoundRow, IsSound}
+use Rattle.link_server.specs.Sound.{places_of, places, of_channels, IsSoundPacket, has_arrival_number, IsRunning, IsSoundRow, IsSound}
 use Rattle.link_server.proofs.SoundPackets.{packets-lead, numbered-append, held-more, held-taken}
 use Rattle.link_server.proofs.SoundBest.{held-channels, channels-more, channels-lead, best-more}
 use Rattle.link_server.proofs.SoundRows.{AreApart-taken, lead_with-first, lead_with-later}
@@ -108,7 +108,7 @@ places-more bounds here new row = omega (arith, held-more row.lead here new)
 -- it is found among more packets too
 pub running-more : (rate clock : ℕ) (here new : List Arrival) (start : Start) → IsRunning rate clock here start → IsRunning rate clock (here ++ new) start
 running-more rate clock here new start running = record {
-  is_here = find-append (is_at start.packet.place) here new ∙ ap (λ first. option_or first (find (is_at start.packet.place) new)) running.is_here;
+  is_here = find-append (has_arrival_number start.packet.place) here new ∙ ap (λ first. option_or first (find (has_arrival_number start.packet.place) new)) running.is_here;
   eligible = running.eligible;
   begun = running.begun;
   leaves_later = running.leaves_later;

@@ -7,10 +7,10 @@ use Rattle.link_steps.specs.Buffer.{has_slot}
 use Rattle.link_steps.specs.Kept.{KeptRow, kept_step, kept_tick, kept_with, kept_packet, kept_after_step, past_tick}
 use Rattle.link_steps.specs.Rows.{SourcePacket, is_for}
 use Rattle.link_steps.specs.Service.{Arrival}
-use Rattle.link_steps.specs.Sources.{SourceStep, Rests, Brings, Loses, source_step, arrival_at, taken_by, lost_by}
+use Rattle.link_steps.specs.Sources.{SourceStep, Rests, Brings, Drops, source_step, arrival_at, taken_by, dropped_by}
 use Rattle.link_server.specs.Planned.{size_of}
 use Rattle.link_server.specs.Packets.{arrival_in, here_in}
-use Rattle.link_server.specs.Rows.{terms_in, row_in}
+use Rattle.link_server.specs.Rows.{reservation_in, row_in}
 use Rattle.link_server.specs.declared.served_row.ServedRow.{ServedRow}
 use Rattle.link_server.specs.declared.held_packet.HeldPacket.{HeldPacket}
 
@@ -19,7 +19,7 @@ rests-where-none true None none = refl
 rests-where-none false None none = refl
 rests-where-none slot (Some p) none = absurd (none-some p.size none)
 
-loses-where-full : (planned : Option SourcePacket) (size : ℕ) → Some size ≡ size_of planned → source_step false planned ≡ Loses
+loses-where-full : (planned : Option SourcePacket) (size : ℕ) → Some size ≡ size_of planned → source_step false planned ≡ Drops
 loses-where-full None size some = absurd (none-some size (sym some))
 loses-where-full (Some p) size some = refl
 
@@ -33,7 +33,7 @@ unfolding kept_step
 step-rests bounds here t row none = rests-where-none (has_slot bounds row.terms row.lead here) (find (is_for t) row.left) none
 
 -- with each slot taken it loses the packet
-pub step-loses : (bounds : List ℕ) (here : List Arrival) (t size : ℕ) (row : KeptRow) → Some size ≡ size_of (find (is_for t) row.left) → has_slot bounds row.terms row.lead here ≡ false → kept_step bounds here t row ≡ Loses
+pub step-loses : (bounds : List ℕ) (here : List Arrival) (t size : ℕ) (row : KeptRow) → Some size ≡ size_of (find (is_for t) row.left) → has_slot bounds row.terms row.lead here ≡ false → kept_step bounds here t row ≡ Drops
 unfolding kept_step
 step-loses bounds here t size row some full = ap (λ slot. source_step slot (find (is_for t) row.left)) full ∙ loses-where-full (find (is_for t) row.left) size some
 
@@ -46,24 +46,24 @@ step-brings bounds here t size row some free = ap (λ slot. source_step slot (fi
 pub packet-length : (step : SourceStep) (t place : ℕ) (row : KeptRow) → length (kept_packet step t place row) ≡ taken_by step
 packet-length (Brings size) t place row = refl
 packet-length Rests t place row = refl
-packet-length Loses t place row = refl
+packet-length Drops t place row = refl
 
-pub lost_by-most : (step : SourceStep) → lost_by step ≤ 1
+pub lost_by-most : (step : SourceStep) → dropped_by step ≤ 1
 lost_by-most (Brings size) = omega arith
 lost_by-most Rests = omega arith
-lost_by-most Loses = omega arith
+lost_by-most Drops = omega arith
 
 -- the slots of a row whose packet for the tick is no longer left are those that it had
 pub slot-same : (bounds : List ℕ) (t before : ℕ) (shown items : List HeldPacket) (new old : ServedRow) → shown ≡ items → row_in new ≡ past_tick t (row_in old)
-    → has_slot bounds (terms_in new) new.lead (here_in (take before shown)) ≡ has_slot bounds (terms_in old) old.lead (take before (here_in items))
+    → has_slot bounds (reservation_in new) new.lead (here_in (take before shown)) ≡ has_slot bounds (reservation_in old) old.lead (take before (here_in items))
 slot-same bounds t before shown items new old all same =
     ap (λ row. has_slot bounds row.terms row.lead (here_in (take before shown))) same
-    ∙ ap (λ packets. has_slot bounds (terms_in old) old.lead (here_in (take before packets))) all
-    ∙ ap (has_slot bounds (terms_in old) old.lead) (sym (take-map arrival_in before items))
+    ∙ ap (λ packets. has_slot bounds (reservation_in old) old.lead (here_in (take before packets))) all
+    ∙ ap (has_slot bounds (reservation_in old) old.lead) (sym (take-map arrival_in before items))
 
--- the packet that such a row takes, behind those here
+-- the packet that such a row takes, after those here
 pub brought-here : (t size taken place : ℕ) (items new_items : List HeldPacket) (packet : HeldPacket) (new old : ServedRow) → place ≡ taken + 1 → new_items ≡ items ++ packet ∷ [] → row_in new ≡ past_tick t (row_in old)
-    → arrival_in packet ≡ arrival_at (terms_in new) new.lead place (suc new.taken) size t (kept_tick (row_in new) t)
+    → arrival_in packet ≡ arrival_at (reservation_in new) new.lead place (suc new.taken) size t (kept_tick (row_in new) t)
     → here_in new_items ≡ here_in items ++ kept_packet (Brings size) t (suc taken) (row_in old)
 brought-here t size taken place items new_items packet new old number pushed same taking =
     let next : place ≡ suc taken = omega (arith, number) in
@@ -71,7 +71,7 @@ brought-here t size taken place items new_items packet new old number pushed sam
     ∙ map_push arrival_in items packet
     ∙ ap (λ p. here_in items ++ p ∷ []) (taking
     ∙ ap (λ row. arrival_at row.terms row.lead place (suc row.taken) size t (kept_tick row t)) same
-    ∙ ap (λ n. arrival_at (terms_in old) old.lead n (suc old.taken) size t (kept_tick (row_in old) t)) next)
+    ∙ ap (λ n. arrival_at (reservation_in old) old.lead n (suc old.taken) size t (kept_tick (row_in old) t)) next)
 
 -- and the row afterwards
 pub brought-row : (t size taken place : ℕ) (last new old : ServedRow) → place ≡ taken + 1 → row_in new ≡ past_tick t (row_in old)

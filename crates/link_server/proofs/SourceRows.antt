@@ -1,4 +1,4 @@
--- The rows make their steps of a tick one after another: what the first have done, and what those behind do after them,
+-- The rows make their steps of a tick one after another: what the first have done, and what those after do after them,
 -- is together what all do.
 use Rattle.std.proofs.Common.{◌≡◌, ℕ, zero, suc, ◌+◌, ◌<◌, ◌≤◌, Bool, true, false, List, [], ◌∷◌, ◌++◌, length, map, take, drop, get_or, set, refl, sym, ap, ◌∙◌, subst, arith}
 use Rattle.std.specs.Prelude.{if◌then◌else◌}
@@ -6,9 +6,9 @@ use Rattle.std.proofs.lemmas.List.{drop_more, drop-drop, drop-set-lt, take_more_
 use Rattle.link_steps.specs.Kept.{KeptRow, kept_packet, kept_after_step, kept_packets, kept_rows_after, kept_lost}
 use Rattle.link_steps.specs.Lists.{Each}
 use Rattle.link_steps.specs.Service.{Arrival}
-use Rattle.link_steps.specs.Sources.{SourceStep, Rests, Brings, Loses, taken_by, lost_by}
-use Rattle.link_server.specs.Rows.{terms_in, row_in}
-use Rattle.link_server.specs.Sources.{step_in, brought_by, rows_by, lost_by_rows, IsReady, AreReady}
+use Rattle.link_steps.specs.Sources.{SourceStep, Rests, Brings, Drops, taken_by, dropped_by}
+use Rattle.link_server.specs.Rows.{reservation_in, row_in}
+use Rattle.link_server.specs.Sources.{step_in, brought_by, served_rows_after, lost_by_rows, IsReady, AreReady}
 use Rattle.link_server.specs.Packets.{arrival_in, here_in}
 use Rattle.link_server.specs.declared.served_row.ServedRow.{ServedRow}
 use Rattle.link_server.specs.declared.held_packet.HeldPacket.{HeldPacket}
@@ -17,7 +17,7 @@ use Rattle.link_server.proofs.SourceFacts.{packet-length, lost_by-most}
 -- the first i of the rows have made their step
 pub record HaveStepped (bounds : List ℕ) (was : List Arrival) (t before : ℕ) (old : List ServedRow) (i : ℕ) (rows : List ServedRow) (now : List Arrival) (count dropped : ℕ) : Type 0 where
   pub behind : drop i rows ≡ drop i old
-  pub front : map row_in (take i rows) ++ rows_by bounds was t count (drop i old) ≡ rows_by bounds was t before old
+  pub front : map row_in (take i rows) ++ served_rows_after bounds was t count (drop i old) ≡ served_rows_after bounds was t before old
   pub here : now ++ brought_by bounds was t count (drop i old) ≡ was ++ brought_by bounds was t before old
   pub taken : count + length (brought_by bounds was t count (drop i old)) ≡ before + length (brought_by bounds was t before old)
   pub lost : dropped + lost_by_rows bounds was t (drop i old) ≡ lost_by_rows bounds was t old
@@ -27,11 +27,11 @@ pub record HaveStepped (bounds : List ℕ) (was : List Arrival) (t before : ℕ)
 pub none-stepped : (bounds : List ℕ) (was : List Arrival) (t before : ℕ) (old : List ServedRow) → HaveStepped bounds was t before old 0 old was before 0
 none-stepped bounds was t before old = record { behind = refl; front = refl; here = refl; taken = refl; lost = omega arith; few = omega arith }
 
--- rows that are the same from one on are the same behind it
+-- rows that are the same from one on are the same after it
 behind-next : (old rows : List ServedRow) (i : ℕ) → drop i rows ≡ drop i old → drop (i + 1) old ≡ drop (i + 1) rows
 behind-next old rows i behind = sym (drop-drop 1 i old) ∙ ap (drop 1) (sym behind) ∙ drop-drop 1 i rows
 
--- the packets that they take are those of that one, and then those of the rows behind it
+-- the packets that they take are those of that one, and then those of the rows after it
 brought-from : (bounds : List ℕ) (was : List Arrival) (t taken : ℕ) (old : List ServedRow) (i : ℕ) (rows : List ServedRow) (d : ServedRow) → drop i rows ≡ drop i old → i < length rows
     → length (brought_by bounds was t taken (drop i old)) ≡ taken_by (step_in bounds was t (get_or rows i d)) + length (brought_by bounds was t (taken + taken_by (step_in bounds was t (get_or rows i d))) (drop (i + 1) old))
 unfolding kept_packets
@@ -66,7 +66,7 @@ pub one-stepped : (bounds : List ℕ) (was : List Arrival) (t before : ℕ) (old
     → row_in new ≡ kept_after_step (step_in bounds was t (get_or rows i d)) t (suc taken) (row_in (get_or rows i d))
     → now ≡ here ++ kept_packet (step_in bounds was t (get_or rows i d)) t (suc taken) (row_in (get_or rows i d))
     → taken' ≡ taken + taken_by (step_in bounds was t (get_or rows i d))
-    → lost' ≡ lost + lost_by (step_in bounds was t (get_or rows i d))
+    → lost' ≡ lost + dropped_by (step_in bounds was t (get_or rows i d))
     → HaveStepped bounds was t before old (i + 1) (set rows i new) now taken' lost'
 unfolding kept_packets kept_rows_after kept_lost
 one-stepped bounds was t before old i rows here taken lost d new now taken' lost' so inside stepped brought more dropped =
@@ -76,18 +76,18 @@ one-stepped bounds was t before old i rows here taken lost d new now taken' lost
     let front = behind-next old rows i so.behind in
     let packets = brought-from bounds was t taken old i rows d so.behind inside in
     let same : length (brought_by bounds was t taken' (drop (i + 1) old)) ≡ length (brought_by bounds was t (taken + taken_by step) (drop (i + 1) old)) = ap (λ n. length (brought_by bounds was t n (drop (i + 1) old))) more in
-    let losses : lost_by_rows bounds was t (drop i old) ≡ lost_by step + lost_by_rows bounds was t (drop (i + 1) old) =
-    ap (lost_by_rows bounds was t) rest ∙ ap (λ behind. lost_by step + lost_by_rows bounds was t behind) (sym front) in
+    let losses : lost_by_rows bounds was t (drop i old) ≡ dropped_by step + lost_by_rows bounds was t (drop (i + 1) old) =
+    ap (lost_by_rows bounds was t) rest ∙ ap (λ behind. dropped_by step + lost_by_rows bounds was t behind) (sym front) in
     record {
       behind = drop-set-lt (i + 1) rows i new (omega arith) ∙ sym front;
       front =
-          ap (λ all. map row_in all ++ rows_by bounds was t taken' (drop (i + 1) old)) (take_more_set rows i new inside)
-          ∙ ap (λ all. all ++ rows_by bounds was t taken' (drop (i + 1) old)) (map_push row_in (take i rows) new)
-          ∙ append_assoc (map row_in (take i rows)) (row_in new ∷ []) (rows_by bounds was t taken' (drop (i + 1) old))
-          ∙ ap (λ r. map row_in (take i rows) ++ (r ∷ rows_by bounds was t taken' (drop (i + 1) old))) stepped
-          ∙ ap (λ n. map row_in (take i rows) ++ (kept_after_step step t (suc taken) (row_in row) ∷ rows_by bounds was t n (drop (i + 1) old))) more
-          ∙ ap (λ behind. map row_in (take i rows) ++ (kept_after_step step t (suc taken) (row_in row) ∷ rows_by bounds was t (taken + taken_by step) behind)) front
-          ∙ ap (λ all. map row_in (take i rows) ++ rows_by bounds was t taken all) (sym rest)
+          ap (λ all. map row_in all ++ served_rows_after bounds was t taken' (drop (i + 1) old)) (take_more_set rows i new inside)
+          ∙ ap (λ all. all ++ served_rows_after bounds was t taken' (drop (i + 1) old)) (map_push row_in (take i rows) new)
+          ∙ append_assoc (map row_in (take i rows)) (row_in new ∷ []) (served_rows_after bounds was t taken' (drop (i + 1) old))
+          ∙ ap (λ r. map row_in (take i rows) ++ (r ∷ served_rows_after bounds was t taken' (drop (i + 1) old))) stepped
+          ∙ ap (λ n. map row_in (take i rows) ++ (kept_after_step step t (suc taken) (row_in row) ∷ served_rows_after bounds was t n (drop (i + 1) old))) more
+          ∙ ap (λ behind. map row_in (take i rows) ++ (kept_after_step step t (suc taken) (row_in row) ∷ served_rows_after bounds was t (taken + taken_by step) behind)) front
+          ∙ ap (λ all. map row_in (take i rows) ++ served_rows_after bounds was t taken all) (sym rest)
           ∙ so.front;
       here =
           ap (λ all. all ++ brought_by bounds was t taken' (drop (i + 1) old)) brought
@@ -103,7 +103,7 @@ one-stepped bounds was t before old i rows here taken lost d new now taken' lost
 
 -- at the end all have
 pub record StandsStepped (bounds : List ℕ) (was : List Arrival) (t before : ℕ) (old rows : List ServedRow) (now : List Arrival) (count dropped : ℕ) : Type 0 where
-  pub all : map row_in rows ≡ rows_by bounds was t before old
+  pub all : map row_in rows ≡ served_rows_after bounds was t before old
   pub here : now ≡ was ++ brought_by bounds was t before old
   pub taken : count ≡ before + length (brought_by bounds was t before old)
   pub lost : dropped ≡ lost_by_rows bounds was t old
@@ -117,7 +117,7 @@ all-stepped bounds was t before old i rows here taken lost so past end =
     record {
       all =
           sym (append-nil (map row_in rows)) ∙ ap (λ all. map row_in all ++ []) (sym full)
-          ∙ ap (λ behind. map row_in (take i rows) ++ rows_by bounds was t taken behind) (sym none) ∙ so.front;
+          ∙ ap (λ behind. map row_in (take i rows) ++ served_rows_after bounds was t taken behind) (sym none) ∙ so.front;
       here = sym (append-nil here) ∙ ap (λ behind. here ++ brought_by bounds was t taken behind) (sym none) ∙ so.here;
       taken =
           let nothing : length (brought_by bounds was t taken (drop i old)) ≡ 0 = ap (λ behind. length (brought_by bounds was t taken behind)) none in
@@ -138,7 +138,7 @@ pub lost-same : (b : Bool) (lost n new : ℕ) → (if b then 1 else 0) ≡ n →
 lost-same true lost n new none is same = absurd (let f : true ≡ false = is in cc)
 lost-same false lost n new none is same = omega (arith, none, same)
 
--- packets behind those here leave the front of the list
+-- packets after those here leave the front of the list
 pub front-same : (before : ℕ) (items new : List HeldPacket) (more : List Arrival) → before ≤ length items → here_in new ≡ here_in items ++ more → take before (here_in new) ≡ take before (here_in items)
 front-same before items new more within brought =
     let long : length (here_in items) ≡ length items = length-map items arrival_in in
@@ -152,9 +152,9 @@ front-within before items new more within brought =
     omega (arith, long, longer, both, within)
 
 -- a step changes no reservation
-pub terms-stepped : (step : SourceStep) (t place : ℕ) (new old : ServedRow) → row_in new ≡ kept_after_step step t place (row_in old) → terms_in new ≡ terms_in old
+pub terms-stepped : (step : SourceStep) (t place : ℕ) (new old : ServedRow) → row_in new ≡ kept_after_step step t place (row_in old) → reservation_in new ≡ reservation_in old
 terms-stepped step t place new old same = ap (λ row. row.terms) same ∙ same-terms step where
-  same-terms : (step : SourceStep) → (kept_after_step step t place (row_in old)).terms ≡ terms_in old
+  same-terms : (step : SourceStep) → (kept_after_step step t place (row_in old)).terms ≡ reservation_in old
   same-terms Rests = refl
   same-terms (Brings size) = refl
-  same-terms Loses = refl
+  same-terms Drops = refl

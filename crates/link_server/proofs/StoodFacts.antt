@@ -11,7 +11,7 @@ use Rattle.traffic_contract.proofs.ContractFacts.{burst-least}
 use Rattle.traffic_contract.proofs.LoadFacts.{ceil_quotient-some}
 use Rattle.traffic_contract.proofs.LongerWindows.{most_in-mono}
 use Rattle.traffic_contract.specs.Admission.{total}
-use Rattle.traffic_contract.specs.Contract.{Terms, IsContract, most_in, burst_of}
+use Rattle.traffic_contract.specs.Contract.{Traffic, IsContract, most_in, burst_of}
 use Rattle.traffic_contract.specs.Eligible.{newest}
 use Rattle.link_steps.specs.declared.asks.Ask.{Ask}
 use Rattle.link_steps.specs.declared.replies.Entry.{Entry}
@@ -117,7 +117,7 @@ stay-some shape terms Committed level reach = omega (arith, bound_least shape.bo
 stay-some shape terms Closing level reach = omega (arith, bound_least shape.bounds (level_number terms.level) shape.bounds_rise terms.level.least level)
 
 -- a window of a tick or more lets a packet in
-window-some : (c : Terms) (w : ℕ) → IsContract c → 1 ≤ w → 1 ≤ most_in c w
+window-some : (c : Traffic) (w : ℕ) → IsContract c → 1 ≤ w → 1 ≤ most_in c w
 unfolding most_in
 window-some c w valid some =
     let first : most_in c 1 ≤ most_in c w = most_in-mono c 1 w valid some in

@@ -5,8 +5,8 @@ use Rattle.net_units.specs.declared.Kind.{Kind}
 use Rattle.net_units.specs.declared.Kind.TheVariants.{Rate, Jitter}
 use Rattle.net_units.specs.Numbers.{level_number}
 use Rattle.traffic_contract.specs.Contract.{burst_of}
-use Rattle.traffic_contract.specs.Eligible.{eligible}
-use Rattle.regulator_core.specs.Kept.{Kept, kept_with as regulator_with, earliest_tick}
+use Rattle.traffic_contract.specs.Eligible.{eligible, earliest_tick}
+use Rattle.regulator_core.specs.Kept.{KeptTicks, regulator_with}
 use Rattle.link_steps.specs.Kept.{KeptRow, kept_with}
 use Rattle.link_steps.specs.Regulator.{waits_until, eligible_next}
 use Rattle.link_steps.specs.Reservation.{Reservation}
@@ -19,12 +19,13 @@ max-none t due none = omega (arith, none)
 
 -- a packet at a first hop isn't due before its arrival, and may go from then on
 earliest-tick-waits : (kind : Kind) (first : Bool) (t due : ℕ) → (first ≡ true → due ≡ 0) → earliest_tick kind t due ≡ waits_until kind first t due
-earliest-tick-waits Rate first t due hop = refl
+earliest-tick-waits Rate true t due hop = refl
+earliest-tick-waits Rate false t due hop = refl
 earliest-tick-waits Jitter false t due hop = refl
 earliest-tick-waits Jitter true t due hop = max-none t due (hop refl)
 
 -- the regulator's answer is the eligible tick of the row
-pub tick-answered : (regulator : Kept) (terms : Reservation) (t due e : ℕ) → (terms.first ≡ true → due ≡ 0) → regulator.terms ≡ terms.contract → regulator.kind ≡ terms.kind → e ≡ eligible regulator.terms regulator.recent (earliest_tick regulator.kind t due) → e ≡ eligible_next terms regulator.recent t due
+pub tick-answered : (regulator : KeptTicks) (terms : Reservation) (t due e : ℕ) → (terms.first ≡ true → due ≡ 0) → regulator.contract ≡ terms.contract → regulator.kind ≡ terms.kind → e ≡ eligible regulator.contract regulator.recent (earliest_tick regulator.kind t due) → e ≡ eligible_next terms regulator.recent t due
 unfolding eligible_next
 tick-answered regulator terms t due e hop same kind value =
     value
@@ -55,7 +56,7 @@ packet-taken terms level lead new_lead place taken size t e answered at_level sa
 abbrev row-of : Reservation → ℕ → ℕ → List ℕ → List SourcePacket → KeptRow
 row-of terms lead taken recent left = record { terms = terms; lead = lead; taken = taken; recent = recent; left = left }
 
-pub row-taken : (terms : Reservation) (lead new_lead place taken : ℕ) (left : List SourcePacket) (old new : Kept) (e answered : ℕ) → new_lead ≡ lead_with lead place → old.terms ≡ terms.contract → new ≡ regulator_with old answered → answered ≡ e
+pub row-taken : (terms : Reservation) (lead new_lead place taken : ℕ) (left : List SourcePacket) (old new : KeptTicks) (e answered : ℕ) → new_lead ≡ lead_with lead place → old.contract ≡ terms.contract → new ≡ regulator_with old answered → answered ≡ e
     → row-of terms new_lead (taken + 1) new.recent left ≡ kept_with place e (record { terms = terms; lead = lead; taken = taken; recent = old.recent; left = left })
 row-taken terms lead new_lead place taken left old new e answered same contract kept tick =
     let recent : new.recent ≡ take (burst_of terms.contract) (e ∷ old.recent) =

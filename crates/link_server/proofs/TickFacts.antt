@@ -11,13 +11,13 @@ use Rattle.link_steps.specs.Split.{whole}
 use Rattle.link_steps.specs.Kept.{Kept, kept_reply, kept_after, kept_tick_reply, kept_after_tick, kept_lost, kept_packets, kept_rows_after, held_rows, from_sources, kept_best, brought, present, occupies, served, departs, best_departs, still_here, still_on}
 use Rattle.link_steps.specs.BestEffort.{best_packet}
 use Rattle.link_steps.specs.Rows.{left_at}
-use Rattle.link_steps.specs.Sources.{SourceStep, Rests, Brings, Loses, taken_by, lost_by}
+use Rattle.link_steps.specs.Sources.{SourceStep, Rests, Brings, Drops, taken_by, dropped_by}
 use Rattle.link_steps.proofs.Account.{same-kept}
 use Rattle.link_server.specs.Planned.{left_in}
 use Rattle.link_server.specs.Account.{account}
 use Rattle.link_server.specs.Packets.{here_in, on_in}
 use Rattle.link_server.specs.Rows.{row_in}
-use Rattle.link_server.specs.Sources.{brought_by, rows_by, lost_by_rows}
+use Rattle.link_server.specs.Sources.{brought_by, served_rows_after, lost_by_rows}
 use Rattle.link_server.specs.declared.served_row.ServedRow.{ServedRow}
 use Rattle.link_server.specs.declared.packets.Packets.{Packets}
 
@@ -54,7 +54,7 @@ taken-is shape k rows src mid step stay taken is came =
       by-step : (s : SourceStep) → taken_by s ≡ length (best_packet s shape.bounds (suc (k.taken + length (from_sources shape k))) k.clock)
       by-step (Brings size) = refl
       by-step Rests = refl
-      by-step Loses = refl
+      by-step Drops = refl
 
 -- and the link serves the one that the account says
 pub occupies-is : (shape : LinkShape) (k : Kept) (mid : Packets) → here_in mid.here.items ≡ present shape k → on_in mid.on ≡ k.on → served k.clock (here_in mid.here.items) (on_in mid.on) ≡ occupies shape k
@@ -63,19 +63,19 @@ occupies-is shape k mid here on = ap (λ all. served k.clock all (on_in mid.on))
 -- the reply
 pub tick-replied : (shape : LinkShape) (k : Kept) (rows : List ServedRow) (mid : Packets) (full : ℕ) (sent : Option Sent) (best lost_best : Bool) (step : SourceStep) → map row_in rows ≡ held_rows shape k → full ≡ lost_by_rows shape.bounds k.here k.clock rows
     → served k.clock (here_in mid.here.items) (on_in mid.on) ≡ occupies shape k → sent ≡ departs shape k.clock (served k.clock (here_in mid.here.items) (on_in mid.on)) → best ≡ best_departs shape k.clock (served k.clock (here_in mid.here.items) (on_in mid.on))
-    → step ≡ kept_best shape k → lost_best ≡ nat_eq (lost_by step) 1
+    → step ≡ kept_best shape k → lost_best ≡ nat_eq (dropped_by step) 1
     → Ticked k.clock full sent best lost_best ≡ kept_reply (whole shape) k Tick
 unfolding kept_reply kept_tick_reply
 tick-replied shape k rows mid full sent best lost_best step stay lost occupant left best_left is loses =
     ap (λ n. Ticked k.clock n sent best lost_best) (lost ∙ ap (kept_lost shape.bounds k.here k.clock) stay)
     ∙ ap (λ s. Ticked k.clock (kept_lost shape.bounds k.here k.clock (held_rows shape k)) s best lost_best) (left ∙ ap (departs shape k.clock) occupant)
     ∙ ap (λ b. Ticked k.clock (kept_lost shape.bounds k.here k.clock (held_rows shape k)) (departs shape k.clock (occupies shape k)) b lost_best) (best_left ∙ ap (best_departs shape k.clock) occupant)
-    ∙ ap (Ticked k.clock (kept_lost shape.bounds k.here k.clock (held_rows shape k)) (departs shape k.clock (occupies shape k)) (best_departs shape k.clock (occupies shape k))) (loses ∙ ap (λ s. nat_eq (lost_by s) 1) is)
+    ∙ ap (Ticked k.clock (kept_lost shape.bounds k.here k.clock (held_rows shape k)) (departs shape k.clock (occupies shape k)) (best_departs shape k.clock (occupies shape k))) (loses ∙ ap (λ s. nat_eq (dropped_by s) 1) is)
 
 -- the account after it
 pub tick-kept : (shape : LinkShape) (k : Kept) (rows last : List ServedRow) (mid new : Packets) (clock : ℕ) (reply : Reply)
     → clock ≡ k.clock + 1
-    → map row_in rows ≡ held_rows shape k → map row_in last ≡ rows_by shape.bounds k.here k.clock k.taken rows
+    → map row_in rows ≡ held_rows shape k → map row_in last ≡ served_rows_after shape.bounds k.here k.clock k.taken rows
     → here_in mid.here.items ≡ present shape k → mid.taken ≡ k.taken + length (brought shape k)
     → served k.clock (here_in mid.here.items) (on_in mid.on) ≡ occupies shape k
     → new.taken ≡ mid.taken

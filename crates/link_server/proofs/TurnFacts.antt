@@ -14,11 +14,11 @@ use Rattle.link_server.specs.declared.line.Rank.{Rank}
 use Rattle.link_server.specs.InLine.{is_rank_of, AreRising, HasRank, IsStale}
 use Rattle.link_server.specs.Packets.{arrival_in, here_in}
 use Rattle.link_server.specs.Parting.{PartsAt}
-use Rattle.link_server.specs.Sound.{AreNumbered, is_at}
+use Rattle.link_server.specs.Sound.{AreNumberedWithin, has_arrival_number}
 use Rattle.link_server.proofs.NextFacts.{rising-later, place-told}
 
 -- numbers that rise to a last one rise
-pub numbered-rising : (low : ℕ) (ps : List Arrival) (high : ℕ) → AreNumbered low ps high → AreRising low ps
+pub numbered-rising : (low : ℕ) (ps : List Arrival) (high : ℕ) → AreNumberedWithin low ps high → AreRising low ps
 numbered-rising low [] high numbered = tt
 numbered-rising low (p ∷ ps) high numbered = (numbered.0, numbered-rising p.place ps high numbered.1)
 
@@ -67,7 +67,7 @@ stale-here rank low (p ∷ items) (suc i) rising parts fails =
 
 -- ---- the packet at its place
 
-pub found-here : (place : ℕ) (items : List HeldPacket) (i : ℕ) (d : HeldPacket) → PartsAt place items i → i < length items → (get_or items i d).place ≡ place → find (is_at place) (here_in items) ≡ Some (arrival_in (get_or items i d))
+pub found-here : (place : ℕ) (items : List HeldPacket) (i : ℕ) (d : HeldPacket) → PartsAt place items i → i < length items → (get_or items i d).place ≡ place → find (has_arrival_number place) (here_in items) ≡ Some (arrival_in (get_or items i d))
 found-here place [] i d parts inside same = absurd (omega arith)
 found-here place (p ∷ items) zero d parts inside same = rw (eq-eqb p.place place same) refl
 found-here place (p ∷ items) (suc i) d parts inside same =
@@ -109,6 +109,6 @@ rank-here rank items i p parts inside is told = record {
   is_here =
       let same : rank.place ≡ p.place = place-told (arrival_in p) rank told in
       let at : (get_or items i p).place ≡ rank.place = ap (λ (q : HeldPacket). q.place) (sym is) ∙ sym same in
-      ap (λ n. find (is_at n) (here_in items)) (sym same) ∙ found-here rank.place items i p parts inside at ∙ ap (λ q. Some (arrival_in q)) (sym is);
+      ap (λ n. find (has_arrival_number n) (here_in items)) (sym same) ∙ found-here rank.place items i p parts inside at ∙ ap (λ q. Some (arrival_in q)) (sym is);
   told = told;
 }

@@ -5,6 +5,7 @@
 use Rattle.std.specs.Prelude.{◌≡◌, ℕ, Option, Some, List, map, slice_get}
 use Rattle.net_units.specs.Numbers.{level_number}
 use Rattle.net_units.specs.declared.numbers.Level.{Level}
+use Rattle.net_units.specs.LevelBounds.{reach_of}
 use Rattle.traffic_contract.specs.Admission.{best_level}
 use Rattle.link_steps.specs.declared.asks.Ask.{Ask}
 use Rattle.link_steps.specs.declared.asks.Ask.TheVariants.{Reserve}
@@ -13,7 +14,6 @@ use Rattle.link_steps.specs.Admissible.{MayOffer}
 use Rattle.link_steps.specs.Buffer.{kept_units}
 use Rattle.link_steps.specs.Kept.{kept_terms}
 use Rattle.link_steps.specs.Levels.{level_of}
-use Rattle.link_steps.specs.Replies.{reach_of}
 use Rattle.link_steps.specs.Reservation.{Reservation, admitted}
 use Rattle.link_steps.specs.Shape.{server_of}
 use Rattle.link_server.specs.State.{kept_in}
@@ -21,8 +21,8 @@ use Rattle.link_server.specs.declared.held_row.HeldRow.{HeldRow}
 use Rattle.link_server.specs.declared.link_state.LinkState.{LinkState}
 
 -- the reservations that a link holds
-abbrev pub held_by : LinkState → List Reservation
-held_by link = map kept_terms (kept_in link).rows
+abbrev pub reservations_held : LinkState → List Reservation
+reservations_held link = map kept_terms (kept_in link).rows
 
 -- a reservation as a caller sees it, at a link with these bounds
 abbrev pub seen : List ℕ → Reservation → HeldRow

@@ -6,7 +6,7 @@ use Rattle.std.proofs.Math.Bool.{Bool-set}
 use Rattle.link_steps.specs.Kept.{is_other}
 use Rattle.link_steps.specs.Lists.{Each}
 use Rattle.link_steps.specs.Service.{Arrival, Start}
-use Rattle.link_server.specs.Sound.{is_at}
+use Rattle.link_server.specs.Sound.{has_arrival_number}
 use Rattle.link_server.specs.SoundProp.{Each-prop}
 use Rattle.link_server.specs.declared.line.Rank.{Rank}
 
@@ -46,7 +46,7 @@ AreRising low (p ∷ ps) = (low < p.place) × AreRising p.place ps
 
 -- this packet is here, and has this rank
 pub record HasRank (here : List Arrival) (rank : Rank) (p : Arrival) : Type 0 where
-  pub is_here : find (is_at p.place) here ≡ Some p
+  pub is_here : find (has_arrival_number p.place) here ≡ Some p
   pub told : is_rank_of p rank ≡ true
 
 -- no packet here has this rank

@@ -10,12 +10,12 @@ abbrev pub left_in : Planned → List SourcePacket
 left_in planned = planned_from planned.tick planned.gap planned.size planned.count
 
 -- none of them is planned for a tick before the clock
-abbrev pub IsFrom : ℕ → SourcePacket → Type 0
-IsFrom clock p = clock ≤ p.tick
+abbrev pub IsPlannedFrom : ℕ → SourcePacket → Type 0
+IsPlannedFrom clock p = clock ≤ p.tick
 
 -- all of them lie ahead
-abbrev pub IsAhead : ℕ → Planned → Type 0
-IsAhead clock planned = Each (IsFrom clock) (left_in planned)
+abbrev pub IsPlannedAhead : ℕ → Planned → Type 0
+IsPlannedAhead clock planned = Each (IsPlannedFrom clock) (left_in planned)
 
 -- the size of a packet, if there is one
 abbrev pub size_of : Option SourcePacket → Option ℕ

@@ -5,7 +5,7 @@ use Rattle.std.specs.Coded.{le_prop}
 use Rattle.std.proofs.Math.Bool.{Bool-set}
 use Rattle.link_steps.specs.Kept.{KeptRow, kept_stays}
 use Rattle.link_steps.specs.Lists.{Each}
-use Rattle.link_server.specs.Planned.{IsFrom}
+use Rattle.link_server.specs.Planned.{IsPlannedFrom}
 use Rattle.link_server.specs.SoundProp.{Each-prop}
 
 -- the row stays held in each tick before this one
@@ -14,7 +14,7 @@ StaysUntil bounds until row = (t : ℕ) → t < until → kept_stays bounds t ro
 
 -- nothing is due for the row before this tick
 pub record IsQuiet (bounds : List ℕ) (until : ℕ) (row : KeptRow) : Type 0 where
-  pub plans : Each (IsFrom until) row.left
+  pub plans : Each (IsPlannedFrom until) row.left
   pub stays : StaysUntil bounds until row
 
 -- nothing is due for these rows before it

@@ -13,8 +13,8 @@ use Rattle.link_server.specs.declared.served_row.ServedRow.{ServedRow}
 use Rattle.link_server.specs.Planned.{left_in}
 
 -- the reservation of a row
-abbrev pub terms_in : ServedRow → Reservation
-terms_in row = record {
+abbrev pub reservation_in : ServedRow → Reservation
+reservation_in row = record {
   chan = row.chan;
   contract = row.contract;
   kind = row.kind;
@@ -30,42 +30,42 @@ terms_in row = record {
 
 -- what the account of the link has of it
 abbrev pub row_in : ServedRow → KeptRow
-row_in row = record { terms = terms_in row; lead = row.lead; taken = row.taken; recent = row.regulator.recent; left = left_in row.planned }
+row_in row = record { terms = reservation_in row; lead = row.lead; taken = row.taken; recent = row.regulator.recent; left = left_in row.planned }
 
 -- whether it is this channel's; and whether it is so at its first hop, or at a later one
-abbrev pub is_row_of : ChanNo → ServedRow → Bool
-is_row_of chan row = is_of chan (terms_in row)
+abbrev pub is_served_row_of : ChanNo → ServedRow → Bool
+is_served_row_of chan row = is_of chan (reservation_in row)
 
-abbrev pub is_row_at_hop : ChanNo → Bool → ServedRow → Bool
-is_row_at_hop chan first row = is_at_hop chan first (terms_in row)
+abbrev pub is_served_at_hop : ChanNo → Bool → ServedRow → Bool
+is_served_at_hop chan first row = is_at_hop chan first (reservation_in row)
 
 -- the row as the admission sums have it
 abbrev pub summed : ServedRow → Held
 summed row = held_at (channel_number row.chan) row.contract (level_number row.level)
 
 -- no row passes the test
-abbrev pub HasNone : (ServedRow → Bool) → List ServedRow → Type 0
-HasNone test rows = All (λ row. test row ≡ false) rows
+abbrev pub NoRowPasses : (ServedRow → Bool) → List ServedRow → Type 0
+NoRowPasses test rows = All (λ row. test row ≡ false) rows
 
 -- the first row that passes it stands at place i
-pub record IsPlace (test : ServedRow → Bool) (rows : List ServedRow) (i : ℕ) : Type 0 where
+pub record IsFirstPlace (test : ServedRow → Bool) (rows : List ServedRow) (i : ℕ) : Type 0 where
   pub inside : i < length rows
   pub here : (d : ServedRow) → test (slice_index_or rows i d) ≡ true
   pub before : (k : ℕ) (d : ServedRow) → k < i → test (slice_index_or rows k d) ≡ false
 
 -- no row is the channel's
 abbrev pub IsAbsent : ChanNo → List ServedRow → Type 0
-IsAbsent chan rows = HasNone (is_row_of chan) rows
+IsAbsent chan rows = NoRowPasses (is_served_row_of chan) rows
 
 -- the channel's row stands at place i
 abbrev pub IsPlaceOf : ChanNo → List ServedRow → ℕ → Type 0
-IsPlaceOf chan rows i = IsPlace (is_row_of chan) rows i
+IsPlaceOf chan rows i = IsFirstPlace (is_served_row_of chan) rows i
 
--- the level and the reach of a row are among so many levels
-pub record IsWithin (levels : ℕ) (row : ServedRow) : Type 0 where
+-- the level and the reach of a row are among the first `levels` levels
+pub record IsWithinLevels (levels : ℕ) (row : ServedRow) : Type 0 where
   pub level : level_number row.level ≤ levels
   pub reach : level_number row.reach ≤ levels
 
 -- and so for each row
 abbrev pub AreWithin : ℕ → List ServedRow → Type 0
-AreWithin levels rows = All (IsWithin levels) rows
+AreWithin levels rows = All (IsWithinLevels levels) rows

@@ -6,10 +6,10 @@ use Rattle.link_steps.specs.declared.shape.LinkShape.{LinkShape}
 use Rattle.link_steps.specs.Service.{Start, leaves_at}
 
 -- the packet that has started can go on in the tick of the clock
-pub record GoesOn (shape : LinkShape) (clock : ℕ) (start : Start) : Type 0 where
+pub record ServiceGoesOn (shape : LinkShape) (clock : ℕ) (start : Start) : Type 0 where
   pub eligible : start.packet.eligible ≤ clock
   pub leaves_later : clock < leaves_at shape.rate start
 
 -- the link can serve the tick of the clock with this packet on it
 pub record CanServe (shape : LinkShape) (clock : ℕ) (on : Option Start) : Type 0 where
-  pub goes_on : ForSome on (GoesOn shape clock)
+  pub goes_on : ForSome on (ServiceGoesOn shape clock)

@@ -7,6 +7,7 @@
 use Rattle.std.specs.Prelude.{◌≡◌, ℕ, suc, ◌+◌, ◌-◌, ◌<◌, ◌≤◌, Bool, nat_eq, not, Some, List, [], ◌∷◌, length, filter, find}
 use Rattle.std.specs.Option.{ForSome}
 use Rattle.net_units.specs.Numbers.{level_number}
+use Rattle.net_units.specs.Limits.{most_bound, most_size}
 use Rattle.traffic_contract.specs.Admission.{total}
 use Rattle.traffic_contract.specs.Contract.{IsContract}
 use Rattle.link_steps.specs.declared.shape.LinkShape.{LinkShape}
@@ -51,26 +52,26 @@ best_count bounds here = length (filter (is_best bounds) here)
 -- ---- packets
 
 -- the arrival numbers of the packets rise, from above `low` to at most `high`
-abbrev pub AreNumbered : ℕ → List Arrival → ℕ → Type 0
-AreNumbered low [] high = low ≤ high
-AreNumbered low (p ∷ ps) high = (low < p.place) × AreNumbered p.place ps high
+abbrev pub AreNumberedWithin : ℕ → List Arrival → ℕ → Type 0
+AreNumberedWithin low [] high = low ≤ high
+AreNumberedWithin low (p ∷ ps) high = (low < p.place) × AreNumberedWithin p.place ps high
 
--- the numbers of a packet are in their bounds, at a link of so many levels that has taken so many packets
+-- the numbers of a packet are in their bounds, at a link with this number of levels that has taken `taken` packets
 pub record IsSoundPacket (levels taken : ℕ) (p : Arrival) : Type 0 where
   pub lead_least : 1 ≤ p.lead
   pub lead_most : p.lead ≤ taken
   pub size_least : 1 ≤ p.size
-  pub size_most : p.size ≤ 65536
+  pub size_most : p.size ≤ most_size
   pub level_least : 1 ≤ p.level
   pub level_most : p.level ≤ suc levels
 
 -- whether a packet has this arrival number
-abbrev pub is_at : ℕ → Arrival → Bool
-is_at place p = nat_eq p.place place
+abbrev pub has_arrival_number : ℕ → Arrival → Bool
+has_arrival_number place p = nat_eq p.place place
 
 -- the packet that occupies the link in the tick of the clock is among those here
 pub record IsRunning (rate clock : ℕ) (here : List Arrival) (start : Start) : Type 0 where
-  pub is_here : find (is_at start.packet.place) here ≡ Some start.packet
+  pub is_here : find (has_arrival_number start.packet.place) here ≡ Some start.packet
   pub eligible : start.packet.eligible ≤ start.tick
   pub begun : start.tick ≤ clock
   pub leaves_later : clock < leaves_at rate start
@@ -80,7 +81,7 @@ pub record IsRunning (rate clock : ℕ) (here : List Arrival) (start : Start) : 
 -- the size of a planned packet is in its bounds
 pub record HasSize (p : SourcePacket) : Type 0 where
   pub least : 1 ≤ p.size
-  pub most : p.size ≤ 65536
+  pub most : p.size ≤ most_size
 
 -- the planned packets are for ticks from t on, each later than the one before it
 abbrev pub AreAhead : ℕ → List SourcePacket → Type 0
@@ -92,29 +93,29 @@ abbrev pub IsApartFrom : ℕ → KeptRow → Type 0
 IsApartFrom lead row = row.lead ≡ lead → lead ≡ 0
 
 -- no two rows have the same lead, but for those that have taken no packet yet, whose lead is 0
-abbrev pub AreApart : List KeptRow → Type 0
-AreApart [] = Unit {0}
-AreApart (row ∷ rows) = Each (IsApartFrom row.lead) rows × AreApart rows
+abbrev pub HaveOwnLeads : List KeptRow → Type 0
+HaveOwnLeads [] = Unit {0}
+HaveOwnLeads (row ∷ rows) = Each (IsApartFrom row.lead) rows × HaveOwnLeads rows
 
--- the numbers of a row are in their bounds, at a link of so many levels that has taken so many packets, at this clock
+-- the numbers of a row are in their bounds, at a link with this number of levels that has taken `taken` packets, at this clock
 pub record IsSoundRow (levels clock taken : ℕ) (row : KeptRow) : Type 0 where
   pub contract : IsContract row.terms.contract
   pub level_most : level_number row.terms.level ≤ levels
   pub reach_most : level_number row.terms.reach ≤ levels
-  pub up_reach_most : row.terms.up_reach ≤ 1048576
-  pub up_bound_most : row.terms.up_bound ≤ 1048576
+  pub up_reach_most : row.terms.up_reach ≤ most_bound
+  pub up_bound_most : row.terms.up_bound ≤ most_bound
   pub taken_most : row.taken ≤ taken
   pub lead_most : row.lead ≤ taken
   pub ahead : AreAhead clock row.left
 
 -- ---- the account
 
--- the account is sound, with room for so many packets
+-- the account is sound, with room for `room` packets
 pub record IsSound (shape : LinkShape) (room : ℕ) (k : Kept) : Type 0 where
   pub taken_most : k.taken ≤ k.clock + length k.here
-  pub numbered : AreNumbered 0 k.here k.taken
+  pub numbered : AreNumberedWithin 0 k.here k.taken
   pub packets : Each (IsSoundPacket (length shape.bounds) k.taken) k.here
-  pub apart : AreApart k.rows
+  pub apart : HaveOwnLeads k.rows
   pub rows : Each (IsSoundRow (length shape.bounds) k.clock k.taken) k.rows
   pub fits : places shape.bounds (of_channels shape.bounds k.here) k.rows + suc shape.best ≤ room
   pub best_few : best_count shape.bounds k.here ≤ suc shape.best

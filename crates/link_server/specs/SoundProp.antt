@@ -9,7 +9,7 @@ use Rattle.link_steps.specs.Kept.{Kept, KeptRow}
 use Rattle.link_steps.specs.Lists.{Each}
 use Rattle.link_steps.specs.Rows.{SourcePacket}
 use Rattle.link_steps.specs.Service.{Arrival, Start}
-use Rattle.link_server.specs.Sound.{AreNumbered, IsSoundPacket, IsRunning, HasSize, AreAhead, IsApartFrom, AreApart, IsSoundRow, IsSound}
+use Rattle.link_server.specs.Sound.{AreNumberedWithin, IsSoundPacket, IsRunning, HasSize, AreAhead, IsApartFrom, HaveOwnLeads, IsSoundRow, IsSound}
 
 -- a fact of each element, where it has one proof of each
 pub Each-prop : {X : Type 0} (P : X → Type 0) → ((x : X) → IsProp (P x)) → (xs : List X) → IsProp (Each P xs)
@@ -18,7 +18,7 @@ Each-prop P once (x ∷ xs) = ×_prop (once x) (Each-prop P once xs)
 
 -- ---- packets
 
-pub AreNumbered-prop : (low : ℕ) (ps : List Arrival) (high : ℕ) → IsProp (AreNumbered low ps high)
+pub AreNumbered-prop : (low : ℕ) (ps : List Arrival) (high : ℕ) → IsProp (AreNumberedWithin low ps high)
 AreNumbered-prop low [] high = le_prop
 AreNumbered-prop low (p ∷ ps) high = ×_prop le_prop (AreNumbered-prop p.place ps high)
 
@@ -41,7 +41,7 @@ AreAhead-prop : (t : ℕ) (plan : List SourcePacket) → IsProp (AreAhead t plan
 AreAhead-prop t [] = Unit-prop
 AreAhead-prop t (p ∷ plan) = ×₃_prop le_prop (HasSize-prop p) (AreAhead-prop _ plan)
 
-AreApart-prop : (rows : List KeptRow) → IsProp (AreApart rows)
+AreApart-prop : (rows : List KeptRow) → IsProp (HaveOwnLeads rows)
 AreApart-prop [] = Unit-prop
 AreApart-prop (row ∷ rows) = ×_prop (Each-prop (IsApartFrom row.lead) (λ other. Prim.hlevel ℕ_set) rows) (AreApart-prop rows)
 

@@ -7,7 +7,7 @@ use Rattle.link_steps.specs.Kept.{KeptRow, kept_step, kept_packets, kept_rows_af
 use Rattle.link_steps.specs.Lists.{Each}
 use Rattle.link_steps.specs.Service.{Arrival}
 use Rattle.link_steps.specs.Sources.{SourceStep}
-use Rattle.link_server.specs.Planned.{IsFrom}
+use Rattle.link_server.specs.Planned.{IsPlannedFrom}
 use Rattle.link_server.specs.Rows.{row_in}
 use Rattle.link_server.specs.declared.served_row.ServedRow.{ServedRow}
 
@@ -20,8 +20,8 @@ abbrev pub brought_by : List ℕ → List Arrival → ℕ → ℕ → List Serve
 brought_by bounds here t taken rows = kept_packets bounds here t taken (map row_in rows)
 
 -- the rows afterwards
-abbrev pub rows_by : List ℕ → List Arrival → ℕ → ℕ → List ServedRow → List KeptRow
-rows_by bounds here t taken rows = kept_rows_after bounds here t taken (map row_in rows)
+abbrev pub served_rows_after : List ℕ → List Arrival → ℕ → ℕ → List ServedRow → List KeptRow
+served_rows_after bounds here t taken rows = kept_rows_after bounds here t taken (map row_in rows)
 
 -- how many packets they drop
 abbrev pub lost_by_rows : List ℕ → List Arrival → ℕ → List ServedRow → ℕ
@@ -30,7 +30,7 @@ lost_by_rows bounds here t rows = kept_lost bounds here t (map row_in rows)
 -- a row that can make the step of the tick of the clock: nothing is planned for an earlier tick, and its numbers have
 -- room to grow
 pub record IsReady (clock : ℕ) (row : KeptRow) : Type 0 where
-  pub ahead : Each (IsFrom clock) row.left
+  pub ahead : Each (IsPlannedFrom clock) row.left
   pub last : newest row.recent < 2 ^ 63
   pub few : row.taken + 1 < 2 ^ 64
 

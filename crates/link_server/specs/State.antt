@@ -12,10 +12,10 @@ abbrev pub kept_in : LinkState → Kept
 kept_in link = account link.clock link.packets link.rows.items
 
 -- it stands for this history, newest first
-abbrev pub Stands : LinkState → List Entry → Type 0
-Stands link h = StandsFor link.shape (kept_in link) h
+abbrev pub LinkStands : LinkState → List Entry → Type 0
+LinkStands link h = StandsFor link.shape (kept_in link) h
 
 -- its clock is that of every history that it stands for
-pub stands-clock : (link : LinkState) (h : List Entry) → Stands link h → link.clock ≡ clock_of h
+pub stands-clock : (link : LinkState) (h : List Entry) → LinkStands link h → link.clock ≡ clock_of h
 unfolding kept_at
 stands-clock link h stands = ap (λ kept. kept.clock) stands

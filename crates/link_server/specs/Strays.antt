@@ -1,22 +1,17 @@
 -- A packet that arrives from the link before has no place here where this is its channel's first hop, where the
 -- reservation isn't committed yet, where it isn't the next packet, where the channel is closing and has taken its count,
 -- or where it is larger than its contract allows. The first of these that applies is told.
-use Rattle.std.specs.Prelude.{ℕ, suc, Some, None, List, [], ◌∷◌}
+use Rattle.std.specs.Prelude.{ℕ, Some, None, List, [], ◌∷◌}
 use Rattle.link_steps.specs.declared.asks.Packet.{Packet}
-use Rattle.link_steps.specs.Refusals.{Rule, first_hop, uncommitted, wrong_number, past_count, big}
+use Rattle.link_steps.specs.Refusals.{RefusalRule, stray_rules}
 use Rattle.link_steps.specs.Reservation.{Reservation}
 
 -- the first of these rules that applies
-abbrev pub first_rule : List Rule → Rule
+abbrev pub first_rule : List RefusalRule → RefusalRule
 first_rule [] = None
 first_rule (None ∷ rules) = first_rule rules
 first_rule (Some refusal ∷ rules) = Some refusal
 
--- the rules on a packet, at a reservation that has taken so many
-abbrev pub stray_rules : Packet → Reservation → ℕ → List Rule
-stray_rules packet terms taken =
-    first_hop terms ∷ uncommitted terms ∷ wrong_number packet.number (suc taken) ∷ past_count terms taken ∷ big terms packet.size ∷ []
-
 -- the refusal of a packet that has no place there
-abbrev pub stray : Packet → Reservation → ℕ → Rule
+abbrev pub stray : Packet → Reservation → ℕ → RefusalRule
 stray packet terms taken = first_rule (stray_rules packet terms taken)

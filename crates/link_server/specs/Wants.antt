@@ -16,9 +16,9 @@ abbrev pub ask_for : Wanted → Ask
 ask_for wanted = Reserve wanted.chan wanted.contract wanted.kind wanted.delay wanted.up_reach wanted.first wanted.next
 
 -- the reply that makes an offer, or says a refusal
-abbrev pub reply_of : Result Offered Refusal → Reply
-reply_of (Ok offer) = Is.Offer offer.level offer.reach
-reply_of (Err refusal) = Is.Refused refusal
+abbrev pub offer_reply : Result Offered Refusal → Reply
+offer_reply (Ok offer) = Is.Offer offer.level offer.reach
+offer_reply (Err refusal) = Is.Refused refusal
 
 -- what is wanted may be offered so, at a link that holds these reservations
 abbrev pub MayHold : LinkShape → List Reservation → Wanted → Offered → Type 0

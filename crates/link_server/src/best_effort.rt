@@ -6,7 +6,7 @@ ghost use Rattle.link_server.specs.Packets.{arrival_in};
 use crate::held_packet::HeldPacket;
 use net_units::{Bounds, ChanNo};
 
-// A best-effort packet of so many units, with this arrival number, that arrives in this tick.
+// A best-effort packet of `size` units, with this arrival number, that arrives in this tick.
 pub(crate) fn best_packet(bounds: &Bounds, place: u64, size: u32, clock: u64) -> HeldPacket
     requires size { 1 ≤ size }
     ensures { arrival_in result ≡ best_arrival bounds.now place size clock }

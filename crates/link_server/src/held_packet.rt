@@ -20,7 +20,7 @@ pub(crate) struct HeldPacket {
     pub(crate) eligible: u64,
     // The number of its level, or one more than the last level's for a best-effort packet.
     pub(crate) level: u8,
-    // The link behind this one, where there is one.
+    // The link after this one, where there is one.
     pub(crate) next: Option<LinkNo>,
     ghost has_size: { 1 ≤ size },
     ghost has_level: { 1 ≤ level },

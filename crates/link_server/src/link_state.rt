@@ -48,14 +48,14 @@ impl LinkState {
     ghost use Rattle.link_steps.specs.declared.replies.Entry.{Entry};
     ghost use Rattle.link_steps.specs.Rows.{row_terms};
     ghost use Rattle.link_steps.specs.Scan.{scan_of};
-    ghost use Rattle.link_server.specs.Held.{held_by, seen_at};
-    ghost use Rattle.link_server.specs.State.{Stands};
+    ghost use Rattle.link_server.specs.Held.{reservations_held, seen_at};
+    ghost use Rattle.link_server.specs.State.{LinkStands};
 
     /// A link of this shape that has made no step. It takes the memory of the best-effort packets that may be here.
     pub fn new(alloc: Global, shape: LinkShape) -> Result<LinkState, OutOfMemory>
         ensures shape { IfOk result (λ link. link.shape ≡ shape) }
         ensures clock { IfOk result (λ link. link.clock ≡ 0) }
-        ensures stands { IfOk result (λ link. Stands link []) }
+        ensures stands { IfOk result (λ link. LinkStands link []) }
     {
         let blocking = shape.blocking();
         let places = shape.best + 1;
@@ -76,8 +76,8 @@ impl LinkState {
     /// The row at this place, from 0, among those that are held, in the order of their reserves, with the units that it
     /// keeps; None exactly where no more are held.
     pub fn held(&self, place: u32) -> Option<HeldRow>
-        ensures row { result ≡ seen_at self.now.shape.bounds (held_by self.now) place }
-        ensures stands { (h : List Entry) → Stands self.now h → result ≡ seen_at self.now.shape.bounds (map row_terms (scan_of self.now.shape h).rows) place }
+        ensures row { result ≡ seen_at self.now.shape.bounds (reservations_held self.now) place }
+        ensures stands { (h : List Entry) → LinkStands self.now h → result ≡ seen_at self.now.shape.bounds (map row_terms (scan_of self.now.shape h).rows) place }
     {
         let row = self.rows.get(place as usize)?;
         Some(HeldRow {
@@ -98,13 +98,13 @@ impl LinkStep for LinkState {
     ghost use Rattle.link_steps.specs.Split.{whole};
     ghost use Rattle.link_steps.specs.Scan.{clock_with};
     ghost use Rattle.link_server.specs.Asks.{TakesNone, IsOffer};
-    ghost use Rattle.link_server.specs.State.{Stands, stands-clock};
+    ghost use Rattle.link_server.specs.State.{LinkStands, stands-clock};
 
     ghost link_of = { λ link. whole link.shape };
 
     ghost clock_at = { λ link. link.clock };
 
-    ghost stands_for = { Stands };
+    ghost stands_for = { LinkStands };
 
     fn shape(&self) -> LinkShape {
         self.shape
@@ -124,16 +124,16 @@ impl LinkStep for LinkState {
         requires fits { AskFits self.old.shape ask.now }
         requires early { self.old.clock < 2 ^ 61 }
         ensures same { whole self.new.shape ≡ whole self.old.shape }
-        ensures legal { IfOk result (λ reply. (h : List Entry) → Stands self.old h → reply ≡ reply_to (whole self.old.shape) h ask.now) }
-        ensures entered { IfOk result (λ reply. (h : List Entry) → Stands self.old h → Stands self.new (record { ask = ask.now; reply = reply } ∷ h)) }
-        ensures memory { OnErr result ((h : List Entry) → Stands self.old h → Stands self.new h) }
+        ensures legal { IfOk result (λ reply. (h : List Entry) → LinkStands self.old h → reply ≡ reply_to (whole self.old.shape) h ask.now) }
+        ensures entered { IfOk result (λ reply. (h : List Entry) → LinkStands self.old h → LinkStands self.new (record { ask = ask.now; reply = reply } ∷ h)) }
+        ensures memory { OnErr result ((h : List Entry) → LinkStands self.old h → LinkStands self.new h) }
         ensures ticked { IfOk result (λ _. self.new.clock ≡ clock_with ask.now self.old.clock) }
         ensures stopped { OnErr result (self.new.clock ≡ self.old.clock) }
 
         // The hop guarantee, and want of memory.
-        ensures guaranteed { IfOk result (λ reply. (h : List Entry) → Stands self.old h → IsAdmissible self.old.shape h → HopGuarantee self.old.shape (record { ask = ask.now; reply = reply } ∷ h)) }
+        ensures guaranteed { IfOk result (λ reply. (h : List Entry) → LinkStands self.old h → IsAdmissible self.old.shape h → HopGuarantee self.old.shape (record { ask = ask.now; reply = reply } ∷ h)) }
         ensures sure { TakesNone ask.now → IsOk result }
-        ensures instead { OnErr result ((h : List Entry) → Stands self.old h → IsOffer (reply_to (whole self.old.shape) h ask.now)) }
+        ensures instead { OnErr result ((h : List Entry) → LinkStands self.old h → IsOffer (reply_to (whole self.old.shape) h ask.now)) }
     {
         match ask {
             Ask::Reserve {

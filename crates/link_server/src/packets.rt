@@ -4,7 +4,7 @@ ghost use Rattle.std.specs.Vec.{vec_capacity};
 ghost use Rattle.link_server.specs.InLine.{count_on, AreIn, AreIn-prop};
 ghost use Rattle.link_server.specs.Line.{ranks_in, room_in};
 ghost use Rattle.link_server.specs.Packets.{here_in, on_in};
-ghost use Rattle.link_server.specs.Sound.{AreNumbered};
+ghost use Rattle.link_server.specs.Sound.{AreNumberedWithin};
 ghost use Rattle.link_server.specs.SoundProp.{AreNumbered-prop};
 
 use crate::best_effort::best_packet;
@@ -31,7 +31,7 @@ pub(crate) struct Packets {
     pub(crate) on: Option<Running>,
     // The best-effort packets that are planned and left.
     pub(crate) best: Planned,
-    ghost numbered: { AreNumbered 0 (here_in here.items) taken } by { AreNumbered-prop 0 (here_in here.items) taken },
+    ghost numbered: { AreNumberedWithin 0 (here_in here.items) taken } by { AreNumbered-prop 0 (here_in here.items) taken },
     ghost ranked: { AreIn (ranks_in line) (on_in on) (here_in here.items) } by { AreIn-prop (ranks_in line) (on_in on) (here_in here.items) },
     ghost few: { length (ranks_in line) + count_on (on_in on) ≤ length here.items },
     ghost fits: { length here.items ≤ room },
@@ -50,8 +50,8 @@ impl Packets {
     ghost use Rattle.link_steps.specs.BestEffort.{best_packet, best_step};
     ghost use Rattle.link_steps.specs.Kept.{served, departs, best_departs, still_on, still_here, waits_here};
     ghost use Rattle.link_steps.specs.Rows.{is_for, left_at};
-    ghost use Rattle.link_steps.specs.Sources.{source_step, taken_by, lost_by};
-    ghost use Rattle.link_server.specs.Planned.{left_in, IsAhead};
+    ghost use Rattle.link_steps.specs.Sources.{source_step, taken_by, dropped_by};
+    ghost use Rattle.link_server.specs.Planned.{left_in, IsPlannedAhead};
     ghost use Rattle.link_server.specs.Serving.{CanServe};
 
     // No packet taken yet, and no room for one.
@@ -93,7 +93,7 @@ impl Packets {
         Ok(())
     }
 
-    // Takes a packet, behind those that are here. It takes no memory.
+    // Takes a packet, after those that are here. It takes no memory.
     pub(crate) fn push(&mut self, packet: HeldPacket)
         requires room { length self.old.here.items < self.old.room }
         requires next { packet.place ≡ self.old.taken + 1 }
@@ -136,7 +136,7 @@ impl Packets {
 
     // Whether the best-effort packet that is planned for this tick has a place. Where none is planned it looks at no packet.
     pub(crate) fn best_fits(&self, shape: &LinkShape, clock: u64) -> bool
-        requires ahead { IsAhead clock self.now.best }
+        requires ahead { IsPlannedAhead clock self.now.best }
         ensures step { source_step result (find (is_for clock) (left_in self.now.best)) ≡ best_step (length (filter (waits_here shape.now.bounds (on_in self.now.on)) (here_in self.now.here.items))) shape.now.best clock (left_in self.now.best) }
         ensures fewer { IsTrue result → length (filter (waits_here shape.now.bounds (on_in self.now.on)) (here_in self.now.here.items)) < shape.now.best }
     {
@@ -159,10 +159,10 @@ impl Packets {
     // Takes the best-effort packet that is planned for this tick, if there is one and it `fits`. It answers whether it
     // found no place, and so was lost. It takes no memory.
     pub(crate) fn take_best(&mut self, fits: bool, shape: &LinkShape, clock: u64) -> bool
-        requires ahead { IsAhead clock self.old.best }
+        requires ahead { IsPlannedAhead clock self.old.best }
         requires room { IsTrue fits → length self.old.here.items < self.old.room }
         requires countable { self.old.taken + 1 < 2 ^ 64 }
-        ensures lost { result ≡ nat_eq (lost_by (source_step fits (find (is_for clock) (left_in self.old.best)))) 1 }
+        ensures lost { result ≡ nat_eq (dropped_by (source_step fits (find (is_for clock) (left_in self.old.best)))) 1 }
         ensures here { here_in self.new.here.items ≡ here_in self.old.here.items ++ best_packet (source_step fits (find (is_for clock) (left_in self.old.best))) shape.now.bounds (suc self.old.taken) clock }
         ensures taken { self.new.taken ≡ self.old.taken + taken_by (source_step fits (find (is_for clock) (left_in self.old.best))) }
         ensures best { left_in self.new.best ≡ left_at (clock + 1) (left_in self.old.best) }

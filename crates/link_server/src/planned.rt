@@ -16,7 +16,7 @@ pub(crate) struct Planned {
 impl Planned {
     ghost use Rattle.link_steps.specs.Rows.{is_for, left_at};
     ghost use Rattle.link_steps.specs.Lists.{Each};
-    ghost use Rattle.link_server.specs.Planned.{left_in, size_of, IsFrom, IsAhead};
+    ghost use Rattle.link_server.specs.Planned.{left_in, size_of, IsPlannedFrom, IsPlannedAhead};
 
     // None are planned.
     pub(crate) const NONE: Planned = Planned {
@@ -28,14 +28,14 @@ impl Planned {
 
     // A tick before which none is planned.
     pub(crate) fn due(&self) -> u64
-        ensures { Each (IsFrom result) (left_in self.now) }
+        ensures { Each (IsPlannedFrom result) (left_in self.now) }
     {
         if self.count == 0 { u64::MAX } else { self.tick }
     }
 
     // Whether one is planned for this tick.
     pub(crate) fn is_for(&self, clock: u64) -> bool
-        requires ahead { IsAhead clock self.now }
+        requires ahead { IsPlannedAhead clock self.now }
         ensures { result ≡ false → find (is_for clock) (left_in self.now) ≡ None }
     {
         self.count > 0 && self.tick == clock
@@ -43,7 +43,7 @@ impl Planned {
 
     // The size of the packet that is planned for this tick, if there is one. Then it is no longer left.
     pub(crate) fn take_at(&mut self, clock: u64) -> Option<u32>
-        requires ahead { IsAhead clock self.old }
+        requires ahead { IsPlannedAhead clock self.old }
         ensures size { result ≡ size_of (find (is_for clock) (left_in self.old)) }
         ensures least { IfSome result (λ size. 1 ≤ size) }
         ensures left { left_in self.new ≡ left_at (clock + 1) (left_in self.old) }

@@ -2,11 +2,12 @@
 //! bring; and the need and the reach of a new one.
 ghost use Rattle.std.specs.Prelude.{◌≡◌, ◌≤◌, ◌^◌, ◌<◌, IfNone, IfSome, length, map};
 ghost use Rattle.net_units.specs.Numbers.{level_number};
+ghost use Rattle.net_units.specs.Limits.{most_bound};
+ghost use Rattle.net_units.specs.LevelBounds.{reach_of};
 ghost use Rattle.link_steps.specs.Buffer.{free_units, need_of};
-ghost use Rattle.link_steps.specs.Replies.{reach_of};
 ghost use Rattle.traffic_contract.specs.Admission.{total};
 ghost use Rattle.link_server.specs.Sound.{all_places_of};
-ghost use Rattle.link_server.specs.Rows.{terms_in, row_in, is_row_at_hop, HasNone, IsPlace, IsAbsent, IsPlaceOf, AreWithin};
+ghost use Rattle.link_server.specs.Rows.{reservation_in, row_in, is_served_at_hop, NoRowPasses, IsFirstPlace, IsAbsent, IsPlaceOf, AreWithin};
 
 use crate::served_row::{ServedRow, units_for};
 use link_steps::LinkShape;
@@ -28,8 +29,8 @@ pub(crate) fn place_of(rows: &[ServedRow], chan: ChanNo) -> Option<usize>
 
 // The place of the channel's row at its first hop, or at a later one.
 pub(crate) fn place_at_hop(rows: &[ServedRow], chan: ChanNo, first: bool) -> Option<usize>
-    ensures none { IfNone result (HasNone (is_row_at_hop chan first) rows.now) }
-    ensures some { IfSome result (IsPlace (is_row_at_hop chan first) rows.now) }
+    ensures none { IfNone result (NoRowPasses (is_served_at_hop chan first) rows.now) }
+    ensures some { IfSome result (IsFirstPlace (is_served_at_hop chan first) rows.now) }
 {
     for (place, row) in rows.iter().enumerate() {
         if row.is_at_hop(chan, first) {
@@ -42,7 +43,7 @@ pub(crate) fn place_at_hop(rows: &[ServedRow], chan: ChanNo, first: bool) -> Opt
 // The units that the rows don't keep.
 pub(crate) fn free_units(shape: &LinkShape, rows: &[ServedRow]) -> u64
     requires { AreWithin (length shape.now.bounds) rows.now }
-    ensures { result ≡ free_units shape.now (map terms_in rows.now) }
+    ensures { result ≡ free_units shape.now (map reservation_in rows.now) }
 {
     let mut free = u64::from(shape.buffer);
     for row in rows {
@@ -67,7 +68,7 @@ pub(crate) fn places_of(bounds: &Bounds, rows: &[ServedRow]) -> u64
 
 // The units that a new reservation would keep.
 pub(crate) fn need_of(bounds: &Bounds, contract: &Contract, up_reach: u64, reach: Level) -> u64
-    requires before { up_reach ≤ 1048576 }
+    requires before { up_reach ≤ most_bound }
     requires within { level_number reach ≤ length bounds.now }
     ensures { result ≡ need_of bounds.now contract.now up_reach (level_number reach) }
 {

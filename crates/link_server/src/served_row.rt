@@ -1,5 +1,6 @@
 //! A row of a link: a reservation that is held, its regulator, its planned packets, and the units that it keeps.
 ghost use Rattle.std.specs.Prelude.{◌≡◌, ◌+◌, ◌^◌, ◌<◌, ◌≤◌, suc, true, find, IfSome, IfOk, length};
+ghost use Rattle.net_units.specs.Limits.{most_bound};
 ghost use Rattle.traffic_contract.specs.Contract.{IsContract};
 ghost use Rattle.traffic_contract.specs.Eligible.{newest};
 ghost use Rattle.link_steps.specs.Buffer.{units_for};
@@ -57,9 +58,9 @@ pub(crate) struct ServedRow {
     pub(crate) regulator: Regulator,
     pub(crate) planned: Planned,
     ghost is_contract: { IsContract contract },
-    ghost reach_most: { up_reach ≤ 1048576 },
-    ghost bound_most: { up_bound ≤ 1048576 },
-    ghost regulates: { regulator.terms ≡ contract },
+    ghost reach_most: { up_reach ≤ most_bound },
+    ghost bound_most: { up_bound ≤ most_bound },
+    ghost regulates: { regulator.contract ≡ contract },
     ghost controls: { regulator.kind ≡ kind },
     ghost newest: { last ≡ newest regulator.recent },
 }
@@ -76,8 +77,8 @@ impl ServedRow {
     ghost use Rattle.link_steps.specs.Rows.{is_for};
     ghost use Rattle.link_steps.specs.Sources.{arrival_at};
     ghost use Rattle.link_server.specs.Packets.{arrival_in, here_in};
-    ghost use Rattle.link_server.specs.Planned.{left_in, size_of, IsAhead};
-    ghost use Rattle.link_server.specs.Rows.{terms_in, row_in, is_row_at_hop, IsWithin};
+    ghost use Rattle.link_server.specs.Planned.{left_in, size_of, IsPlannedAhead};
+    ghost use Rattle.link_server.specs.Rows.{reservation_in, row_in, is_served_at_hop, IsWithinLevels};
     ghost use Rattle.link_server.specs.Strays.{stray};
 
     // A tentative reservation at the offered level. It takes all memory that it will ever need.
@@ -87,7 +88,7 @@ impl ServedRow {
         offer: &Offered,
     ) -> Result<ServedRow, OutOfMemory>
         requires contract { IsContract wanted.now.contract }
-        requires reach { wanted.now.up_reach ≤ 1048576 }
+        requires reach { wanted.now.up_reach ≤ most_bound }
         ensures { IfOk result (λ row. row_in row ≡ new_kept (tentative wanted.now.chan wanted.now.contract wanted.now.kind wanted.now.first wanted.now.next wanted.now.up_reach offer.now.level offer.now.reach)) }
     {
         let regulator = Regulator::new(alloc, wanted.contract, wanted.kind)?;
@@ -113,14 +114,14 @@ impl ServedRow {
 
     // Whether it is this channel's, at its first hop or at a later one.
     pub(crate) fn is_at_hop(&self, chan: ChanNo, first: bool) -> bool
-        ensures { result ≡ is_row_at_hop chan first self.now }
+        ensures { result ≡ is_served_at_hop chan first self.now }
     {
         self.chan.get() == chan.get() && self.first == first
     }
 
     // The refusal of an ask that wants a tentative reservation.
     pub(crate) fn not_tentative(&self) -> Option<Refusal>
-        ensures { result ≡ not_in_phase Tentative (terms_in self.now) }
+        ensures { result ≡ not_in_phase Tentative (reservation_in self.now) }
     {
         match self.phase {
             Phase::Tentative => None,
@@ -131,7 +132,7 @@ impl ServedRow {
     // The refusal of a relax to a level that isn't from the offer to the reach, or of a bound before that is over
     // the reach before.
     pub(crate) fn unfit(&self, level: Level, up_bound: u64) -> Option<Refusal>
-        ensures { result ≡ unfit (terms_in self.now) level up_bound }
+        ensures { result ≡ unfit (reservation_in self.now) level up_bound }
     {
         let from_offer = self.level.get() <= level.get();
         let to_reach = level.get() <= self.reach.get();
@@ -147,7 +148,7 @@ impl ServedRow {
 
     // Commits it at a level, with the bound allotted at the hop before.
     pub(crate) fn commit(&mut self, level: Level, up_bound: u64)
-        requires { up_bound ≤ 1048576 }
+        requires { up_bound ≤ most_bound }
         ensures { row_in self.new ≡ kept_relaxed level up_bound (row_in self.old) }
     {
         self.phase = Phase::Committed;
@@ -157,7 +158,7 @@ impl ServedRow {
 
     // The refusal of an ask that wants a committed reservation.
     pub(crate) fn not_committed(&self) -> Option<Refusal>
-        ensures { result ≡ not_in_phase Committed (terms_in self.now) }
+        ensures { result ≡ not_in_phase Committed (reservation_in self.now) }
     {
         match self.phase {
             Phase::Committed => None,
@@ -174,7 +175,7 @@ impl ServedRow {
 
     // The refusal of a submit of packets that are larger than the contract allows.
     pub(crate) fn too_big(&self, size: u32) -> Option<Refusal>
-        ensures { result ≡ too_big (terms_in self.now) size }
+        ensures { result ≡ too_big (reservation_in self.now) size }
     {
         let smax = self.contract.smax();
         if size <= smax {
@@ -226,7 +227,7 @@ impl ServedRow {
     // The refusal of a packet from the link before that has no place here.
     pub(crate) fn stray(&self, packet: &Packet) -> Option<Refusal>
         requires { self.now.taken + 1 < 2 ^ 64 }
-        ensures { result ≡ stray packet.now (terms_in self.now) self.now.taken }
+        ensures { result ≡ stray packet.now (reservation_in self.now) self.now.taken }
     {
         let next = self.taken + 1;
         let why = if self.first {
@@ -249,8 +250,8 @@ impl ServedRow {
 
     // The refusal of a packet where each slot holds one.
     pub(crate) fn full(&self, bounds: &Bounds, here: &[HeldPacket]) -> Option<Refusal>
-        requires { IsWithin (length bounds.now) self.now }
-        ensures { result ≡ full (held_packets self.now.lead (here_in here.now)) (slots_of bounds.now (terms_in self.now)) }
+        requires { IsWithinLevels (length bounds.now) self.now }
+        ensures { result ≡ full (held_packets self.now.lead (here_in here.now)) (slots_of bounds.now (reservation_in self.now)) }
     {
         let held = held(here, self.lead) as u64;
         let slots = self.slots(bounds);
@@ -262,7 +263,7 @@ impl ServedRow {
 
     // The size of the packet that is planned for this tick, if there is one. Then it is no longer left.
     pub(crate) fn next_planned(&mut self, clock: u64) -> Option<u32>
-        requires ahead { IsAhead clock self.old.planned }
+        requires ahead { IsPlannedAhead clock self.old.planned }
         ensures size { result ≡ size_of (find (is_for clock) (left_in self.old.planned)) }
         ensures least { IfSome result (λ size. 1 ≤ size) }
         ensures row { row_in self.new ≡ past_tick clock (row_in self.old) }
@@ -273,16 +274,16 @@ impl ServedRow {
 
     // Whether one of its slots is free, with these packets here.
     pub(crate) fn has_slot(&self, bounds: &Bounds, here: &[HeldPacket]) -> bool
-        requires { IsWithin (length bounds.now) self.now }
-        ensures { result ≡ has_slot bounds.now (terms_in self.now) self.now.lead (here_in here.now) }
+        requires { IsWithinLevels (length bounds.now) self.now }
+        ensures { result ≡ has_slot bounds.now (reservation_in self.now) self.now.lead (here_in here.now) }
     {
         (held(here, self.lead) as u64) < self.slots(bounds)
     }
 
     // Its slots.
     pub(crate) fn slots(&self, bounds: &Bounds) -> u64
-        requires { IsWithin (length bounds.now) self.now }
-        ensures value { result ≡ slots_of bounds.now (terms_in self.now) }
+        requires { IsWithinLevels (length bounds.now) self.now }
+        ensures value { result ≡ slots_of bounds.now (reservation_in self.now) }
         ensures small { result < 2 ^ 22 }
     {
         self.contract.bound(self.stay(bounds))
@@ -297,8 +298,8 @@ impl ServedRow {
         requires hop { self.old.first ≡ true → due ≡ 0 }
         requires last { newest (row_in self.old).recent < 2 ^ 63 }
         requires few { self.old.taken + 1 < 2 ^ 64 }
-        ensures packet { arrival_in result ≡ arrival_at (terms_in self.old) self.old.lead place (suc self.old.taken) size clock (eligible_next (terms_in self.old) (row_in self.old).recent clock due) }
-        ensures row { row_in self.new ≡ kept_with place (eligible_next (terms_in self.old) (row_in self.old).recent clock due) (row_in self.old) }
+        ensures packet { arrival_in result ≡ arrival_at (reservation_in self.old) self.old.lead place (suc self.old.taken) size clock (eligible_next (reservation_in self.old) (row_in self.old).recent clock due) }
+        ensures row { row_in self.new ≡ kept_with place (eligible_next (reservation_in self.old) (row_in self.old).recent clock due) (row_in self.old) }
     {
         let eligible = self.regulator.admit(clock, due);
         self.last = eligible;
@@ -320,7 +321,7 @@ impl ServedRow {
     // Whether its hold has ended by this tick.
     pub(crate) fn has_ended(&self, bounds: &Bounds, clock: u64) -> bool
         requires { self.now.last < 2 ^ 63 }
-        ensures { result ≡ hold_ended bounds.now (terms_in self.now) self.now.taken self.now.last clock }
+        ensures { result ≡ hold_ended bounds.now (reservation_in self.now) self.now.taken self.now.last clock }
     {
         match self.phase {
             Phase::Tentative | Phase::Committed => false,
@@ -337,16 +338,16 @@ impl ServedRow {
 
     // The units that it keeps.
     pub(crate) fn units(&self, bounds: &Bounds) -> u64
-        requires { IsWithin (length bounds.now) self.now }
-        ensures { result ≡ kept_units bounds.now (terms_in self.now) }
+        requires { IsWithinLevels (length bounds.now) self.now }
+        ensures { result ≡ kept_units bounds.now (reservation_in self.now) }
     {
         units_for(&self.contract, self.stay(bounds))
     }
 
     // The longest time in ticks that a packet of the channel is at the hop before and at this link together.
     fn stay(&self, bounds: &Bounds) -> u64
-        requires { IsWithin (length bounds.now) self.now }
-        ensures value { result ≡ stay_of bounds.now (terms_in self.now) }
+        requires { IsWithinLevels (length bounds.now) self.now }
+        ensures value { result ≡ stay_of bounds.now (reservation_in self.now) }
         ensures small { result ≤ 2097152 }
     {
         match self.phase {
@@ -356,7 +357,7 @@ impl ServedRow {
     }
 }
 
-// The units of the slots for a window of so many ticks.
+// The units of the slots for a window of `stay` ticks.
 pub(crate) fn units_for(contract: &Contract, window: u64) -> u64
     requires { window ≤ 2097152 }
     ensures value { result ≡ units_for contract.now window }
@@ -372,7 +373,7 @@ fn lead_with(lead: u64, place: u64) -> u64
     if lead == 0 { place } else { lead }
 }
 
-// The refusal where so many planned packets are left.
+// The refusal where `left` planned packets are left.
 pub(crate) fn busy_with(left: u64) -> Option<Refusal>
     ensures { result ≡ busy left }
 {

@@ -13,12 +13,12 @@ ghost use Rattle.link_steps.specs.Split.{whole};
 ghost use Rattle.link_steps.specs.Kept.{kept_reply, kept_after};
 ghost use Rattle.link_steps.specs.Legal.{AskFits, ReserveFits, RelaxFits};
 ghost use Rattle.link_server.specs.Asks.{IsOffer};
-ghost use Rattle.link_server.specs.Held.{held_by, reach_at, MayReserve, IsBestFor};
+ghost use Rattle.link_server.specs.Held.{reservations_held, reach_at, MayReserve, IsBestFor};
 ghost use Rattle.link_server.specs.Packets.{here_in};
-ghost use Rattle.link_server.specs.Rows.{terms_in, row_in, IsWithin};
+ghost use Rattle.link_server.specs.Rows.{reservation_in, row_in, IsWithinLevels};
 ghost use Rattle.link_server.specs.Sound.{most_places};
-ghost use Rattle.link_server.specs.State.{kept_in, Stands};
-ghost use Rattle.link_server.specs.Wants.{ask_for, reply_of, MayHold};
+ghost use Rattle.link_server.specs.State.{kept_in, LinkStands};
+ghost use Rattle.link_server.specs.Wants.{ask_for, offer_reply, MayHold};
 
 use crate::link_state::LinkState;
 use crate::rows::{free_units, need_of, place_of, places_of, reach_of};
@@ -57,15 +57,15 @@ impl LinkState {
     /// The reply is the legal one exactly where this is the best level (`legal`). Want of memory leaves the link as it was.
     pub fn reserve_at(&mut self, ask: &Ask, level: Level) -> Result<Reply, OutOfMemory>
         requires fits { AskFits self.old.shape ask.now }
-        requires may { MayReserve self.old.shape (held_by self.old) ask.now level }
+        requires may { MayReserve self.old.shape (reservations_held self.old) ask.now level }
         ensures shape { self.new.shape ≡ self.old.shape }
         ensures clock { self.new.clock ≡ self.old.clock }
         ensures offered { IfOk result (λ reply. reply ≡ Offer level (reach_at self.old.shape ask.now level)) }
-        ensures entered { IfOk result (λ reply. (h : List Entry) → Stands self.old h → Stands self.new (record { ask = ask.now; reply = reply } ∷ h)) }
-        ensures memory { OnErr result ((h : List Entry) → Stands self.old h → Stands self.new h) }
-        ensures admissible { IfOk result (λ reply. (h : List Entry) → Stands self.old h → IsAdmissible self.old.shape h → IsAdmissible self.old.shape (record { ask = ask.now; reply = reply } ∷ h)) }
-        ensures guaranteed { IfOk result (λ reply. (h : List Entry) → Stands self.old h → IsAdmissible self.old.shape h → HopGuarantee self.old.shape (record { ask = ask.now; reply = reply } ∷ h)) }
-        ensures legal { IfOk result (λ reply. (h : List Entry) → Stands self.old h → (reply ≡ reply_to (whole self.old.shape) h ask.now) ↔ IsBestFor self.old.shape (held_by self.old) ask.now level) }
+        ensures entered { IfOk result (λ reply. (h : List Entry) → LinkStands self.old h → LinkStands self.new (record { ask = ask.now; reply = reply } ∷ h)) }
+        ensures memory { OnErr result ((h : List Entry) → LinkStands self.old h → LinkStands self.new h) }
+        ensures admissible { IfOk result (λ reply. (h : List Entry) → LinkStands self.old h → IsAdmissible self.old.shape h → IsAdmissible self.old.shape (record { ask = ask.now; reply = reply } ∷ h)) }
+        ensures guaranteed { IfOk result (λ reply. (h : List Entry) → LinkStands self.old h → IsAdmissible self.old.shape h → HopGuarantee self.old.shape (record { ask = ask.now; reply = reply } ∷ h)) }
+        ensures legal { IfOk result (λ reply. (h : List Entry) → LinkStands self.old h → (reply ≡ reply_to (whole self.old.shape) h ask.now) ↔ IsBestFor self.old.shape (reservations_held self.old) ask.now level) }
     {
         let Ask::Reserve {
             chan,
@@ -96,8 +96,8 @@ impl LinkState {
     // The offer that a reserve gets, or its refusal.
     fn offer(&self, wanted: &Wanted) -> Result<Offered, Refusal>
         requires fits { ReserveFits wanted.now.contract wanted.now.up_reach wanted.now.first }
-        ensures reply { reply_of result ≡ kept_reply (whole self.now.shape) (kept_in self.now) (ask_for wanted.now) }
-        ensures may { IfOk result (MayHold self.now.shape (held_by self.now) wanted.now) }
+        ensures reply { offer_reply result ≡ kept_reply (whole self.now.shape) (kept_in self.now) (ask_for wanted.now) }
+        ensures may { IfOk result (MayHold self.now.shape (reservations_held self.now) wanted.now) }
     {
         let smax = wanted.contract.smax();
         if smax > self.shape.cap {
@@ -131,7 +131,7 @@ impl LinkState {
     // Holds what is wanted at what is offered. An `Err` leaves what is held.
     fn hold(&mut self, wanted: &Wanted, offer: &Offered) -> Result<(), OutOfMemory>
         requires fits { ReserveFits wanted.now.contract wanted.now.up_reach wanted.now.first }
-        requires may { MayHold self.old.shape (held_by self.old) wanted.now offer.now }
+        requires may { MayHold self.old.shape (reservations_held self.old) wanted.now offer.now }
         ensures shape { self.new.shape ≡ self.old.shape }
         ensures clock { self.new.clock ≡ self.old.clock }
         ensures kept { OnOk result (kept_in self.new ≡ kept_after self.old.shape (kept_in self.old) (ask_for wanted.now) (Offer offer.now.level offer.now.reach)) }
@@ -147,13 +147,13 @@ impl LinkState {
 
     // Takes all memory that one row more can ever need. An `Err` leaves what is held.
     fn make_room(&mut self, row: &ServedRow) -> Result<(), OutOfMemory>
-        requires within { IsWithin (length self.old.shape.bounds) row.now }
+        requires within { IsWithinLevels (length self.old.shape.bounds) row.now }
         ensures shape { self.new.shape ≡ self.old.shape }
         ensures clock { self.new.clock ≡ self.old.clock }
         ensures kept { kept_in self.new ≡ kept_in self.old }
         ensures row_fits { OnOk result (length self.new.rows.items < vec_capacity self.new.rows) }
         ensures sum_fits { OnOk result (1 ≤ self.new.sums.spare) }
-        ensures packets_fit { OnOk result (most_places self.new.shape.bounds (here_in self.new.packets.here.items) (map row_in self.new.rows.items) + suc (slots_of self.new.shape.bounds (terms_in row.now)) + suc self.new.shape.best ≤ self.new.room) }
+        ensures packets_fit { OnOk result (most_places self.new.shape.bounds (here_in self.new.packets.here.items) (map row_in self.new.rows.items) + suc (slots_of self.new.shape.bounds (reservation_in row.now)) + suc self.new.shape.best ≤ self.new.room) }
     {
         let bounds = self.shape.bounds;
         let places = places_of(&bounds, &self.rows)

@@ -1,11 +1,11 @@
 //! The sources' part of a tick: the packets that are planned for it arrive.
 ghost use Rattle.std.specs.Prelude.{◌≡◌, ◌+◌, ◌^◌, ◌<◌, ◌≤◌, ◌++◌, suc, if◌then◌else◌, length, map, take};
 ghost use Rattle.link_steps.specs.Kept.{kept_packet, kept_after_step};
-ghost use Rattle.link_steps.specs.Sources.{taken_by, lost_by};
+ghost use Rattle.link_steps.specs.Sources.{taken_by, dropped_by};
 ghost use Rattle.link_server.specs.Packets.{here_in};
 ghost use Rattle.link_server.specs.Quiet.{AreQuiet};
-ghost use Rattle.link_server.specs.Rows.{row_in, summed, IsWithin, AreWithin};
-ghost use Rattle.link_server.specs.Sources.{step_in, brought_by, rows_by, lost_by_rows, IsReady, AreReady};
+ghost use Rattle.link_server.specs.Rows.{row_in, summed, IsWithinLevels, AreWithin};
+ghost use Rattle.link_server.specs.Sources.{step_in, brought_by, served_rows_after, lost_by_rows, IsReady, AreReady};
 
 use crate::packets::Packets;
 use crate::served_row::ServedRow;
@@ -28,7 +28,7 @@ pub(crate) fn take_source_packets(
     requires room { length packets.old.here.items + length (brought_by bounds.now (here_in packets.old.here.items) clock packets.old.taken rows.old) ≤ packets.old.room }
     requires numbers { packets.old.taken + length (brought_by bounds.now (here_in packets.old.here.items) clock packets.old.taken rows.old) < 2 ^ 64 }
     ensures lost { result ≡ lost_by_rows bounds.now (here_in packets.old.here.items) clock rows.old }
-    ensures rows { map row_in rows.new ≡ rows_by bounds.now (here_in packets.old.here.items) clock packets.old.taken rows.old }
+    ensures rows { map row_in rows.new ≡ served_rows_after bounds.now (here_in packets.old.here.items) clock packets.old.taken rows.old }
     ensures here { here_in packets.new.here.items ≡ here_in packets.old.here.items ++ brought_by bounds.now (here_in packets.old.here.items) clock packets.old.taken rows.old }
     ensures taken { packets.new.taken ≡ packets.old.taken + length (brought_by bounds.now (here_in packets.old.here.items) clock packets.old.taken rows.old) }
     ensures on { packets.new.on ≡ packets.old.on }
@@ -63,11 +63,11 @@ fn take_source_packet(
 ) -> bool
     requires early { clock < 2 ^ 61 }
     requires ready { IsReady clock (row_in row.old) }
-    requires within { IsWithin (length bounds.now) row.old }
+    requires within { IsWithinLevels (length bounds.now) row.old }
     requires before { before ≤ length packets.old.here.items }
     requires room { length packets.old.here.items + taken_by (step_in bounds.now (take before (here_in packets.old.here.items)) clock row.old) ≤ packets.old.room }
     requires numbers { packets.old.taken + taken_by (step_in bounds.now (take before (here_in packets.old.here.items)) clock row.old) < 2 ^ 64 }
-    ensures lost { (if result then 1 else 0) ≡ lost_by (step_in bounds.now (take before (here_in packets.old.here.items)) clock row.old) }
+    ensures lost { (if result then 1 else 0) ≡ dropped_by (step_in bounds.now (take before (here_in packets.old.here.items)) clock row.old) }
     ensures row { row_in row.new ≡ kept_after_step (step_in bounds.now (take before (here_in packets.old.here.items)) clock row.old) clock (suc packets.old.taken) (row_in row.old) }
     ensures here { here_in packets.new.here.items ≡ here_in packets.old.here.items ++ kept_packet (step_in bounds.now (take before (here_in packets.old.here.items)) clock row.old) clock (suc packets.old.taken) (row_in row.old) }
     ensures taken { packets.new.taken ≡ packets.old.taken + taken_by (step_in bounds.now (take before (here_in packets.old.here.items)) clock row.old) }

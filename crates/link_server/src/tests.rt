@@ -4,7 +4,7 @@ ghost use Rattle.traffic_contract.specs.Contract.{IsContract, terms_of};
 ghost use Rattle.traffic_contract.specs.declared.admission.Test.TheVariants.{Whole};
 ghost use Rattle.link_steps.specs.Legal.{AskFits, SubmitFits};
 ghost use Rattle.link_steps.specs.Shape.{IsShapeOf};
-ghost use Rattle.link_server.specs.State.{Stands};
+ghost use Rattle.link_server.specs.State.{LinkStands};
 
 use super::LinkState;
 use link_steps::{Ask, LinkShape, LinkStep, Packet, Reply, Sent};
@@ -17,7 +17,7 @@ use traffic_contract::{Contract, Test};
 // 20 and 40 ticks.
 fn open(alloc: Global, buffer: u32) -> Result<LinkState, Fail>
     ensures shape { IfOk result (λ link. IsShapeOf link.shape.link 1 4 2 buffer (10 ∷ 20 ∷ 40 ∷ []) Whole 1 link.shape) }
-    ensures stands { IfOk result (λ link. Stands link []) }
+    ensures stands { IfOk result (λ link. LinkStands link []) }
 {
     let number = LinkNo::new(0).ok_or("link")?;
     let bounds = Bounds::new(&[10, 20, 40]).ok_or("bounds")?;

@@ -24,7 +24,7 @@ use Rattle.link_steps.specs.Reservation.{Reservation, tentative}
 use Rattle.link_steps.specs.Scan.{Scan, clock_with, clock_of, is_row_of, is_row_at_hop, names_first_hop, relax_row, plan_row, close_row, with_rows, arrived_tick, arrived_row, arrived_packet, with_arrival, without_expired, with_sources, with_best, best_step_at, after_tick, after, scan_of}
 use Rattle.link_steps.specs.Service.{Arrival, starts_below, here_at}
 use Rattle.link_steps.specs.Rows.{Row, SourcePacket, row_terms, new_row, is_for, is_from, left_at}
-use Rattle.link_steps.specs.Sources.{SourceStep, Rests, Brings, Loses, source_step, lost_by, lost_in, source_packets}
+use Rattle.link_steps.specs.Sources.{SourceStep, Rests, Brings, Drops, source_step, dropped_by, dropped_in, source_packets}
 use Rattle.link_steps.specs.BestEffort.{best_packet, best_step}
 use Rattle.link_steps.specs.declared.replies.Sent.{Sent}
 use Rattle.link_steps.proofs.AccountOfRows.{RowHasContract, left-left, eligible-recent, left-planned, left-cancelled, held-kept, kept-packet, packets-kept, rows-kept, lost-kept, eligible-from, source_packets-above, source_packets-upto, source_packets-from}
@@ -50,17 +50,17 @@ numbered-arrival t packet scan (Some row) before = numbered-append scan.packets 
 
 best-numbered : (bounds : List ℕ) (t n : ℕ) (step : SourceStep) → Each (IsUpTo (n + length (best_packet step bounds (suc n) t))) (best_packet step bounds (suc n) t)
 best-numbered bounds t n Rests = tt
-best-numbered bounds t n Loses = tt
+best-numbered bounds t n Drops = tt
 best-numbered bounds t n (Brings size) = (omega arith, tt)
 
 best-above : (bounds : List ℕ) (t n place : ℕ) (step : SourceStep) → n < place → Each (IsAbove n) (best_packet step bounds place t)
 best-above bounds t n place Rests above = tt
-best-above bounds t n place Loses above = tt
+best-above bounds t n place Drops above = tt
 best-above bounds t n place (Brings size) above = (omega (arith, above), tt)
 
 best-from : (bounds : List ℕ) (t place : ℕ) (step : SourceStep) → Each (IsFrom t) (best_packet step bounds place t)
 best-from bounds t place Rests = tt
-best-from bounds t place Loses = tt
+best-from bounds t place Drops = tt
 best-from bounds t place (Brings size) = (omega arith, tt)
 
 numbered-after : (shape : LinkShape) (t : ℕ) (scan : Scan) (ask : Ask) (reply : Reply) → IsNumbered scan → IsNumbered (after shape t scan ask reply)
@@ -136,7 +136,7 @@ shows-after shape t scan each numbered =
     (Each-append (IsAbove (length scan.packets)) (sources_in shape t scan) _ (source_packets-above shape.bounds (here_at shape.rate scan.packets t) t (length scan.packets) (held_in shape t scan)) (best-above shape.bounds t (length scan.packets) _ (best_step_at shape t scan) (omega arith)))
     (Each-append (IsFrom t) (sources_in shape t scan) _ (source_packets-from shape.bounds (here_at shape.rate scan.packets t) t (length scan.packets) (held_in shape t scan)) (best-from shape.bounds t _ (best_step_at shape t scan))))
 
-lost-tick : (shape : LinkShape) (t : ℕ) (scan : Scan) → HaveContracts scan → lost_in shape.bounds (here_at shape.rate scan.packets t) t (without_expired shape.bounds t scan).rows ≡ kept_lost shape.bounds (kept_at shape t scan).here (kept_at shape t scan).clock (held_rows shape (kept_at shape t scan))
+lost-tick : (shape : LinkShape) (t : ℕ) (scan : Scan) → HaveContracts scan → dropped_in shape.bounds (here_at shape.rate scan.packets t) t (without_expired shape.bounds t scan).rows ≡ kept_lost shape.bounds (kept_at shape t scan).here (kept_at shape t scan).clock (held_rows shape (kept_at shape t scan))
 unfolding kept_at without_expired
 lost-tick shape t scan each =
     rw (held-kept shape.bounds t scan.rows each) (sym (lost-kept shape.bounds (here_at shape.rate scan.packets t) t (held_in shape t scan)))
@@ -156,7 +156,7 @@ reply-tick : (shape : LinkShape) (t : ℕ) (scan : Scan) → HaveContracts scan 
 unfolding kept_tick_reply kept_at
 reply-tick shape t scan each numbered =
     let shows = shows-after shape t scan each numbered in
-    same-ticked t _ _ _ _ _ _ _ _ (lost-tick shape t scan each) shows.departure shows.best_departure (ap (λ step. nat_eq (lost_by step) 1) (sym (best-tick shape t scan))) where
+    same-ticked t _ _ _ _ _ _ _ _ (lost-tick shape t scan each) shows.departure shows.best_departure (ap (λ step. nat_eq (dropped_by step) 1) (sym (best-tick shape t scan))) where
       same-ticked : (t full other : ℕ) (sent left : Option Sent) (best gone lost missing : Bool) → full ≡ other → sent ≡ left → best ≡ gone → lost ≡ missing → Is.Ticked t full sent best lost ≡ Is.Ticked t other left gone missing
       same-ticked t full other sent left best gone lost missing a b c d = λ i. Is.Ticked t (a i) (b i) (c i) (d i)
 

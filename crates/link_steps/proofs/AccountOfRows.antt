@@ -6,20 +6,20 @@ use Rattle.std.proofs.lemmas.List.Elements.{filter-append}
 use Rattle.std.specs.Prelude.{filter}
 use Rattle.net_units.specs.declared.Kind.{Kind}
 use Rattle.net_units.specs.declared.Kind.TheVariants.{Rate, Jitter}
-use Rattle.traffic_contract.specs.Contract.{Terms, IsContract, burst_of}
-use Rattle.traffic_contract.specs.Eligible.{eligible, newest}
+use Rattle.traffic_contract.specs.Contract.{Traffic, IsContract, burst_of}
+use Rattle.traffic_contract.specs.Eligible.{eligible, newest, newest_burst}
 use Rattle.traffic_contract.specs.Keeping.{may_follow}
 use Rattle.traffic_contract.proofs.ContractFacts.{burst-least}
 use Rattle.traffic_contract.proofs.EligibleFacts.{eligible-take, first_from-reached, newest-take, take-cons-take}
 use Rattle.link_steps.specs.Buffer.{has_slot}
 use Rattle.link_steps.specs.Hold.{stays}
-use Rattle.link_steps.specs.Kept.{recent_of, kept_row, kept_stays, kept_step, kept_tick, kept_packet, kept_with, past_tick, kept_after_step, kept_packets, kept_rows_after, kept_lost}
+use Rattle.link_steps.specs.Kept.{kept_row, kept_stays, kept_step, kept_tick, kept_packet, kept_with, past_tick, kept_after_step, kept_packets, kept_rows_after, kept_lost}
 use Rattle.link_steps.specs.Lists.{Each}
 use Rattle.link_steps.specs.Reservation.{Reservation}
 use Rattle.link_steps.specs.Service.{Arrival}
 use Rattle.link_steps.specs.Regulator.{waits_until, eligible_next}
 use Rattle.link_steps.specs.Rows.{Row, SourcePacket, planned_from, is_for, is_from, is_before, left_at, made_by}
-use Rattle.link_steps.specs.Sources.{SourceStep, Rests, Brings, Loses, with_packet, source_step, step_of, source_tick, packet_of, row_after, taken_by, source_packets, rows_after, lost_in}
+use Rattle.link_steps.specs.Sources.{SourceStep, Rests, Brings, Drops, with_packet, source_step, step_of, source_tick, packet_of, row_after, taken_by, source_packets, rows_after, dropped_in}
 use Rattle.link_steps.proofs.ListFacts.{Each-from, Each-if, Each-append, filter-same, filter-none, filter-map, filter-filter, find-filter, filter-all}
 use Rattle.link_steps.proofs.ServiceFacts.{IsFrom}
 use Rattle.link_steps.proofs.AccountOfService.{IsAbove, IsUpTo}
@@ -31,16 +31,16 @@ RowHasContract row = IsContract row.terms.contract
 -- ---- eligible ticks
 
 -- the newest tick is kept
-newest-recent : (contract : Terms) (ticks : List ℕ) → IsContract contract → newest (recent_of contract ticks) ≡ newest ticks
+newest-recent : (contract : Traffic) (ticks : List ℕ) → IsContract contract → newest (newest_burst contract ticks) ≡ newest ticks
 newest-recent contract ticks is = newest-take (burst_of contract) ticks (burst-least contract is)
 
 -- the next eligible tick needs no more than the kept ones
-pub eligible-recent : (terms : Reservation) (ticks : List ℕ) (t due : ℕ) → IsContract terms.contract → eligible_next terms (recent_of terms.contract ticks) t due ≡ eligible_next terms ticks t due
+pub eligible-recent : (terms : Reservation) (ticks : List ℕ) (t due : ℕ) → IsContract terms.contract → eligible_next terms (newest_burst terms.contract ticks) t due ≡ eligible_next terms ticks t due
 unfolding eligible_next
 eligible-recent terms ticks t due is = eligible-take terms.contract ticks (waits_until terms.kind terms.first t due) (burst-least terms.contract is)
 
 -- one more tick in front
-recent-more : (contract : Terms) (e : ℕ) (ticks : List ℕ) → recent_of contract (e ∷ recent_of contract ticks) ≡ recent_of contract (e ∷ ticks)
+recent-more : (contract : Traffic) (e : ℕ) (ticks : List ℕ) → newest_burst contract (e ∷ newest_burst contract ticks) ≡ newest_burst contract (e ∷ ticks)
 recent-more contract e ticks = take-cons-take (burst_of contract) e ticks
 
 -- no packet is eligible before it arrives
@@ -51,9 +51,9 @@ eligible-from terms ticks t due =
     let reached = first_from-reached (may_follow terms.contract ticks) (waits_until terms.kind terms.first t due) (newest ticks + terms.contract.interval - waits_until terms.kind terms.first t due) in
     omega (arith, low, reached) where
       waits-from : (kind : Kind) (first : Bool) (t due : ℕ) → t ≤ waits_until kind first t due
+      waits-from kind true t due = omega arith
       waits-from Jitter false t due = omega arith
-      waits-from Jitter true t due = omega arith
-      waits-from Rate first t due = omega arith
+      waits-from Rate false t due = omega arith
 
 -- ---- planned packets
 
@@ -114,9 +114,9 @@ tick-kept t row is = eligible-recent row.terms row.ticks t 0 is
 packet-kept : (step : SourceStep) (t place : ℕ) (row : Row) → RowHasContract row → kept_packet step t place (kept_row t row) ≡ packet_of step t place row
 packet-kept (Brings size) t place row is = rw (tick-kept t row is) refl
 packet-kept Rests t place row is = refl
-packet-kept Loses t place row is = refl
+packet-kept Drops t place row is = refl
 
--- the row with one more packet, as it is kept at t or at the tick behind it
+-- the row with one more packet, as it is kept at t or at the tick after it
 pub kept-packet : (t place e : ℕ) (row : Row) → kept_with place e (kept_row t row) ≡ kept_row t (with_packet place e row)
 kept-packet t place e row = rw (recent-more row.terms.contract e row.ticks) refl
 
@@ -127,7 +127,7 @@ after-kept : (step : SourceStep) (t place : ℕ) (row : Row) → RowHasContract 
 after-kept (Brings size) t place row is =
     rw (tick-kept t row is) (ap (λ k. kept_with place (source_tick row t) k) (past-kept t row) ∙ kept-packet (suc t) place (source_tick row t) row)
 after-kept Rests t place row is = past-kept t row
-after-kept Loses t place row is = past-kept t row
+after-kept Drops t place row is = past-kept t row
 
 -- ---- all rows in tick t
 
@@ -146,8 +146,8 @@ rows-kept bounds here t taken (row ∷ rows) each =
     rw (step-kept bounds here t row, after-kept (step_of bounds here t row) t (suc taken) row each.0)
     (ap (λ all. kept_row (suc t) (row_after (step_of bounds here t row) t (suc taken) row) ∷ all) (rows-kept bounds here t (taken + taken_by (step_of bounds here t row)) rows each.1))
 
-pub lost-kept : (bounds : List ℕ) (here : List Arrival) (t : ℕ) (rows : List Row) → kept_lost bounds here t (map (kept_row t) rows) ≡ lost_in bounds here t rows
-unfolding kept_lost lost_in
+pub lost-kept : (bounds : List ℕ) (here : List Arrival) (t : ℕ) (rows : List Row) → kept_lost bounds here t (map (kept_row t) rows) ≡ dropped_in bounds here t rows
+unfolding kept_lost dropped_in
 lost-kept bounds here t [] = refl
 lost-kept bounds here t (row ∷ rows) = rw (step-kept bounds here t row, lost-kept bounds here t rows) refl
 
@@ -163,7 +163,7 @@ source_packets-above bounds here t taken (row ∷ rows) =
       packet-above : (step : SourceStep) → Each (IsAbove taken) (packet_of step t (suc taken) row)
       packet-above (Brings size) = (omega arith, tt)
       packet-above Rests = tt
-      packet-above Loses = tt
+      packet-above Drops = tt
 
 -- up to `taken` and their number
 pub source_packets-upto : (bounds : List ℕ) (here : List Arrival) (t taken : ℕ) (rows : List Row) → Each (IsUpTo (taken + length (source_packets bounds here t taken rows))) (source_packets bounds here t taken rows)
@@ -180,12 +180,12 @@ source_packets-upto bounds here t taken (row ∷ rows) =
       taken-length : (step : SourceStep) → length (packet_of step t (suc taken) row) ≡ taken_by step
       taken-length (Brings size) = refl
       taken-length Rests = refl
-      taken-length Loses = refl
+      taken-length Drops = refl
 
       packet-upto : (step : SourceStep) → Each (IsUpTo (taken + taken_by step)) (packet_of step t (suc taken) row)
       packet-upto (Brings size) = (omega arith, tt)
       packet-upto Rests = tt
-      packet-upto Loses = tt
+      packet-upto Drops = tt
 
 -- and are eligible from t on
 pub source_packets-from : (bounds : List ℕ) (here : List Arrival) (t taken : ℕ) (rows : List Row) → Each (IsFrom t) (source_packets bounds here t taken rows)
@@ -196,4 +196,4 @@ source_packets-from bounds here t taken (row ∷ rows) =
       packet-from : (step : SourceStep) → Each (IsFrom t) (packet_of step t (suc taken) row)
       packet-from (Brings size) = (eligible-from row.terms row.ticks t 0, tt)
       packet-from Rests = tt
-      packet-from Loses = tt
+      packet-from Drops = tt

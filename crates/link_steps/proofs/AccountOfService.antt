@@ -151,7 +151,7 @@ not-departed rate t n [] p upto above = refl
 not-departed rate t n (start ∷ earlier) p upto above =
     rw (ne_eqb start.packet.place p.place (λ same. absurd (omega (arith, upto.0, same)))) (not-departed rate t n earlier p upto.1 above)
 
--- they are here, behind those that are
+-- they are here, after those that are
 here-append : (rate t n : ℕ) (packets new : List Arrival) → Each (IsUpTo n) packets → Each (IsAbove n) new → filter (is_here rate (starts_below rate packets t) t) (packets ++ new) ≡ here_at rate packets t ++ new
 unfolding here_at
 here-append rate t n packets new upto above =

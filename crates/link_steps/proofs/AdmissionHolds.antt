@@ -11,8 +11,8 @@ use Rattle.net_units.specs.declared.Kind.{Kind}
 use Rattle.net_units.specs.declared.numbers.ChanNo.{ChanNo}
 use Rattle.net_units.specs.declared.numbers.Level.{Level}
 use Rattle.net_units.specs.declared.numbers.LinkNo.{LinkNo}
-use Rattle.traffic_contract.specs.Admission.{Row as Admitted, total, work_up_to, load, Passes, with_row}
-use Rattle.traffic_contract.specs.Contract.{Terms}
+use Rattle.traffic_contract.specs.Admission.{Admitted, total, work_up_to, load, Passes, with_row}
+use Rattle.traffic_contract.specs.Contract.{Traffic}
 use Rattle.traffic_contract.proofs.AdmissionFacts.{Passes-le, Passes-nil, total-map, total-filter-le, work_up_to-le, Decides-admits}
 use Rattle.link_steps.specs.declared.asks.Ask.{Ask}
 use Rattle.link_steps.specs.declared.asks.Ask.TheVariants.{Reserve, Relax, Deny, Submit, Release, Arrive, Tick, Pour}
@@ -30,7 +30,7 @@ use Rattle.link_steps.specs.Scan.{Scan, is_row_of, is_row_at_hop, names_first_ho
 use Rattle.link_steps.specs.Service.{Arrival}
 use Rattle.link_steps.specs.Shape.{server_of}
 use Rattle.link_steps.specs.Rows.{Row, row_terms, new_row}
-use Rattle.link_steps.specs.Sources.{SourceStep, Rests, Brings, Loses, step_of, row_after, rows_after, taken_by}
+use Rattle.link_steps.specs.Sources.{SourceStep, Rests, Brings, Drops, step_of, row_after, rows_after, taken_by}
 use Rattle.link_steps.proofs.ListFacts.{find-map, map-change_first-same, total-change_first-le, total-without_first-le}
 use Rattle.traffic_contract.proofs.LoadFacts.{ceil_quotient-some}
 use Rattle.link_steps.proofs.ReplyFacts.{relax-tells}
@@ -78,7 +78,7 @@ Pass-none shape =
 -- ---- a reserve
 
 -- the rows with the one reserved pass
-Pass-reserved : (shape : LinkShape) (rows : List Row) (chan : ChanNo) (contract : Terms) (kind : Kind) (first : Bool) (next : Option LinkNo) (delay up_reach : ℕ) (level reach : Level) → MayOffer shape (map row_terms rows) chan contract delay up_reach level reach → Pass shape (rows ++ new_row (tentative chan contract kind first next up_reach level reach) ∷ [])
+Pass-reserved : (shape : LinkShape) (rows : List Row) (chan : ChanNo) (contract : Traffic) (kind : Kind) (first : Bool) (next : Option LinkNo) (delay up_reach : ℕ) (level reach : Level) → MayOffer shape (map row_terms rows) chan contract delay up_reach level reach → Pass shape (rows ++ new_row (tentative chan contract kind first next up_reach level reach) ∷ [])
 Pass-reserved shape rows chan contract kind first next delay up_reach level reach may =
     let row : Row = new_row (tentative chan contract kind first next up_reach level reach) in
     let e : as_admitted (rows ++ row ∷ []) ≡ with_row (as_admitted rows) contract (level_number level) =
@@ -110,7 +110,7 @@ rows_after-terms bounds here t taken (row ∷ rows) =
       row_after-terms : (step : SourceStep) (t place : ℕ) (row : Row) → (row_after step t place row).terms ≡ row.terms
       row_after-terms Rests t place row = refl
       row_after-terms (Brings size) t place row = refl
-      row_after-terms Loses t place row = refl
+      row_after-terms Drops t place row = refl
 
 Pass-tick : (shape : LinkShape) (t : ℕ) (scan : Scan) → Pass shape scan.rows → Pass shape (after_tick shape t scan).rows
 unfolding after_tick with_best with_sources without_expired

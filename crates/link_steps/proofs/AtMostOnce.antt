@@ -15,7 +15,7 @@ use Rattle.link_steps.specs.Kept.{Kept, StandsFor}
 use Rattle.link_steps.specs.Legal.{AskFits, IsLegal}
 use Rattle.link_steps.specs.Reservation.{Reservation}
 use Rattle.net_units.specs.declared.numbers.ChanNo.{ChanNo}
-use Rattle.traffic_contract.specs.Contract.{Terms}
+use Rattle.traffic_contract.specs.Contract.{Traffic}
 use Rattle.link_steps.specs.Scan.{Scan}
 use Rattle.link_steps.specs.Split.{Link}
 
@@ -38,7 +38,7 @@ unfolding IsLegal
 IsLegal-prop link [] = Unit-prop
 IsLegal-prop link (e ∷ past) = ×_prop (IsLegal-prop link past) (Prim.hlevel (AskFits-prop, Reply-set))
 
-MayReply-prop : (shape : LinkShape) (held : List Reservation) (chan : ChanNo) (contract : Terms) (delay up_reach : ℕ) (reply : Reply) → IsProp (MayReply shape held chan contract delay up_reach reply)
+MayReply-prop : (shape : LinkShape) (held : List Reservation) (chan : ChanNo) (contract : Traffic) (delay up_reach : ℕ) (reply : Reply) → IsProp (MayReply shape held chan contract delay up_reach reply)
 MayReply-prop shape held chan contract delay up_reach (Is.Offer level reach) = Prim.hlevel (ℕ_set, le_prop, ⊎_set)
 MayReply-prop shape held chan contract delay up_reach (Is.Refused refusal) = Unit-prop
 MayReply-prop shape held chan contract delay up_reach _ = λ a b. absurd a

@@ -5,7 +5,7 @@ use Rattle.std.proofs.lemmas.Option.{same_Some}
 use Rattle.std.specs.Prelude.{filter, nat_lt, nat_eq, if◌then◌else◌}
 use Rattle.traffic_contract.specs.Admission.{total}
 use Rattle.traffic_contract.proofs.AdmissionFacts.{total-le}
-use Rattle.link_steps.specs.BusyPeriod.{IsGone, IsClear, HasWork, is_in_window, window_work, EndsWithin, FitsWindow}
+use Rattle.link_steps.specs.BusyPeriod.{IsGone, IsClear, HasWork, is_eligible_in, window_work, EndsWithin, FitsWindow}
 use Rattle.link_steps.specs.Lists.{Each}
 use Rattle.link_steps.specs.Service.{Arrival, Start, work_of, leaves_at, goes_before, sooner, first_in_line, is_start_of, has_started, is_waiting, is_busy, add_start, serve_tick, starts_below, is_departure_by, has_departed}
 use Rattle.link_steps.proofs.ListFacts.{Each-if, Among, Each-among, Among-filter, total-drop}
@@ -156,7 +156,7 @@ pub record WorksOn (rate m t0 w t : ℕ) (packets : List Arrival) : Type 0 where
   pub free : free_at rate (starts_below rate packets t) + work_left rate m t0 w packets (starts_below rate packets t) < t0 + w
 
 -- a start takes its work from what is left
-work_left-start : (rate m t0 w t : ℕ) (packets : List Arrival) (starts : List Start) (q : Arrival) → Among q packets → has_started starts q ≡ false → is_in_window m t0 w q ≡ true → work_left rate m t0 w packets (record { packet = q; tick = t } ∷ starts) + work_of rate q ≤ work_left rate m t0 w packets starts
+work_left-start : (rate m t0 w t : ℕ) (packets : List Arrival) (starts : List Start) (q : Arrival) → Among q packets → has_started starts q ≡ false → is_eligible_in m t0 w q ≡ true → work_left rate m t0 w packets (record { packet = q; tick = t } ∷ starts) + work_of rate q ≤ work_left rate m t0 w packets starts
 work_left-start rate m t0 w t packets starts q among waits inside =
     total-drop (waiting_work rate m t0 w starts) (waiting_work rate m t0 w (record { packet = q; tick = t } ∷ starts)) (work_of rate q) q packets
     (λ p. less (is_start_of p (record { packet = q; tick = t })) (has_started starts p) (window_work rate m t0 w p)) among
@@ -215,7 +215,7 @@ unfolding is_waiting
 waits-fresh starts t p waits = not-true _ (and_parts _ _ waits).1
 
 -- a packet of the levels up to m that waits in tick t is one of the window
-waits-inside : (rate : ℕ) (packets : List Arrival) (m t0 w k : ℕ) (q : Arrival) → IsClear rate packets m t0 → k + t0 < t0 + w → Among q packets → q.level ≤ m → is_waiting (starts_below rate packets (k + t0)) (k + t0) q ≡ true → is_in_window m t0 w q ≡ true
+waits-inside : (rate : ℕ) (packets : List Arrival) (m t0 w k : ℕ) (q : Arrival) → IsClear rate packets m t0 → k + t0 < t0 + w → Among q packets → q.level ≤ m → is_waiting (starts_below rate packets (k + t0)) (k + t0) q ≡ true → is_eligible_in m t0 w q ≡ true
 unfolding is_waiting
 waits-inside rate packets m t0 w k q clear within among upto waits =
     let both = and_parts _ _ waits in

@@ -13,7 +13,7 @@ use Rattle.link_steps.proofs.ServiceFacts.{first_in_line-fact}
 
 -- ---- clear ticks follow one another
 
--- a clear tick behind e, and at most w ticks behind it
+-- a clear tick after e, and at most w ticks after it
 pub record ClearAfter (rate : ℕ) (packets : List Arrival) (m e w : ℕ) : Type 0 where
   pub tick : ℕ
   pub after : e < tick
@@ -37,7 +37,7 @@ clear-from rate blocking packets m w works fits (suc k) u e clear upto near =
     (λ (before : next.end ≤ e). clear-from rate blocking packets m w works fits k next.end e next.clear before (omega (arith, after)))
     (cases_lt e next.end)
 
--- behind every tick there is a clear one
+-- after every tick there is a clear one
 pub clear-after : (rate blocking : ℕ) (packets : List Arrival) (m w : ℕ) → Each (HasWork rate blocking) packets → ((u : ℕ) → FitsWithin rate blocking packets m u w) → (e : ℕ) → ClearAfter rate packets m e w
 clear-after rate blocking packets m w works fits e =
     clear-from rate blocking packets m w works fits (suc e) 0 e (clear-first rate packets m) (omega arith) (omega arith)
@@ -50,7 +50,7 @@ pub record DepartsWithin (rate : ℕ) (packets : List Arrival) (w : ℕ) (p : Ar
   pub within : tick ≤ p.eligible + w
   pub departed : has_departed rate (starts_below rate packets tick) tick p ≡ true
 
--- the clear tick behind a packet's eligible tick is one by which it has departed
+-- the clear tick after a packet's eligible tick is one by which it has departed
 pub departs-within : (rate blocking : ℕ) (packets : List Arrival) (w : ℕ) (p : Arrival) → Each (HasWork rate blocking) packets → ((u : ℕ) → FitsWithin rate blocking packets p.level u w) → Among p packets → DepartsWithin rate packets w p
 departs-within rate blocking packets w p works fits among =
     let next = clear-after rate blocking packets p.level w works fits p.eligible in
@@ -107,7 +107,7 @@ not-started : (starts : List Start) (p : Arrival) → Each (λ start. is_start_o
 not-started [] p none = refl
 not-started (start ∷ earlier) p none = rw (none.0, not-started earlier p none.1) refl
 
--- what is true of the starts, and of each packet that waits and may start, is true of the starts behind it
+-- what is true of the starts, and of each packet that waits and may start, is true of the starts after it
 starts-kept : (P : List Start → Type 0) (rate : ℕ) (packets : List Arrival) → P [] → ((starts : List Start) (t : ℕ) (p : Arrival) → P starts → is_waiting starts t p ≡ true → P (record { packet = p; tick = t } ∷ starts)) → (t : ℕ) → P (starts_below rate packets t)
 unfolding starts_below serve_tick
 starts-kept P rate packets none more zero = none

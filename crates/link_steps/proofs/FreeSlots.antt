@@ -10,9 +10,8 @@ use Rattle.std.specs.Prelude.{filter, reverse}
 use Rattle.net_units.specs.Numbers.{level_number}
 use Rattle.net_units.specs.LevelBounds.{bound_at}
 use Rattle.net_units.specs.declared.Kind.{Kind}
-use Rattle.net_units.specs.declared.Kind.TheVariants.{Rate, Jitter}
 use Rattle.net_units.proofs.BoundFacts.{bound_least}
-use Rattle.traffic_contract.specs.Contract.{Terms, IsContract, burst_of, most_in}
+use Rattle.traffic_contract.specs.Contract.{Traffic, IsContract, burst_of, most_in}
 use Rattle.traffic_contract.specs.Eligible.{eligible, newest}
 use Rattle.traffic_contract.specs.Keeping.{Keeps, may_follow, keeps_newest_first}
 use Rattle.traffic_contract.specs.Window.{is_in_window, count_in}
@@ -34,7 +33,7 @@ use Rattle.link_steps.specs.Service.{Arrival, Start, is_here, has_departed}
 -- ---- a list that keeps a contract with t
 
 -- what comes before t keeps the contract, and t may follow it
-pub keeps-parts : (c : Terms) (ticks : List ℕ) (t : ℕ) → 1 ≤ burst_of c → Keeps c (ticks ++ t ∷ []) → Keeps c ticks × (may_follow c (reverse ticks) t ≡ true)
+pub keeps-parts : (c : Traffic) (ticks : List ℕ) (t : ℕ) → 1 ≤ burst_of c → Keeps c (ticks ++ t ∷ []) → Keeps c ticks × (may_follow c (reverse ticks) t ≡ true)
 unfolding keeps_newest_first
 keeps-parts c ticks t some kept =
     let turned : reverse (t ∷ reverse ticks) ≡ ticks ++ t ∷ [] = reverse-append (t ∷ []) (reverse ticks) ∙ ap (λ front. front ++ t ∷ []) (reverse-reverse ticks) in
@@ -43,7 +42,7 @@ keeps-parts c ticks t some kept =
     (subst (Keeps c) (reverse-reverse ticks) ((Decides-keeps_newest_first c (reverse ticks) some).0 both.1), both.0)
 
 -- a tick that may follow is eligible itself
-eligible-now : (c : Terms) (past : List ℕ) (t : ℕ) → may_follow c past t ≡ true → eligible c past t ≡ t
+eligible-now : (c : Traffic) (past : List ℕ) (t : ℕ) → may_follow c past t ≡ true → eligible c past t ≡ t
 unfolding eligible
 eligible-now c past t follows =
     let least = first_from-least (may_follow c past) t (newest past + c.interval - t) t (omega arith) follows in
@@ -56,9 +55,8 @@ unfolding eligible_next
 source-now terms ticks t first follows =
     rw (waits terms.kind terms.first first) (eligible-now terms.contract ticks t follows) where
       waits : (kind : Kind) (at_first : Bool) → at_first ≡ true → waits_until kind at_first t 0 ≡ t
-      waits Rate at_first is = refl
-      waits Jitter true is = refl
-      waits Jitter false is = cc
+      waits kind true is = refl
+      waits kind false is = cc
 
 -- ---- the packets here
 

@@ -3,22 +3,22 @@ use Rattle.std.proofs.Common.{◌≡◌, List, [], ◌∷◌, ◌++◌, sym, ap,
 use Rattle.std.proofs.lemmas.List.{reverse-append}
 use Rattle.std.specs.Prelude.{reverse}
 use Rattle.link_steps.specs.declared.replies.Entry.{Entry}
-use Rattle.link_steps.specs.Journals.{GoesOn}
+use Rattle.link_steps.specs.Journals.{JournalGoesOn}
 use Rattle.link_steps.specs.Legal.{IsLegal}
 use Rattle.link_steps.specs.RowLaws.{JournalsAreHistories}
 use Rattle.link_steps.specs.Split.{Link}
 
--- the history of an entry and those after it, behind a history
+-- the history of an entry and those after it, after a history
 turned : (e : Entry) (journal past : List Entry) → reverse (e ∷ journal) ++ past ≡ reverse journal ++ (e ∷ past)
 turned e journal past = ap (λ all. all ++ past) (reverse-append (e ∷ []) journal) ∙ append_assoc (reverse journal) (e ∷ []) past
 
-legal-on : (link : Link) (past journal : List Entry) → IsLegal link past → GoesOn link past journal → IsLegal link (reverse journal ++ past)
-unfolding IsLegal GoesOn
+legal-on : (link : Link) (past journal : List Entry) → IsLegal link past → JournalGoesOn link past journal → IsLegal link (reverse journal ++ past)
+unfolding IsLegal JournalGoesOn
 legal-on link past [] legal on = legal
 legal-on link past (e ∷ journal) legal on = subst (IsLegal link) (sym (turned e journal past)) (legal-on link (e ∷ past) journal (legal, on.0) on.1)
 
-goes-on : (link : Link) (past journal : List Entry) → IsLegal link (reverse journal ++ past) → IsLegal link past × GoesOn link past journal
-unfolding IsLegal GoesOn
+goes-on : (link : Link) (past journal : List Entry) → IsLegal link (reverse journal ++ past) → IsLegal link past × JournalGoesOn link past journal
+unfolding IsLegal JournalGoesOn
 goes-on link past [] legal = (legal, tt)
 goes-on link past (e ∷ journal) legal =
     let rest = goes-on link (e ∷ past) journal (subst (IsLegal link) (turned e journal past) legal) in

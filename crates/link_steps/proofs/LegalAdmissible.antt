@@ -6,7 +6,7 @@ use Rattle.net_units.specs.LevelBounds.{bound_at}
 use Rattle.std.proofs.Common.{◌≡◌, ℕ, ◌≤◌, ◌⊎◌, true, false, inl, inr, arith, List, [], ◌∷◌, map, refl, sym, ◌∙◌}
 use Rattle.net_units.specs.declared.numbers.ChanNo.{ChanNo}
 use Rattle.net_units.specs.declared.numbers.Level.{Level}
-use Rattle.traffic_contract.specs.Contract.{Terms}
+use Rattle.traffic_contract.specs.Contract.{Traffic}
 use Rattle.link_steps.specs.declared.asks.Ask.{Ask}
 use Rattle.link_steps.specs.declared.asks.Ask.TheVariants.{Reserve, Relax, Deny, Submit, Release, Arrive, Tick, Pour}
 use Rattle.link_steps.specs.declared.replies.Entry.{Entry}
@@ -27,12 +27,12 @@ use Rattle.link_steps.proofs.ReplyFacts.{whole-offer-may}
 use Rattle.link_steps.proofs.SplitFacts.{AreWithin, group-offer-may, within-after}
 
 -- the legal reply to a reserve is an offer, where it is an answer
-only-offers : (shape : LinkShape) (held : List Reservation) (chan : ChanNo) (contract : Terms) (delay up_reach : ℕ) (room : Room) (answer : Reply) → IsAnswer answer → answer ≡ reserve_reply_in shape held chan contract delay up_reach room → answer ≡ best_offer shape delay room
+only-offers : (shape : LinkShape) (held : List Reservation) (chan : ChanNo) (contract : Traffic) (delay up_reach : ℕ) (room : Room) (answer : Reply) → IsAnswer answer → answer ≡ reserve_reply_in shape held chan contract delay up_reach room → answer ≡ best_offer shape delay room
 only-offers shape held chan contract delay up_reach room answer is same =
     answers-reply (reserve_rules shape held chan contract delay up_reach room) (best_offer shape delay room) answer is same
 
 -- the legal reply to a reserve is one that may be given
-may-reply : (shape : LinkShape) (held : List Reservation) (chan : ChanNo) (contract : Terms) (delay up_reach : ℕ) (room : Room) (reply : Reply) → ((level reach : Level) → reply ≡ Is.Offer level reach → MayOffer shape held chan contract delay up_reach level reach) → reply ≡ reserve_reply_in shape held chan contract delay up_reach room → MayReply shape held chan contract delay up_reach reply
+may-reply : (shape : LinkShape) (held : List Reservation) (chan : ChanNo) (contract : Traffic) (delay up_reach : ℕ) (room : Room) (reply : Reply) → ((level reach : Level) → reply ≡ Is.Offer level reach → MayOffer shape held chan contract delay up_reach level reach) → reply ≡ reserve_reply_in shape held chan contract delay up_reach room → MayReply shape held chan contract delay up_reach reply
 may-reply shape held chan contract delay up_reach room (Is.Offer level reach) may same = may level reach refl
 may-reply shape held chan contract delay up_reach room (Is.Refused refusal) may same = tt
 may-reply shape held chan contract delay up_reach room (Is.Relaxed clock) may same = (let offer = only-offers shape held chan contract delay up_reach room (Is.Relaxed clock) tt same in cc)

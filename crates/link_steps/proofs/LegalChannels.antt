@@ -7,7 +7,7 @@ use Rattle.std.specs.Prelude.{filter, find}
 use Rattle.net_units.specs.Numbers.{channel_number}
 use Rattle.net_units.specs.declared.numbers.ChanNo.{ChanNo}
 use Rattle.net_units.specs.declared.numbers.Level.{Level}
-use Rattle.traffic_contract.specs.Contract.{Terms}
+use Rattle.traffic_contract.specs.Contract.{Traffic}
 use Rattle.link_steps.specs.declared.asks.Ask.{Ask}
 use Rattle.link_steps.specs.declared.asks.Ask.TheVariants.{Reserve, Relax, Deny, Submit, Release, Arrive, Tick, Pour}
 use Rattle.link_steps.specs.declared.asks.Packet.{Packet}
@@ -87,7 +87,7 @@ others-found chan (row ∷ rows) none =
       | inr failed ↦ (eqb-false (channel_of row) (channel_number chan) failed, others-found chan rows (rw failed at none))
     ]
 
-differ-reserved : (shape : LinkShape) (rows : List Row) (chan : ChanNo) (contract : Terms) (delay up_reach : ℕ) (level reach : Level) (row : Row) → channel_of row ≡ channel_number chan → MayOffer shape (map row_terms rows) chan contract delay up_reach level reach → DifferInChannel rows → DifferInChannel (rows ++ row ∷ [])
+differ-reserved : (shape : LinkShape) (rows : List Row) (chan : ChanNo) (contract : Traffic) (delay up_reach : ℕ) (level reach : Level) (row : Row) → channel_of row ≡ channel_number chan → MayOffer shape (map row_terms rows) chan contract delay up_reach level reach → DifferInChannel rows → DifferInChannel (rows ++ row ∷ [])
 differ-reserved shape rows chan contract delay up_reach level reach row is may differ =
     let others = others-found chan rows may.new in
     subst AreApart (sym (map-append channel_of rows (row ∷ []))) (apart-push (channel_of row) (map channel_of rows) differ (subst (λ n. Each (λ m. m ≢ n) (map channel_of rows)) (sym is) others))

@@ -8,7 +8,7 @@ use Rattle.net_units.specs.declared.Kind.{Kind}
 use Rattle.net_units.specs.declared.numbers.ChanNo.{ChanNo}
 use Rattle.net_units.specs.declared.numbers.Level.{Level}
 use Rattle.net_units.specs.declared.numbers.LinkNo.{LinkNo}
-use Rattle.traffic_contract.specs.Contract.{Terms, IsContract}
+use Rattle.traffic_contract.specs.Contract.{Traffic, IsContract}
 use Rattle.traffic_contract.specs.Eligible.{newest}
 use Rattle.traffic_contract.specs.Keeping.{keeps_newest_first}
 use Rattle.traffic_contract.proofs.EligibleFacts.{get_or-le-newest}
@@ -158,7 +158,7 @@ order-arrival shape t packet scan (Some row) clock e is fits same order =
     }
 
 -- a new row
-order-reserved : (shape : LinkShape) (t : ℕ) (rows : List Row) (chan : ChanNo) (contract : Terms) (kind : Kind) (first : Bool) (next : Option LinkNo) (delay up_reach : ℕ) (level reach : Level) → IsContract contract → MayOffer shape (map row_terms rows) chan contract delay up_reach level reach → IsInOrder shape t (new_row (tentative chan contract kind first next up_reach level reach))
+order-reserved : (shape : LinkShape) (t : ℕ) (rows : List Row) (chan : ChanNo) (contract : Traffic) (kind : Kind) (first : Bool) (next : Option LinkNo) (delay up_reach : ℕ) (level reach : Level) → IsContract contract → MayOffer shape (map row_terms rows) chan contract delay up_reach level reach → IsInOrder shape t (new_row (tentative chan contract kind first next up_reach level reach))
 unfolding keeps_newest_first
 order-reserved shape t rows chan contract kind first next delay up_reach level reach is may = record {
   contract = is;

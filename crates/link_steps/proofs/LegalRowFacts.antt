@@ -7,7 +7,7 @@ use Rattle.std.proofs.lemmas.Option.{same_Some}
 use Rattle.std.specs.Prelude.{find}
 use Rattle.net_units.specs.Numbers.{level_number}
 use Rattle.net_units.specs.declared.numbers.Level.{Level}
-use Rattle.traffic_contract.specs.Contract.{Terms, IsContract}
+use Rattle.traffic_contract.specs.Contract.{Traffic, IsContract}
 use Rattle.traffic_contract.specs.Eligible.{eligible, newest}
 use Rattle.traffic_contract.specs.Keeping.{may_follow, keeps_newest_first}
 use Rattle.traffic_contract.proofs.EligibleFacts.{first_from-passes, may_follow-late}
@@ -48,7 +48,7 @@ pub record IsInOrder (shape : LinkShape) (clock : ℕ) (row : Row) : Type 0 wher
 -- ---- one more eligible tick
 
 -- the eligible tick keeps the contract with those before it
-pub keeps-more : (c : Terms) (past : List ℕ) (low : ℕ) → IsContract c → keeps_newest_first c past ≡ true → keeps_newest_first c (eligible c past low ∷ past) ≡ true
+pub keeps-more : (c : Traffic) (past : List ℕ) (low : ℕ) → IsContract c → keeps_newest_first c past ≡ true → keeps_newest_first c (eligible c past low ∷ past) ≡ true
 unfolding keeps_newest_first eligible
 keeps-more c past low valid kept =
     let wide : c.xmin ≤ c.interval = omega (arith, valid.xave_least, valid.interval_least) in

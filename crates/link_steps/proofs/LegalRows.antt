@@ -17,7 +17,7 @@ use Rattle.link_steps.specs.Reservation.{tentative}
 use Rattle.link_steps.specs.Scan.{Scan, clock_of, is_row_of, is_row_at_hop, names_first_hop, relax_row, plan_row, close_row, arrived_row, with_arrival, without_expired, with_sources, with_best, after_tick, after, scan_of}
 use Rattle.link_steps.specs.Service.{Arrival}
 use Rattle.link_steps.specs.Rows.{Row, new_row}
-use Rattle.link_steps.specs.Sources.{SourceStep, Rests, Brings, Loses, step_of, row_after, taken_by, rows_after}
+use Rattle.link_steps.specs.Sources.{SourceStep, Rests, Brings, Drops, step_of, row_after, taken_by, rows_after}
 use Rattle.link_steps.proofs.AccountOfRows.{RowHasContract}
 use Rattle.link_steps.proofs.ListFacts.{Each-append, Each-filter, Each-map, Each-change_first, Each-without_first}
 
@@ -29,7 +29,7 @@ rows_after-contracts bounds here t taken (row ∷ rows) each =
       row_after-contract : (step : SourceStep) → RowHasContract row → RowHasContract (row_after step t (suc taken) row)
       row_after-contract (Brings size) is = is
       row_after-contract Rests is = is
-      row_after-contract Loses is = is
+      row_after-contract Drops is = is
 
 arrival-contracts : (t : ℕ) (packet : Packet) (scan : Scan) (found : Option Row) → Each RowHasContract scan.rows → Each RowHasContract (with_arrival t packet scan found).rows
 unfolding with_arrival

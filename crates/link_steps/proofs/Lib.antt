@@ -14,6 +14,7 @@ pub mod LevelFacts
 pub mod ListFacts
 pub mod RefusalFacts
 pub mod ReplyFacts
+pub mod TickFacts
 pub mod AdmissionHolds
 pub mod ServiceFacts
 pub mod AccountOfService

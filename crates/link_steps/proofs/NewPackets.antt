@@ -1,4 +1,4 @@
--- What an entry adds to the packets of a link stands behind them, has the next arrival numbers, and is eligible at the clock of
+-- What an entry adds to the packets of a link stands after them, has the next arrival numbers, and is eligible at the clock of
 -- the entry or later.
 use Rattle.std.proofs.Common.{◌≡◌, ℕ, suc, ◌+◌, ◌<◌, List, [], ◌∷◌, ◌++◌, length, Option, Some, None, inl, inr, refl, sym, ap, ◌∙◌, subst, arith, append-nil, append_assoc, length-append}
 use Rattle.std.specs.Prelude.{filter, find}
@@ -16,17 +16,17 @@ use Rattle.link_steps.specs.Lists.{Each}
 use Rattle.link_steps.specs.Rows.{Row}
 use Rattle.link_steps.specs.Scan.{Scan, clock_of, scan_of, is_row_of, arrived_packet, with_arrival, without_expired, with_sources, with_best, best_step_at, after_tick, after}
 use Rattle.link_steps.specs.Service.{Arrival, here_at}
-use Rattle.link_steps.specs.Sources.{SourceStep, Rests, Brings, Loses, step_of, packet_of, taken_by, source_packets}
+use Rattle.link_steps.specs.Sources.{SourceStep, Rests, Brings, Drops, step_of, packet_of, taken_by, source_packets}
 use Rattle.link_steps.proofs.AccountOfRows.{eligible-from, source_packets-from}
 use Rattle.link_steps.proofs.ListFacts.{Each-append, Among}
 use Rattle.link_steps.proofs.ServiceFacts.{IsFrom}
 
--- the packets of two lists that are numbered one behind the other
+-- the packets of two lists that are numbered one after the other
 numbered-append : (n : ℕ) (packets more : List Arrival) → AreNumbered n packets → AreNumbered (n + length packets) more → AreNumbered n (packets ++ more)
 numbered-append n [] more first rest = subst (λ k. AreNumbered k more) (omega arith) rest
 numbered-append n (p ∷ packets) more first rest = (first.0, numbered-append (suc n) packets more first.1 (subst (λ k. AreNumbered k more) (omega arith) rest))
 
--- `after` has new packets behind those before, eligible at t or later
+-- `after` has new packets after those before, eligible at t or later
 pub record AddsPackets (t : ℕ) (before after : List Arrival) : Type 0 where
   pub new : List Arrival
   pub are : after ≡ before ++ new
@@ -49,12 +49,12 @@ adds-arrival t packet scan (Some row) = record {
 -- a best-effort packet is eligible in its tick
 best-from : (bounds : List ℕ) (t place : ℕ) (step : SourceStep) → Each (IsFrom t) (best_packet step bounds place t)
 best-from bounds t place Rests = tt
-best-from bounds t place Loses = tt
+best-from bounds t place Drops = tt
 best-from bounds t place (Brings size) = (omega arith, tt)
 
 best-numbered : (bounds : List ℕ) (t taken : ℕ) (step : SourceStep) → AreNumbered taken (best_packet step bounds (suc taken) t)
 best-numbered bounds t taken Rests = tt
-best-numbered bounds t taken Loses = tt
+best-numbered bounds t taken Drops = tt
 best-numbered bounds t taken (Brings size) = (refl, tt)
 
 sources-numbered : (bounds : List ℕ) (here : List Arrival) (t taken : ℕ) (rows : List Row) → AreNumbered taken (source_packets bounds here t taken rows)
@@ -63,7 +63,7 @@ sources-numbered bounds here t taken [] = tt
 sources-numbered bounds here t taken (row ∷ rows) = by-step (step_of bounds here t row) (sources-numbered bounds here t (taken + taken_by (step_of bounds here t row)) rows) where
   by-step : (step : SourceStep) → AreNumbered (taken + taken_by step) (source_packets bounds here t (taken + taken_by step) rows) → AreNumbered taken (packet_of step t (suc taken) row ++ source_packets bounds here t (taken + taken_by step) rows)
   by-step Rests rest = subst (λ n. AreNumbered n (source_packets bounds here t (taken + 0) rows)) (omega arith) rest
-  by-step Loses rest = subst (λ n. AreNumbered n (source_packets bounds here t (taken + 0) rows)) (omega arith) rest
+  by-step Drops rest = subst (λ n. AreNumbered n (source_packets bounds here t (taken + 0) rows)) (omega arith) rest
   by-step (Brings size) rest = (refl, subst (λ n. AreNumbered n (source_packets bounds here t (taken + 1) rows)) (omega arith) rest)
 
 pub adds-tick : (shape : LinkShape) (t : ℕ) (scan : Scan) → AddsPackets t scan.packets (after_tick shape t scan).packets

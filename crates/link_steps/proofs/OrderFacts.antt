@@ -109,7 +109,7 @@ next-is packets starts t p found =
     (Each-both (λ q. Among q packets) (λ q. is_waiting starts t q ≡ true) (filter (is_waiting starts t) packets) all (Each-passes (is_waiting starts t) packets)) found in
     record { among = both.0; waits = both.1; first = first-upto (filter (is_waiting starts t) packets) p found }
 
--- the packets behind it
+-- the packets after it
 next-behind : (packets : List Arrival) (starts : List Start) (t : ℕ) (p : Arrival) → IsNext packets starts t p → Each (ComesBehind (record { packet = p; tick = t }) starts) packets
 unfolding is_waiting
 next-behind packets starts t p next =
@@ -127,7 +127,7 @@ next-behind packets starts t p next =
       };
     })
 
--- where starts are by priority, a packet that hasn't started goes behind those of its level
+-- where starts are by priority, a packet that hasn't started goes after those of its level
 waits-behind : (packets : List Arrival) (starts : List Start) (start : Start) → Among start.packet packets → has_started starts start.packet ≡ false → AreByPriority packets starts → Each (GoesBehind start) starts
 waits-behind packets [] start among out by = tt
 waits-behind packets (other ∷ earlier) start among out by =

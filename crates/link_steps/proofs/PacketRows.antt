@@ -25,7 +25,7 @@ use Rattle.link_steps.specs.Replies.{deny_reply, reply_at}
 use Rattle.link_steps.specs.Rows.{Row, row_terms, new_row}
 use Rattle.link_steps.specs.Scan.{Scan, clock_of, is_row_of, is_row_at_hop, names_first_hop, relax_row, plan_row, close_row, arrived_packet, arrived_row, with_arrival, without_expired, with_sources, with_best, best_step_at, after_tick, after, scan_of}
 use Rattle.link_steps.specs.Service.{Arrival, here_at}
-use Rattle.link_steps.specs.Sources.{SourceStep, Rests, Brings, Loses, lead_with, step_of, packet_of, row_after, rows_after, source_packets, taken_by}
+use Rattle.link_steps.specs.Sources.{SourceStep, Rests, Brings, Drops, lead_with, step_of, packet_of, row_after, rows_after, source_packets, taken_by}
 use Rattle.link_steps.proofs.AdmissionHolds.{find-terms}
 use Rattle.link_steps.proofs.ChangeFacts.{Each-from_among}
 use Rattle.link_steps.proofs.LegalOrder.{ScanInOrder, legal-order}
@@ -126,7 +126,7 @@ row-kept p row after place some lead is = lead ∙ lead-kept row.lead place (ome
 
 step-kept : (step : SourceStep) (p : Arrival) (t place : ℕ) (row : Row) → 1 ≤ p.lead → IsRowOf p row → IsRowOf p (row_after step t place row)
 step-kept Rests p t place row some is = is
-step-kept Loses p t place row some is = is
+step-kept Drops p t place row some is = is
 step-kept (Brings size) p t place row some is = row-kept p row (row_after (Brings size) t place row) place some refl is
 
 rows-kept : (bounds : List ℕ) (here : List Arrival) (p : Arrival) (t taken : ℕ) (rows : List Row) → 1 ≤ p.lead → Any (IsRowOf p) rows → Any (IsRowOf p) (rows_after bounds here t taken rows)
@@ -138,7 +138,7 @@ rows-kept bounds here p t taken (row ∷ rows) some (inr any) = inr (rows-kept b
 -- what a source brings is of its row
 step-brings : (step : SourceStep) (t place : ℕ) (row : Row) → Each (λ p. IsRowOf p (row_after step t place row)) (packet_of step t place row)
 step-brings Rests t place row = tt
-step-brings Loses t place row = tt
+step-brings Drops t place row = tt
 step-brings (Brings size) t place row = (refl, tt)
 
 sources-bring : (bounds : List ℕ) (here : List Arrival) (t taken : ℕ) (rows : List Row) → Each (λ p. Any (IsRowOf p) (rows_after bounds here t taken rows)) (source_packets bounds here t taken rows)
@@ -176,7 +176,7 @@ have-arrival levels t packet scan (Some row) is leads have =
 -- a best-effort packet is of none of the levels
 have-best : (levels t place : ℕ) (bounds : List ℕ) (rows gone : List Row) (step : SourceStep) → levels ≡ length bounds → Each (HasRow levels rows gone) (best_packet step bounds place t)
 have-best levels t place bounds rows gone Rests same = tt
-have-best levels t place bounds rows gone Loses same = tt
+have-best levels t place bounds rows gone Drops same = tt
 have-best levels t place bounds rows gone (Brings size) same = (record { one = λ upto. absurd (omega (arith, upto, same)) }, tt)
 
 have-tick : (shape : LinkShape) (t : ℕ) (scan : Scan) → Each (IsLedUpTo (length scan.packets)) scan.packets → HaveRows (length shape.bounds) scan → HaveRows (length shape.bounds) (after_tick shape t scan)

@@ -18,7 +18,7 @@ use Rattle.link_steps.specs.Scan.{Scan, clock_with, clock_of, with_arrival, with
 use Rattle.link_steps.specs.Service.{goes_before, first_in_line, is_waiting, serve_tick, starts_below, here_at}
 use Rattle.link_steps.specs.Regulator.{eligible_next}
 use Rattle.link_steps.specs.Rows.{planned_from}
-use Rattle.link_steps.specs.Sources.{step_of, source_packets, rows_after, lost_in}
+use Rattle.link_steps.specs.Sources.{step_of, source_packets, rows_after, dropped_in}
 
 -- the entry of an ask that gets its legal reply
 abbrev pub answered : Link → List Entry → Ask → Entry
@@ -44,7 +44,7 @@ replies_from-scan link past (ask ∷ asks) =
 
 -- the same after the empty history; a proof that unfolds it computes with all the rules
 unfoldable pub replied : Link → List Ask → List Reply
-unfolding replies_from reply_at reserve_reply room_of whole_room group_room group_admits all_from group_work group_units relax_reply deny_reply submit_reply release_reply arrive_reply sent_at best_sent_at pour_reply with_best best_step_at best_step waiting_best clock_of scan_of after with_arrival after_tick change_first without_first without_expired with_sources hold_ended here_at starts_below serve_tick is_waiting first_in_line goes_before held_packets slots_of need_of kept_units free_units planned_from eligible_next step_of source_packets rows_after lost_in work_in work_up_to load some_upto passes_up_to passes admits first_level best_level most_in first_from eligible may_follow
+unfolding replies_from reply_at reserve_reply room_of whole_room group_room group_admits all_from group_work group_units relax_reply deny_reply submit_reply release_reply arrive_reply sent_at best_sent_at pour_reply with_best best_step_at best_step waiting_best clock_of scan_of after with_arrival after_tick change_first without_first without_expired with_sources hold_ended here_at starts_below serve_tick is_waiting first_in_line goes_before held_packets slots_of need_of kept_units free_units planned_from eligible_next step_of source_packets rows_after dropped_in work_in work_up_to load some_upto passes_up_to passes admits first_level best_level most_in first_from eligible may_follow
 replied link asks = replies_from link (clock_of []) (scan_of link.shape []) asks
 
 -- so the legal replies are computed in one scan

@@ -7,7 +7,7 @@ use Rattle.net_units.specs.declared.numbers.Level.{Level}
 use Rattle.link_steps.specs.declared.replies.Refusal.{Refusal}
 use Rattle.link_steps.specs.declared.replies.Reply.{Reply}
 use Rattle.link_steps.specs.declared.replies.Reply.TheVariants.{Refused}
-use Rattle.link_steps.specs.Refusals.{Rule, unless, refused_or, first_refusal, no_level, unfit}
+use Rattle.link_steps.specs.Refusals.{RefusalRule, refused_unless, refused_or, first_refusal, no_level, unfit}
 use Rattle.link_steps.specs.Reservation.{Reservation}
 
 -- the reply refuses nothing
@@ -15,18 +15,18 @@ abbrev pub IsAnswer : Reply → Type 0
 IsAnswer (Refused refusal) = ⊥
 IsAnswer _ = Unit {0}
 
--- an answer comes only where the rule is kept, and is then the reply of the rules behind it
-pub kept-rule : (rule : Rule) (reply answer : Reply) → IsAnswer answer → answer ≡ refused_or rule reply → (rule ≡ None) × (answer ≡ reply)
+-- an answer comes only where the rule is kept, and is then the reply of the rules after it
+pub kept-rule : (rule : RefusalRule) (reply answer : Reply) → IsAnswer answer → answer ≡ refused_or rule reply → (rule ≡ None) × (answer ≡ reply)
 kept-rule None reply answer is same = (refl, same)
 kept-rule (Some refusal) reply answer is same = absurd (subst IsAnswer same is)
 
 -- an answer is the reply of the rules where none applies
-pub answers-reply : (rules : List Rule) (reply answer : Reply) → IsAnswer answer → answer ≡ first_refusal rules reply → answer ≡ reply
+pub answers-reply : (rules : List RefusalRule) (reply answer : Reply) → IsAnswer answer → answer ≡ first_refusal rules reply → answer ≡ reply
 answers-reply [] reply answer is same = same
 answers-reply (rule ∷ rules) reply answer is same = answers-reply rules reply answer is (kept-rule rule (first_refusal rules reply) answer is same).1
 
 -- a rule that gives no refusal holds
-pub unless-none : (holds : Bool) (refusal : Refusal) → unless holds refusal ≡ None → holds ≡ true
+pub unless-none : (holds : Bool) (refusal : Refusal) → refused_unless holds refusal ≡ None → holds ≡ true
 unless-none true refusal none = refl
 unless-none false refusal none = cc
 

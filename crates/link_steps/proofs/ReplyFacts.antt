@@ -4,11 +4,11 @@ use Rattle.std.proofs.lemmas.Bool.{cases_lt, leb-true, le-leb, ltb-true, eqb-tru
 use Rattle.std.specs.Prelude.{find, nat_eq, nat_le, nat_lt, unwrap_or}
 use Rattle.net_units.proofs.BoundFacts.{within_count, bounds_parts, level_largest}
 use Rattle.net_units.specs.Numbers.{level_number}
-use Rattle.net_units.specs.LevelBounds.{bound_at}
+use Rattle.net_units.specs.LevelBounds.{bound_at, reach_of}
 use Rattle.net_units.specs.declared.numbers.ChanNo.{ChanNo}
 use Rattle.net_units.specs.declared.numbers.Level.{Level}
 use Rattle.traffic_contract.specs.Admission.{admits}
-use Rattle.traffic_contract.specs.Contract.{Terms}
+use Rattle.traffic_contract.specs.Contract.{Traffic}
 use Rattle.traffic_contract.proofs.AdmissionFacts.{best_level-is, Decides-admits}
 use Rattle.link_steps.specs.declared.asks.Packet.{Packet}
 use Rattle.link_steps.specs.declared.replies.Phase.{Phase}
@@ -19,7 +19,7 @@ use Rattle.link_steps.specs.Admissible.{MayOffer}
 use Rattle.link_steps.specs.Buffer.{slots_of, need_of, free_units}
 use Rattle.link_steps.specs.Levels.{level_of}
 use Rattle.link_steps.specs.Refusals.{too_wide, twice, no_level, no_buffer, not_in_phase, unfit, busy, too_big, too_big_for, first_hop, uncommitted, wrong_number, past_count, big, full}
-use Rattle.link_steps.specs.Replies.{reach_of, best_offer, reserve_reply_in, relax_reply, deny_reply, submit_reply, pour_reply, release_reply, count_at_release, arrive_reply}
+use Rattle.link_steps.specs.Replies.{best_offer, reserve_reply_in, relax_reply, deny_reply, submit_reply, pour_reply, release_reply, count_at_release, arrive_reply}
 use Rattle.link_steps.specs.Reservation.{Reservation, is_phase, admitted, is_of}
 use Rattle.link_steps.specs.Room.{Room, whole_room}
 use Rattle.link_steps.specs.Shape.{server_of}
@@ -47,7 +47,7 @@ not-twice None none = refl
 not-twice (Some terms) none = cc
 
 -- what an offer says of the room that it was made in
-pub record OffersBest (shape : LinkShape) (held : List Reservation) (chan : ChanNo) (contract : Terms) (delay up_reach : ℕ) (room : Room) (level reach : Level) : Type 0 where
+pub record OffersBest (shape : LinkShape) (held : List Reservation) (chan : ChanNo) (contract : Traffic) (delay up_reach : ℕ) (room : Room) (level reach : Level) : Type 0 where
   pub narrow : contract.smax ≤ shape.cap
   pub new : find (is_of chan) held ≡ None
   pub number : ℕ
@@ -56,7 +56,7 @@ pub record OffersBest (shape : LinkShape) (held : List Reservation) (chan : Chan
   pub reach_is : reach ≡ level_of (reach_of shape.bounds delay number)
   pub free : need_of shape.bounds contract up_reach (reach_of shape.bounds delay number) ≤ room.free
 
-pub offer-best : (shape : LinkShape) (held : List Reservation) (chan : ChanNo) (contract : Terms) (delay up_reach : ℕ) (room : Room) (level reach : Level) → Is.Offer level reach ≡ reserve_reply_in shape held chan contract delay up_reach room → OffersBest shape held chan contract delay up_reach room level reach
+pub offer-best : (shape : LinkShape) (held : List Reservation) (chan : ChanNo) (contract : Traffic) (delay up_reach : ℕ) (room : Room) (level reach : Level) → Is.Offer level reach ≡ reserve_reply_in shape held chan contract delay up_reach room → OffersBest shape held chan contract delay up_reach room level reach
 offer-best shape held chan contract delay up_reach room level reach same =
     let wide = kept-rule (too_wide contract shape.cap) _ (Is.Offer level reach) tt same in
     let new = kept-rule (twice (find (is_of chan) held)) _ (Is.Offer level reach) tt wide.1 in
@@ -92,7 +92,7 @@ pub record OffersNumbers (shape : LinkShape) (delay number : ℕ) (level reach :
   pub level_is : level_number level ≡ number
   pub reach_is : level_number reach ≡ reach_of shape.bounds delay number
 
-pub offer-numbers : (shape : LinkShape) (held : List Reservation) (chan : ChanNo) (contract : Terms) (delay up_reach : ℕ) (room : Room) (level reach : Level) → (offers : OffersBest shape held chan contract delay up_reach room level reach) → 1 ≤ offers.number → offers.number ≤ length shape.bounds → OffersNumbers shape delay offers.number level reach
+pub offer-numbers : (shape : LinkShape) (held : List Reservation) (chan : ChanNo) (contract : Traffic) (delay up_reach : ℕ) (room : Room) (level reach : Level) → (offers : OffersBest shape held chan contract delay up_reach room level reach) → 1 ≤ offers.number → offers.number ≤ length shape.bounds → OffersNumbers shape delay offers.number level reach
 offer-numbers shape held chan contract delay up_reach room level reach offers from upto =
     let most = (bounds_parts shape.bounds shape.bounds_rise).most in
     let within = within_count shape.bounds (max delay (bound_at shape.bounds offers.number)) in
@@ -102,7 +102,7 @@ offer-numbers shape held chan contract delay up_reach room level reach offers fr
     }
 
 -- an offer of a level that passes, whose need is free, is one that the link may make
-pub offer-may : (shape : LinkShape) (held : List Reservation) (chan : ChanNo) (contract : Terms) (delay up_reach : ℕ) (room : Room) (level reach : Level) → (offers : OffersBest shape held chan contract delay up_reach room level reach) → 1 ≤ offers.number → offers.number ≤ length shape.bounds → admits (server_of shape) (map admitted held) contract offers.number ≡ true → need_of shape.bounds contract up_reach (reach_of shape.bounds delay offers.number) ≤ free_units shape held → MayOffer shape held chan contract delay up_reach level reach
+pub offer-may : (shape : LinkShape) (held : List Reservation) (chan : ChanNo) (contract : Traffic) (delay up_reach : ℕ) (room : Room) (level reach : Level) → (offers : OffersBest shape held chan contract delay up_reach room level reach) → 1 ≤ offers.number → offers.number ≤ length shape.bounds → admits (server_of shape) (map admitted held) contract offers.number ≡ true → need_of shape.bounds contract up_reach (reach_of shape.bounds delay offers.number) ≤ free_units shape held → MayOffer shape held chan contract delay up_reach level reach
 offer-may shape held chan contract delay up_reach room level reach offers from upto passes free =
     let numbers = offer-numbers shape held chan contract delay up_reach room level reach offers from upto in
     let n = numbers.level_is in
@@ -116,7 +116,7 @@ offer-may shape held chan contract delay up_reach room level reach offers from u
     }
 
 -- so it is where the room is the whole link's
-pub whole-offer-may : (link : Link) (held : List Reservation) (chan : ChanNo) (contract : Terms) (delay up_reach : ℕ) (level reach : Level) → Is.Offer level reach ≡ reserve_reply_in link.shape held chan contract delay up_reach (whole_room link held contract) → MayOffer link.shape held chan contract delay up_reach level reach
+pub whole-offer-may : (link : Link) (held : List Reservation) (chan : ChanNo) (contract : Traffic) (delay up_reach : ℕ) (level reach : Level) → Is.Offer level reach ≡ reserve_reply_in link.shape held chan contract delay up_reach (whole_room link held contract) → MayOffer link.shape held chan contract delay up_reach level reach
 unfolding whole_room
 whole-offer-may link held chan contract delay up_reach level reach same =
     let offers = offer-best link.shape held chan contract delay up_reach (whole_room link held contract) level reach same in
@@ -124,7 +124,7 @@ whole-offer-may link held chan contract delay up_reach level reach same =
     offer-may link.shape held chan contract delay up_reach (whole_room link held contract) level reach offers best.from best.upto ((Decides-admits (server_of link.shape) (map admitted held) contract offers.number).1 best.passes) offers.free
 
 -- the reach of an offer that it may make is one of the link's levels
-pub may-reach : (shape : LinkShape) (held : List Reservation) (chan : ChanNo) (contract : Terms) (delay up_reach : ℕ) (level reach : Level) → MayOffer shape held chan contract delay up_reach level reach → level_number reach ≤ length shape.bounds
+pub may-reach : (shape : LinkShape) (held : List Reservation) (chan : ChanNo) (contract : Traffic) (delay up_reach : ℕ) (level reach : Level) → MayOffer shape held chan contract delay up_reach level reach → level_number reach ≤ length shape.bounds
 may-reach shape held chan contract delay up_reach level reach may =
     let least = (bounds_parts shape.bounds shape.bounds_rise).least in
     let within = within_count shape.bounds (max delay (bound_at shape.bounds (level_number level))) in

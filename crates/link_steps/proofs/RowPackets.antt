@@ -10,7 +10,7 @@ use Rattle.link_steps.specs.Belonging.{own_packets}
 use Rattle.link_steps.specs.Lists.{Each}
 use Rattle.link_steps.specs.Rows.{Row}
 use Rattle.link_steps.specs.Service.{Arrival}
-use Rattle.link_steps.specs.Sources.{SourceStep, Rests, Brings, Loses, arrival_at, lead_with, source_tick, step_of, packet_of, row_after, taken_by, source_packets, rows_after}
+use Rattle.link_steps.specs.Sources.{SourceStep, Rests, Brings, Drops, arrival_at, lead_with, source_tick, step_of, packet_of, row_after, taken_by, source_packets, rows_after}
 use Rattle.link_steps.proofs.ListFacts.{Each-append, Each-both, Each-if, filter-none}
 
 -- the lead of a packet is an arrival number up to `taken`
@@ -189,7 +189,7 @@ stand-back P packets others rows row apart stand =
 
 -- ---- the sources of a tick
 
--- what the rows behind the head come to
+-- what the rows after the head come to
 abbrev Onward : (Row → List Arrival → Type 0) → (Row → List Arrival → Type 0) → List ℕ → List Arrival → ℕ → List Row → Type 0
 Onward P Q bounds here t rows = (others : List Row) (packets : List Arrival) (taken : ℕ) → length packets ≡ taken → RowsStand P Q packets others rows → RowsStand P P (packets ++ source_packets bounds here t taken rows) others (rows_after bounds here t taken rows)
 
@@ -219,4 +219,4 @@ stand-sources P Q bounds here t step (row ∷ rows) others packets taken count s
       by-step onward (Brings size) fact =
           onward-takes P Q bounds here t rows onward others packets taken row (row_after (Brings size) t (suc taken) row) (arrival_at row.terms row.lead (suc taken) (suc (length row.ticks)) size t (source_tick row t)) count refl refl fact stand
       by-step onward Rests fact = onward-rests P Q bounds here t rows onward others packets taken row row count refl fact stand
-      by-step onward Loses fact = onward-rests P Q bounds here t rows onward others packets taken row (row_after Loses t (suc taken) row) count refl fact stand
+      by-step onward Drops fact = onward-rests P Q bounds here t rows onward others packets taken row (row_after Drops t (suc taken) row) count refl fact stand

@@ -9,7 +9,7 @@ use Rattle.net_units.specs.declared.Kind.{Kind}
 use Rattle.net_units.specs.declared.numbers.ChanNo.{ChanNo}
 use Rattle.net_units.specs.declared.numbers.Level.{Level}
 use Rattle.net_units.specs.declared.numbers.LinkNo.{LinkNo}
-use Rattle.traffic_contract.specs.Contract.{Terms}
+use Rattle.traffic_contract.specs.Contract.{Traffic}
 use Rattle.link_steps.specs.declared.asks.Ask.{Ask}
 use Rattle.link_steps.specs.declared.asks.Ask.TheVariants.{Reserve, Relax, Deny, Submit, Release, Arrive, Tick, Pour}
 use Rattle.link_steps.specs.declared.asks.Packet.{Packet}
@@ -28,7 +28,7 @@ use Rattle.link_steps.specs.Reservation.{tentative}
 use Rattle.link_steps.specs.Rows.{Row}
 use Rattle.link_steps.specs.Scan.{Scan, clock_of, is_row_of, with_arrival, without_expired, with_sources, with_best, best_step_at, after_tick, after, scan_of}
 use Rattle.link_steps.specs.Service.{Arrival, Start, leaves_at, is_busy, here_at}
-use Rattle.link_steps.specs.Sources.{SourceStep, Rests, Brings, Loses, step_of, packet_of, taken_by, source_packets}
+use Rattle.link_steps.specs.Sources.{SourceStep, Rests, Brings, Drops, step_of, packet_of, taken_by, source_packets}
 use Rattle.link_steps.proofs.AccountOfRows.{eligible-from}
 use Rattle.link_steps.proofs.ListFacts.{Each-append, Each-if}
 use Rattle.link_steps.proofs.Play.{answered}
@@ -36,7 +36,7 @@ use Rattle.link_steps.proofs.ServiceFacts.{HasLeft, HasBegun, FollowEachOther}
 
 -- ---- a new reservation keeps what it needed
 
-pub need-kept : (bounds : List ℕ) (chan : ChanNo) (contract : Terms) (kind : Kind) (first : Bool) (next : Option LinkNo) (up_reach : ℕ) (level reach : Level) → kept_units bounds (tentative chan contract kind first next up_reach level reach) ≡ need_of bounds contract up_reach (level_number reach)
+pub need-kept : (bounds : List ℕ) (chan : ChanNo) (contract : Traffic) (kind : Kind) (first : Bool) (next : Option LinkNo) (up_reach : ℕ) (level reach : Level) → kept_units bounds (tentative chan contract kind first next up_reach level reach) ≡ need_of bounds contract up_reach (level_number reach)
 unfolding kept_units need_of
 need-kept bounds chan contract kind first next up_reach level reach = refl
 
@@ -70,7 +70,7 @@ source_packets-patient bounds here t taken (row ∷ rows) =
       packet-patient : (step : SourceStep) → Each IsPatient (packet_of step t (suc taken) row)
       packet-patient (Brings size) = (eligible-from row.terms row.ticks t 0, tt)
       packet-patient Rests = tt
-      packet-patient Loses = tt
+      packet-patient Drops = tt
 
 arrival-patient : (t : ℕ) (packet : Packet) (scan : Scan) (found : Option Row) → Each IsPatient scan.packets → Each IsPatient (with_arrival t packet scan found).packets
 unfolding with_arrival
@@ -79,7 +79,7 @@ arrival-patient t packet scan (Some row) before = Each-append IsPatient scan.pac
 
 best-patient : (bounds : List ℕ) (t place : ℕ) (step : SourceStep) → Each IsPatient (best_packet step bounds place t)
 best-patient bounds t place Rests = tt
-best-patient bounds t place Loses = tt
+best-patient bounds t place Drops = tt
 best-patient bounds t place (Brings size) = (omega arith, tt)
 
 after-patient : (shape : LinkShape) (t : ℕ) (scan : Scan) (ask : Ask) (reply : Reply) → Each IsPatient scan.packets → Each IsPatient (after shape t scan ask reply).packets

@@ -4,7 +4,7 @@ use Rattle.std.proofs.lemmas.Bool.{cases_Bool, eqb-true, eq-eqb}
 use Rattle.std.specs.Prelude.{nat_eq}
 use Rattle.traffic_contract.specs.Admission.{total}
 use Rattle.link_steps.specs.declared.quota.Quota.{Quota}
-use Rattle.link_steps.specs.Split.{part_of}
+use Rattle.link_steps.specs.Split.{quota_part}
 
 -- an amount of a group
 pub record Share : Type 0 where
@@ -54,16 +54,16 @@ out-none group (share ∷ shares) =
     let rest = out-none group shares in
     elim (nat_eq share.group group) as (λ b. cond b (cond b 0 share.amount) 0 + total (in_group group) (map (out_of_group group) shares) ≡ 0) [ true ↦ omega (arith, rest) | false ↦ omega (arith, rest) ]
 
-pub within-together : (part : Quota → ℕ) (quotas : List Quota) (shares : List Share) → ((group : ℕ) → total (in_group group) shares ≤ part_of part quotas group) → total amount_of shares ≤ total part quotas
+pub within-together : (part : Quota → ℕ) (quotas : List Quota) (shares : List Share) → ((group : ℕ) → total (in_group group) shares ≤ quota_part part quotas group) → total amount_of shares ≤ total part quotas
 within-together part [] shares within = none-together shares within
 within-together part (quota ∷ quotas) shares within =
     let own : total (in_group quota.group) shares ≤ part quota = (let h = within quota.group in rw (eq-eqb quota.group quota.group refl) at h) in
     let rest = within-together part quotas (map (out_of_group quota.group) shares) (λ group. others group (cases_Bool (nat_eq quota.group group))) in
     let both = split-amounts quota.group shares in
     omega (arith, own, rest, both) where
-      others : (group : ℕ) → (nat_eq quota.group group ≡ true) ⊎ (nat_eq quota.group group ≡ false) → total (in_group group) (map (out_of_group quota.group) shares) ≤ part_of part quotas group
-      others group (inl same) = subst (λ g. total (in_group g) (map (out_of_group quota.group) shares) ≤ part_of part quotas g) (eqb-true quota.group group same) (let none = out-none quota.group shares in omega (arith, none))
+      others : (group : ℕ) → (nat_eq quota.group group ≡ true) ⊎ (nat_eq quota.group group ≡ false) → total (in_group group) (map (out_of_group quota.group) shares) ≤ quota_part part quotas group
+      others group (inl same) = subst (λ g. total (in_group g) (map (out_of_group quota.group) shares) ≤ quota_part part quotas g) (eqb-true quota.group group same) (let none = out-none quota.group shares in omega (arith, none))
       others group (inr other) =
-          let h : total (in_group group) shares ≤ part_of part quotas group = (let w = within group in rw other at w) in
+          let h : total (in_group group) shares ≤ quota_part part quotas group = (let w = within group in rw other at w) in
           let less = out-less quota.group group shares in
           omega (arith, h, less)

@@ -17,7 +17,7 @@ use Rattle.link_steps.specs.declared.replies.Reply.TheVariants as Is
 use Rattle.link_steps.specs.declared.shape.LinkShape.{LinkShape}
 use Rattle.link_steps.specs.Admissible.{MayAnswer, IsAdmissible}
 use Rattle.link_steps.specs.BestEffort.{best_packet, best_arrival}
-use Rattle.link_steps.specs.Sources.{SourceStep, Rests, Brings, Loses}
+use Rattle.link_steps.specs.Sources.{SourceStep, Rests, Brings, Drops}
 use Rattle.link_steps.specs.Buffer.{has_lead, held_packets}
 use Rattle.link_steps.specs.HopGuarantee.{LeavesInTime, HasLeftInTime}
 use Rattle.link_steps.specs.Hold.{hold_ended, expires, stays}
@@ -70,7 +70,7 @@ expired-made shape t row order ended = order.cancelled (phase-is row.terms.phase
 -- a best-effort packet is none of a row's
 pub stand-best : (P : Row → List Arrival → Type 0) (bounds : List ℕ) (t : ℕ) (step : SourceStep) (packets : List Arrival) (others rows : List Row) → RowsStand P P packets others rows → RowsStand P P (packets ++ best_packet step bounds (suc (length packets)) t) others rows
 stand-best P bounds t Rests packets others rows stand = rw (append-nil packets) stand
-stand-best P bounds t Loses packets others rows stand = rw (append-nil packets) stand
+stand-best P bounds t Drops packets others rows stand = rw (append-nil packets) stand
 stand-best P bounds t (Brings size) packets others rows stand = stand-apart P packets others rows (best_arrival bounds (suc (length packets)) size t) refl stand
 
 served-tick : (shape : LinkShape) (t : ℕ) (scan : Scan) → ScanInOrder shape t scan → Each (HasLeftInTime shape t (starts_below shape.rate scan.packets t)) scan.packets → ScanServed t scan → ScanServed (suc t) (after_tick shape t scan)

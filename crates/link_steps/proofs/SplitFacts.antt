@@ -5,14 +5,14 @@ use Rattle.std.proofs.lemmas.Bool.{cases_Bool, cases_lt, leb-true, and_parts, eq
 use Rattle.std.proofs.lemmas.List.{map-append}
 use Rattle.std.specs.Prelude.{nat_eq}
 use Rattle.net_units.proofs.BoundFacts.{bound_least}
-use Rattle.net_units.specs.LevelBounds.{bound_at}
+use Rattle.net_units.specs.LevelBounds.{bound_at, reach_of}
 use Rattle.net_units.specs.declared.Kind.{Kind}
 use Rattle.net_units.specs.declared.Kind.TheVariants.{Rate}
 use Rattle.net_units.specs.declared.numbers.ChanNo.{ChanNo}
 use Rattle.net_units.specs.declared.numbers.Level.{Level}
 use Rattle.net_units.specs.declared.numbers.LinkNo.{LinkNo}
 use Rattle.traffic_contract.specs.Admission.{total, work_up_to, load, Passes, with_row}
-use Rattle.traffic_contract.specs.Contract.{Terms}
+use Rattle.traffic_contract.specs.Contract.{Traffic}
 use Rattle.traffic_contract.proofs.AdmissionFacts.{total-map, total-push, work_up_to-above, work_up_to-le, PassesAt-whole, Decides-admits, first_level-is}
 use Rattle.link_steps.specs.declared.asks.Ask.{Ask}
 use Rattle.link_steps.specs.declared.asks.Ask.TheVariants.{Reserve, Relax, Deny, Submit, Release, Arrive, Tick, Pour}
@@ -20,7 +20,7 @@ use Rattle.link_steps.specs.declared.replies.Reply.{Reply}
 use Rattle.link_steps.specs.declared.replies.Reply.TheVariants as Is
 use Rattle.link_steps.specs.Admissible.{MayOffer, MayAnswer}
 use Rattle.link_steps.specs.Buffer.{kept_units, need_of, free_units}
-use Rattle.link_steps.specs.Replies.{reach_of, reserve_reply_in, reserve_reply, reply_at}
+use Rattle.link_steps.specs.Replies.{reserve_reply_in, reserve_reply, reply_at}
 use Rattle.link_steps.specs.Reservation.{Reservation, admitted, tentative, committed, closing}
 use Rattle.link_steps.specs.Room.{group_work, group_units, group_sum, level_quota, buffer_quota, within_quota, all_from, group_admits, group_room, room_of}
 use Rattle.link_steps.specs.Lists.{Each}
@@ -89,7 +89,7 @@ all_from-each test m (suc count) all k from upto =
     (cases_lt k (suc m))
 
 -- what the best level of a group is
-best-group : (link : Link) (held : List Reservation) (group : ℕ) (contract : Terms) (m : ℕ) → (group_room link held group contract).best ≡ Some m → (1 ≤ m) × (m ≤ length link.shape.bounds) × ((k : ℕ) → m ≤ k → k ≤ length link.shape.bounds → group_sum link held group contract m k ≤ level_quota link group k)
+best-group : (link : Link) (held : List Reservation) (group : ℕ) (contract : Traffic) (m : ℕ) → (group_room link held group contract).best ≡ Some m → (1 ≤ m) × (m ≤ length link.shape.bounds) × ((k : ℕ) → m ≤ k → k ≤ length link.shape.bounds → group_sum link held group contract m k ≤ level_quota link group k)
 unfolding group_room group_admits
 best-group link held group contract m best =
     let found = first_level-is (group_admits link held group contract) 1 (length link.shape.bounds) m best in
@@ -100,7 +100,7 @@ best-group link held group contract m best =
     )
 
 -- the reservation of an offer in the room of its group keeps every group within its quotas
-pub within-offered : (link : Link) (held : List Reservation) (chan : ChanNo) (contract : Terms) (kind : Kind) (first : Bool) (next : Option LinkNo) (delay up_reach : ℕ) (level reach : Level) → AreWithin link held → (offers : OffersBest link.shape held chan contract delay up_reach (group_room link held (group_of link.split chan) contract) level reach) → AreWithin link (held ++ tentative chan contract kind first next up_reach level reach ∷ [])
+pub within-offered : (link : Link) (held : List Reservation) (chan : ChanNo) (contract : Traffic) (kind : Kind) (first : Bool) (next : Option LinkNo) (delay up_reach : ℕ) (level reach : Level) → AreWithin link held → (offers : OffersBest link.shape held chan contract delay up_reach (group_room link held (group_of link.split chan) contract) level reach) → AreWithin link (held ++ tentative chan contract kind first next up_reach level reach ∷ [])
 unfolding group_work group_units group_room need_of kept_units
 within-offered link held chan contract kind first next delay up_reach level reach within offers =
     let group = group_of link.split chan in
@@ -119,8 +119,8 @@ within-offered link held chan contract kind first next delay up_reach level reac
                 (let f = rw own at e in omega (arith, f, none, before)))
                 (λ (above : offers.number ≤ m).
                 let sum = best.2 m above upto in
-                let at_level : work_at link m (tentative chan contract kind first next up_reach level reach) ≡ work_up_to link.shape.rate m (bound_at link.shape.bounds m) (record { terms = contract; level = offers.number }) = ap (λ l. work_up_to link.shape.rate m (bound_at link.shape.bounds m) (record { terms = contract; level = l })) numbers.level_is in
-                let within_own = subst (λ h. total (group_work link h m) held + work_up_to link.shape.rate m (bound_at link.shape.bounds m) (record { terms = contract; level = offers.number }) ≤ level_quota link h m) same sum in
+                let at_level : work_at link m (tentative chan contract kind first next up_reach level reach) ≡ work_up_to link.shape.rate m (bound_at link.shape.bounds m) (record { contract = contract; level = offers.number }) = ap (λ l. work_up_to link.shape.rate m (bound_at link.shape.bounds m) (record { contract = contract; level = l })) numbers.level_is in
+                let within_own = subst (λ h. total (group_work link h m) held + work_up_to link.shape.rate m (bound_at link.shape.bounds m) (record { contract = contract; level = offers.number }) ≤ level_quota link h m) same sum in
                 (let f = rw own at e in omega (arith, f, at_level, within_own)))
                 (cases_lt m offers.number)
             | inr other ↦ (let f = rw other at e in omega (arith, f, before))
@@ -139,7 +139,7 @@ within-offered link held chan contract kind first next delay up_reach level reac
     }
 
 -- so such an offer is one that the link may make
-pub group-offer-may : (link : Link) (held : List Reservation) (chan : ChanNo) (contract : Terms) (delay up_reach : ℕ) (level reach : Level) → SplitFits link → AreWithin link held → Is.Offer level reach ≡ reserve_reply_in link.shape held chan contract delay up_reach (group_room link held (group_of link.split chan) contract) → MayOffer link.shape held chan contract delay up_reach level reach
+pub group-offer-may : (link : Link) (held : List Reservation) (chan : ChanNo) (contract : Traffic) (delay up_reach : ℕ) (level reach : Level) → SplitFits link → AreWithin link held → Is.Offer level reach ≡ reserve_reply_in link.shape held chan contract delay up_reach (group_room link held (group_of link.split chan) contract) → MayOffer link.shape held chan contract delay up_reach level reach
 unfolding free_units
 group-offer-may link held chan contract delay up_reach level reach fits within same =
     let offers = offer-best link.shape held chan contract delay up_reach (group_room link held (group_of link.split chan) contract) level reach same in

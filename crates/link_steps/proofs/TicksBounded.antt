@@ -34,7 +34,7 @@ use Rattle.link_steps.specs.Rows.{Row, row_terms, new_row}
 use Rattle.link_steps.specs.Scan.{Scan, clock_with, clock_of, is_row_of, is_row_at_hop, names_first_hop, relax_row, plan_row, close_row, arrived_packet, arrived_row, with_arrival, without_expired, with_sources, with_best, best_step_at, after_tick, after, scan_of}
 use Rattle.link_steps.specs.Service.{Arrival, starts_below, here_at, is_here, is_start_of, has_departed}
 use Rattle.link_steps.specs.Slots.{HasSlots, IsSoon, HasSoonTicks, TicksAreSoon}
-use Rattle.link_steps.specs.Sources.{SourceStep, Rests, Brings, Loses, step_of, packet_of, row_after}
+use Rattle.link_steps.specs.Sources.{SourceStep, Rests, Brings, Drops, step_of, packet_of, row_after}
 use Rattle.link_steps.proofs.BusyPeriods.{departed-has-started}
 use Rattle.link_steps.proofs.ChangeFacts.{Each-from_among}
 use Rattle.link_steps.proofs.Departures.{starts-eligible, IsEligibleStart}
@@ -51,7 +51,7 @@ use Rattle.link_steps.proofs.UnitsHeld.{units-held}
 
 -- ---- one more eligible tick
 
--- a search over so many ticks ends behind them at the latest
+-- a search over so many ticks ends after them at the latest
 first_from-most : (test : ℕ → Bool) (low count : ℕ) → first_from test low count ≤ low + count
 unfolding first_from
 first_from-most test low zero = omega arith
@@ -62,7 +62,8 @@ first_from-most test low (suc count) =
 waits-most : (kind : Kind) (first : Bool) (t due : ℕ) → waits_until kind first t due ≤ max t due
 waits-most Jitter false t due = omega arith
 waits-most Jitter true t due = omega arith
-waits-most Rate first t due = omega arith
+waits-most Rate true t due = omega arith
+waits-most Rate false t due = omega arith
 
 -- a packet is eligible at most an interval after the row's newest, or where it may go
 pub eligible-most : (terms : Reservation) (recent : List ℕ) (t due : ℕ) → eligible_next terms recent t due ≤ max (max t due) (newest recent + terms.contract.interval)
@@ -100,7 +101,7 @@ paced-more terms ticks t due own p soon due-soon is paced =
 
 paced-step : (step : SourceStep) (t place : ℕ) (row : Row) (own : List Arrival) → t ≤ 2 ^ 62 → IsPaced row own → IsPaced (row_after step t place row) (own ++ packet_of step t place row)
 paced-step Rests t place row own soon paced = rw (append-nil own) (record { upto = paced.upto })
-paced-step Loses t place row own soon paced = rw (append-nil own) (record { upto = paced.upto })
+paced-step Drops t place row own soon paced = rw (append-nil own) (record { upto = paced.upto })
 paced-step (Brings size) t place row own soon paced = record { upto = paced-more row.terms row.ticks t 0 own _ soon (omega arith) refl paced.upto }
 
 paced-tick : (shape : LinkShape) (t : ℕ) (scan : Scan) → t ≤ 2 ^ 62 → RowsStand IsPaced IsPaced scan.packets scan.gone scan.rows → RowsStand IsPaced IsPaced (after_tick shape t scan).packets (after_tick shape t scan).gone (after_tick shape t scan).rows

@@ -10,7 +10,7 @@ use Rattle.link_steps.specs.declared.shape.LinkShape.{LinkShape}
 use Rattle.link_steps.specs.Admissible.{IsAdmissible}
 use Rattle.link_steps.specs.Belonging.{own_packets, eligible_of, HasLevelOf, TellsPackets, IsRowOf, HasRow}
 use Rattle.link_steps.specs.Buffer.{has_lead}
-use Rattle.link_steps.specs.BusyPeriod.{is_in_window}
+use Rattle.link_steps.specs.BusyPeriod.{is_eligible_in}
 use Rattle.link_steps.specs.Lists.{Each, Any}
 use Rattle.link_steps.specs.Rows.{Row}
 use Rattle.link_steps.specs.Scan.{clock_with, clock_of, scan_of}
@@ -84,7 +84,7 @@ pub record InWindow (m t w : ℕ) (p : Arrival) : Type 0 where
   pub from : t ≤ p.eligible
   pub before : p.eligible < t + w
 
-in-window : (m t w : ℕ) (p : Arrival) → is_in_window m t w p ≡ true → InWindow m t w p
+in-window : (m t w : ℕ) (p : Arrival) → is_eligible_in m t w p ≡ true → InWindow m t w p
 in-window m t w p is =
     let parts = and_parts (nat_le p.level m) (nat_le t p.eligible && nat_lt p.eligible (t + w)) is in
     let ticks = and_parts (nat_le t p.eligible) (nat_lt p.eligible (t + w)) parts.1 in
@@ -111,7 +111,7 @@ brought-now shape h m t legal from upto near =
 
 -- ---- one that it has passed
 
--- packets that are eligible behind the window are not in it
+-- packets that are eligible after the window are not in it
 behind-window : (m t w clock : ℕ) (rows : List Row) (new : List Arrival) → t + w ≤ clock → Each (IsFrom clock) new → Each (IsBrought m t w rows) new
 behind-window m t w clock rows new past from =
     Each-if (IsFrom clock) (IsBrought m t w rows) new (λ p later. record { one = λ inside. (let before = (in-window m t w p inside).before in absurd (omega (arith, before, past, later))) }) from

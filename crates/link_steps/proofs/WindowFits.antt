@@ -100,7 +100,7 @@ room-now shape h m u legal from upto near =
       };
     }
 
--- a packet that is eligible behind the window brings nothing into it
+-- a packet that is eligible after the window brings nothing into it
 window-past : (rate m u w : ℕ) (p : Arrival) → u + w ≤ p.eligible → window_work rate m u w p ≡ 0
 window-past rate m u w p past = rw (le-ltb p.eligible (u + w) past) (none (nat_le p.level m) (nat_le u p.eligible) (work_of rate p)) where
   none : (a b : Bool) (work : ℕ) → cond (a && (b && false)) work 0 ≡ 0
@@ -108,7 +108,7 @@ window-past rate m u w p past = rw (le-ltb p.eligible (u + w) past) (none (nat_l
   none true false work = refl
   none false b work = refl
 
--- nor do packets that are all eligible behind it
+-- nor do packets that are all eligible after it
 windows-past : (rate m u w t : ℕ) (packets : List Arrival) → u + w ≤ t → Each (IsFrom t) packets → total (window_work rate m u w) packets ≡ 0
 windows-past rate m u w t [] past later = refl
 windows-past rate m u w t (p ∷ packets) past later =
@@ -116,7 +116,7 @@ windows-past rate m u w t (p ∷ packets) past later =
     let rest = windows-past rate m u w t packets past later.1 in
     omega (arith, first, rest)
 
--- the packets of an entry behind the window bring nothing into it
+-- the packets of an entry after the window bring nothing into it
 same-after : (shape : LinkShape) (m u w t : ℕ) (scan : Scan) (ask : Ask) (reply : Reply) → u + w ≤ t → total (window_work shape.rate m u w) (after shape t scan ask reply).packets ≡ total (window_work shape.rate m u w) scan.packets
 same-after shape m u w t scan ask reply past =
     let adds = packets-after shape t scan ask reply in

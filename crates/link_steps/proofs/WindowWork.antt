@@ -37,7 +37,7 @@ use Rattle.link_steps.specs.Reservation.{is_of, tentative, admitted}
 use Rattle.link_steps.specs.Rows.{Row, SourcePacket, row_terms, new_row, is_for}
 use Rattle.link_steps.specs.Scan.{Scan, clock_of, is_row_of, is_row_at_hop, names_first_hop, relax_row, plan_row, close_row, arrived_tick, arrived_row, arrived_packet, with_arrival, without_expired, with_sources, with_best, best_step_at, after_tick, after, scan_of}
 use Rattle.link_steps.specs.Service.{Arrival, here_at}
-use Rattle.link_steps.specs.Sources.{SourceStep, Rests, Brings, Loses, arrival_at, with_packet, source_step, source_tick, step_of, packet_of, row_after, source_packets, rows_after, taken_by}
+use Rattle.link_steps.specs.Sources.{SourceStep, Rests, Brings, Drops, arrival_at, with_packet, source_step, source_tick, step_of, packet_of, row_after, source_packets, rows_after, taken_by}
 use Rattle.link_steps.proofs.AdmissionHolds.{find-terms}
 use Rattle.link_steps.proofs.ChangeFacts.{total-change_first-more, total-change_first-ge, total-without_first-ge, total-filter-both}
 use Rattle.link_steps.proofs.LegalOrder.{ScanInOrder, legal-order}
@@ -104,7 +104,7 @@ pub record CountsWork (shape : LinkShape) (m u w : ℕ) (scan : Scan) : Type 0 w
 -- a best-effort packet is of no level up to the last
 best-no_work : (shape : LinkShape) (m u w t place : ℕ) (step : SourceStep) → m ≤ length shape.bounds → total (window_work shape.rate m u w) (best_packet step shape.bounds place t) ≡ 0
 best-no_work shape m u w t place Rests upto = refl
-best-no_work shape m u w t place Loses upto = refl
+best-no_work shape m u w t place Drops upto = refl
 best-no_work shape m u w t place (Brings size) upto = rw (lt-leb (level_below shape.bounds) m (omega (arith, upto))) refl
 
 -- a tick, in which expired rows go on to count among those gone

@@ -14,7 +14,7 @@ use Rattle.link_steps.specs.Split.{whole}
 use Rattle.link_steps.proofs.Play.{legal_replies, replied, replied-legal}
 use Rattle.link_steps.proofs.WorkedLink.{shape_a, voice, chan1, chan2, reserve, offer, ticks, quiet, left, sends}
 
--- a reserve behind a hop with a reach of 40 ticks, a relax behind one allotted 20 ticks, and a packet that arrives
+-- a reserve after a hop with a reach of 40 ticks, a relax after one allotted 20 ticks, and a packet that arrives
 abbrev pub reserve_behind : ChanNo → Kind → Ask
 reserve_behind chan kind = Reserve chan voice kind 50 40 false None
 

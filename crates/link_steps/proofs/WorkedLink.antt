@@ -5,7 +5,7 @@ use Rattle.std.proofs.Common.{ℕ, suc, zero, ◌+◌, ◌≤◌, true, List, []
 use Rattle.net_units.specs.declared.Kind.TheVariants.{Rate}
 use Rattle.net_units.specs.declared.numbers.ChanNo.{ChanNo}
 use Rattle.net_units.specs.declared.numbers.LinkNo.{LinkNo}
-use Rattle.traffic_contract.specs.Contract.{Terms, terms_of}
+use Rattle.traffic_contract.specs.Contract.{Traffic, terms_of}
 use Rattle.link_steps.specs.declared.asks.Ask.{Ask}
 use Rattle.link_steps.specs.declared.asks.Ask.TheVariants.{Reserve, Relax, Tick}
 use Rattle.link_steps.specs.declared.replies.Reply.{Reply}
@@ -45,11 +45,11 @@ abbrev pub shape_a : LinkShape
 shape_a = with_buffer 100 (lit≤ tt)
 
 -- the contract
-abbrev pub voice : Terms
+abbrev pub voice : Traffic
 voice = terms_of 5 10 20 2
 
 -- and one for packets of up to 4 units
-abbrev pub wide : Terms
+abbrev pub wide : Traffic
 wide = terms_of 5 10 20 4
 
 abbrev pub chan1 : ChanNo
@@ -71,7 +71,7 @@ abbrev pub chan9 : ChanNo
 chan9 = record { number = 9; small = lit< tt }
 
 -- a reserve at the only hop of a route, with rate-jitter control
-abbrev pub reserve : ChanNo → Terms → ℕ → Ask
+abbrev pub reserve : ChanNo → Traffic → ℕ → Ask
 reserve chan contract delay = Reserve chan contract Rate delay 0 true None
 
 -- a relax at the first hop

@@ -1,4 +1,4 @@
--- What a reservation behind another hop keeps of the buffer, before its relax and behind it; and a release that is told fewer
+-- What a reservation after another hop keeps of the buffer, before its relax and after it; and a release that is told fewer
 -- packets than the link has taken.
 use Rattle.std.proofs.Common.{◌≡◌, [], ◌∷◌, Some, refl, ◌∙◌, lit≤}
 use Rattle.net_units.specs.declared.Kind.TheVariants.{Rate}
@@ -12,12 +12,12 @@ use Rattle.link_steps.proofs.Play.{legal_replies, replied, replied-legal}
 use Rattle.link_steps.proofs.WorkedLaterHop.{reserve_behind, relax_behind, arrive}
 use Rattle.link_steps.proofs.WorkedLink.{shape_a, with_buffer, voice, chan1, chan2, chan3, chan4, reserve, relax, offer}
 
--- behind a reach of 40 ticks, with a reach of 40 of its own, it keeps 8 packets of 2 units: all that come in 80 ticks
+-- after a reach of 40 ticks, with a reach of 40 of its own, it keeps 8 packets of 2 units: all that come in 80 ticks
 needs-both-reaches : legal_replies (whole (with_buffer 15 (lit≤ tt))) [] (reserve_behind chan1 Rate ∷ []) ≡ Refused (NoBuffer 16 15) ∷ []
 unfolding replied
 needs-both-reaches = replied-legal (whole (with_buffer 15 (lit≤ tt))) _ ∙ refl
 
--- relaxed to 10 ticks behind 20 it keeps 4: those that come in 30. So 8 units are free, for two that keep 4 each
+-- relaxed to 10 ticks after 20 it keeps 4: those that come in 30. So 8 units are free, for two that keep 4 each
 keeps-both-bounds : legal_replies (whole (with_buffer 16 (lit≤ tt))) []
     (reserve_behind chan1 Rate
     ∷ reserve chan2 voice 22

@@ -7,8 +7,9 @@ use Rattle.std.specs.Prelude.{◌≡◌, ℕ, ◌≤◌, true, None, List, [], �
 use Rattle.net_units.specs.Numbers.{level_number}
 use Rattle.net_units.specs.declared.numbers.ChanNo.{ChanNo}
 use Rattle.net_units.specs.declared.numbers.Level.{Level}
+use Rattle.net_units.specs.LevelBounds.{reach_of}
 use Rattle.traffic_contract.specs.Admission.{admits}
-use Rattle.traffic_contract.specs.Contract.{Terms}
+use Rattle.traffic_contract.specs.Contract.{Traffic}
 use Rattle.link_steps.specs.declared.asks.Ask.{Ask}
 use Rattle.link_steps.specs.declared.asks.Ask.TheVariants.{Reserve}
 use Rattle.link_steps.specs.declared.replies.Entry.{Entry}
@@ -18,7 +19,7 @@ use Rattle.link_steps.specs.declared.shape.LinkShape.{LinkShape}
 use Rattle.link_steps.specs.Buffer.{need_of, free_units}
 use Rattle.link_steps.specs.Legal.{AskFits}
 use Rattle.link_steps.specs.Levels.{level_of}
-use Rattle.link_steps.specs.Replies.{reach_of, reply_at}
+use Rattle.link_steps.specs.Replies.{reply_at}
 use Rattle.link_steps.specs.Reservation.{Reservation, admitted, is_of}
 use Rattle.link_steps.specs.Rows.{row_terms}
 use Rattle.link_steps.specs.Scan.{Scan, clock_of, scan_of}
@@ -26,7 +27,7 @@ use Rattle.link_steps.specs.Shape.{server_of}
 use Rattle.link_steps.specs.Split.{whole}
 
 -- an offer that a link may make that holds these reservations
-pub record MayOffer (shape : LinkShape) (held : List Reservation) (chan : ChanNo) (contract : Terms) (delay up_reach : ℕ) (level reach : Level) : Type 0 where
+pub record MayOffer (shape : LinkShape) (held : List Reservation) (chan : ChanNo) (contract : Traffic) (delay up_reach : ℕ) (level reach : Level) : Type 0 where
   pub narrow : contract.smax ≤ shape.cap
   pub new : find (is_of chan) held ≡ None
   pub level_most : level_number level ≤ length shape.bounds
@@ -35,7 +36,7 @@ pub record MayOffer (shape : LinkShape) (held : List Reservation) (chan : ChanNo
   pub free : need_of shape.bounds contract up_reach (level_number reach) ≤ free_units shape held
 
 -- a reply that it may give to a reserve
-abbrev pub MayReply : LinkShape → List Reservation → ChanNo → Terms → ℕ → ℕ → Reply → Type 0
+abbrev pub MayReply : LinkShape → List Reservation → ChanNo → Traffic → ℕ → ℕ → Reply → Type 0
 MayReply shape held chan contract delay up_reach (Offer level reach) = MayOffer shape held chan contract delay up_reach level reach
 MayReply shape held chan contract delay up_reach (Refused refusal) = Unit {0}
 MayReply shape held chan contract delay up_reach _ = ⊥

@@ -23,7 +23,7 @@ eligible_of p = p.eligible
 abbrev pub HasLevelOf : Row → Arrival → Type 0
 HasLevelOf row p = p.level ≡ level_number row.terms.level
 
--- the packets have the arrival numbers behind n, in their order
+-- the packets have the arrival numbers after n, in their order
 abbrev pub AreNumbered : ℕ → List Arrival → Type 0
 AreNumbered n [] = Unit {0}
 AreNumbered n (p ∷ packets) = (p.place ≡ suc n) × AreNumbered (suc n) packets

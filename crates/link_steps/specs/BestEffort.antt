@@ -1,5 +1,5 @@
 -- Best-effort packets are served below all levels. A pour plans them as a submit plans those of a source, and they cross
--- this one link. The one planned for a tick arrives behind the source packets of the tick, and is eligible in it; where as
+-- this one link. The one planned for a tick arrives after the source packets of the tick, and is eligible in it; where as
 -- many wait already as may, it is lost. To the service it is a packet of the level after the last. It is the first and
 -- only packet of its own lead, so it is none of a reservation's.
 use Rattle.std.specs.Prelude.{ℕ, suc, Bool, not, nat_lt, ◌&&◌, None, List, [], ◌∷◌, length, filter, find}
@@ -23,7 +23,7 @@ waits_best bounds starts p = is_best bounds p && not (has_started starts p)
 unfoldable pub waiting_best : List ℕ → List Start → List Arrival → ℕ
 waiting_best bounds starts packets = length (filter (waits_best bounds starts) packets)
 
--- what happens to the one planned for tick t, if there is one, where so many wait and so many may
+-- what happens to the one planned for tick t, if there is one, where `waiting` wait and `most` may
 unfoldable pub best_step : ℕ → ℕ → ℕ → List SourcePacket → SourceStep
 best_step waiting most t plan = source_step (nat_lt waiting most) (find (is_for t) plan)
 

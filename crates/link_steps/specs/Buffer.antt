@@ -7,7 +7,7 @@ use Rattle.std.specs.Prelude.{ℕ, ◌+◌, ◌-◌, ◌*◌, Bool, nat_eq, nat_
 use Rattle.net_units.specs.Numbers.{level_number}
 use Rattle.net_units.specs.LevelBounds.{bound_at}
 use Rattle.traffic_contract.specs.Admission.{total}
-use Rattle.traffic_contract.specs.Contract.{Terms, most_in}
+use Rattle.traffic_contract.specs.Contract.{Traffic, most_in}
 use Rattle.link_steps.specs.declared.replies.Phase.{Phase}
 use Rattle.link_steps.specs.declared.replies.Phase.TheVariants.{Tentative, Committed, Closing}
 use Rattle.link_steps.specs.declared.shape.LinkShape.{LinkShape}
@@ -15,7 +15,7 @@ use Rattle.link_steps.specs.Reservation.{Reservation}
 use Rattle.link_steps.specs.Service.{Arrival}
 
 -- the units of the slots for a window of w ticks
-abbrev pub units_for : Terms → ℕ → ℕ
+abbrev pub units_for : Traffic → ℕ → ℕ
 units_for contract w = most_in contract w * contract.smax
 
 -- the longest time that a packet of the channel is at the hop before and at this link together, in ticks
@@ -37,7 +37,7 @@ unfoldable pub kept_units : List ℕ → Reservation → ℕ
 kept_units bounds terms = units_for terms.contract (stay_of bounds terms)
 
 -- the need of a new reservation: the units that it would keep as a tentative one
-unfoldable pub need_of : List ℕ → Terms → ℕ → ℕ → ℕ
+unfoldable pub need_of : List ℕ → Traffic → ℕ → ℕ → ℕ
 need_of bounds contract up_reach reach = units_for contract (up_reach + bound_at bounds reach)
 
 -- the free units of a link that holds these reservations

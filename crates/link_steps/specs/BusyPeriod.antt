@@ -24,12 +24,12 @@ pub record HasWork (rate blocking : ℕ) (p : Arrival) : Type 0 where
   pub most : work_of rate p ≤ blocking
 
 -- whether a packet of the levels up to m is eligible in the w ticks from t on
-abbrev pub is_in_window : ℕ → ℕ → ℕ → Arrival → Bool
-is_in_window m t w p = nat_le p.level m && (nat_le t p.eligible && nat_lt p.eligible (t + w))
+abbrev pub is_eligible_in : ℕ → ℕ → ℕ → Arrival → Bool
+is_eligible_in m t w p = nat_le p.level m && (nat_le t p.eligible && nat_lt p.eligible (t + w))
 
 -- the work that it brings into the window
 abbrev pub window_work : ℕ → ℕ → ℕ → ℕ → Arrival → ℕ
-window_work rate m t w p = if is_in_window m t w p then work_of rate p else 0
+window_work rate m t w p = if is_eligible_in m t w p then work_of rate p else 0
 
 -- the next tick after t at which the link is clear comes within w ticks
 pub record EndsWithin (rate : ℕ) (packets : List Arrival) (m t w : ℕ) : Type 0 where

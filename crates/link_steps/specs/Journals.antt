@@ -10,10 +10,10 @@ abbrev pub history_of : List Entry → List Entry
 history_of journal = reverse journal
 
 -- a journal that goes on from a history is legal
-unfoldable pub GoesOn : Link → List Entry → List Entry → Type 0
-GoesOn link past [] = Unit {0}
-GoesOn link past (e ∷ journal) = IsLegalAfter link past e × GoesOn link (e ∷ past) journal
+unfoldable pub JournalGoesOn : Link → List Entry → List Entry → Type 0
+JournalGoesOn link past [] = Unit {0}
+JournalGoesOn link past (e ∷ journal) = IsLegalAfter link past e × JournalGoesOn link (e ∷ past) journal
 
 -- a whole journal is
 abbrev pub IsLegalJournal : Link → List Entry → Type 0
-IsLegalJournal link journal = GoesOn link [] journal
+IsLegalJournal link journal = JournalGoesOn link [] journal

@@ -3,11 +3,11 @@
 -- that occupies it. Of a row it keeps the terms, the lead, how many packets were taken, their newest eligible ticks,
 -- a burst of them, and the planned packets that are left. The account gives the reply to each ask, and the account
 -- after it: no rule needs more of the history.
-use Rattle.std.specs.Prelude.{◌≡◌, ℕ, suc, ◌+◌, Bool, true, false, not, ◌&&◌, nat_eq, nat_le, nat_lt, if◌then◌else◌, Option, Some, None, List, [], ◌∷◌, ◌++◌, length, map, filter, find, take}
+use Rattle.std.specs.Prelude.{◌≡◌, ℕ, suc, ◌+◌, Bool, true, false, not, ◌&&◌, nat_eq, nat_le, nat_lt, if◌then◌else◌, Option, Some, None, List, [], ◌∷◌, ◌++◌, length, map, filter, find}
 use Rattle.net_units.specs.declared.numbers.ChanNo.{ChanNo}
 use Rattle.net_units.specs.declared.numbers.Level.{Level}
-use Rattle.traffic_contract.specs.Contract.{Terms, IsContract, burst_of}
-use Rattle.traffic_contract.specs.Eligible.{newest}
+use Rattle.traffic_contract.specs.Contract.{IsContract}
+use Rattle.traffic_contract.specs.Eligible.{newest, newest_burst}
 use Rattle.link_steps.specs.declared.asks.Ask.{Ask}
 use Rattle.link_steps.specs.declared.asks.Ask.TheVariants.{Reserve, Relax, Deny, Submit, Release, Arrive, Tick, Pour}
 use Rattle.link_steps.specs.declared.asks.Packet.{Packet}
@@ -29,7 +29,7 @@ use Rattle.link_steps.specs.Service.{Arrival, Start, leaves_at, first_in_line, s
 use Rattle.link_steps.specs.Regulator.{eligible_next}
 use Rattle.link_steps.specs.Rows.{Row, SourcePacket, planned_from, is_for, left_at}
 use Rattle.link_steps.specs.Split.{Link}
-use Rattle.link_steps.specs.Sources.{SourceStep, Brings, lead_with, arrival_at, source_step, taken_by, lost_by}
+use Rattle.link_steps.specs.Sources.{SourceStep, Brings, lead_with, arrival_at, source_step, taken_by, dropped_by}
 
 -- `taken` counts the row's packets, and `recent` are the newest of their eligible ticks, newest first
 pub record KeptRow : Type 0 where
@@ -51,17 +51,13 @@ pub record Kept : Type 0 where
 
 -- ---- what is kept of a history
 
--- as many of the eligible ticks as the contract's burst
-abbrev pub recent_of : Terms → List ℕ → List ℕ
-recent_of contract ticks = take (burst_of contract) ticks
-
 -- a row as it is kept at clock t
 abbrev pub kept_row : ℕ → Row → KeptRow
 kept_row t row = record {
   terms = row.terms;
   lead = row.lead;
   taken = length row.ticks;
-  recent = recent_of row.terms.contract row.ticks;
+  recent = newest_burst row.terms.contract row.ticks;
   left = left_at t row.plan;
 }
 
@@ -128,7 +124,7 @@ abbrev pub kept_with : ℕ → ℕ → KeptRow → KeptRow
 kept_with place e row = record row {
   lead = lead_with row.lead place;
   taken = suc row.taken;
-  recent = recent_of row.terms.contract (e ∷ row.recent);
+  recent = newest_burst row.terms.contract (e ∷ row.recent);
 }
 
 -- the row after its source's step in tick t: what was planned for t is no longer left
@@ -157,7 +153,7 @@ kept_rows_after bounds here t taken (row ∷ rows) =
 -- how many packets are dropped
 unfoldable pub kept_lost : List ℕ → List Arrival → ℕ → List KeptRow → ℕ
 kept_lost bounds here t [] = 0
-kept_lost bounds here t (row ∷ rows) = lost_by (kept_step bounds here t row) + kept_lost bounds here t rows
+kept_lost bounds here t (row ∷ rows) = dropped_by (kept_step bounds here t row) + kept_lost bounds here t rows
 
 -- ---- the packets through a tick
 
@@ -255,7 +251,7 @@ kept_tick_reply shape k =
     (kept_lost shape.bounds k.here k.clock (held_rows shape k))
     (departs shape k.clock (occupies shape k))
     (best_departs shape k.clock (occupies shape k))
-    (nat_eq (lost_by (kept_best shape k)) 1)
+    (nat_eq (dropped_by (kept_best shape k)) 1)
 
 -- ---- the reply to an ask
 

@@ -5,7 +5,8 @@
 -- numbers are within their limits, as every `Contract` is.
 use Rattle.std.specs.Prelude.{◌≡◌, ℕ, ◌^◌, ◌<◌, ◌≤◌, Bool, true, List, [], ◌∷◌, length}
 use Rattle.net_units.specs.Numbers.{level_number}
-use Rattle.traffic_contract.specs.Contract.{Terms, IsContract}
+use Rattle.net_units.specs.Limits.{most_bound, most_gap, most_packets, most_size}
+use Rattle.traffic_contract.specs.Contract.{Traffic, IsContract}
 use Rattle.link_steps.specs.declared.asks.Ask.{Ask}
 use Rattle.link_steps.specs.declared.asks.Ask.TheVariants.{Reserve, Relax, Deny, Submit, Release, Arrive, Tick, Pour}
 use Rattle.link_steps.specs.declared.asks.Packet.{Packet}
@@ -15,29 +16,29 @@ use Rattle.link_steps.specs.Replies.{reply_to}
 use Rattle.link_steps.specs.Split.{Link}
 
 -- the conditions on a reserve, with this contract and this reach before it
-pub record ReserveFits (contract : Terms) (up_reach : ℕ) (first : Bool) : Type 0 where
+pub record ReserveFits (contract : Traffic) (up_reach : ℕ) (first : Bool) : Type 0 where
   pub is_contract : IsContract contract
-  pub reach_most : up_reach ≤ 1048576
+  pub reach_most : up_reach ≤ most_bound
   pub nothing_before : first ≡ true → up_reach ≡ 0
 
--- on a relax to this level, of so many, with this bound before it
+-- on a relax to this level, of `levels`, with this bound before it
 pub record RelaxFits (levels level up_bound : ℕ) : Type 0 where
   pub level_most : level ≤ levels
-  pub bound_most : up_bound ≤ 1048576
+  pub bound_most : up_bound ≤ most_bound
 
--- on a submit of so many packets, one each gap, of this size
+-- on a submit of `count` packets, one each gap, of this size
 pub record SubmitFits (count gap size : ℕ) : Type 0 where
   pub count_least : 1 ≤ count
-  pub count_most : count ≤ 262144
+  pub count_most : count ≤ most_packets
   pub gap_least : 1 ≤ gap
-  pub gap_most : gap ≤ 1048576
+  pub gap_most : gap ≤ most_gap
   pub size_least : 1 ≤ size
-  pub size_most : size ≤ 65536
+  pub size_most : size ≤ most_size
 
 -- and on a packet that arrives
 pub record PacketFits (packet : Packet) : Type 0 where
   pub size_least : 1 ≤ packet.size
-  pub size_most : packet.size ≤ 65536
+  pub size_most : packet.size ≤ most_size
   pub due_most : packet.due < 2 ^ 62
 
 -- the ask meets the conditions at a link of this shape

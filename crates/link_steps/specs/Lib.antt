@@ -16,6 +16,7 @@ pub mod Split
 pub mod Room
 pub mod Refusals
 pub mod Replies
+pub mod Ticks
 pub mod Legal
 pub mod Admissible
 pub mod HopGuarantee

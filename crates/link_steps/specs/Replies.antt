@@ -6,11 +6,11 @@
 -- later hop's answers the larger of its own count and the one that it was told, and cancels nothing. A packet that
 -- arrives is taken where the reservation is ready for it and has a slot free, and the reply says at which tick it is
 -- eligible. A tick says how many source packets were dropped in it, and which packet departs at its end.
-use Rattle.std.specs.Prelude.{ℕ, suc, ◌+◌, Bool, true, false, not, ◌&&◌, nat_eq, if◌then◌else◌, Option, Some, None, List, [], ◌∷◌, length, map, find, max, unwrap_or}
-use Rattle.net_units.specs.LevelBounds.{bound_at, levels_within}
+use Rattle.std.specs.Prelude.{ℕ, suc, ◌+◌, Bool, true, false, not, ◌&&◌, nat_eq, if◌then◌else◌, Option, Some, None, List, [], ◌∷◌, length, map, find, max, unwrap_or, ◌++◌}
+use Rattle.net_units.specs.LevelBounds.{bound_at, reach_of}
 use Rattle.net_units.specs.declared.numbers.ChanNo.{ChanNo}
 use Rattle.net_units.specs.declared.numbers.Level.{Level}
-use Rattle.traffic_contract.specs.Contract.{Terms}
+use Rattle.traffic_contract.specs.Contract.{Traffic}
 use Rattle.link_steps.specs.declared.asks.Ask.{Ask}
 use Rattle.link_steps.specs.declared.asks.Ask.TheVariants.{Reserve, Relax, Deny, Submit, Release, Arrive, Tick, Pour}
 use Rattle.link_steps.specs.declared.asks.Packet.{Packet}
@@ -24,7 +24,7 @@ use Rattle.link_steps.specs.declared.replies.Why.TheVariants.{NoRow}
 use Rattle.link_steps.specs.declared.shape.LinkShape.{LinkShape}
 use Rattle.link_steps.specs.Buffer.{need_of, slots_of, held_packets}
 use Rattle.link_steps.specs.Levels.{level_of}
-use Rattle.link_steps.specs.Refusals.{Rule, first_refusal, too_wide, twice, no_level, no_buffer, not_in_phase, unfit, busy, too_big, too_big_for, first_hop, uncommitted, wrong_number, past_count, big, full}
+use Rattle.link_steps.specs.Refusals.{RefusalRule, first_refusal, too_wide, twice, no_level, no_buffer, not_in_phase, unfit, busy, too_big, too_big_for, full, stray_rules}
 use Rattle.link_steps.specs.Reservation.{Reservation, is_of}
 use Rattle.link_steps.specs.Scan.{Scan, clock_of, scan_of, without_expired, best_step_at, after_tick, is_row_of, is_row_at_hop, names_first_hop}
 use Rattle.link_steps.specs.Service.{Arrival, Start, leaves_at, starts_below, here_at}
@@ -32,15 +32,11 @@ use Rattle.link_steps.specs.Room.{Room, room_of}
 use Rattle.link_steps.specs.Split.{Link}
 use Rattle.link_steps.specs.Regulator.{eligible_next}
 use Rattle.link_steps.specs.Rows.{Row, row_terms, left_at}
-use Rattle.link_steps.specs.Sources.{lost_by, lost_in}
+use Rattle.link_steps.specs.Sources.{dropped_by, dropped_in}
 use Rattle.link_steps.specs.BestEffort.{is_best}
 
--- the number of the reach for an offered level: the largest level whose bound is at most `delay` or the offer's bound
-abbrev pub reach_of : List ℕ → ℕ → ℕ → ℕ
-reach_of bounds delay offer = levels_within bounds (max delay (bound_at bounds offer))
-
 -- the rules on a reserve with this room, in their order
-abbrev pub reserve_rules : LinkShape → List Reservation → ChanNo → Terms → ℕ → ℕ → Room → List Rule
+abbrev pub reserve_rules : LinkShape → List Reservation → ChanNo → Traffic → ℕ → ℕ → Room → List RefusalRule
 reserve_rules shape held chan contract delay up_reach room =
     too_wide contract shape.cap
     ∷ twice (find (is_of chan) held)
@@ -53,12 +49,12 @@ abbrev pub best_offer : LinkShape → ℕ → Room → Reply
 best_offer shape delay room = Offer (level_of (unwrap_or room.best 0)) (level_of (reach_of shape.bounds delay (unwrap_or room.best 0)))
 
 -- the reply to a reserve with this room
-abbrev pub reserve_reply_in : LinkShape → List Reservation → ChanNo → Terms → ℕ → ℕ → Room → Reply
+abbrev pub reserve_reply_in : LinkShape → List Reservation → ChanNo → Traffic → ℕ → ℕ → Room → Reply
 reserve_reply_in shape held chan contract delay up_reach room =
     first_refusal (reserve_rules shape held chan contract delay up_reach room) (best_offer shape delay room)
 
 -- the reply to a reserve at a link that holds these reservations
-unfoldable pub reserve_reply : Link → List Reservation → ChanNo → Terms → ℕ → ℕ → Reply
+unfoldable pub reserve_reply : Link → List Reservation → ChanNo → Traffic → ℕ → ℕ → Reply
 reserve_reply link held chan contract delay up_reach =
     reserve_reply_in link.shape held chan contract delay up_reach (room_of link held chan contract)
 
@@ -76,31 +72,24 @@ deny_reply (Some terms) = first_refusal (not_in_phase Tentative terms ∷ []) De
 unfoldable pub submit_reply : ℕ → ℕ → Reservation → ℕ → Reply
 submit_reply t size terms left = first_refusal (not_in_phase Committed terms ∷ busy left ∷ too_big terms size ∷ []) (Planned t)
 
--- the count of a release that is told a count, or none, where so many packets are taken
+-- the count of a release that is told a count, or none, where `taken` packets are taken
 abbrev pub count_at_release : Option ℕ → ℕ → ℕ
 count_at_release None taken = taken
 count_at_release (Some told) taken = max told taken
 
--- the planned packets that it cancels, of so many that are left
+-- the planned packets that it cancels, of `left` that are left
 abbrev pub cancelled_at_release : Option ℕ → ℕ → ℕ
 cancelled_at_release None left = left
 cancelled_at_release (Some told) left = 0
 
--- a release where so many packets are taken and so many planned ones are left
+-- a release where `taken` packets are taken and `left` planned ones are left
 unfoldable pub release_reply : Option ℕ → Reservation → ℕ → ℕ → Reply
 release_reply upstream terms taken left = first_refusal (not_in_phase Committed terms ∷ []) (Closing (count_at_release upstream taken) (cancelled_at_release upstream left))
 
--- a packet that arrives where so many are taken, so many are here, and this would be its eligible tick
+-- a packet that arrives where `taken` are taken and `held` are here, and would be eligible at e
 unfoldable pub arrive_reply : List ℕ → ℕ → Packet → Reservation → ℕ → ℕ → ℕ → Reply
 arrive_reply bounds t packet terms taken held e =
-    first_refusal
-    (first_hop terms
-    ∷ uncommitted terms
-    ∷ wrong_number packet.number (suc taken)
-    ∷ past_count terms taken
-    ∷ big terms packet.size
-    ∷ full held (slots_of bounds terms)
-    ∷ [])
+    first_refusal (stray_rules packet terms taken ++ full held (slots_of bounds terms) ∷ [])
     (Taken t e)
 
 -- a packet as it leaves the link
@@ -145,7 +134,7 @@ arrive_to shape t packets packet None = Refused (Stray NoRow)
 arrive_to shape t packets packet (Some row) =
     arrive_reply shape.bounds t packet row.terms (length row.ticks) (held_packets row.lead (here_at shape.rate packets t)) (eligible_next row.terms row.ticks t packet.due)
 
--- a pour where so many planned best-effort packets are left
+-- a pour where `left` planned best-effort packets are left
 unfoldable pub pour_reply : ℕ → ℕ → ℕ → ℕ → Reply
 pour_reply t cap size left = first_refusal (busy left ∷ too_big_for cap size ∷ []) (Planned t)
 
@@ -154,10 +143,10 @@ pour_reply t cap size left = first_refusal (busy left ∷ too_big_for cap size �
 abbrev pub tick_reply : LinkShape → ℕ → Scan → Reply
 tick_reply shape t scan =
     Ticked t
-    (lost_in shape.bounds (here_at shape.rate scan.packets t) t (without_expired shape.bounds t scan).rows)
+    (dropped_in shape.bounds (here_at shape.rate scan.packets t) t (without_expired shape.bounds t scan).rows)
     (sent_at shape (suc t) (starts_below shape.rate (after_tick shape t scan).packets (suc t)))
     (best_sent_at shape (suc t) (starts_below shape.rate (after_tick shape t scan).packets (suc t)))
-    (nat_eq (lost_by (best_step_at shape t scan)) 1)
+    (nat_eq (dropped_by (best_step_at shape t scan)) 1)
 
 -- the reply to an ask at clock t, from the scan of the history
 unfoldable pub reply_at : Link → ℕ → Scan → Ask → Reply

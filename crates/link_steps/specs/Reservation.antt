@@ -7,17 +7,17 @@ use Rattle.net_units.specs.declared.Kind.{Kind}
 use Rattle.net_units.specs.declared.numbers.ChanNo.{ChanNo}
 use Rattle.net_units.specs.declared.numbers.Level.{Level}
 use Rattle.net_units.specs.declared.numbers.LinkNo.{LinkNo}
-use Rattle.traffic_contract.specs.Admission.{Row as Admitted}
-use Rattle.traffic_contract.specs.Contract.{Terms}
+use Rattle.traffic_contract.specs.Admission.{Admitted}
+use Rattle.traffic_contract.specs.Contract.{Traffic}
 use Rattle.link_steps.specs.declared.replies.Phase.{Phase}
 use Rattle.link_steps.specs.declared.replies.Phase.TheVariants.{Tentative, Committed, Closing}
 
--- `first` says that this link is the channel's first hop, and `next` is the link behind it. `up_reach` and
+-- `first` says that this link is the channel's first hop, and `next` is the link after it. `up_reach` and
 -- `up_bound` are the bounds, in ticks, of the reach and of the allotted level at the hop before; `up_bound` is
 -- fixed by the relax. `count` is fixed by the release: the packets that were taken or will still be taken
 pub record Reservation : Type 0 where
   pub chan : ChanNo
-  pub contract : Terms
+  pub contract : Traffic
   pub kind : Kind
   pub first : Bool
   pub next : Option LinkNo
@@ -36,7 +36,7 @@ is_phase Closing Closing = true
 is_phase _ _ = false
 
 -- a tentative reservation at the offered level
-abbrev pub tentative : ChanNo → Terms → Kind → Bool → Option LinkNo → ℕ → Level → Level → Reservation
+abbrev pub tentative : ChanNo → Traffic → Kind → Bool → Option LinkNo → ℕ → Level → Level → Reservation
 tentative chan contract kind first next up_reach level reach = record {
   chan = chan;
   contract = contract;
@@ -75,4 +75,4 @@ is_at_hop chan first terms = is_of chan terms && is_same terms.first first
 
 -- the reservation as the admission test sees it: its contract and its level
 abbrev pub admitted : Reservation → Admitted
-admitted terms = record { terms = terms.contract; level = level_number terms.level }
+admitted terms = record { contract = terms.contract; level = level_number terms.level }

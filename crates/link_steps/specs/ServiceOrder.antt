@@ -16,11 +16,11 @@ pub record IsAhead (p q : Arrival) : Type 0 where
   pub level : p.level ≤ q.level
   pub sooner : p.level ≡ q.level → IsSooner p q
 
--- a packet that is eligible by a start, and hasn't started with it or before, comes behind the packet that starts
+-- a packet that is eligible by a start, and hasn't started with it or before, comes after the packet that starts
 abbrev pub ComesBehind : Start → List Start → Arrival → Type 0
 ComesBehind start earlier q = q.eligible ≤ start.tick → has_started (start ∷ earlier) q ≡ false → IsAhead start.packet q
 
--- each of the starts, newest first, is of an eligible packet, and the other packets come behind it
+-- each of the starts, newest first, is of an eligible packet, and the other packets come after it
 abbrev pub AreByPriority : List Arrival → List Start → Type 0
 AreByPriority packets [] = Unit {0}
 AreByPriority packets (start ∷ earlier) = (start.packet.eligible ≤ start.tick) × Each (ComesBehind start earlier) packets × AreByPriority packets earlier
@@ -29,7 +29,7 @@ AreByPriority packets (start ∷ earlier) = (start.packet.eligible ≤ start.tic
 abbrev pub GoesBehind : Start → Start → Type 0
 GoesBehind start other = other.packet.level ≡ start.packet.level → IsSooner other.packet start.packet
 
--- so each of the starts, newest first, goes behind the earlier ones
+-- so each of the starts, newest first, goes after the earlier ones
 abbrev pub AreInTurn : List Start → Type 0
 AreInTurn [] = Unit {0}
 AreInTurn (start ∷ earlier) = Each (GoesBehind start) earlier × AreInTurn earlier

@@ -36,13 +36,13 @@ with_packet place e row = record row { lead = lead_with row.lead place; ticks = 
 pub data SourceStep : Type 0 where
   Rests : SourceStep
   Brings : ℕ → SourceStep
-  Loses : SourceStep
+  Drops : SourceStep
 
 -- by whether a slot is free, and by the packet that is planned for the tick
 abbrev pub source_step : Bool → Option SourcePacket → SourceStep
 source_step slot None = Rests
 source_step true (Some p) = Brings p.size
-source_step false (Some p) = Loses
+source_step false (Some p) = Drops
 
 -- that of a row in tick t, given the packets that are here as the tick begins
 unfoldable pub step_of : List ℕ → List Arrival → ℕ → Row → SourceStep
@@ -60,7 +60,7 @@ packet_of _ t place row = []
 -- the row afterwards
 abbrev pub row_after : SourceStep → ℕ → ℕ → Row → Row
 row_after (Brings size) t place row = with_packet place (source_tick row t) row
-row_after Loses t place row = record row { dropped = t ∷ row.dropped }
+row_after Drops t place row = record row { dropped = t ∷ row.dropped }
 row_after Rests t place row = row
 
 -- how many arrival numbers it takes, and how many packets it drops
@@ -68,9 +68,9 @@ abbrev pub taken_by : SourceStep → ℕ
 taken_by (Brings size) = 1
 taken_by _ = 0
 
-abbrev pub lost_by : SourceStep → ℕ
-lost_by Loses = 1
-lost_by _ = 0
+abbrev pub dropped_by : SourceStep → ℕ
+dropped_by Drops = 1
+dropped_by _ = 0
 
 -- the packets that the sources bring in tick t, in the order of their rows, after `taken` packets in all
 unfoldable pub source_packets : List ℕ → List Arrival → ℕ → ℕ → List Row → List Arrival
@@ -87,6 +87,6 @@ rows_after bounds here t taken (row ∷ rows) =
     ∷ rows_after bounds here t (taken + taken_by (step_of bounds here t row)) rows
 
 -- how many source packets are dropped in tick t
-unfoldable pub lost_in : List ℕ → List Arrival → ℕ → List Row → ℕ
-lost_in bounds here t [] = 0
-lost_in bounds here t (row ∷ rows) = lost_by (step_of bounds here t row) + lost_in bounds here t rows
+unfoldable pub dropped_in : List ℕ → List Arrival → ℕ → List Row → ℕ
+dropped_in bounds here t [] = 0
+dropped_in bounds here t (row ∷ rows) = dropped_by (step_of bounds here t row) + dropped_in bounds here t rows

@@ -44,9 +44,9 @@ abbrev pub buffer_part : Quota → ℕ
 buffer_part quota = quota.buffer
 
 -- a part of the quota of a group, 0 where it has none
-abbrev pub part_of : (Quota → ℕ) → List Quota → ℕ → ℕ
-part_of part [] group = 0
-part_of part (quota ∷ quotas) group = if nat_eq quota.group group then part quota else part_of part quotas group
+abbrev pub quota_part : (Quota → ℕ) → List Quota → ℕ → ℕ
+quota_part part [] group = 0
+quota_part part (quota ∷ quotas) group = if nat_eq quota.group group then part quota else quota_part part quotas group
 
 -- the split fits its link
 pub record SplitFits (link : Link) : Type 0 where
@@ -56,10 +56,10 @@ pub record SplitFits (link : Link) : Type 0 where
 -- ---- quotas of a link
 
 -- two quotas are of different groups
-abbrev pub AreApart : Quota → Quota → Type 0
-AreApart one other = one.group ≢ other.group
+abbrev pub AreOfOtherGroups : Quota → Quota → Type 0
+AreOfOtherGroups one other = one.group ≢ other.group
 
 -- each group has one quota at most, and no load after the last level of the bounds
 pub record AreQuotas (bounds : List ℕ) (quotas : List Quota) : Type 0 where
-  pub apart : AllPairs AreApart quotas
+  pub apart : AllPairs AreOfOtherGroups quotas
   pub unused : All (λ quota. (k : ℕ) → length bounds ≤ k → slice_index quota.levels k ≡ 0) quotas

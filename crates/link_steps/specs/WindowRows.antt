@@ -8,7 +8,7 @@ use Rattle.net_units.specs.LevelBounds.{bound_at}
 use Rattle.link_steps.specs.declared.replies.Entry.{Entry}
 use Rattle.link_steps.specs.declared.shape.LinkShape.{LinkShape}
 use Rattle.link_steps.specs.Belonging.{IsRowOf, HasLevelOf}
-use Rattle.link_steps.specs.BusyPeriod.{is_in_window}
+use Rattle.link_steps.specs.BusyPeriod.{is_eligible_in}
 use Rattle.link_steps.specs.HopGuarantee.{HeldRowsPass}
 use Rattle.link_steps.specs.Lists.{Each, Any}
 use Rattle.link_steps.specs.Rows.{Row}
@@ -23,7 +23,7 @@ pub record BringsPacket (p : Arrival) (row : Row) : Type 0 where
 
 -- one of these rows brings the packet, if it is in the window
 pub record IsBrought (m t w : ℕ) (rows : List Row) (p : Arrival) : Type 0 where
-  pub one : is_in_window m t w p ≡ true → Any (BringsPacket p) rows
+  pub one : is_eligible_in m t w p ≡ true → Any (BringsPacket p) rows
 
 -- the rows held after `past`, from which the history goes on, pass, and bring all packets of the window
 pub record StandTogether (shape : LinkShape) (h : List Entry) (m t : ℕ) : Type 0 where

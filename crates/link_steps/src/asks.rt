@@ -24,7 +24,7 @@ pub struct Packet {
 pub enum Ask {
     /// Reserve for a channel, with this contract and jitter control, and an end-to-end bound of `delay` ticks.
     /// `up_reach` is the bound of the reach at the hop before, up to 1,048,576 ticks, or 0 at the first hop. `first`
-    /// says that this link is the channel's first hop, and `next` is the link behind it, where there is one.
+    /// says that this link is the channel's first hop, and `next` is the link after it, where there is one.
     Reserve {
         chan: ChanNo,
         contract: Contract,

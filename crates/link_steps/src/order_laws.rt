@@ -1,6 +1,7 @@
 //! Laws of what a link's rules come to, in plain numbers, each as the contract of a function that does nothing.
 ghost use Rattle.link_steps.specs.BufferHolds.{BufferAlwaysHolds};
 ghost use Rattle.link_steps.specs.ServiceOrder.{PacketsStartInOrder};
+ghost use Rattle.link_steps.specs.Ticks.{ATickIsMadeInOrder};
 
 /// Whatever packets a link is to serve, each that starts is eligible, and ahead of all others that are eligible by then and
 /// haven't started: by level, then by eligible tick, then by arrival number. So within a level packets start by eligible
@@ -13,4 +14,9 @@ pub fn packets_start_in_order()
 /// each held row take no more than it keeps, and all packets of channels that are here no more than the buffer has.
 pub fn the_buffer_always_holds()
     ensures { BufferAlwaysHolds }
+{}
+
+/// A tick is made in its order: rows expire, source packets arrive, the best-effort packet joins, a packet starts, one departs.
+pub fn a_tick_is_made_in_order()
+    ensures { ATickIsMadeInOrder }
 {}

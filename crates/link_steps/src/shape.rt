@@ -2,7 +2,9 @@
 ghost use Rattle.std.specs.Prelude.{◌≡◌, ◌≤◌, IsTrue, IfOk, MatchResult, None, Some};
 ghost use Rattle.net_units.specs.Quotient.{ceil_quotient};
 ghost use Rattle.net_units.specs.LevelBounds.{are_bounds, bound_at};
+ghost use Rattle.net_units.specs.Limits.{most_best, most_buffer, most_propagation, most_rate, most_size};
 
+use net_units::limits::{MOST_BEST, MOST_BUFFER, MOST_PROPAGATION, MOST_RATE, MOST_SIZE};
 use net_units::{Bounds, Level, LinkNo, ceil_div};
 use traffic_contract::Test;
 
@@ -38,7 +40,7 @@ pub struct LinkShape {
     pub rate: u32,
     /// The largest packet that it carries, from 1 to 65,536 units.
     pub cap: u32,
-    /// Its propagation: the ticks between a departure here and the arrival behind it, up to 1,048,576.
+    /// Its propagation: the ticks between a departure here and the arrival after it, up to 1,048,576.
     pub prop: u32,
     /// Its buffer, up to 262,144 units.
     pub buffer: u32,
@@ -49,12 +51,12 @@ pub struct LinkShape {
     /// The best-effort packets that may wait, up to 1,024; 0 where there are none.
     pub best: u32,
     ghost rate_least: { 1 ≤ rate },
-    ghost rate_most: { rate ≤ 65536 },
+    ghost rate_most: { rate ≤ most_rate },
     ghost cap_least: { 1 ≤ cap },
-    ghost cap_most: { cap ≤ 65536 },
-    ghost prop_most: { prop ≤ 1048576 },
-    ghost buffer_most: { buffer ≤ 262144 },
-    ghost best_most: { best ≤ 1024 },
+    ghost cap_most: { cap ≤ most_size },
+    ghost prop_most: { prop ≤ most_propagation },
+    ghost buffer_most: { buffer ≤ most_buffer },
+    ghost best_most: { best ≤ most_best },
     ghost bounds_rise: { IsTrue (are_bounds bounds) },
     ghost blocking_fits: { ceil_quotient cap rate ≤ bound_at bounds 1 },
 }
@@ -80,27 +82,27 @@ impl LinkShape {
             (λ bad. first_bad_field rate cap prop buffer best bounds ≡ Some bad.field) }
         ensures value { IfOk result (IsShapeOf link rate cap prop buffer bounds test best) }
     {
-        if !(1..=65_536).contains(&rate) {
+        if !(1..=MOST_RATE).contains(&rate) {
             return Err(BadShape {
                 field: ShapeField::Rate,
             });
         }
-        if !(1..=65_536).contains(&cap) {
+        if !(1..=MOST_SIZE).contains(&cap) {
             return Err(BadShape {
                 field: ShapeField::Cap,
             });
         }
-        if prop > 1_048_576 {
+        if prop > MOST_PROPAGATION {
             return Err(BadShape {
                 field: ShapeField::Prop,
             });
         }
-        if buffer > 262_144 {
+        if buffer > MOST_BUFFER {
             return Err(BadShape {
                 field: ShapeField::Buffer,
             });
         }
-        if best > 1_024 {
+        if best > MOST_BEST {
             return Err(BadShape {
                 field: ShapeField::Best,
             });
@@ -126,7 +128,7 @@ impl LinkShape {
     pub fn blocking(&self) -> u32
         ensures value { result ≡ blocking_of self.now }
         ensures least { 1 ≤ result }
-        ensures most { result ≤ 65536 }
+        ensures most { result ≤ most_size }
     {
         self.cap.div_ceil(self.rate)
     }

@@ -6,7 +6,7 @@ use Rattle.std.proofs.lemmas.List.Folds.{list_any-append}
 use Rattle.std.proofs.lemmas.Option.{same_Some}
 use Rattle.std.specs.List.{list_any, slice_get}
 use Rattle.std.specs.Prelude.{◌%◌}
-use Rattle.net_units.specs.Numbers.{link_number, channel_number}
+use Rattle.net_units.specs.Numbers.{link_number, channel_number, channel_at}
 use Rattle.net_units.specs.declared.numbers.ChanNo.{ChanNo}
 use Rattle.link_steps.proofs.ListFacts.{Each-append}
 use Rattle.link_steps.specs.Lists.{Each}
@@ -27,9 +27,9 @@ use Rattle.load_maker.proofs.LoadFacts.{load-fits}
 use Rattle.load_maker.proofs.RouteFits.{crosses}
 use Rattle.load_maker.proofs.ScriptFacts.{channel-is, actor-is, own-length, requests-length, callers-length, new-entries, own-new, requests-new, IsShort, entry-short, own-short, requests-short, send-load, own-load, callers-load, closed-off, opened-at}
 use Rattle.load_maker.proofs.ShareFacts.{share-below, first-below}
-use Rattle.load_maker.specs.Draws.{after}
+use Rattle.load_maker.specs.Draws.{state_after}
 use Rattle.load_maker.specs.Loads.{load_at}
-use Rattle.load_maker.specs.Made.{channel_at, short_name, made_links, entry_of, is_of, share, first_channel, close_before, ops_for, own_requests, own_ops, requests_to, callers_to, made_parts}
+use Rattle.load_maker.specs.Made.{short_name, made_links, request_entry_of, belongs_to, share, first_channel, close_before, ops_for, own_requests, own_ops, requests_to, callers_to, made_parts}
 
 -- ---- the caller at hand
 
@@ -37,7 +37,7 @@ use Rattle.load_maker.specs.Made.{channel_at, short_name, made_links, entry_of, 
 abbrev caller_of : List ℕ → List Op → CallerEntry
 caller_of name ops = record { name = name; ops = ops }
 
--- the parts with these requests and callers, and behind them the caller at hand
+-- the parts with these requests and callers, and after them the caller at hand
 abbrev at_hand : List RequestEntry → List CallerEntry → List ℕ → List Op → PlanParts
 at_hand requests before name ops = parts_of One made_links requests (before ++ caller_of name ops ∷ []) 0 0
 
@@ -90,7 +90,7 @@ record Next (number size caller n : ℕ) : Type 0 where
   within : n < size
   few : size ≤ 1024
   caller_few : caller < 4
-  own : is_of caller n ≡ true
+  own : belongs_to caller n ≡ true
 
 abbrev first_of : ℕ → ℕ → ℕ
 first_of size caller = first_channel size caller
@@ -123,11 +123,11 @@ far-short : (number size caller n : ℕ) → Each IsShort (so_far number size ca
 far-short number size caller n = Each-append IsShort (requests_to number size caller) (own_requests number (first_of size caller) caller n) (requests-short number size caller) (own-short number (first_of size caller) caller n)
 
 abbrev entry_at : ℕ → ℕ → ℕ → ℕ → RequestEntry
-entry_at number size caller n = entry_of (load_at number n) n caller (next_of size caller n)
+entry_at number size caller n = request_entry_of (load_at number n) n caller (next_of size caller n)
 
 may-open : (number size caller n : ℕ) (name : List ℕ) → Next number size caller n → MayOpen (at_hand (so_far number size caller n) (callers_to number size caller) name (ops_far number size caller n)) (entry_at number size caller n)
 may-open number size caller n name next =
-    let fits = load-fits (after (6 * n) number) in
+    let fits = load-fits (state_after (6 * n) number) in
     let way = crosses (load_at number n).first (load_at number n).hops fits.some fits.within in
     let small = next-few number size caller n next in
     let long = far-length number size caller n in
@@ -171,7 +171,7 @@ request-more number size caller n name next keep =
     let ops = ops_far number size caller n in
     let opens_it = Open (channel_at chan) in
     let sends_it = Send (channel_at chan) load.count load.contract.xave load.contract.smax in
-    let fits = load-fits (after (6 * n) number) in
+    let fits = load-fits (state_after (6 * n) number) in
     let small = next-few number size caller n next in
     let short : Each IsShort requests = Each-append IsShort (so_far number size caller n) (entry_at number size caller n ∷ []) (far-short number size caller n) (entry-short number n caller chan, tt) in
     let is = channel-is chan (omega (arith, small)) in
@@ -200,7 +200,7 @@ unfolding own_requests own_ops
 grown-far number size caller zero name within few caller_few keep = subst (λ requests. KeepSoFar (at_hand requests (callers_to number size caller) name [])) (sym (append-nil (requests_to number size caller))) keep
 grown-far number size caller (suc n) name within few caller_few keep =
     let rest = grown-far number size caller n name (omega (arith, within)) few caller_few keep in
-    elim (cases_Bool (is_of caller n)) [
+    elim (cases_Bool (belongs_to caller n)) [
       | inl own ↦ rw own (
           subst (λ requests. KeepSoFar (at_hand requests (callers_to number size caller) name (ops_far number size caller n ++ ops_for (load_at number n) (first_of size caller) (share caller n))))
           (append_assoc (requests_to number size caller) (own_requests number (first_of size caller) caller n) (entry_at number size caller n ∷ []))

@@ -7,7 +7,7 @@ use Rattle.net_units.specs.Text.{is_name}
 use Rattle.hop_reservation.specs.Routes.{IsRoute}
 use Rattle.hop_reservation.specs.declared.route.Hop.{Hop}
 use Rattle.setup_protocol.specs.declared.request.Control.{Control}
-use Rattle.traffic_contract.specs.Contract.{Terms}
+use Rattle.traffic_contract.specs.Contract.{Traffic}
 use Rattle.call_script.specs.declared.entries.CallerEntry.{CallerEntry}
 use Rattle.call_script.specs.declared.entries.RequestEntry.{RequestEntry}
 use Rattle.call_script.specs.declared.operations.Op.{Op}
@@ -22,9 +22,9 @@ use Rattle.load_maker.proofs.NameText.{request-name}
 use Rattle.load_maker.proofs.RouteFits.{crosses}
 use Rattle.load_maker.proofs.ScriptFacts.{own-length, requests-own, requests-other, ops-own, ops-other, requests-length}
 use Rattle.load_maker.proofs.ShareFacts.{share-most, first-below}
-use Rattle.load_maker.specs.Draws.{next_state, after, told_by, draw}
-use Rattle.load_maker.specs.Loads.{contract_of, control_of, load_from, load_at}
-use Rattle.load_maker.specs.Made.{short_name, hop_at, entry_of, is_of, share, first_channel, ops_for, own_requests, own_ops, caller_entry, requests_to, callers_to, made_links, made_parts}
+use Rattle.load_maker.specs.Draws.{next_state, state_after, told_by, draw}
+use Rattle.load_maker.specs.Loads.{contract_drawn, control_of, load_from, load_at}
+use Rattle.load_maker.specs.Made.{short_name, hop_at, request_entry_of, belongs_to, share, first_channel, ops_for, own_requests, own_ops, caller_entry, requests_to, callers_to, made_links, made_parts}
 use Rattle.load_maker.specs.declared.load.Load.{Load}
 
 pub never : false ≡ true → ⊥
@@ -44,26 +44,26 @@ route-there first hops one two three four is_one is_two is_three is_four some wi
 
 -- ---- a load
 
-pub load-is : (x s1 s2 s3 s4 s5 s6 d1 d2 d3 d4 d5 d6 : ℕ) (contract : Terms) (control : Control)
+pub load-is : (x s1 s2 s3 s4 s5 s6 d1 d2 d3 d4 d5 d6 : ℕ) (contract : Traffic) (control : Control)
     → s1 ≡ next_state x → s2 ≡ next_state s1 → s3 ≡ next_state s2 → s4 ≡ next_state s3 → s5 ≡ next_state s4 → s6 ≡ next_state s5
     → d1 ≡ told_by s1 → d2 ≡ told_by s2 → d3 ≡ told_by s3 → d4 ≡ told_by s4 → d5 ≡ told_by s5 → d6 ≡ told_by s6
-    → contract ≡ contract_of (d3 % 4) → control ≡ control_of (d5 % 2)
+    → contract ≡ contract_drawn (d3 % 4) → control ≡ control_of (d5 % 2)
     → ◌≡◌ {A = Load} (record { hops = 1 + d1 % 4; first = d2 % (5 - (1 + d1 % 4)); contract = contract; delay = 105 * (1 + d1 % 4) + 400 * (d4 % 4); control = control; count = 1 + d6 % 16 }) (load_from x)
-unfolding after
+unfolding state_after
 load-is x s1 s2 s3 s4 s5 s6 d1 d2 d3 d4 d5 d6 contract control i1 i2 i3 i4 i5 i6 v1 v2 v3 v4 v5 v6 is_contract is_control =
-    let a1 : s1 ≡ after 1 x = i1 in
-    let a2 : s2 ≡ after 2 x = i2 ∙ ap next_state a1 in
-    let a3 : s3 ≡ after 3 x = i3 ∙ ap next_state a2 in
-    let a4 : s4 ≡ after 4 x = i4 ∙ ap next_state a3 in
-    let a5 : s5 ≡ after 5 x = i5 ∙ ap next_state a4 in
-    let a6 : s6 ≡ after 6 x = i6 ∙ ap next_state a5 in
+    let a1 : s1 ≡ state_after 1 x = i1 in
+    let a2 : s2 ≡ state_after 2 x = i2 ∙ ap next_state a1 in
+    let a3 : s3 ≡ state_after 3 x = i3 ∙ ap next_state a2 in
+    let a4 : s4 ≡ state_after 4 x = i4 ∙ ap next_state a3 in
+    let a5 : s5 ≡ state_after 5 x = i5 ∙ ap next_state a4 in
+    let a6 : s6 ≡ state_after 6 x = i6 ∙ ap next_state a5 in
     let w1 : d1 ≡ draw 1 x = v1 ∙ ap told_by a1 in
     let w2 : d2 ≡ draw 2 x = v2 ∙ ap told_by a2 in
     let w3 : d3 ≡ draw 3 x = v3 ∙ ap told_by a3 in
     let w4 : d4 ≡ draw 4 x = v4 ∙ ap told_by a4 in
     let w5 : d5 ≡ draw 5 x = v5 ∙ ap told_by a5 in
     let w6 : d6 ≡ draw 6 x = v6 ∙ ap told_by a6 in
-    let k : contract ≡ contract_of (draw 3 x % 4) = is_contract ∙ ap (λ d. contract_of (d % 4)) w3 in
+    let k : contract ≡ contract_drawn (draw 3 x % 4) = is_contract ∙ ap (λ d. contract_drawn (d % 4)) w3 in
     let j : control ≡ control_of (draw 5 x % 2) = is_control ∙ ap (λ d. control_of (d % 2)) w5 in
     λ i. record {
       hops = 1 + w1 i % 4;
@@ -84,12 +84,12 @@ pub no-ops : (number first caller : ℕ) (ops : List Op) → ops ≡ [] → ops 
 unfolding own_ops
 no-ops number first caller ops none = none
 
-pub no-draws : (number state : ℕ) → state ≡ number → state ≡ after (6 * 0) number
-unfolding after
+pub no-draws : (number state : ℕ) → state ≡ number → state ≡ state_after (6 * 0) number
+unfolding state_after
 no-draws number state is = is
 
-pub draws-more : (number n state next : ℕ) → state ≡ after (6 * n) number → next ≡ after 6 state → next ≡ after (6 * (n + 1)) number
-draws-more number n state next is moved = moved ∙ ap (after 6) is ∙ after-six n number
+pub draws-more : (number n state next : ℕ) → state ≡ state_after (6 * n) number → next ≡ state_after 6 state → next ≡ state_after (6 * (n + 1)) number
+draws-more number n state next is moved = moved ∙ ap (state_after 6) is ∙ after-six n number
 
 -- the next request's channel
 pub chan-is : (number caller n : ℕ) (old before : List RequestEntry) → before ≡ old ++ own_requests number (length old) caller n → length before ≡ length old + share caller n
@@ -111,26 +111,26 @@ place-small number caller n size chan first old before is same begun few less mo
     let own = share-most caller n in
     omega (arith, number_is, own, same, begun, few, less, most)
 
-load-here : (number n state : ℕ) (load : Load) → load ≡ load_from state → state ≡ after (6 * n) number → load ≡ load_at number n
+load-here : (number n state : ℕ) (load : Load) → load ≡ load_from state → state ≡ state_after (6 * n) number → load ≡ load_at number n
 load-here number n state load from is = from ∙ ap load_from is
 
-own-is : (caller n from : ℕ) → n % 4 ≡ from → from ≡ caller → is_of caller n ≡ true
+own-is : (caller n from : ℕ) → n % 4 ≡ from → from ≡ caller → belongs_to caller n ≡ true
 own-is caller n from same is = eq-eqb (n % 4) caller (same ∙ is)
 
 next-is : (n : ℕ) → suc n ≡ n + 1
 next-is n = omega arith
 
-pub requests-more : (number caller n from chan state : ℕ) (load : Load) (entry : RequestEntry) (old before behind : List RequestEntry) → n % 4 ≡ from → from ≡ caller → load ≡ load_from state → state ≡ after (6 * n) number
-    → before ≡ old ++ own_requests number (length old) caller n → chan ≡ length before → entry ≡ entry_of load n caller chan → behind ≡ before ++ entry ∷ [] → behind ≡ old ++ own_requests number (length old) caller (n + 1)
+pub requests-more : (number caller n from chan state : ℕ) (load : Load) (entry : RequestEntry) (old before behind : List RequestEntry) → n % 4 ≡ from → from ≡ caller → load ≡ load_from state → state ≡ state_after (6 * n) number
+    → before ≡ old ++ own_requests number (length old) caller n → chan ≡ length before → entry ≡ request_entry_of load n caller chan → behind ≡ before ++ entry ∷ [] → behind ≡ old ++ own_requests number (length old) caller (n + 1)
 requests-more number caller n from chan state load entry old before behind same is loads draws so_far there made more =
     let own = own-is caller n from same is in
     let here = load-here number n state load loads draws in
     let number_is : chan ≡ length old + share caller n = there ∙ chan-is number caller n old before so_far in
-    let entry_is : entry ≡ entry_of (load_at number n) n caller (length old + share caller n) = made ∙ ap (λ (l : Load). entry_of l n caller chan) here ∙ ap (entry_of (load_at number n) n caller) number_is in
+    let entry_is : entry ≡ request_entry_of (load_at number n) n caller (length old + share caller n) = made ∙ ap (λ (l : Load). request_entry_of l n caller chan) here ∙ ap (request_entry_of (load_at number n) n caller) number_is in
     more ∙ ap (λ (xs : List RequestEntry). xs ++ entry ∷ []) so_far ∙ append_assoc old (own_requests number (length old) caller n) (entry ∷ [])
     ∙ ap (λ (e : RequestEntry). old ++ (own_requests number (length old) caller n ++ e ∷ [])) entry_is ∙ ap (λ xs. old ++ xs) (sym (requests-own number (length old) caller n own)) ∙ ap (λ k. old ++ own_requests number (length old) caller k) (next-is n)
 
-pub ops-more : (number caller n from chan state first : ℕ) (load : Load) (old before : List RequestEntry) (ops behind : List Op) → n % 4 ≡ from → from ≡ caller → load ≡ load_from state → state ≡ after (6 * n) number
+pub ops-more : (number caller n from chan state first : ℕ) (load : Load) (old before : List RequestEntry) (ops behind : List Op) → n % 4 ≡ from → from ≡ caller → load ≡ load_from state → state ≡ state_after (6 * n) number
     → before ≡ old ++ own_requests number (length old) caller n → chan ≡ length before → first ≡ length old → ops ≡ own_ops number (length old) caller n → behind ≡ ops ++ ops_for load first (chan - first) → behind ≡ own_ops number (length old) caller (n + 1)
 ops-more number caller n from chan state first load old before ops behind same is loads draws so_far there begun ops_far more =
     let own = own-is caller n from same is in
@@ -140,7 +140,7 @@ ops-more number caller n from chan state first load old before ops behind same i
     let all : ops_for load first (chan - first) ≡ ops_for (load_at number n) (length old) (share caller n) = ap (λ (l : Load). ops_for l first (chan - first)) here ∙ ap (λ f. ops_for (load_at number n) f (chan - first)) begun ∙ ap (ops_for (load_at number n) (length old)) place in
     more ∙ ap (λ (xs : List Op). xs ++ ops_for load first (chan - first)) ops_far ∙ ap (λ xs. own_ops number (length old) caller n ++ xs) all ∙ sym (ops-own number (length old) caller n own) ∙ ap (own_ops number (length old) caller) (next-is n)
 
-other-is : (caller n from : ℕ) → n % 4 ≢ from → from ≡ caller → is_of caller n ≡ false
+other-is : (caller n from : ℕ) → n % 4 ≢ from → from ≡ caller → belongs_to caller n ≡ false
 other-is caller n from apart is = ne_eqb (n % 4) caller (λ same. apart (same ∙ sym is))
 
 pub requests-stay : (number caller n from : ℕ) (old before behind : List RequestEntry) → n % 4 ≢ from → from ≡ caller → before ≡ old ++ own_requests number (length old) caller n → behind ≡ before → behind ≡ old ++ own_requests number (length old) caller (n + 1)

@@ -8,7 +8,7 @@ use Rattle.std.proofs.lemmas.List.Folds.{list_any-append}
 use Rattle.std.proofs.lemmas.Nat.{mul-le}
 use Rattle.std.specs.List.{list_any, slice_get}
 use Rattle.std.specs.Prelude.{◌%◌}
-use Rattle.net_units.specs.Numbers.{actor_number, channel_number}
+use Rattle.net_units.specs.Numbers.{actor_number, channel_number, actor_at, channel_at}
 use Rattle.link_steps.proofs.ListFacts.{Each-append}
 use Rattle.link_steps.specs.Lists.{Each}
 use Rattle.traffic_contract.proofs.AdmissionFacts.{total-append}
@@ -20,9 +20,9 @@ use Rattle.load_maker.proofs.LoadFacts.{load-fits}
 use Rattle.load_maker.proofs.NameText.{names-apart}
 use Rattle.load_maker.proofs.RouteFits.{crosses}
 use Rattle.load_maker.proofs.ShareFacts.{share-own, share-other}
-use Rattle.load_maker.specs.Draws.{after}
+use Rattle.load_maker.specs.Draws.{state_after}
 use Rattle.load_maker.specs.Loads.{load_at}
-use Rattle.load_maker.specs.Made.{actor_at, channel_at, request_name, entry_of, is_of, share, first_channel, close_before, ops_for, own_requests, own_ops, caller_entry, requests_to, callers_to}
+use Rattle.load_maker.specs.Made.{request_name, request_entry_of, belongs_to, share, first_channel, close_before, ops_for, own_requests, own_ops, caller_entry, requests_to, callers_to}
 use Rattle.load_maker.specs.declared.load.Load.{Load}
 
 -- ---- numbers
@@ -35,19 +35,19 @@ actor-is n few = min-eq_right few
 
 -- ---- a request more
 
-pub requests-own : (number first caller n : ℕ) → is_of caller n ≡ true → own_requests number first caller (suc n) ≡ own_requests number first caller n ++ entry_of (load_at number n) n caller (first + share caller n) ∷ []
+pub requests-own : (number first caller n : ℕ) → belongs_to caller n ≡ true → own_requests number first caller (suc n) ≡ own_requests number first caller n ++ request_entry_of (load_at number n) n caller (first + share caller n) ∷ []
 unfolding own_requests
 requests-own number first caller n own = rw own refl
 
-pub requests-other : (number first caller n : ℕ) → is_of caller n ≡ false → own_requests number first caller (suc n) ≡ own_requests number first caller n
+pub requests-other : (number first caller n : ℕ) → belongs_to caller n ≡ false → own_requests number first caller (suc n) ≡ own_requests number first caller n
 unfolding own_requests
 requests-other number first caller n other = rw other (append-nil (own_requests number first caller n))
 
-pub ops-own : (number first caller n : ℕ) → is_of caller n ≡ true → own_ops number first caller (suc n) ≡ own_ops number first caller n ++ ops_for (load_at number n) first (share caller n)
+pub ops-own : (number first caller n : ℕ) → belongs_to caller n ≡ true → own_ops number first caller (suc n) ≡ own_ops number first caller n ++ ops_for (load_at number n) first (share caller n)
 unfolding own_ops
 ops-own number first caller n own = rw own refl
 
-pub ops-other : (number first caller n : ℕ) → is_of caller n ≡ false → own_ops number first caller (suc n) ≡ own_ops number first caller n
+pub ops-other : (number first caller n : ℕ) → belongs_to caller n ≡ false → own_ops number first caller (suc n) ≡ own_ops number first caller n
 unfolding own_ops
 ops-other number first caller n other = rw other (append-nil (own_ops number first caller n))
 
@@ -58,8 +58,8 @@ unfolding own_requests share
 own-length number first caller zero = refl
 own-length number first caller (suc n) =
     let rest = own-length number first caller n in
-    elim (cases_Bool (is_of caller n)) [
-      | inl own ↦ (let both = length-append (own_requests number first caller n) (entry_of (load_at number n) n caller (first + share caller n) ∷ []) in rw own (omega (arith, both, rest)))
+    elim (cases_Bool (belongs_to caller n)) [
+      | inl own ↦ (let both = length-append (own_requests number first caller n) (request_entry_of (load_at number n) n caller (first + share caller n) ∷ []) in rw own (omega (arith, both, rest)))
       | inr other ↦ (let both = length-append (own_requests number first caller n) [] in rw other (omega (arith, both, rest)))
     ]
 
@@ -95,13 +95,13 @@ new-entries xs ys name one two = ap (λ names. is_new names name) (map-append (�
 new-one : (n m : ℕ) → n < 1024 → m < 1024 → n ≢ m → is_new (request_name m ∷ []) (request_name n) ≡ true
 new-one n m few_n few_m apart = rw (names-apart n m few_n few_m apart) refl
 
-pub own-new : (number first caller n m : ℕ) → n < 1024 → m ≤ 1024 → ((i : ℕ) → i < m → is_of caller i ≡ true → n ≢ i) → is_new (request_names (own_requests number first caller m)) (request_name n) ≡ true
+pub own-new : (number first caller n m : ℕ) → n < 1024 → m ≤ 1024 → ((i : ℕ) → i < m → belongs_to caller i ≡ true → n ≢ i) → is_new (request_names (own_requests number first caller m)) (request_name n) ≡ true
 unfolding own_requests
 own-new number first caller n zero few_n few_m apart = refl
 own-new number first caller n (suc m) few_n few_m apart =
     let rest = own-new number first caller n m few_n (omega (arith, few_m)) (λ i less own. apart i (omega (arith, less)) own) in
-    elim (cases_Bool (is_of caller m)) [
-      | inl own ↦ rw own (new-entries (own_requests number first caller m) (entry_of (load_at number m) m caller (first + share caller m) ∷ []) (request_name n) rest (new-one n m few_n (omega (arith, few_m)) (apart m (omega arith) own)))
+    elim (cases_Bool (belongs_to caller m)) [
+      | inl own ↦ rw own (new-entries (own_requests number first caller m) (request_entry_of (load_at number m) m caller (first + share caller m) ∷ []) (request_name n) rest (new-one n m few_n (omega (arith, few_m)) (apart m (omega arith) own)))
       | inr other ↦ rw other (new-entries (own_requests number first caller m) [] (request_name n) rest refl)
     ]
 
@@ -121,15 +121,15 @@ requests-new number size n (suc callers) few_n few within =
 abbrev pub IsShort : RequestEntry → Type 0
 IsShort entry = length entry.request.route ≤ 4
 
-pub entry-short : (number n caller chan : ℕ) → IsShort (entry_of (load_at number n) n caller chan)
-entry-short number n caller chan = (let fits = load-fits (after (6 * n) number) in (crosses (load_at number n).first (load_at number n).hops fits.some fits.within).long)
+pub entry-short : (number n caller chan : ℕ) → IsShort (request_entry_of (load_at number n) n caller chan)
+entry-short number n caller chan = (let fits = load-fits (state_after (6 * n) number) in (crosses (load_at number n).first (load_at number n).hops fits.some fits.within).long)
 
 pub own-short : (number first caller n : ℕ) → Each IsShort (own_requests number first caller n)
 unfolding own_requests
 own-short number first caller zero = tt
 own-short number first caller (suc n) =
-    elim (cases_Bool (is_of caller n)) [
-      | inl own ↦ rw own (Each-append IsShort (own_requests number first caller n) (entry_of (load_at number n) n caller (first + share caller n) ∷ []) (own-short number first caller n) (entry-short number n caller (first + share caller n), tt))
+    elim (cases_Bool (belongs_to caller n)) [
+      | inl own ↦ rw own (Each-append IsShort (own_requests number first caller n) (request_entry_of (load_at number n) n caller (first + share caller n) ∷ []) (own-short number first caller n) (entry-short number n caller (first + share caller n), tt))
       | inr other ↦ rw other (Each-append IsShort (own_requests number first caller n) [] (own-short number first caller n) tt)
     ]
 
@@ -165,9 +165,9 @@ unfolding own_ops share
 own-load requests number first caller zero short = omega arith
 own-load requests number first caller (suc n) short =
     let rest = own-load requests number first caller n short in
-    elim (cases_Bool (is_of caller n)) [
+    elim (cases_Bool (belongs_to caller n)) [
       | inl own ↦
-          (let one = ops-load requests (load_at number n) first (share caller n) short (load-fits (after (6 * n) number)).count in
+          (let one = ops-load requests (load_at number n) first (share caller n) short (load-fits (state_after (6 * n) number)).count in
           let both = total-append (load_of requests) (own_ops number first caller n) (ops_for (load_at number n) first (share caller n)) in
           rw own (omega (arith, rest, one, both)))
       | inr other ↦ (let both = total-append (load_of requests) (own_ops number first caller n) [] in rw other (omega (arith, rest, both)))
@@ -197,7 +197,7 @@ pub closed-off : (number first caller n chan : ℕ) → first + share caller n <
 unfolding own_ops
 closed-off number first caller zero chan small below = refl
 closed-off number first caller (suc n) chan small below =
-    elim (cases_Bool (is_of caller n)) [
+    elim (cases_Bool (belongs_to caller n)) [
       | inl own ↦
           (let more = share-own caller n own in
           let rest = closed-off number first caller n chan (omega (arith, small, more)) (omega (arith, below, more)) in
@@ -214,7 +214,7 @@ pub opened-at : (number first caller n place : ℕ) → place < share caller n �
 unfolding own_ops share
 opened-at number first caller zero place below small = absurd (omega (arith, below))
 opened-at number first caller (suc n) place below small =
-    elim (cases_Bool (is_of caller n)) [
+    elim (cases_Bool (belongs_to caller n)) [
       | inl own ↦
           (let more : share caller (suc n) ≡ suc (share caller n) = share-own caller n own in
           let open_it = ops_for (load_at number n) first (share caller n) in

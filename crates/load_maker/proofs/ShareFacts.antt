@@ -3,25 +3,25 @@ use Rattle.std.proofs.Common.{◌≡◌, ℕ, zero, suc, ◌+◌, ◌<◌, ◌�
 use Rattle.std.proofs.Math.Nat.{mod-lt}
 use Rattle.std.proofs.lemmas.Bool.{cases_Bool, cases_lt}
 use Rattle.std.specs.Prelude.{◌%◌}
-use Rattle.load_maker.specs.Made.{is_of, share, first_channel}
+use Rattle.load_maker.specs.Made.{belongs_to, share, first_channel}
 
-pub share-own : (caller n : ℕ) → is_of caller n ≡ true → share caller (suc n) ≡ suc (share caller n)
+pub share-own : (caller n : ℕ) → belongs_to caller n ≡ true → share caller (suc n) ≡ suc (share caller n)
 unfolding share
 share-own caller n own = rw own refl
 
-pub share-other : (caller n : ℕ) → is_of caller n ≡ false → share caller (suc n) ≡ share caller n
+pub share-other : (caller n : ℕ) → belongs_to caller n ≡ false → share caller (suc n) ≡ share caller n
 unfolding share
 share-other caller n other = rw other refl
 
 share-least : (caller n : ℕ) → share caller n ≤ share caller (suc n)
 share-least caller n =
-    elim (cases_Bool (is_of caller n)) [
+    elim (cases_Bool (belongs_to caller n)) [
       | inl own ↦ (let more = share-own caller n own in omega (arith, more))
       | inr other ↦ (let same = share-other caller n other in omega (arith, same))
     ]
 
 -- a caller's request is one of its share
-pub share-below : (caller n size : ℕ) → n < size → is_of caller n ≡ true → share caller n < share caller size
+pub share-below : (caller n size : ℕ) → n < size → belongs_to caller n ≡ true → share caller n < share caller size
 share-below caller n zero less own = absurd (omega (arith, less))
 share-below caller n (suc size) less own =
     let least = share-least caller size in
@@ -39,7 +39,7 @@ unfolding share
 share-most caller zero = omega arith
 share-most caller (suc n) =
     let rest = share-most caller n in
-    elim (cases_Bool (is_of caller n)) [
+    elim (cases_Bool (belongs_to caller n)) [
       | inl own ↦ rw own (omega (arith, rest))
       | inr other ↦ rw other (omega (arith, rest))
     ]

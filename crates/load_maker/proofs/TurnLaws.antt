@@ -6,7 +6,7 @@ use Rattle.std.proofs.lemmas.Bool.{cases_eq, cases_lt, cases_order}
 use Rattle.std.proofs.lemmas.Nat.{mod_below}
 use Rattle.std.proofs.lemmas.Option.{slice_get_past}
 use mathlib.Core.HLevel.{is_prop→PathP}
-use Rattle.net_units.specs.Numbers.{actor_number}
+use Rattle.net_units.specs.Numbers.{actor_number, actor_at}
 use Rattle.net_units.specs.declared.numbers.ActorNo.{ActorNo}
 use Rattle.net_units.specs.declared.numbers.LinkNo.{LinkNo}
 use Rattle.link_steps.specs.declared.asks.Ask.{Ask}
@@ -27,7 +27,6 @@ use Rattle.interleave_core.specs.Runs.{plane_no, next_for, IsRun, step}
 use Rattle.interleave_core.specs.Standing.{StepsTo}
 use Rattle.interleave_core.specs.Turns.{most_left}
 use Rattle.load_maker.proofs.ScriptFacts.{actor-is}
-use Rattle.load_maker.specs.Made.{actor_at}
 use Rattle.load_maker.specs.TurnRuns.{goes_on_at, further, IsItsTurn, NobodyIsLeft, GoesByTurns, IsTurnsRun, TurnsMakeOneRun}
 use Rattle.run_record.specs.Runs.{replies_to}
 use Rattle.run_record.specs.declared.done.Done.{Done}
@@ -46,7 +45,7 @@ both-ways : {X : Type 0} (next : Option X) → IsSome next → next ≡ None →
 both-ways None some none = cc
 both-ways (Some x) some none = cc
 
--- there is no actor behind the plane
+-- there is no actor after the plane
 beyond : (network : Network) (actor : ℕ) (run : List Done) → plane_no network < actor → next_for network actor run ≡ None
 beyond network actor run past =
     asked-caller network actor run (λ same. absurd (omega (arith, same, past)))

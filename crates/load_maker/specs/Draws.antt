@@ -2,14 +2,14 @@
 -- a number below 32,768.
 use Rattle.std.specs.Prelude.{ℕ, zero, suc, ◌+◌, ◌*◌, ◌/◌, ◌%◌}
 
--- the state behind a draw
+-- the state after a draw
 abbrev pub next_state : ℕ → ℕ
 next_state x = (1103515245 * x + 12345) % 2147483648
 
--- the state behind so many draws
-unfoldable pub after : ℕ → ℕ → ℕ
-after zero x = x
-after (suc n) x = next_state (after n x)
+-- the state after n draws
+unfoldable pub state_after : ℕ → ℕ → ℕ
+state_after zero x = x
+state_after (suc n) x = next_state (state_after n x)
 
 -- the draw that ends in this state
 abbrev pub told_by : ℕ → ℕ
@@ -17,4 +17,4 @@ told_by x = x / 65536
 
 -- the n-th draw from this state on, from 1
 abbrev pub draw : ℕ → ℕ → ℕ
-draw n x = told_by (after n x)
+draw n x = told_by (state_after n x)

@@ -3,16 +3,16 @@
 use Rattle.std.specs.Prelude.{ℕ, zero, suc, ◌+◌, ◌*◌, ◌-◌, ◌%◌}
 use Rattle.setup_protocol.specs.declared.request.Control.{Control}
 use Rattle.setup_protocol.specs.declared.request.Control.TheVariants.{Rate, Jitter}
-use Rattle.traffic_contract.specs.Contract.{Terms, terms_of}
-use Rattle.load_maker.specs.Draws.{after, draw}
+use Rattle.traffic_contract.specs.Contract.{Traffic, terms_of}
+use Rattle.load_maker.specs.Draws.{state_after, draw}
 use Rattle.load_maker.specs.declared.load.Load.{Load}
 
 -- one of the four contracts
-abbrev pub contract_of : ℕ → Terms
-contract_of zero = terms_of 20 40 200 50
-contract_of (suc zero) = terms_of 50 100 400 100
-contract_of (suc (suc zero)) = terms_of 200 200 200 20
-contract_of (suc (suc (suc n))) = terms_of 10 50 500 30
+abbrev pub contract_drawn : ℕ → Traffic
+contract_drawn zero = terms_of 20 40 200 50
+contract_drawn (suc zero) = terms_of 50 100 400 100
+contract_drawn (suc (suc zero)) = terms_of 200 200 200 20
+contract_drawn (suc (suc (suc n))) = terms_of 10 50 500 30
 
 -- an even draw asks for rate-jitter control, an odd one for delay-jitter control
 abbrev pub control_of : ℕ → Control
@@ -28,7 +28,7 @@ abbrev pub load_from : ℕ → Load
 load_from x = record {
   hops = hops_from x;
   first = draw 2 x % (5 - hops_from x);
-  contract = contract_of (draw 3 x % 4);
+  contract = contract_drawn (draw 3 x % 4);
   delay = 105 * hops_from x + 400 * (draw 4 x % 4);
   control = control_of (draw 5 x % 2);
   count = 1 + draw 6 x % 16;
@@ -36,4 +36,4 @@ load_from x = record {
 
 -- the load of the request of this number, from 0: the draws are made in the order of the requests
 abbrev pub load_at : ℕ → ℕ → Load
-load_at number n = load_from (after (6 * n) number)
+load_at number n = load_from (state_after (6 * n) number)

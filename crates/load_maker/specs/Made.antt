@@ -1,5 +1,5 @@
 -- The plan of a load. It has four links in a row, four callers and some requests, which belong to the callers in turn. The
--- script of a caller opens each of its requests and sends on it; and from the third one on it closes behind that the request two
+-- script of a caller opens each of its requests and sends on it; and from the third one on it closes after that the request two
 -- before it. Requests and links are counted from 0 here, and from 1 in their names. Channels have the order in which the callers,
 -- one after the other, open them.
 use Rattle.std.specs.Prelude.{ℕ, zero, suc, ◌+◌, ◌%◌, min, refl, Bool, nat_eq, if◌then◌else◌, List, [], ◌∷◌, ◌++◌, take, drop}
@@ -9,6 +9,7 @@ use Rattle.std.proofs.Math.Nat.{min-le_left, lt_of_le_of_lt}
 use Rattle.net_units.specs.declared.numbers.ActorNo.{ActorNo}
 use Rattle.net_units.specs.declared.numbers.ChanNo.{ChanNo}
 use Rattle.net_units.specs.declared.numbers.LinkNo.{LinkNo}
+use Rattle.net_units.specs.Numbers.{link_at, actor_at, channel_at}
 use Rattle.hop_reservation.specs.declared.route.Hop.{Hop}
 use Rattle.link_steps.specs.declared.shape.LinkShape.{LinkShape}
 use Rattle.traffic_contract.specs.declared.admission.Test.TheVariants.{Whole}
@@ -24,16 +25,6 @@ use Rattle.load_maker.specs.declared.load.Load.{Load}
 
 -- ---- numbers and names
 
--- the link, the actor and the channel of a number within its limit
-abbrev pub link_at : ℕ → LinkNo
-link_at n = record { number = min 31 n; small = lt_of_le_of_lt (min-le_left 31 n) (lit< tt) }
-
-abbrev pub actor_at : ℕ → ActorNo
-actor_at n = record { number = min 64 n; small = lt_of_le_of_lt (min-le_left 64 n) (lit< tt) }
-
-abbrev pub channel_at : ℕ → ChanNo
-channel_at n = record { number = min 1048575 n; small = lt_of_le_of_lt (min-le_left 1048575 n) (lit< tt) }
-
 -- a letter, and the digit of one more than a number below 9
 abbrev pub short_name : ℕ → ℕ → List ℕ
 short_name letter n = letter ∷ (49 + n) ∷ []
@@ -47,8 +38,8 @@ request_name n = 114 ∷ decimal (suc n)
 abbrev pub level_bounds : List ℕ
 level_bounds = 100 ∷ 400 ∷ 1600 ∷ []
 
-abbrev pub shape_at : ℕ → LinkShape
-shape_at n = record {
+abbrev pub load_shape : ℕ → LinkShape
+load_shape n = record {
   link = link_at n;
   rate = 10;
   cap = 100;
@@ -70,7 +61,7 @@ shape_at n = record {
 
 -- L1 to L4, from n1 to n2 and so on
 abbrev pub link_entry : ℕ → LinkEntry
-link_entry n = record { name = short_name 76 n; from = short_name 110 n; to = short_name 110 (suc n); shape = shape_at n }
+link_entry n = record { name = short_name 76 n; from = short_name 110 n; to = short_name 110 (suc n); shape = load_shape n }
 
 abbrev pub made_links : List LinkEntry
 made_links = link_entry 0 ∷ link_entry 1 ∷ link_entry 2 ∷ link_entry 3 ∷ []
@@ -80,13 +71,13 @@ made_links = link_entry 0 ∷ link_entry 1 ∷ link_entry 2 ∷ link_entry 3 ∷
 abbrev pub hop_at : ℕ → Hop
 hop_at n = record { link = link_at n; bounds = level_bounds; prop = 5 }
 
--- the route of so many links, the first of which has this number
+-- the route of `hops` links, the first of which has this number
 abbrev pub route_of : ℕ → ℕ → List Hop
 route_of first hops = take hops (drop first (hop_at 0 ∷ hop_at 1 ∷ hop_at 2 ∷ hop_at 3 ∷ []))
 
 -- the request of this number, with its load, its caller and its channel
-abbrev pub entry_of : Load → ℕ → ℕ → ℕ → RequestEntry
-entry_of load n caller chan = record {
+abbrev pub request_entry_of : Load → ℕ → ℕ → ℕ → RequestEntry
+request_entry_of load n caller chan = record {
   name = request_name n;
   caller = actor_at caller;
   request = record {
@@ -101,13 +92,13 @@ entry_of load n caller chan = record {
 -- ---- whose a request is
 
 -- the requests belong to the four callers in turn
-abbrev pub is_of : ℕ → ℕ → Bool
-is_of caller n = nat_eq (n % 4) caller
+abbrev pub belongs_to : ℕ → ℕ → Bool
+belongs_to caller n = nat_eq (n % 4) caller
 
 -- how many of the first n requests are a caller's
 unfoldable pub share : ℕ → ℕ → ℕ
 share caller zero = 0
-share caller (suc n) = if is_of caller n then suc (share caller n) else share caller n
+share caller (suc n) = if belongs_to caller n then suc (share caller n) else share caller n
 
 -- the channel of a caller's first request: so many requests the callers before it have
 unfoldable pub first_channel : ℕ → ℕ → ℕ
@@ -133,12 +124,12 @@ ops_for load first place =
 unfoldable pub own_requests : ℕ → ℕ → ℕ → ℕ → List RequestEntry
 own_requests number first caller zero = []
 own_requests number first caller (suc n) =
-    own_requests number first caller n ++ (if is_of caller n then entry_of (load_at number n) n caller (first + share caller n) ∷ [] else [])
+    own_requests number first caller n ++ (if belongs_to caller n then request_entry_of (load_at number n) n caller (first + share caller n) ∷ [] else [])
 
 unfoldable pub own_ops : ℕ → ℕ → ℕ → ℕ → List Op
 own_ops number first caller zero = []
 own_ops number first caller (suc n) =
-    own_ops number first caller n ++ (if is_of caller n then ops_for (load_at number n) first (share caller n) else [])
+    own_ops number first caller n ++ (if belongs_to caller n then ops_for (load_at number n) first (share caller n) else [])
 
 -- ---- the plan
 
@@ -146,7 +137,7 @@ own_ops number first caller (suc n) =
 abbrev pub caller_entry : ℕ → ℕ → ℕ → CallerEntry
 caller_entry number size caller = record { name = short_name 107 caller; ops = own_ops number (first_channel size caller) caller size }
 
--- the requests of the first callers, so many, and these callers
+-- the requests of the first callers, and these callers
 unfoldable pub requests_to : ℕ → ℕ → ℕ → List RequestEntry
 requests_to number size zero = []
 requests_to number size (suc n) = requests_to number size n ++ own_requests number (first_channel size n) n size
@@ -155,6 +146,6 @@ unfoldable pub callers_to : ℕ → ℕ → ℕ → List CallerEntry
 callers_to number size zero = []
 callers_to number size (suc n) = callers_to number size n ++ caller_entry number size n ∷ []
 
--- the plan of this number with so many requests
+-- the plan of this number with `size` requests
 abbrev pub made_parts : ℕ → ℕ → PlanParts
 made_parts number size = parts_of One made_links (requests_to number size 4) (callers_to number size 4) 4000 1000

@@ -1,5 +1,5 @@
 -- The run of a plan by turns. The actors stand in a circle: the callers by their numbers, and then the plane. The circle begins at the first
--- caller, and goes on behind the actor of the last step. The turn is the first actor's from there on that has a step left; those that have none are
+-- caller, and goes on after the actor of the last step. The turn is the first actor's from there on that has a step left; those that have none are
 -- passed over. Each turn makes one step, and the run ends when nobody has a step left. A plan has one such run.
 use Rattle.std.specs.Prelude.{◌≡◌, ℕ, suc, ◌+◌, ◌%◌, ◌<◌, ◌≤◌, None, IsSome, List, [], ◌∷◌}
 use Rattle.net_units.specs.Numbers.{actor_number}
@@ -11,7 +11,7 @@ use Rattle.run_record.specs.declared.done.Done.{Done}
 
 -- ---- whose turn it is
 
--- the number at which the circle goes on: the one behind the actor of the last step
+-- the number at which the circle goes on: the one after the actor of the last step
 abbrev pub goes_on_at : List Done → ℕ
 goes_on_at [] = 0
 goes_on_at (done ∷ past) = suc (actor_number done.actor)

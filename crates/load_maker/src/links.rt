@@ -1,7 +1,8 @@
 //! The links of a load, and routes over them.
 ghost use Rattle.std.specs.Prelude.{◌≡◌, ◌+◌, ◌<◌, ◌≤◌, ◌∷◌, [], IfOk, IsTrue};
 ghost use Rattle.net_units.specs.Text.{is_letter};
-ghost use Rattle.load_maker.specs.Made.{hop_at, level_bounds, link_at, link_entry, made_links, route_of, shape_at, short_name};
+ghost use Rattle.net_units.specs.Numbers.{link_at};
+ghost use Rattle.load_maker.specs.Made.{hop_at, level_bounds, link_entry, made_links, route_of, load_shape, short_name};
 
 use call_script::LinkEntry;
 use hop_reservation::{Hop, Route};
@@ -10,7 +11,7 @@ use net_units::{Bounds, LinkNo, Name, OutOfMemory};
 use std::alloc::Global;
 use traffic_contract::Test;
 
-// The ticks between a departure from a link and the arrival behind it.
+// The ticks between a departure from a link and the arrival after it.
 const PROP: u32 = 5;
 
 // The links, each from the node where the one before it ends.
@@ -40,7 +41,7 @@ fn link(number: u8) -> LinkEntry
 
 fn shape(number: u8) -> LinkShape
     requires { number < 4 }
-    ensures { result ≡ shape_at number }
+    ensures { result ≡ load_shape number }
 {
     let made = LinkShape::new(
         link_no(number),
@@ -58,7 +59,7 @@ fn shape(number: u8) -> LinkShape
     }
 }
 
-// The route of so many links, the first of which has this number.
+// The route of `hops` links, the first of which has this number.
 pub(crate) fn route(first: usize, hops: usize) -> Route
     requires some { 1 ≤ hops }
     requires within { first + hops ≤ 4 }

@@ -1,7 +1,7 @@
 //! What is drawn for a request.
 ghost use Rattle.std.specs.Prelude.{◌≡◌, ◌<◌};
-ghost use Rattle.load_maker.specs.Draws.{after};
-ghost use Rattle.load_maker.specs.Loads.{contract_of, control_of, load_from};
+ghost use Rattle.load_maker.specs.Draws.{state_after};
+ghost use Rattle.load_maker.specs.Loads.{contract_drawn, control_of, load_from};
 
 use crate::draws::Draws;
 use setup_protocol::Control;
@@ -26,9 +26,9 @@ pub struct Load {
 
 impl Draws {
     // The load of the next request.
-    #[tactic(auto, unfolding(crate::specs::Draws::after))]
+    #[tactic(auto, unfolding(crate::specs::Draws::state_after))]
     pub(crate) fn load(&mut self) -> Load
-        ensures state { self.new.state ≡ after 6 self.old.state }
+        ensures state { self.new.state ≡ state_after 6 self.old.state }
         ensures value { result ≡ load_from self.old.state }
     {
         let hops = 1 + self.draw() % 4;
@@ -51,7 +51,7 @@ impl Draws {
 // One of the four contracts.
 fn contract(kind: u64) -> Contract
     requires { kind < 4 }
-    ensures { result ≡ contract_of kind }
+    ensures { result ≡ contract_drawn kind }
 {
     let made = match kind {
         0 => Contract::new(20, 40, 200, 50),

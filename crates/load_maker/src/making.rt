@@ -1,5 +1,6 @@
 //! The making of a plan.
 ghost use Rattle.std.specs.Prelude.{◌≡◌, ◌<◌, ◌≤◌, IfOk};
+ghost use Rattle.net_units.specs.Limits.{most_requests};
 ghost use Rattle.call_script.specs.Plans.{IsPlan};
 ghost use Rattle.load_maker.specs.Made.{made_parts};
 
@@ -17,14 +18,14 @@ const ROUNDS: u64 = 4_000;
 
 const TAIL: u64 = 1_000;
 
-/// The plan of this number with so many requests, from 1 to 1,024. The number is at most 2,147,483,647.
+/// The plan of this number with `size` requests, from 1 to 1,024. The number is at most 2,147,483,647.
 ///
-/// It has four links in a row, four callers to which the requests belong in turn, and 4,000 rounds with 1,000 behind them. What
+/// It has four links in a row, four callers to which the requests belong in turn, and 4,000 rounds with 1,000 after them. What
 /// a request asks for and how much is sent on it is drawn from the number. An `Err` comes only for want of memory.
 pub fn made(alloc: Global, number: u32, size: u32) -> Result<Plan, OutOfMemory>
     requires number { number ≤ 2147483647 }
     requires least { 1 ≤ size }
-    requires most { size ≤ 1024 }
+    requires most { size ≤ most_requests }
     ensures plan { IfOk result (λ plan. plan ≡ made_parts number size) }
     ensures kept { IfOk result IsPlan }
 {

@@ -1,6 +1,8 @@
 //! The requests of a caller, and what it does.
 ghost use Rattle.std.specs.Prelude.{◌≡◌, ◌+◌, ◌<◌, ◌≤◌, ◌++◌, IfOk, OnOk, length};
-ghost use Rattle.load_maker.specs.Made.{actor_at, channel_at, entry_of, ops_for, own_ops, own_requests, request_name};
+ghost use Rattle.net_units.specs.Limits.{most_channels, most_requests};
+ghost use Rattle.net_units.specs.Numbers.{actor_at, channel_at};
+ghost use Rattle.load_maker.specs.Made.{request_entry_of, ops_for, own_ops, own_requests, request_name};
 
 use crate::draws::Draws;
 use crate::links::route;
@@ -10,7 +12,7 @@ use net_units::{ActorNo, ChanNo, Name, OutOfMemory};
 use setup_protocol::Request;
 use std::alloc::Global;
 
-// Adds the requests of a caller among the first `size` ones behind those of the callers before it, and answers what the caller does. The
+// Adds the requests of a caller among the first `size` ones after those of the callers before it, and answers what the caller does. The
 // draws begin anew for each caller, so nothing is kept of the requests of the others.
 pub(crate) fn script(
     alloc: Global,
@@ -20,9 +22,9 @@ pub(crate) fn script(
     requests: &mut Vec<RequestEntry>,
 ) -> Result<Vec<Op>, OutOfMemory>
     requires number { number < 2147483648 }
-    requires size { size ≤ 1024 }
+    requires size { size ≤ most_requests }
     requires caller { caller < 4 }
-    requires few { length requests.old.items ≤ 1024 }
+    requires few { length requests.old.items ≤ most_requests }
     ensures requests { OnOk result (requests.new.items ≡ requests.old.items ++ own_requests number (length requests.old.items) caller size) }
     ensures ops { IfOk result (λ ops. ops.items ≡ own_ops number (length requests.old.items) caller size) }
 {
@@ -50,10 +52,10 @@ fn request(
 ) -> Result<RequestEntry, OutOfMemory>
     requires some { 1 ≤ load.now.hops }
     requires within { load.now.first + load.now.hops ≤ 4 }
-    requires number { number < 1024 }
+    requires number { number < most_requests }
     requires caller { caller < 4 }
-    requires chan { chan < 1048576 }
-    ensures { IfOk result (λ entry. entry ≡ entry_of load.now number caller chan) }
+    requires chan { chan < most_channels }
+    ensures { IfOk result (λ entry. entry ≡ request_entry_of load.now number caller chan) }
 {
     Ok(RequestEntry {
         name: request_name(alloc, number)?,
@@ -70,7 +72,7 @@ fn request(
 
 // Adds what a caller does for the request at this place of its own, the first of which has that channel.
 fn push_ops(ops: &mut Vec<Op>, load: &Load, first: usize, place: usize) -> Result<(), OutOfMemory>
-    requires { first + place < 1048576 }
+    requires { first + place < most_channels }
     ensures { OnOk result (ops.new.items ≡ ops.old.items ++ ops_for load.now first place) }
 {
     let chan = channel(first + place);
@@ -89,7 +91,7 @@ fn push_ops(ops: &mut Vec<Op>, load: &Load, first: usize, place: usize) -> Resul
 
 // The name of a request.
 fn request_name(alloc: Global, number: u32) -> Result<Name, OutOfMemory>
-    requires { number < 1024 }
+    requires { number < most_requests }
     ensures { IfOk result (λ name. name ≡ request_name number) }
 {
     let place = number + 1;
@@ -113,7 +115,7 @@ fn actor(number: u8) -> ActorNo
 
 // The channel of this number.
 fn channel(number: usize) -> ChanNo
-    requires { number < 1048576 }
+    requires { number < most_channels }
     ensures { result ≡ channel_at number }
 {
     match ChanNo::new(number as u32) {

@@ -2,10 +2,9 @@
 ghost use Rattle.std.specs.Prelude.{◌≡◌, ◌≤◌, ◌<◌, IfOk, IfSome, IfNone, IsSome, length, reverse};
 ghost use Rattle.call_script.specs.Tasks.{network_of};
 ghost use Rattle.interleave_core.specs.Runs.{next_for};
-ghost use Rattle.interleave_core.specs.Standing.{IsGuaranteedRun, Stands, StepsTo, run_in};
-ghost use Rattle.load_maker.specs.Made.{actor_at};
+ghost use Rattle.interleave_core.specs.Standing.{IsGuaranteedRun, CoreStands, StepsTo, run_in};
 ghost use Rattle.load_maker.specs.TurnRuns.{IsItsTurn, IsTurnsRun, NobodyIsLeft, TurnsMakeOneRun, goes_on_at};
-ghost use Rattle.net_units.specs.Numbers.{actor_number};
+ghost use Rattle.net_units.specs.Numbers.{actor_number, actor_at};
 
 use call_script::Plan;
 use interleave_core::{Core, CoreRefusal};
@@ -33,7 +32,7 @@ pub fn take_turns(alloc: Global, plan: &Plan) -> Result<Record, OutOfMemory>
 
 // The actor whose turn it is, where the circle goes on at this number.
 fn turn(core: &Core, plan: &Plan, next: usize) -> Option<ActorNo>
-    requires stands { Stands plan.now core.now }
+    requires stands { CoreStands plan.now core.now }
     requires next { next ≡ goes_on_at (run_in core.now) }
     requires within { next ≤ 65 }
     ensures some { IfSome result (λ actor. IsItsTurn (network_of plan.now) (run_in core.now) (actor_number actor)) }
@@ -51,10 +50,10 @@ fn turn(core: &Core, plan: &Plan, next: usize) -> Option<ActorNo>
 
 // Makes the next step of an actor that has one left.
 fn step(core: &mut Core, plan: &Plan, actor: ActorNo) -> Result<Reply, OutOfMemory>
-    requires stands { Stands plan.now core.old }
+    requires stands { CoreStands plan.now core.old }
     requires actor { actor_number actor ≤ length plan.now.callers }
     requires left { IsSome (next_for (network_of plan.now) (actor_number actor) (run_in core.old)) }
-    ensures stands { Stands plan.now core.new }
+    ensures stands { CoreStands plan.now core.new }
     ensures made { IfOk result (λ reply. StepsTo (network_of plan.now) actor (run_in core.old) reply (run_in core.new)) }
 {
     match core.step(plan, actor) {

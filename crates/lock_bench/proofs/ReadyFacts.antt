@@ -6,7 +6,7 @@ use Rattle.link_steps.specs.Lists.{Each}
 use Rattle.link_steps.proofs.ListFacts.{Each-if}
 use Rattle.step_stamp.specs.Marks.{marks_of}
 use Rattle.step_stamp.specs.Opening.{IsNewPass}
-use Rattle.step_stamp.specs.Seats.{actor_of}
+use Rattle.step_stamp.specs.Seats.{seat_actor}
 use Rattle.step_stamp.specs.Views.{shelf_of, known_of}
 use Rattle.step_stamp.specs.declared.seats.PassSeat.{PassSeat}
 use Rattle.step_stamp.specs.declared.views.View.{View}
@@ -32,7 +32,7 @@ new-unused : (table : TableId) (n : ℕ) (seat : PassSeat) → IsNewPass table n
 new-unused table n seat new = record {
   table_is = new.from_table;
   drawn = ap (λ (v : View). v.drawn) new.view_is;
-  known = λ l. ap (λ (v : View). marks_of (actor_of seat) (known_of l v)) new.view_is ∙ ap (marks_of (actor_of seat)) (nothing_known l);
+  known = λ l. ap (λ (v : View). marks_of (seat_actor seat) (known_of l v)) new.view_is ∙ ap (marks_of (seat_actor seat)) (nothing_known l);
 }
 
 pub all-unused : (table : TableId) (n : ℕ) (seats : List PassSeat) → Each (IsNewPass table n) seats → Each (IsUnused table) seats

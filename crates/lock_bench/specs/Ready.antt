@@ -4,11 +4,11 @@ use Rattle.std.specs.Prelude.{◌≡◌, ℕ, true, false, List, []}
 use Rattle.atomic_table.specs.Seated.{TableId}
 use Rattle.link_steps.specs.Split.{Link}
 use Rattle.step_stamp.specs.Marks.{marks_of}
-use Rattle.step_stamp.specs.Seats.{pass_table, pass_view, actor_of, knows_of}
+use Rattle.step_stamp.specs.Seats.{pass_table, pass_view, seat_actor, knows_of}
 use Rattle.step_stamp.specs.declared.seats.PassSeat.{PassSeat}
 use Rattle.link_ledger.specs.Tokens.{Token, OwnsAt}
 
-pub record IsReady (table : TableId) (links : List Link) (l : ℕ) (pass : Token) : Type 0 where
+pub record MayTick (table : TableId) (links : List Link) (l : ℕ) (pass : Token) : Type 0 where
   pub has_seat : pass.has_seat ≡ true
   pub table_is : pass.table ≡ table
   pub unspent : pass.spent ≡ false
@@ -18,4 +18,4 @@ pub record IsReady (table : TableId) (links : List Link) (l : ℕ) (pass : Token
 pub record IsUnused (table : TableId) (seat : PassSeat) : Type 0 where
   pub table_is : pass_table seat ≡ table
   pub drawn : (pass_view seat).drawn ≡ []
-  pub known : (l : ℕ) → marks_of (actor_of seat) (knows_of seat l) ≡ []
+  pub known : (l : ℕ) → marks_of (seat_actor seat) (knows_of seat l) ≡ []

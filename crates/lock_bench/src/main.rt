@@ -1,4 +1,4 @@
-//! A benchmark of links behind locks: `lock_bench THREADS TICKS` makes so many ticks of one link with each of 1 to 65 threads,
+//! A benchmark of links behind locks: `lock_bench THREADS TICKS` makes TICKS ticks of one link with each of 1 to 65 threads,
 //! and prints how many entries the link's journal has. With 0 threads a link without a lock makes the ticks. `bench/locks`
 //! times it.
 #![tactic(auto)]
@@ -40,7 +40,7 @@ fn main(rt: HostRuntime) -> ExitCode {
     }
 }
 
-// The number of threads and of ticks, where these are the words behind the program's name.
+// The number of threads and of ticks, where these are the words after the program's name.
 fn read_words(rt: &(impl Env + AllocGlobal)) -> io::Result<Option<(u32, u64)>>
     ensures { IfOk result (λ words. IfSome words (λ w. (w.0 ≤ 65) × (w.1 ≤ 1000000000))) }
 {

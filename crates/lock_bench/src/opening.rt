@@ -2,8 +2,8 @@
 ghost use Rattle.std.specs.Prelude.{◌≡◌, ◌^◌, ◌≤◌, [], ◌∷◌, IfOk, IfSome};
 ghost use Rattle.link_steps.specs.Lists.{Each};
 ghost use Rattle.link_steps.specs.Split.{whole};
-ghost use Rattle.link_server.specs.State.{Stands};
-ghost use Rattle.step_stamp.specs.Seats.{table_of, link_table, list_of};
+ghost use Rattle.link_server.specs.State.{LinkStands};
+ghost use Rattle.step_stamp.specs.Seats.{stamps_table, link_table, list_of};
 ghost use Rattle.lock_bench.specs.Ready.{IsUnused};
 
 use crate::ticking::make_ticks_by_all;
@@ -20,7 +20,7 @@ use traffic_contract::Test;
 
 /// A link of one level that has made no step, where there is memory for it.
 pub fn link(alloc: Global) -> Option<LinkState>
-    ensures { IfSome result (λ link. Stands link []) }
+    ensures { IfSome result (λ link. LinkStands link []) }
 {
     let number = LinkNo::new(0)?;
     let bounds = Bounds::new(&[10])?;
@@ -28,11 +28,11 @@ pub fn link(alloc: Global) -> Option<LinkState>
     LinkState::new(alloc, shape).ok()
 }
 
-/// The stamps of one link and of so many actors, with the link's seat and a seat for each actor.
+/// The stamps of one link and of a number of actors, with the link's seat and a seat for each actor.
 pub fn opened(alloc: Global, actors: u32) -> Result<(Stamps, LinkSeat, Vec<PassSeat>), OutOfMemory>
     requires { (1 ≤ actors) × (actors ≤ 65) }
-    ensures link { IfOk result (λ r. (link_table r.1 ≡ table_of r.0) × (list_of r.1 ≡ [])) }
-    ensures passes { IfOk result (λ r. Each (IsUnused (table_of r.0)) r.2.items) }
+    ensures link { IfOk result (λ r. (link_table r.1 ≡ stamps_table r.0) × (list_of r.1 ≡ [])) }
+    ensures passes { IfOk result (λ r. Each (IsUnused (stamps_table r.0)) r.2.items) }
 {
     let (stamps, mut links, passes) = Stamps::open(alloc, 1, actors)?;
     let Some(link) = links.pop() else {
@@ -41,7 +41,7 @@ pub fn opened(alloc: Global, actors: u32) -> Result<(Stamps, LinkSeat, Vec<PassS
     Ok((stamps, link, passes))
 }
 
-/// The journal of a link behind a lock, after as many threads as there are seats have made so many ticks of it each.
+/// The journal of a link behind a lock, after as many threads as there are seats have made the same number of ticks of it each.
 pub fn journal_of<H: Home + Send + Sync, R: Threads + Wait + Sync>(
     rt: &R,
     alloc: Global,
@@ -51,10 +51,10 @@ pub fn journal_of<H: Home + Send + Sync, R: Threads + Wait + Sync>(
     seats: Vec<PassSeat>,
     ticks: u64,
 ) -> Result<Journal, StepFault>
-    requires table { table_of stamps.now ≡ H.table }
+    requires table { stamps_table stamps.now ≡ H.table }
     requires links { H.links ≡ whole link.shape ∷ [] }
     requires owners { H.owners ≡ [] }
-    requires stands { Stands link [] }
+    requires stands { LinkStands link [] }
     requires seat { (link_table seat ≡ H.table) × (list_of seat ≡ []) }
     requires seats { Each (IsUnused H.table) seats.items }
     requires few { ticks ≤ 2 ^ 40 }
@@ -70,7 +70,7 @@ pub fn journal_of<H: Home + Send + Sync, R: Threads + Wait + Sync>(
     Ok(journal)
 }
 
-/// The journal of a new link after each of so many threads has made so many ticks of it, where there was memory for all.
+/// The journal of a new link after each of the threads has made the same number of ticks of it, where there was memory for all.
 pub fn ticked<R: Threads + Wait + Sync>(
     rt: &R,
     alloc: Global,

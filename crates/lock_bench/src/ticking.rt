@@ -2,8 +2,8 @@
 ghost use Rattle.std.specs.Prelude.{◌≡◌, ◌+◌, ◌^◌, ◌≤◌, length};
 ghost use Rattle.net_units.specs.Numbers.{link_number};
 ghost use Rattle.link_steps.specs.Lists.{Each};
-ghost use Rattle.step_stamp.specs.Seats.{table_of};
-ghost use Rattle.lock_bench.specs.Ready.{IsReady, IsUnused};
+ghost use Rattle.step_stamp.specs.Seats.{stamps_table};
+ghost use Rattle.lock_bench.specs.Ready.{MayTick, IsUnused};
 
 use link_ledger::{Home, LockedLink, Pass, StepFault};
 use link_server::LinkState;
@@ -15,7 +15,7 @@ use std::thread;
 use std::thread::Threads;
 use step_stamp::{PassSeat, Stamps};
 
-/// Makes so many ticks of the link by a pass with this seat.
+/// Makes this number of ticks of the link by a pass with this seat.
 pub fn make_ticks<H: Home, W: Wait>(
     rt: &W,
     alloc: Global,
@@ -24,7 +24,7 @@ pub fn make_ticks<H: Home, W: Wait>(
     seat: PassSeat,
     ticks: u64,
 ) -> Result<(), StepFault>
-    requires table { table_of stamps.now ≡ H.table }
+    requires table { stamps_table stamps.now ≡ H.table }
     requires unused { IsUnused H.table seat }
     requires few { ticks ≤ 2 ^ 40 }
 {
@@ -44,7 +44,7 @@ pub fn make_ticks_by_all<H: Home + Send + Sync, R: Threads + Wait + Sync>(
     seats: Vec<PassSeat>,
     ticks: u64,
 ) -> Result<(), StepFault>
-    requires table { table_of stamps.now ≡ H.table }
+    requires table { stamps_table stamps.now ≡ H.table }
     requires unused { Each (IsUnused H.table) seats.items }
     requires few { ticks ≤ 2 ^ 40 }
 {
@@ -52,7 +52,7 @@ pub fn make_ticks_by_all<H: Home + Send + Sync, R: Threads + Wait + Sync>(
         rt,
         seats,
         &move |seat: PassSeat| -> Result<(), StepFault>
-            requires { (table_of stamps.now ≡ H.table) × IsUnused H.table seat × (ticks ≤ 2 ^ 40) }
+            requires { (stamps_table stamps.now ≡ H.table) × IsUnused H.table seat × (ticks ≤ 2 ^ 40) }
         { make_ticks(rt, alloc, link, stamps, seat, ticks) },
     );
     let Ok(made) = made else {

@@ -1,6 +1,6 @@
 -- The limits of names, levels, bounds and quotients, each at its value and one beyond, found by computing with the
 -- definitions.
-use Rattle.std.proofs.Common.{◌≡◌, true, false, List, [], ◌∷◌, ◌++◌, map, codes, refl}
+use Rattle.std.proofs.Common.{◌≡◌, true, false, [], ◌∷◌, map, codes, refl}
 use Rattle.net_units.specs.LevelBounds.{are_bounds, bound_at, last_bound, levels_within}
 use Rattle.net_units.specs.Quotient.{ceil_quotient}
 use Rattle.net_units.specs.Text.{is_letter, is_name_byte, is_name}
@@ -11,7 +11,7 @@ use Rattle.net_units.specs.Text.{is_letter, is_name_byte, is_name}
 letters : map is_letter (codes "@AZ[`az{") ≡ false ∷ true ∷ true ∷ false ∷ false ∷ true ∷ true ∷ false ∷ []
 letters = refl
 
--- behind the first letter there may be digits and `_` too
+-- after the first letter there may be digits and `_` too
 name-bytes : map is_name_byte (codes "/09:^_`-") ≡ false ∷ true ∷ true ∷ false ∷ false ∷ true ∷ false ∷ false ∷ []
 name-bytes = refl
 

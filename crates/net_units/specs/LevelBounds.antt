@@ -1,6 +1,6 @@
 -- The delay bounds of a link's levels are a list of 1 to 8 numbers of ticks that rise strictly, each from 1
 -- to 1,048,576. Level m has the m-th bound. A bound that fits in x ticks is one that is at most x.
-use Rattle.std.specs.Prelude.{ℕ, suc, ◌-◌, Bool, true, nat_lt, nat_le, ◌&&◌, if◌then◌else◌, List, [], ◌∷◌, length, slice_index}
+use Rattle.std.specs.Prelude.{ℕ, suc, max, ◌-◌, Bool, true, nat_lt, nat_le, ◌&&◌, if◌then◌else◌, List, [], ◌∷◌, length, slice_index}
 use Rattle.std.specs.List.{list_all}
 use Rattle.net_units.specs.Limits.{most_levels, most_bound}
 
@@ -25,3 +25,8 @@ last_bound bs = bound_at bs (length bs)
 abbrev pub levels_within : List ℕ → ℕ → ℕ
 levels_within [] x = 0
 levels_within (b ∷ bs) x = if nat_le b x then suc (levels_within bs x) else 0
+
+-- the largest level to which a request may be relaxed at a hop that offers a level: the largest whose bound is at most the
+-- request's delay bound or the offer's bound
+abbrev pub reach_of : List ℕ → ℕ → ℕ → ℕ
+reach_of bounds delay offer = levels_within bounds (max delay (bound_at bounds offer))

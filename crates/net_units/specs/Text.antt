@@ -13,11 +13,11 @@ is_letter b = (nat_le 65 b && nat_le b 90) || (nat_le 97 b && nat_le b 122)
 abbrev pub is_digit : ℕ → Bool
 is_digit b = nat_le 48 b && nat_le b 57
 
--- a byte that may stand behind the first of a name
+-- a byte that may stand after the first of a name
 abbrev pub is_name_byte : ℕ → Bool
 is_name_byte b = is_letter b || is_digit b || nat_eq b 95
 
--- a letter, and then bytes that may stand behind one
+-- a letter, and then bytes that may stand after one
 abbrev pub begins_as_name : List ℕ → Bool
 begins_as_name [] = false
 begins_as_name (b ∷ bs) = is_letter b && list_all is_name_byte bs

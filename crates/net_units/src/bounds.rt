@@ -3,6 +3,7 @@ ghost use Rattle.std.specs.Prelude.{◌≡◌, ◌↔◌, ◌<◌, ◌≤◌, �
 ghost use Rattle.std.specs.List.{list_all};
 ghost use Rattle.net_units.specs.Padded.{padded};
 ghost use Rattle.net_units.specs.LevelBounds.{rises_above, are_bounds, bound_at, last_bound, levels_within};
+ghost use Rattle.net_units.specs.Limits.{most_bound};
 
 use crate::limits::{MOST_BOUND, MOST_LEVELS};
 use crate::numbers::Level;
@@ -72,7 +73,7 @@ impl Bounds {
         requires { level_number level ≤ length self.now }
         ensures value { result ≡ bound_at self.now (level_number level) }
         ensures least { 1 ≤ result }
-        ensures most { result ≤ 1048576 }
+        ensures most { result ≤ most_bound }
         ensures valid { IsTrue (are_bounds self.now) }
     {
         self.as_slice()[level.get() as usize - 1]
@@ -82,7 +83,7 @@ impl Bounds {
     pub fn last(&self) -> u32
         ensures value { result ≡ last_bound self.now }
         ensures least { 1 ≤ result }
-        ensures most { result ≤ 1048576 }
+        ensures most { result ≤ most_bound }
     {
         let bounds = self.as_slice();
         bounds[bounds.len() - 1]
@@ -102,7 +103,7 @@ impl Bounds {
     }
 }
 
-// The bounds, and zeros behind them.
+// The bounds, and zeros after them.
 fn with_zeros(bounds: &[u32]) -> [u32; MOST_LEVELS as usize]
     requires { length bounds.now ≤ 8 }
     ensures { result ≡ padded 8 bounds.now }
@@ -153,7 +154,7 @@ fn is_rising(bounds: &[u32]) -> bool
 
 // Whether none is over the limit.
 fn are_small(bounds: &[u32]) -> bool
-    ensures { result ≡ list_all (λ b. nat_le b 1048576) bounds.now }
+    ensures { result ≡ list_all (λ b. nat_le b most_bound) bounds.now }
 {
     bounds.iter().all(|bound| *bound <= MOST_BOUND)
 }

@@ -45,7 +45,7 @@ pub enum Kind {
     Jitter,
 }
 
-/// The quotient rounded up, for `b` of at least 1. A packet of `a` units on a link of `b` units a tick takes so many
+/// The quotient rounded up, for `b` of at least 1. A packet of `a` units on a link of `b` units a tick takes that many
 /// ticks.
 pub fn ceil_div(a: u64, b: u64) -> u64
     requires { 1 ≤ b }

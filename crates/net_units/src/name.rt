@@ -112,7 +112,7 @@ impl fmt::Display for Name {
     }
 }
 
-// The bytes, and zeros behind them.
+// The bytes, and zeros after them.
 fn with_zeros(bytes: &[u8]) -> [u8; MOST_NAME]
     requires { length bytes.now ≤ 16 }
     ensures { result ≡ padded 16 bytes.now }
@@ -136,7 +136,7 @@ fn is_reserved(bytes: &[u8]) -> bool
     bytes == b"contract".as_slice() || bytes == b"plane".as_slice()
 }
 
-// Whether a letter comes first, and then bytes that may stand behind one.
+// Whether a letter comes first, and then bytes that may stand after one.
 fn is_begun_as_name(bytes: &[u8]) -> bool
     ensures { result ≡ begins_as_name bytes.now }
 {
@@ -146,7 +146,7 @@ fn is_begun_as_name(bytes: &[u8]) -> bool
     }
 }
 
-// Whether each may stand behind the first byte of a name.
+// Whether each may stand after the first byte of a name.
 fn are_name_bytes(bytes: &[u8]) -> bool
     ensures { result ≡ list_all is_name_byte bytes.now }
 {

@@ -1,5 +1,6 @@
 //! The numbers of links, actors, channels and levels.
 ghost use Rattle.std.specs.Prelude.{◌≡◌, ◌<◌, ◌≤◌, ◌↔◌, IsSome, IfSome};
+ghost use Rattle.net_units.specs.Limits.{most_channels};
 
 use crate::limits::{MOST_ACTORS, MOST_CHANNELS, MOST_LEVELS, MOST_LINKS};
 
@@ -21,7 +22,7 @@ pub struct ActorNo {
 #[derive(Clone, Copy, Debug, PartialEq, Eq, PartialOrd, Ord, Hash)]
 pub struct ChanNo {
     number: u32,
-    ghost small: { number < 1048576 },
+    ghost small: { number < most_channels },
 }
 
 /// A priority level of a link, from 1 to 8. Level 1 has the smallest delay bound and is served first.
@@ -85,7 +86,7 @@ impl ChanNo {
 
     /// The channel of this number, None exactly where it isn't below 2^20.
     pub fn new(n: u32) -> Option<ChanNo>
-        ensures found { IsSome result ↔ (n < 1048576) }
+        ensures found { IsSome result ↔ (n < most_channels) }
         ensures value { IfSome result (λ channel. channel_number channel ≡ n) }
     {
         if n < MOST_CHANNELS {
@@ -98,7 +99,7 @@ impl ChanNo {
     /// The number.
     pub fn get(&self) -> u32
         ensures value { result ≡ channel_number self.now }
-        ensures small { result < 1048576 }
+        ensures small { result < most_channels }
     {
         self.number
     }

@@ -53,7 +53,7 @@ inside-of [] k x found = absurd (let clash : None ≡ Some x = found in cc)
 inside-of (y ∷ xs) zero x found = omega arith
 inside-of (y ∷ xs) (suc k) x found = (let less = inside-of xs k x found in omega (arith, less))
 
--- the caller before an operation: what its script has before and behind it, and that it goes on behind it
+-- the caller before an operation: what its script has before and after it, and that it goes on after it
 pub record Here (parts : PlanParts) (caller place : ℕ) (op : Op) (pass : Token) (accepted : List Bool) : Type 0 where
   pub front : List Task
   pub rest : List Task

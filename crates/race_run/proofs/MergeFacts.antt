@@ -10,7 +10,7 @@ use Rattle.std.specs.List.{slice_get}
 use Rattle.std.specs.Prelude.{nat_lt}
 use Rattle.link_steps.specs.Lists.{Each}
 use Rattle.link_steps.proofs.ListFacts.{Among, Each-among, Each-append, Each-if}
-use Rattle.step_stamp.specs.Marks.{RisesFrom, Rises}
+use Rattle.step_stamp.specs.Marks.{RisesFrom, StampsRise}
 use Rattle.link_ledger.specs.Journals.{marks_in}
 use Rattle.link_ledger.specs.Tokens.{Token}
 use Rattle.link_ledger.specs.declared.entries.Entry.{Entry}
@@ -190,7 +190,7 @@ among-right : {X : Type 0} (x : X) (xs ys : List X) → Among x ys → Among x (
 among-right x [] ys among = among
 among-right x (z ∷ xs) ys among = inr (among-right x xs ys among)
 
--- the place of an entry that stands k places behind the first
+-- the place of an entry that stands k places after the first
 place-among : (n at k : ℕ) (entries : List Entry) (e : Entry) (place : Place) → slice_get entries k ≡ Some e → place ≡ record { stamp = e.stamp; journal = n; at = at + k } → Among place (places_from n at entries)
 unfolding places_from
 place-among n at k [] e place found is = absurd (let clash : None ≡ Some e = found in cc)
@@ -263,7 +263,7 @@ unfolding places_from
 places-rise n at low [] rises = tt
 places-rise n at low (e ∷ entries) rises = ((let less = rises.0 in omega (arith, less)), places-rise n (suc at) e.stamp entries rises.1)
 
-sources-sorted : (n : ℕ) (journals : List Journal) → Each (λ (journal : Journal). Rises (marks_in journal.entries.items)) journals → Each (λ source. IsSortedBy is_before source) (sources_from n journals)
+sources-sorted : (n : ℕ) (journals : List Journal) → Each (λ (journal : Journal). StampsRise (marks_in journal.entries.items)) journals → Each (λ source. IsSortedBy is_before source) (sources_from n journals)
 unfolding sources_from
 sources-sorted n [] rises = tt
 sources-sorted n (journal ∷ journals) rises = (rises-sorted 0 (places_from n 0 journal.entries.items) (places-rise n 0 0 journal.entries.items rises.0), sources-sorted (suc n) journals rises.1)

@@ -37,7 +37,7 @@ use Rattle.call_script.specs.Parts.{PlanParts}
 use Rattle.call_script.specs.Plans.{IsPlan}
 use Rattle.call_script.specs.Scripts.{Opened, is_accepting, is_established, outcome_by, settled_as, submit_next, task_ask, takes_step}
 use Rattle.call_script.specs.Standing.{requests_of}
-use Rattle.call_script.specs.Tasks.{Network, network_of, request_of, link_of, task_of, with_task}
+use Rattle.call_script.specs.Tasks.{Network, network_of, request_of, entry_link, task_of, with_task}
 use Rattle.call_script.specs.declared.entries.RequestEntry.{RequestEntry}
 use Rattle.call_script.specs.declared.operations.Op.{Op}
 use Rattle.call_script.specs.declared.operations.Op.TheVariants.{Open, Send, Close, Pour}
@@ -116,7 +116,7 @@ pub hops-of : (parts : PlanParts) (links : List Link) (owners : List ActorNo) (c
 unfolding network_of
 hops-of parts links owners c entry plan network found =
     subst (λ ls. Each (IsHopOf ls) entry.request.route) (sym network.links_are)
-    (Each-if (HopOf (map link_of parts.links)) (IsHopOf (map link_of parts.links)) entry.request.route (λ hop of. record { link = of.link; is_link = of.linked; bounds = of.bounds; prop = of.prop }) (request-fits parts c entry plan found).hops)
+    (Each-if (HopOf (map entry_link parts.links)) (IsHopOf (map entry_link parts.links)) entry.request.route (λ hop of. record { link = of.link; is_link = of.linked; bounds = of.bounds; prop = of.prop }) (request-fits parts c entry plan found).hops)
 
 -- ---- opening
 

@@ -19,7 +19,7 @@ use Rattle.call_script.proofs.OwnerFacts.{all-owned}
 use Rattle.run_record.specs.declared.done.Done.{Done}
 use Rattle.interleave_core.specs.Laws.{actor_of}
 use Rattle.interleave_core.specs.Runs.{plane_no, next_for, IsRun}
-use Rattle.interleave_core.specs.Schedules.{Follows, IsActorOf, turns_of, repeated}
+use Rattle.interleave_core.specs.Schedules.{FollowsTurns, IsActorOf, turns_of, repeated}
 use Rattle.interleave_core.specs.Standing.{IsGuaranteedRun}
 use Rattle.interleave_core.proofs.GuaranteeLaw.{guaranteed-throughout}
 use Rattle.interleave_core.proofs.RunOf.{step-is}
@@ -34,19 +34,19 @@ some-of (Some y) x is = refl
 some-of None x is = absurd (let clash : None ≡ Some x = is in cc)
 
 -- a run is that of its own actors
-follows-itself : (network : Network) (run : List Done) → IsRun network run → Follows network [] (reverse (map actor_of run)) run
+follows-itself : (network : Network) (run : List Done) → IsRun network run → FollowsTurns network [] (reverse (map actor_of run)) run
 unfolding IsRun
 follows-itself network [] is = follows-none network []
 follows-itself network (done ∷ past) is =
-    subst (λ actors. Follows network [] actors (done ∷ past)) (sym (reverse-append (done.actor ∷ []) (map actor_of past)))
+    subst (λ actors. FollowsTurns network [] actors (done ∷ past)) (sym (reverse-append (done.actor ∷ []) (map actor_of past)))
     (follows-more network [] past (done ∷ past) (reverse (map actor_of past)) (done.actor ∷ []) (follows-itself network past is.0)
     (follows-one network past (done ∷ past) done.actor (some-of (next_for network (actor_number done.actor) past) (done.link, done.ask) is.1.asked) (sym (step-is network past done is.1))))
 
 turned-actors : (entries : List Done) → reverse (map actor_of (reverse entries)) ≡ actors_of entries
 turned-actors entries = ap reverse (turned-map actor_of entries) ∙ reverse-reverse (map actor_of entries)
 
-pub run-follows : (network : Network) (entries : List Done) (items : List Do) → AreMaximalRuns (actors_of entries) items → IsRun network (reverse entries) → Follows network [] (turns_of items) (reverse entries)
-run-follows network entries items runs is = subst (λ actors. Follows network [] actors (reverse entries)) (turned-actors entries ∙ sym runs.spelled) (follows-itself network (reverse entries) is)
+pub run-follows : (network : Network) (entries : List Done) (items : List Do) → AreMaximalRuns (actors_of entries) items → IsRun network (reverse entries) → FollowsTurns network [] (turns_of items) (reverse entries)
+run-follows network entries items runs is = subst (λ actors. FollowsTurns network [] actors (reverse entries)) (turned-actors entries ∙ sym runs.spelled) (follows-itself network (reverse entries) is)
 
 -- ---- the actors
 

@@ -5,7 +5,7 @@ use Rattle.net_units.specs.Numbers.{channel_number}
 use Rattle.link_steps.specs.Lists.{Each}
 use Rattle.setup_protocol.specs.declared.request.Request.{Request}
 use Rattle.step_stamp.specs.Lists.{Has}
-use Rattle.call_script.specs.Owners.{TaskOff, IsSend, SendsOnce, FullScript}
+use Rattle.call_script.specs.Owners.{TaskOff, IsSendOn, SendsOnce, FullScript}
 use Rattle.call_script.specs.declared.tasks.Task.{Task}
 use Rattle.call_script.specs.declared.tasks.Task.TheVariants.{Opens, Sends, Closes, Pours}
 use Rattle.race_run.specs.Callers.{LeavesOpen}
@@ -34,10 +34,10 @@ off-leaves c (Sends request count gap size) off = tt
 off-leaves c (Closes request) off = off
 off-leaves c (Pours link count gap size) off = tt
 
-send-leaves : (request : Request) (task : Task) → IsSend request task → LeavesOpen (channel_number request.chan) task
+send-leaves : (request : Request) (task : Task) → IsSendOn request task → LeavesOpen (channel_number request.chan) task
 send-leaves request task send = subst (LeavesOpen (channel_number request.chan)) (sym send.is) tt
 
--- behind its opening a channel isn't opened again
+-- after its opening a channel isn't opened again
 sends-no-open : (request : Request) (front rest : List Task) → SendsOnce request (front ++ Opens request ∷ rest) → ⊥
 sends-no-open request [] rest (inl off) = off.0 refl
 sends-no-open request [] rest (inr (inl send)) = (let is : Opens request ≡ Sends request send.0.count send.0.gap send.0.size = send.0.is in cc)

@@ -13,7 +13,7 @@ use Rattle.link_steps.specs.Lists.{Each}
 use Rattle.link_steps.proofs.ListFacts.{Among, Each-append, Each-if, Each-map, Each-from}
 use Rattle.link_steps.proofs.ChangeFacts.{Each-from_among}
 use Rattle.link_steps.proofs.JournalFacts.{journals-are-histories}
-use Rattle.step_stamp.specs.Marks.{RisesFrom, Rises}
+use Rattle.step_stamp.specs.Marks.{RisesFrom, StampsRise}
 use Rattle.step_stamp.specs.declared.marks.Mark.{Mark}
 use Rattle.link_ledger.specs.Journals.{mark_in, marks_in, done_in}
 use Rattle.link_ledger.specs.Own.{own_mark, own_entry}
@@ -23,12 +23,12 @@ use Rattle.link_ledger.specs.declared.entries.Journal.{Journal}
 use Rattle.link_ledger.specs.declared.entries.OwnEntry.{OwnEntry}
 use Rattle.shared_network.specs.Calls.{reply_in}
 use Rattle.shared_network.specs.Closing.{StandsIn as StandsAt, number_of}
-use Rattle.shared_network.specs.Gathering.{actor_in}
+use Rattle.shared_network.specs.Gathering.{token_actor}
 use Rattle.shared_network.proofs.LinkNumbers.{same-link, numbered-length, numbered-at}
 use Rattle.call_script.specs.Tasks.{Network}
 use Rattle.interleave_core.specs.Parts.{IsAsked, next_behind, reply_of}
 use Rattle.interleave_core.specs.Runs.{plane_no, IsRun, next_for}
-use Rattle.interleave_core.specs.Weave.{Stamped, IsUnder, Falls, IsUnlike, AreApart, PairsApart, AreOf, AreJournals, AreAsked, InOne, StandsIn, done_of, entry_in}
+use Rattle.interleave_core.specs.Weave.{Stamped, IsUnder, Falls, IsUnlike, AreStampedApart, PairsApart, AreOf, AreJournals, AreAsked, InOne, StandsIn, done_of, entry_in}
 use Rattle.interleave_core.proofs.WeaveLaw.{journals-weave}
 use Rattle.race_run.specs.Whole.{IsWhole, HasMadeAll, own_done, stamped_on, stamped_in, weave_of}
 use Rattle.race_run.proofs.Lists.{turned-map, turned-each, among-turned_map, turned_map-among, get-map, map-get, each-get, get-each, get-has, has-get}
@@ -75,14 +75,14 @@ are-of n (journal ∷ journals) numbers = (
   are-of (suc n) journals (λ k one found. (let e = numbers (suc k) one found in omega (arith, e))),
 )
 
-are-apart : (xs ys : List Stamped) → ((x y : Stamped) → Among x xs → Among y ys → IsUnlike x y) → AreApart xs ys
+are-apart : (xs ys : List Stamped) → ((x y : Stamped) → Among x xs → Among y ys → IsUnlike x y) → AreStampedApart xs ys
 are-apart [] ys unlike = tt
 are-apart (x ∷ xs) ys unlike = (Each-from_among (IsUnlike x) ys (λ y there. unlike x y (inl refl) there), are-apart xs ys (λ z y here there. unlike z y (inr here) there))
 
-pairs-apart : (journals : List Journal) → ((k l : ℕ) (one other : Journal) → k ≢ l → slice_get journals k ≡ Some one → slice_get journals l ≡ Some other → AreApart (stamped_in one) (stamped_in other)) → PairsApart (map stamped_in journals)
+pairs-apart : (journals : List Journal) → ((k l : ℕ) (one other : Journal) → k ≢ l → slice_get journals k ≡ Some one → slice_get journals l ≡ Some other → AreStampedApart (stamped_in one) (stamped_in other)) → PairsApart (map stamped_in journals)
 pairs-apart [] apart = tt
 pairs-apart (journal ∷ journals) apart = (
-  Each-map (AreApart (stamped_in journal)) stamped_in journals (get-each (λ (j : Journal). AreApart (stamped_in journal) (stamped_in j)) journals (λ k j found. apart 0 (suc k) journal j (λ same. absurd (omega (arith, same))) refl found)),
+  Each-map (AreStampedApart (stamped_in journal)) stamped_in journals (get-each (λ (j : Journal). AreStampedApart (stamped_in journal) (stamped_in j)) journals (λ k j found. apart 0 (suc k) journal j (λ same. absurd (omega (arith, same))) refl found)),
   pairs-apart journals (λ k l one other ne here there. apart (suc k) (suc l) one other (λ same. ne (omega (arith, same))) here there),
 )
 
@@ -95,7 +95,7 @@ pub whole-journals : (network : Network) (passes : List Token) (journals : List 
 whole-journals network passes journals whole = record {
   whole = length-map journals stamped_in ∙ whole-length network passes journals whole;
   of_links = are-of 0 journals (λ k journal found. (let e = journal-number network passes journals k journal whole found in omega (arith, e)));
-  falls = Each-map Falls stamped_in journals (Each-if (λ (journal : Journal). Rises (marks_in journal.entries.items)) (λ (journal : Journal). Falls (stamped_in journal)) journals (λ journal rises. (falls-turned (stamped_on journal.link) mark_in (λ e. refl) 0 journal.entries.items rises).0) whole.closed.rises);
+  falls = Each-map Falls stamped_in journals (Each-if (λ (journal : Journal). StampsRise (marks_in journal.entries.items)) (λ (journal : Journal). Falls (stamped_in journal)) journals (λ journal rises. (falls-turned (stamped_on journal.link) mark_in (λ e. refl) 0 journal.entries.items rises).0) whole.closed.rises);
   apart = pairs-apart journals (λ k l one other ne here there. are-apart (stamped_in one) (stamped_in other) (λ x y in_one in_other.
       (let from = among-turned_map (stamped_on one.link) one.entries.items x in_one in
       let to = among-turned_map (stamped_on other.link) other.entries.items y in_other in
@@ -122,12 +122,12 @@ owns_of passes actor = own_in (slice_get passes actor)
 own-falls : (network : Network) (passes : List Token) (journals : List Journal) (actor : ℕ) (found : Option Token) → IsWhole network passes journals → slice_get passes actor ≡ found → Falls (own_in found)
 own-falls network passes journals actor None whole is = tt
 own-falls network passes journals actor (Some pass) whole is =
-    (falls-turned (own_stamped pass.actor) (own_mark pass.actor) (λ e. refl) 0 pass.own (each-get (λ (p : Token). Rises (map (own_mark p.actor) p.own)) passes actor pass whole.closed.in_order is)).0
+    (falls-turned (own_stamped pass.actor) (own_mark pass.actor) (λ e. refl) 0 pass.own (each-get (λ (p : Token). StampsRise (map (own_mark p.actor) p.own)) passes actor pass whole.closed.in_order is)).0
 
 pass-number : (network : Network) (passes : List Token) (journals : List Journal) (actor : ℕ) (pass : Token) → IsWhole network passes journals → slice_get passes actor ≡ Some pass → actor_number pass.actor ≡ actor
 pass-number network passes journals actor pass whole found =
-    let all : length passes ≡ suc (plane_no network) = numbered-length actor_in passes (suc (plane_no network)) whole.actors in
-    numbered-at actor_in passes (suc (plane_no network)) actor pass whole.actors (subst (λ n. actor < n) all (within passes actor pass found)) found
+    let all : length passes ≡ suc (plane_no network) = numbered-length token_actor passes (suc (plane_no network)) whole.actors in
+    numbered-at token_actor passes (suc (plane_no network)) actor pass whole.actors (subst (λ n. actor < n) all (within passes actor pass found)) found
 
 own-stands : (network : Network) (passes : List Token) (journals : List Journal) (actor : ℕ) (x : Stamped) (found : Option Token) → IsWhole network passes journals → slice_get passes actor ≡ found → Among x (own_in found) → InOne x (map stamped_in journals) × (actor_number x.done.actor ≡ actor)
 own-stands network passes journals actor x None whole is among = absurd among
@@ -182,10 +182,10 @@ whole-asked network passes journals whole = record {
 pub whole-run : (network : Network) (passes : List Token) (journals : List Journal) → IsWhole network passes journals → IsRun network (weave_of journals)
 whole-run network passes journals whole = journals-weave.run network (map stamped_in journals) (owns_of passes) (whole-journals network passes journals whole) (whole-asked network passes journals whole)
 
--- behind its own entries no actor has an ask left, and none that the network hasn't
+-- after its own entries no actor has an ask left, and none that the network hasn't
 own-over : (network : Network) (passes : List Token) (journals : List Journal) (actor : ℕ) (found : Option Token) → IsWhole network passes journals → slice_get passes actor ≡ found → next_behind network actor (map reply_of (map done_of (own_in found))) ≡ None
 own-over network passes journals actor None whole is =
-    let all : length passes ≡ suc (plane_no network) = numbered-length actor_in passes (suc (plane_no network)) whole.actors in
+    let all : length passes ≡ suc (plane_no network) = numbered-length token_actor passes (suc (plane_no network)) whole.actors in
     let past : suc (plane_no network) ≤ actor = past-end passes actor (suc (plane_no network)) all is in
     let other = ne_eqb actor (plane_no network) (λ same. absurd (omega (arith, past, same))) in
     rw (other, slice_get_past network.scripts actor (omega (arith, past))) refl where

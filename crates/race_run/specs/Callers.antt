@@ -1,5 +1,5 @@
 -- Where a caller stands between two operations of its script, by the own entries of its pass. These are what its tasks so far have
--- asked, each behind the replies before it. A channel that no task so far names has no entry. One that was accepted and not
+-- asked, each after the replies before it. A channel that no task so far names has no entry. One that was accepted and not
 -- closed yet is established.
 use Rattle.std.specs.Prelude.{◌≡◌, ◌≢◌, ℕ, Bool, true, false, Some, List, [], ◌∷◌, ◌++◌, map, reverse, take, drop, get_or, length, ◌<◌}
 use Rattle.std.specs.List.{slice_get}

@@ -22,7 +22,7 @@ unfoldable pub sources_from : ℕ → List Journal → List (List Place)
 sources_from n [] = []
 sources_from n (journal ∷ journals) = places_from n 0 journal.entries.items ∷ sources_from (suc n) journals
 
--- those of all journals, one journal behind the other
+-- those of all journals, one journal after the other
 abbrev pub places_of : List Journal → List Place
 places_of journals = flat_map (λ places. places) (sources_from 0 journals)
 

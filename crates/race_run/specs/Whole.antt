@@ -2,7 +2,7 @@
 -- in their order. Each is legal, its stamps rise, and no stamp stands twice in all of them. The passes are those of the actors,
 -- in their order: the callers and then the plane. Each entry of each journal is, at its place, the own entry of exactly one
 -- pass and has that pass's actor, and each own entry stands so in its journal. The own entries of each pass, which are in order
--- of stamp, are what its actor asks, each behind the replies before it, and behind all of them it has no ask left.
+-- of stamp, are what its actor asks, each after the replies before it, and after all of them it has no ask left.
 --
 -- The weave of journals is all their entries in order of stamp, each with its journal's link.
 use Rattle.std.specs.Prelude.{◌≡◌, suc, None, List, map, reverse}
@@ -17,7 +17,7 @@ use Rattle.link_ledger.specs.declared.entries.Journal.{Journal}
 use Rattle.link_ledger.specs.declared.entries.OwnEntry.{OwnEntry}
 use Rattle.shared_network.specs.Calls.{reply_in}
 use Rattle.shared_network.specs.Closing.{IsClosed}
-use Rattle.shared_network.specs.Gathering.{actor_in}
+use Rattle.shared_network.specs.Gathering.{token_actor}
 use Rattle.call_script.specs.Tasks.{Network}
 use Rattle.run_record.specs.declared.done.Done.{Done}
 use Rattle.interleave_core.specs.Parts.{IsAsked, next_behind}
@@ -39,7 +39,7 @@ pub record HasMadeAll (network : Network) (pass : Token) : Type 0 where
 
 pub record IsWhole (network : Network) (passes : List Token) (journals : List Journal) : Type 0 where
   pub closed : IsClosed network.links passes journals
-  pub actors : map actor_in passes ≡ up_to (suc (plane_no network))
+  pub actors : map token_actor passes ≡ up_to (suc (plane_no network))
   pub made_all : Each (HasMadeAll network) passes
 
 -- ---- the weave

@@ -4,7 +4,7 @@ ghost use Rattle.call_script.specs.declared.operations.Op.TheVariants.{Open, Sen
 ghost use Rattle.setup_protocol.specs.Laws.{is_accepted};
 ghost use Rattle.setup_protocol.specs.State.{outcome_of};
 ghost use Rattle.race_run.specs.Callers.{CallerIsAt, HasLeft, HasOp, IsNetworkOf};
-ghost use Rattle.shared_network.specs.Ready.{MayStep, GoesOn};
+ghost use Rattle.shared_network.specs.Ready.{MayStep, PassGoesOn};
 
 use call_script::{Op, Plan};
 use link_ledger::{Home, Pass};
@@ -40,7 +40,7 @@ pub fn make_op<H: Home, W: Wait, G: Gate>(
     requires at { CallerIsAt plan.now at.0 at.1 pass.old accepted.old }
     requires left { HasLeft plan.now at.0 at.1 }
     ensures at { OnOk result (CallerIsAt plan.now at.0 (at.1 + 1) pass.new accepted.new) }
-    ensures ready { OnOk result (GoesOn H.table H.owners H.links pass.old pass.new) }
+    ensures ready { OnOk result (PassGoesOn H.table H.owners H.links pass.old pass.new) }
     ensures actor { OnOk result (pass.new.actor ≡ pass.old.actor) }
 {
     if pass.drawn() >= MOST_DRAWN {
@@ -87,7 +87,7 @@ fn open_channel<H: Home, W: Wait, G: Gate>(
     requires at { CallerIsAt plan.now at.0 at.1 pass.old accepted.old }
     requires op { HasOp plan.now at.0 at.1 (Open chan) }
     ensures at { OnOk result (CallerIsAt plan.now at.0 (at.1 + 1) pass.new accepted.new) }
-    ensures ready { OnOk result (GoesOn H.table H.owners H.links pass.old pass.new) }
+    ensures ready { OnOk result (PassGoesOn H.table H.owners H.links pass.old pass.new) }
     ensures actor { OnOk result (pass.new.actor ≡ pass.old.actor) }
 {
     let number = chan.get() as usize;
@@ -125,7 +125,7 @@ fn send_on<H: Home, W: Wait, G: Gate>(
     requires at { CallerIsAt plan.now at.0 at.1 pass.old accepted.now }
     requires op { HasOp plan.now at.0 at.1 (Send packets.0 packets.1 packets.2 packets.3) }
     ensures at { OnOk result (CallerIsAt plan.now at.0 (at.1 + 1) pass.new accepted.now) }
-    ensures ready { OnOk result (GoesOn H.table H.owners H.links pass.old pass.new) }
+    ensures ready { OnOk result (PassGoesOn H.table H.owners H.links pass.old pass.new) }
     ensures actor { OnOk result (pass.new.actor ≡ pass.old.actor) }
 {
     let (chan, count, gap, size) = packets;
@@ -165,7 +165,7 @@ fn close_channel<H: Home, W: Wait, G: Gate>(
     requires at { CallerIsAt plan.now at.0 at.1 pass.old accepted.now }
     requires op { HasOp plan.now at.0 at.1 (Close chan) }
     ensures at { OnOk result (CallerIsAt plan.now at.0 (at.1 + 1) pass.new accepted.now) }
-    ensures ready { OnOk result (GoesOn H.table H.owners H.links pass.old pass.new) }
+    ensures ready { OnOk result (PassGoesOn H.table H.owners H.links pass.old pass.new) }
     ensures actor { OnOk result (pass.new.actor ≡ pass.old.actor) }
 {
     let number = chan.get() as usize;
@@ -198,7 +198,7 @@ fn pour<H: Home, W: Wait, G: Gate>(
     requires at { CallerIsAt plan.now at.0 at.1 pass.old accepted.now }
     requires op { HasOp plan.now at.0 at.1 (Pour packets.0 packets.1 packets.2 packets.3) }
     ensures at { OnOk result (CallerIsAt plan.now at.0 (at.1 + 1) pass.new accepted.now) }
-    ensures ready { OnOk result (GoesOn H.table H.owners H.links pass.old pass.new) }
+    ensures ready { OnOk result (PassGoesOn H.table H.owners H.links pass.old pass.new) }
     ensures actor { OnOk result (pass.new.actor ≡ pass.old.actor) }
 {
     // Read for what it says of every plan.

@@ -4,11 +4,11 @@ use Rattle.std.proofs.Common.{◌≡◌, ◌≢◌, ℕ, suc, ◌+◌, ◌<◌, 
 use Rattle.std.proofs.lemmas.Bool.{eqb-true, eqb-false, ne_eqb, cases_Bool}
 use Rattle.std.proofs.lemmas.List.{length-map, get_or-map}
 use Rattle.std.specs.List.{find}
-use Rattle.traffic_contract.specs.Admission.{Row, total}
-use Rattle.rcsp_admission.specs.Sums.{Held, key_of, rows_of, has_key, Holds, HoldsUpTo, put_at, moved, without, IsDistinct}
+use Rattle.traffic_contract.specs.Admission.{Admitted, total}
+use Rattle.rcsp_admission.specs.Sums.{Held, key_of, admitted_rows, has_key, Holds, HoldsUpTo, put_at, moved, without_key, IsDistinct}
 use Rattle.rcsp_admission.proofs.SumsFacts.{held_later}
 
--- the rows behind the first differ from each other
+-- the rows after the first differ from each other
 pub distinct-rest : (held : Held) (rows : List Held) → IsDistinct (held ∷ rows) → IsDistinct rows
 distinct-rest held rows distinct = record { apart = λ i j d before within. distinct.apart (suc i) (suc j) d (omega arith) (omega arith) }
 
@@ -17,7 +17,7 @@ pub others-differ : (held : Held) (rows : List Held) (key : ℕ) → IsDistinct 
 others-differ held rows key distinct same k d within again = distinct.apart 0 (suc k) d (omega arith) (omega arith) (same ∙ sym again)
 
 -- rows of other keys stay where one is taken out
-pub without-others : (rows : List Held) (key : ℕ) → ((k : ℕ) (d : Held) → k < length rows → (get_or rows k d).key ≢ key) → without rows key ≡ rows
+pub without-others : (rows : List Held) (key : ℕ) → ((k : ℕ) (d : Held) → k < length rows → (get_or rows k d).key ≢ key) → without_key rows key ≡ rows
 without-others [] key others = refl
 without-others (held ∷ rows) key others =
     let other : eqb held.key key ≡ false = ne_eqb held.key key (others 0 held (omega arith)) in
@@ -30,7 +30,7 @@ moved-others (held ∷ rows) key level others =
     let other : eqb held.key key ≡ false = ne_eqb held.key key (others 0 held (omega arith)) in
     rw other (ap (λ rest. held ∷ rest) (moved-others rows key level (λ k d inside. others (suc k) d (omega arith))))
 
--- the first row of the key is found; else one of the rows behind it
+-- the first row of the key is found; else one of the rows after it
 found-first : (held : Held) (rows : List Held) (key : ℕ) (found : Held) → eqb held.key key ≡ true → find (has_key key) (held ∷ rows) ≡ Some found → found ≡ held
 found-first held rows key found mine at = (let e = rw mine at at in cc)
 
@@ -38,7 +38,7 @@ found-later : (held : Held) (rows : List Held) (key : ℕ) (found : Held) → eq
 found-later held rows key found other at = rw other at at
 
 -- a sum over the rows without that of the key
-pub total-without : (f : Row → ℕ) (rows : List Held) (key : ℕ) (found : Held) → IsDistinct rows → find (has_key key) rows ≡ Some found → total f (rows_of (without rows key)) + f found.row ≡ total f (rows_of rows)
+pub total-without : (f : Admitted → ℕ) (rows : List Held) (key : ℕ) (found : Held) → IsDistinct rows → find (has_key key) rows ≡ Some found → total f (admitted_rows (without_key rows key)) + f found.row ≡ total f (admitted_rows rows)
 total-without f [] key found distinct at = cc
 total-without f (held ∷ rows) key found distinct at =
     ⊎_elim (λ (mine : eqb held.key key ≡ true).
@@ -51,7 +51,7 @@ total-without f (held ∷ rows) key found distinct at =
     (cases_Bool (eqb held.key key))
 
 -- a sum over the rows with that of the key at a level
-pub total-moved : (f : Row → ℕ) (rows : List Held) (key level : ℕ) (found : Held) → IsDistinct rows → find (has_key key) rows ≡ Some found → total f (rows_of (moved rows key level)) + f found.row ≡ total f (rows_of rows) + f (put_at level found).row
+pub total-moved : (f : Admitted → ℕ) (rows : List Held) (key level : ℕ) (found : Held) → IsDistinct rows → find (has_key key) rows ≡ Some found → total f (admitted_rows (moved rows key level)) + f found.row ≡ total f (admitted_rows rows) + f (put_at level found).row
 total-moved f [] key level found distinct at = cc
 total-moved f (held ∷ rows) key level found distinct at =
     ⊎_elim (λ (mine : eqb held.key key ≡ true).

@@ -9,11 +9,11 @@ use Rattle.std.specs.List.{filter, All}
 use Rattle.std.specs.Prelude.{Contains}
 use Rattle.net_units.specs.LevelBounds.{bound_at}
 use Rattle.net_units.proofs.BoundFacts.{bounds_parts, bound_least, bound_at-rising}
-use Rattle.traffic_contract.specs.Contract.{Terms, IsContract}
+use Rattle.traffic_contract.specs.Contract.{Traffic, IsContract}
 use Rattle.traffic_contract.specs.Admission.{total, work_up_to, load, Passes, with_row}
 use Rattle.traffic_contract.proofs.AdmissionFacts.{window-of, counts-within, Passes-nil, Passes-kept, Passes-changed}
 use Rattle.traffic_contract.proofs.LoadFacts.{HasContract, total-most}
-use Rattle.rcsp_admission.specs.Sums.{Held, Sums, row_of, key_of, rows_of, held_at, has_key, Holds, HoldsUpTo, added, put_at, move_row, moved, has_other_key, without, IsDistinct, IsServer, HoldsContract, AreAdmitted}
+use Rattle.rcsp_admission.specs.Sums.{Held, Sums, admitted_row, key_of, admitted_rows, held_at, has_key, Holds, HoldsUpTo, added, put_at, move_row, moved, has_other_key, without_key, IsDistinct, IsServer, HoldsContract, AreAdmitted}
 
 -- ---- a link without rows
 
@@ -33,12 +33,12 @@ keys_differ : (rows : List Held) (key : ℕ) → (Holds rows key → ⊥) → (k
 keys_differ rows key new k d inside same =
     new (k, omega (arith, length-map rows key_of), get_or-map key_of rows k d key inside ∙ same)
 
-pub AreAdmitted-added : (before after : Sums) (key : ℕ) (terms : Terms) (level : ℕ) → AreAdmitted before → (Holds before.rows key → ⊥) → IsContract terms → Passes before.server (with_row (rows_of before.rows) terms level) → after.server ≡ before.server → after.rows ≡ added before.rows key terms level → AreAdmitted after
-AreAdmitted-added before after key terms level held new valid passed same rows = record {
+pub AreAdmitted-added : (before after : Sums) (key : ℕ) (contract : Traffic) (level : ℕ) → AreAdmitted before → (Holds before.rows key → ⊥) → IsContract contract → Passes before.server (with_row (admitted_rows before.rows) contract level) → after.server ≡ before.server → after.rows ≡ added before.rows key contract level → AreAdmitted after
+AreAdmitted-added before after key contract level held new valid passed same rows = record {
   server = rw same held.server;
-  contracts = rw rows (All-push HoldsContract before.rows (held_at key terms level) held.contracts valid);
-  passes = rw (same, rows, map_push row_of before.rows (held_at key terms level)) passed;
-  distinct = rw rows (record { apart = all_pairs_push (λ one other. one.key ≢ other.key) before.rows (held_at key terms level) held.distinct.apart (keys_differ before.rows key new) });
+  contracts = rw rows (All-push HoldsContract before.rows (held_at key contract level) held.contracts valid);
+  passes = rw (same, rows, map_push admitted_row before.rows (held_at key contract level)) passed;
+  distinct = rw rows (record { apart = all_pairs_push (λ one other. one.key ≢ other.key) before.rows (held_at key contract level) held.distinct.apart (keys_differ before.rows key new) });
 }
 
 -- ---- a row at another level
@@ -47,7 +47,7 @@ move_row-key : (key level : ℕ) (held : Held) → (move_row key level held).key
 move_row-key key level held = elim (has_key key held) as (λ b. (cond b (put_at level held) held).key ≡ held.key) [ true ↦ refl | false ↦ refl ]
 
 -- a row that has the key only at a level up to this one isn't moved down
-move_row-up : (key level : ℕ) (held : Held) → (held.key ≡ key → held.row.level ≤ level) → ((row_of (move_row key level held)).terms ≡ (row_of held).terms) × ((row_of held).level ≤ (row_of (move_row key level held)).level)
+move_row-up : (key level : ℕ) (held : Held) → (held.key ≡ key → held.row.level ≤ level) → ((admitted_row (move_row key level held)).contract ≡ (admitted_row held).contract) × ((admitted_row held).level ≤ (admitted_row (move_row key level held)).level)
 move_row-up key level held up =
     ⊎_elim (λ (mine : has_key key held ≡ true). (rw mine (refl, up (eqb-true held.key key mine))))
     (λ (other : has_key key held ≡ false). (rw other (refl, omega arith)))
@@ -82,22 +82,22 @@ pub AreAdmitted-moved : (before after : Sums) (key level : ℕ) → AreAdmitted 
 AreAdmitted-moved before after key level held up same rows = record {
   server = rw same held.server;
   contracts = rw rows (contracts-moved before.rows key level held.contracts);
-  passes = rw (same, rows) (Passes-changed before.server row_of (move_row key level) before.rows (λ k d inside. move_row-up key level _ (all_up before.rows key level held.distinct up k d inside)) held.passes);
+  passes = rw (same, rows) (Passes-changed before.server admitted_row (move_row key level) before.rows (λ k d inside. move_row-up key level _ (all_up before.rows key level held.distinct up k d inside)) held.passes);
   distinct = rw rows (IsDistinct-moved before.rows key level held.distinct);
 }
 
 -- ---- a row less
 
-pub AreAdmitted-without : (before after : Sums) (key : ℕ) → AreAdmitted before → after.server ≡ before.server → after.rows ≡ without before.rows key → AreAdmitted after
+pub AreAdmitted-without : (before after : Sums) (key : ℕ) → AreAdmitted before → after.server ≡ before.server → after.rows ≡ without_key before.rows key → AreAdmitted after
 AreAdmitted-without before after key held same rows = record {
   server = rw same held.server;
   contracts = rw rows (All-filter (has_other_key key) HoldsContract before.rows held.contracts);
-  passes = rw (same, rows) (Passes-kept before.server row_of (has_other_key key) before.rows held.passes);
+  passes = rw (same, rows) (Passes-kept before.server admitted_row (has_other_key key) before.rows held.passes);
   distinct = rw rows (record { apart = AllPairs-filter (λ one other. one.key ≢ other.key) (has_other_key key) before.rows held.distinct.apart });
 }
 
 -- rows of other keys all stay
-without-none : (rows : List Held) (key : ℕ) → ((k : ℕ) (d : Held) → k < length rows → (get_or rows k d).key ≢ key) → length (without rows key) ≡ length rows
+without-none : (rows : List Held) (key : ℕ) → ((k : ℕ) (d : Held) → k < length rows → (get_or rows k d).key ≢ key) → length (without_key rows key) ≡ length rows
 without-none [] key others = refl
 without-none (held ∷ rows) key others =
     let other : eqb held.key key ≡ false = ne_eqb held.key key (others 0 held (omega arith)) in
@@ -109,7 +109,7 @@ held_later held rows key zero inside at other = absurd (other at)
 held_later held rows key (suc k) inside at other = (k, omega arith, at)
 
 -- where keys differ, taking out one that is held takes out one row
-pub length-without : (rows : List Held) (key : ℕ) → IsDistinct rows → Holds rows key → length (without rows key) + 1 ≡ length rows
+pub length-without : (rows : List Held) (key : ℕ) → IsDistinct rows → Holds rows key → length (without_key rows key) + 1 ≡ length rows
 length-without [] key distinct (k, inside, at) = absurd (omega arith)
 length-without (held ∷ rows) key distinct (k, inside, at) =
     let rest : IsDistinct rows = record { apart = λ i j d before within. distinct.apart (suc i) (suc j) d (omega arith) (omega arith) } in
@@ -130,30 +130,30 @@ map-filter f test (x ∷ xs) =
 pub not_held-none : (rows : List Held) (key : ℕ) → rows ≡ [] → Holds rows key → ⊥
 not_held-none rows key none (k, inside, at) = omega (arith, length-map rows key_of, ap length none)
 
-pub not_held-added : (before after : List Held) (key other level : ℕ) (terms : Terms) → after ≡ added before other terms level → key ≢ other → (Holds before key → ⊥) → Holds after key → ⊥
-not_held-added before after key other level terms e apart new held =
-    ⊎_elim new (λ same. apart (sym same)) (Contains-push_cases (map key_of before) other key (subst (λ keys. Contains keys key) (ap (map key_of) e ∙ map_push key_of before (held_at other terms level)) held))
+pub not_held-added : (before after : List Held) (key other level : ℕ) (contract : Traffic) → after ≡ added before other contract level → key ≢ other → (Holds before key → ⊥) → Holds after key → ⊥
+not_held-added before after key other level contract e apart new held =
+    ⊎_elim new (λ same. apart (sym same)) (Contains-push_cases (map key_of before) other key (subst (λ keys. Contains keys key) (ap (map key_of) e ∙ map_push key_of before (held_at other contract level)) held))
 
 pub ruleset not_held = (not_held-none, not_held-added)
 
 -- ---- what the rows come to
 
 -- the rows that admission sums have contracts
-pub contracts-of : (rows : List Held) → All HoldsContract rows → All HasContract (rows_of rows)
-contracts-of rows contracts = All-map HasContract row_of rows contracts
+pub contracts-of : (rows : List Held) → All HoldsContract rows → All HasContract (admitted_rows rows)
+contracts-of rows contracts = All-map HasContract admitted_row rows contracts
 
 -- and so with a new one
-pub contracts-with : (rows : List Held) (terms : Terms) (level : ℕ) → All HoldsContract rows → IsContract terms → All HasContract (with_row (rows_of rows) terms level)
-contracts-with rows terms level contracts valid = All-push HasContract (rows_of rows) (record { terms = terms; level = level }) (contracts-of rows contracts) valid
+pub contracts-with : (rows : List Held) (contract : Traffic) (level : ℕ) → All HoldsContract rows → IsContract contract → All HasContract (with_row (admitted_rows rows) contract level)
+contracts-with rows contract level contracts valid = All-push HasContract (admitted_rows rows) (record { contract = contract; level = level }) (contracts-of rows contracts) valid
 
 -- the work of admitted rows in a window of at most a bound is no large number
-pub work-small : (sums : Sums) (m w : ℕ) → AreAdmitted sums → 1 ≤ m → m ≤ length sums.server.bounds → w ≤ 1048576 → total (work_up_to sums.server.rate m w) (rows_of sums.rows) < 2 ^ 60
+pub work-small : (sums : Sums) (m w : ℕ) → AreAdmitted sums → 1 ≤ m → m ≤ length sums.server.bounds → w ≤ 1048576 → total (work_up_to sums.server.rate m w) (admitted_rows sums.rows) < 2 ^ 60
 unfolding load
 work-small sums m w admitted from upto most =
-    let passed = window-of sums.server (rows_of sums.rows) m (admitted.passes.each m from upto) in
+    let passed = window-of sums.server (admitted_rows sums.rows) m (admitted.passes.each m from upto) in
     let some = bound_least sums.server.bounds m admitted.server.bounds from upto in
     let bound = ((bounds_parts sums.server.bounds admitted.server.bounds).each (m - 1) (omega (arith, from, upto))).1 in
     let within = counts-within sums.server.test (bound_at sums.server.bounds m) passed.window some passed.counts in
     let fits = passed.fits in
-    let few = total-most sums.server.rate m passed.window w (rows_of sums.rows) admitted.server.rate (contracts-of sums.rows admitted.contracts) within.0 most in
+    let few = total-most sums.server.rate m passed.window w (admitted_rows sums.rows) admitted.server.rate (contracts-of sums.rows admitted.contracts) within.0 most in
     omega (arith, few, fits, within.1, bound)

@@ -3,25 +3,25 @@
 -- row is looked at to tell one.
 use Rattle.std.specs.Prelude.{◌≡◌, ℕ, ◌+◌, ◌<◌, List, length, slice_index}
 use Rattle.net_units.specs.LevelBounds.{bound_at}
-use Rattle.traffic_contract.specs.Admission.{Row, total, work_up_to}
+use Rattle.traffic_contract.specs.Admission.{Admitted, total, work_up_to}
 use Rattle.rcsp_admission.specs.Sums.{AreAdmitted}
 use Rattle.rcsp_admission.specs.Kept.{kept_rows}
 use Rattle.rcsp_admission.specs.Fields.{sums_of}
 use Rattle.rcsp_admission.specs.declared.level_sums.LevelSums.TheInside.{Inside}
 
 -- what a row adds to the load of level m
-abbrev pub level_work : ℕ → List ℕ → ℕ → Row → ℕ
+abbrev pub level_work : ℕ → List ℕ → ℕ → Admitted → ℕ
 level_work rate bounds m row = work_up_to rate m (bound_at bounds m) row
 
 -- these are the loads of the rows, that of level 1 first
-abbrev pub AreLoads : ℕ → List ℕ → List Row → List ℕ → Type 0
+abbrev pub AreLoads : ℕ → List ℕ → List Admitted → List ℕ → Type 0
 AreLoads rate bounds rows loads = (i : ℕ) → i < length bounds → slice_index loads i ≡ total (level_work rate bounds (i + 1)) rows
 
 -- each load has risen by what the row adds
-abbrev pub AreRaised : ℕ → List ℕ → Row → List ℕ → List ℕ → Type 0
+abbrev pub AreRaised : ℕ → List ℕ → Admitted → List ℕ → List ℕ → Type 0
 AreRaised rate bounds row before after = (i : ℕ) → i < length bounds → slice_index after i ≡ slice_index before i + level_work rate bounds (i + 1) row
 
 -- what is kept always: the rows are admitted, and the loads are theirs
-pub record IsKept (inside : Inside) : Type 0 where
+pub record KeepsLoads (inside : Inside) : Type 0 where
   pub admitted : AreAdmitted (sums_of inside)
   pub loads : AreLoads inside.rate inside.bounds (kept_rows inside.rows.items) inside.loads

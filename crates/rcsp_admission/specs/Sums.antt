@@ -4,14 +4,14 @@
 use Rattle.std.specs.Prelude.{◌≡◌, ◌≢◌, ◌==◌, ℕ, ◌≤◌, Bool, not, if◌then◌else◌, IsTrue, List, [], ◌∷◌, ◌++◌, map, Contains}
 use Rattle.std.specs.List.{filter, All, Any, AllPairs}
 use Rattle.net_units.specs.LevelBounds.{are_bounds, bound_at}
-use Rattle.traffic_contract.specs.Contract.{Terms, IsContract}
+use Rattle.traffic_contract.specs.Contract.{Traffic, IsContract}
 use Rattle.traffic_contract.specs.declared.admission.Test.{Test}
-use Rattle.traffic_contract.specs.Admission.{Server, Row, Passes}
+use Rattle.traffic_contract.specs.Admission.{Server, Admitted, Passes}
 
 -- an admitted channel: its row under its key
 pub record Held : Type 0 where
   pub key : ℕ
-  pub row : Row
+  pub row : Admitted
 
 -- what a link keeps of admission
 pub record Sums : Type 0 where
@@ -19,21 +19,21 @@ pub record Sums : Type 0 where
   pub rows : List Held
   pub spare : ℕ
 
-abbrev pub server_of : List ℕ → ℕ → ℕ → Test → Server
-server_of bounds rate blocking test = record { bounds = bounds; rate = rate; blocking = blocking; test = test }
+abbrev pub server_with : List ℕ → ℕ → ℕ → Test → Server
+server_with bounds rate blocking test = record { bounds = bounds; rate = rate; blocking = blocking; test = test }
 
-abbrev pub row_of : Held → Row
-row_of held = held.row
+abbrev pub admitted_row : Held → Admitted
+admitted_row held = held.row
 
 abbrev pub key_of : Held → ℕ
 key_of held = held.key
 
 -- the rows alone, as the admission test sums them
-abbrev pub rows_of : List Held → List Row
-rows_of rows = map row_of rows
+abbrev pub admitted_rows : List Held → List Admitted
+admitted_rows rows = map admitted_row rows
 
-abbrev pub held_at : ℕ → Terms → ℕ → Held
-held_at key terms level = record { key = key; row = record { terms = terms; level = level } }
+abbrev pub held_at : ℕ → Traffic → ℕ → Held
+held_at key contract level = record { key = key; row = record { contract = contract; level = level } }
 
 abbrev pub has_key : ℕ → Held → Bool
 has_key key held = held.key == key
@@ -47,12 +47,12 @@ abbrev pub HoldsUpTo : List Held → ℕ → ℕ → Type 0
 HoldsUpTo rows key level = Any (λ held. (held.key ≡ key) × (held.row.level ≤ level)) rows
 
 -- the rows with a new one at the end
-abbrev pub added : List Held → ℕ → Terms → ℕ → List Held
-added rows key terms level = rows ++ held_at key terms level ∷ []
+abbrev pub added : List Held → ℕ → Traffic → ℕ → List Held
+added rows key contract level = rows ++ held_at key contract level ∷ []
 
 -- a row with another level
 abbrev pub put_at : ℕ → Held → Held
-put_at level held = held_at held.key held.row.terms level
+put_at level held = held_at held.key held.row.contract level
 
 -- this row, at the level where it has the key
 abbrev pub move_row : ℕ → ℕ → Held → Held
@@ -66,8 +66,8 @@ abbrev pub has_other_key : ℕ → Held → Bool
 has_other_key key held = not (has_key key held)
 
 -- the rows of the other keys
-abbrev pub without : List Held → ℕ → List Held
-without rows key = filter (has_other_key key) rows
+abbrev pub without_key : List Held → ℕ → List Held
+without_key rows key = filter (has_other_key key) rows
 
 -- no key stands twice
 pub record IsDistinct (rows : List Held) : Type 0 where
@@ -83,11 +83,11 @@ pub record IsServer (server : Server) : Type 0 where
 
 -- a row that is held has a contract
 abbrev pub HoldsContract : Held → Type 0
-HoldsContract held = IsContract held.row.terms
+HoldsContract held = IsContract held.row.contract
 
 -- what is kept always: the rows have contracts and pass, and their keys differ
 pub record AreAdmitted (sums : Sums) : Type 0 where
   pub server : IsServer sums.server
   pub contracts : All HoldsContract sums.rows
-  pub passes : Passes sums.server (rows_of sums.rows)
+  pub passes : Passes sums.server (admitted_rows sums.rows)
   pub distinct : IsDistinct sums.rows

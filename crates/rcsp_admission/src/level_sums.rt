@@ -2,11 +2,12 @@
 ghost use Rattle.std.specs.Prelude.{◌≡◌, ◌+◌, ◌<◌, ◌≤◌, ◌^◌, ◌↔◌, ℕ, [], IsTrue, None, Some, IfOk, IfErr, OnOk, OnErr, MatchResult, IsOk, length};
 ghost use Rattle.net_units.specs.Numbers.{level_number};
 ghost use Rattle.net_units.specs.LevelBounds.{bound_at, last_bound};
+ghost use Rattle.net_units.specs.Limits.{most_bound};
 ghost use Rattle.traffic_contract.specs.Admission.{load, Passes, HasRoom, IsBest, IsRefused, with_row, level_sum, best_level, refused_sum};
 ghost use Rattle.traffic_contract.specs.declared.admission.Test.{Test};
 ghost use Rattle.traffic_contract.specs.declared.admission.Test.TheVariants.{Whole};
 ghost use Rattle.rcsp_admission.specs.Room.{IsLastFull, load_with, FitsSome};
-ghost use Rattle.rcsp_admission.specs.Sums.{Holds, HoldsUpTo, AreAdmitted, server_of, rows_of, added, moved, without};
+ghost use Rattle.rcsp_admission.specs.Sums.{Holds, HoldsUpTo, AreAdmitted, server_with, admitted_rows, added, moved, without_key};
 
 use crate::loads::{add_row, level_at, take_row};
 use crate::rows::{KeptRow, move_in, row_of_key, work, work_of};
@@ -51,9 +52,9 @@ impl Model for LevelSums {
 
     ghost view = { sums_of };
 
-    ghost use Rattle.rcsp_admission.specs.Loads.{IsKept};
+    ghost use Rattle.rcsp_admission.specs.Loads.{KeepsLoads};
 
-    ghost invariant = { IsKept };
+    ghost invariant = { KeepsLoads };
 }
 
 impl LevelSums {
@@ -63,7 +64,7 @@ impl LevelSums {
         requires rate { 1 ≤ rate }
         requires blocking { 1 ≤ blocking }
         requires first { blocking ≤ bound_at bounds 1 }
-        ensures value { result ≡ record { server = server_of bounds rate blocking test; rows = []; spare = 0 } }
+        ensures value { result ≡ record { server = server_with bounds rate blocking test; rows = []; spare = 0 } }
         ensures admitted { AreAdmitted result }
     {
         // `len` tells that the bounds rise, so the blocking fits all of them where it fits the first.
@@ -97,12 +98,12 @@ impl LevelSums {
     /// where it passes at none, with the sum of the last level with the new row there, and the last bound.
     pub fn best(&self, contract: &Contract) -> Result<Level, NoLevel>
         ensures level { MatchResult result
-            (λ level. best_level self.now.server (rows_of self.now.rows) contract.now ≡ Some (level_number level))
-            (λ _. best_level self.now.server (rows_of self.now.rows) contract.now ≡ None) }
-        ensures least { IfOk result (λ level. IsBest self.now.server (rows_of self.now.rows) contract.now (level_number level)) }
-        ensures larger { IfOk result (λ level. (m : ℕ) → level_number level ≤ m → Passes self.now.server (with_row (rows_of self.now.rows) contract.now m)) }
-        ensures none { IfErr result (λ _. IsRefused self.now.server (rows_of self.now.rows) contract.now) }
-        ensures sum { IfErr result (λ none. none.sum ≡ refused_sum self.now.server (rows_of self.now.rows) contract.now) }
+            (λ level. best_level self.now.server (admitted_rows self.now.rows) contract.now ≡ Some (level_number level))
+            (λ _. best_level self.now.server (admitted_rows self.now.rows) contract.now ≡ None) }
+        ensures least { IfOk result (λ level. IsBest self.now.server (admitted_rows self.now.rows) contract.now (level_number level)) }
+        ensures larger { IfOk result (λ level. (m : ℕ) → level_number level ≤ m → Passes self.now.server (with_row (admitted_rows self.now.rows) contract.now m)) }
+        ensures none { IfErr result (λ _. IsRefused self.now.server (admitted_rows self.now.rows) contract.now) }
+        ensures sum { IfErr result (λ none. none.sum ≡ refused_sum self.now.server (admitted_rows self.now.rows) contract.now) }
         ensures bound { IfErr result (λ none. none.bound ≡ last_bound self.now.server.bounds) }
         ensures over { IfErr result (λ none. none.bound < none.sum) }
         ensures admitted { AreAdmitted self.now }
@@ -124,7 +125,7 @@ impl LevelSums {
         requires spare { 1 ≤ self.old.spare }
         requires new { ¬ Holds self.old.rows key }
         requires within { level_number level ≤ length self.old.server.bounds }
-        requires passes { Passes self.old.server (with_row (rows_of self.old.rows) contract (level_number level)) }
+        requires passes { Passes self.old.server (with_row (admitted_rows self.old.rows) contract (level_number level)) }
         ensures server { self.new.server ≡ self.old.server }
         ensures rows { self.new.rows ≡ added self.old.rows key contract (level_number level) }
         ensures spare { self.new.spare + 1 ≡ self.old.spare }
@@ -161,7 +162,7 @@ impl LevelSums {
     pub fn remove(&mut self, key: u32)
         requires held { Holds self.old.rows key }
         ensures server { self.new.server ≡ self.old.server }
-        ensures rows { self.new.rows ≡ without self.old.rows key }
+        ensures rows { self.new.rows ≡ without_key self.old.rows key }
         ensures spare { self.new.spare ≡ self.old.spare + 1 }
         ensures admitted { AreAdmitted self.new }
     {
@@ -174,7 +175,7 @@ impl LevelSums {
     /// their rows. Where the test takes the whole bound it is at most that.
     pub fn sum(&self, level: Level) -> u64
         requires within { level_number level ≤ length self.now.server.bounds }
-        ensures value { result ≡ level_sum self.now.server (rows_of self.now.rows) (level_number level) }
+        ensures value { result ≡ level_sum self.now.server (admitted_rows self.now.rows) (level_number level) }
         ensures fits { self.now.server.test ≡ Whole → result ≤ bound_at self.now.server.bounds (level_number level) }
         ensures admitted { AreAdmitted self.now }
     {
@@ -184,7 +185,7 @@ impl LevelSums {
     // The load of the levels up to this one in a window as long as its bound, in ticks.
     fn whole_load(&self, level: Level) -> u64
         requires within { level_number level ≤ length self.now.server.bounds }
-        ensures value { result ≡ level_sum self.now.server (rows_of self.now.rows) (level_number level) }
+        ensures value { result ≡ level_sum self.now.server (admitted_rows self.now.rows) (level_number level) }
         ensures small { result < 2 ^ 61 }
         ensures admitted { AreAdmitted self.now }
     {
@@ -194,7 +195,7 @@ impl LevelSums {
     // The same with a row of this contract at the level.
     fn whole_load_with(&self, contract: &Contract, level: Level) -> u64
         requires within { level_number level ≤ length self.now.server.bounds }
-        ensures { result ≡ load_with self.now.server (rows_of self.now.rows) contract.now (level_number level) (bound_at self.now.server.bounds (level_number level)) }
+        ensures { result ≡ load_with self.now.server (admitted_rows self.now.rows) contract.now (level_number level) (bound_at self.now.server.bounds (level_number level)) }
     {
         let window = u64::from(self.bounds.at(level));
         self.whole_load(level) + work(contract, self.rate, window)
@@ -203,8 +204,8 @@ impl LevelSums {
     // The load of the levels up to this one in a window, in ticks.
     fn load(&self, level: Level, window: u64) -> u64
         requires within { level_number level ≤ length self.now.server.bounds }
-        requires window { window ≤ 1048576 }
-        ensures value { result ≡ load self.now.server (rows_of self.now.rows) (level_number level) window }
+        requires window { window ≤ most_bound }
+        ensures value { result ≡ load self.now.server (admitted_rows self.now.rows) (level_number level) window }
         ensures small { result < 2 ^ 61 }
     {
         u64::from(self.blocking) + work_of(&self.rows, self.rate, level, window)
@@ -213,8 +214,8 @@ impl LevelSums {
     // The same with a row of this contract at the level.
     fn load_with(&self, contract: &Contract, level: Level, window: u64) -> u64
         requires within { level_number level ≤ length self.now.server.bounds }
-        requires window { window ≤ 1048576 }
-        ensures { result ≡ load_with self.now.server (rows_of self.now.rows) contract.now (level_number level) window }
+        requires window { window ≤ most_bound }
+        ensures { result ≡ load_with self.now.server (admitted_rows self.now.rows) contract.now (level_number level) window }
     {
         self.load(level, window) + work(contract, self.rate, window)
     }
@@ -223,8 +224,8 @@ impl LevelSums {
     // does is at least the blocking, and at least the load in any window before it.
     fn fits_some(&self, contract: &Contract, level: Level, bound: u64) -> bool
         requires within { level_number level ≤ length self.now.server.bounds }
-        requires bound { bound ≤ 1048576 }
-        ensures { IsTrue result ↔ FitsSome self.now.server (rows_of self.now.rows) contract.now (level_number level) bound }
+        requires bound { bound ≤ most_bound }
+        ensures { IsTrue result ↔ FitsSome self.now.server (admitted_rows self.now.rows) contract.now (level_number level) bound }
     {
         // `burst` tells that this is a contract.
         let _burst = contract.burst();
@@ -242,7 +243,7 @@ impl LevelSums {
     // Whether the level passes with a row of this contract at it.
     fn has_room(&self, contract: &Contract, level: Level) -> bool
         requires within { level_number level ≤ length self.now.server.bounds }
-        ensures { IsTrue result ↔ HasRoom self.now.server (rows_of self.now.rows) contract.now (level_number level) }
+        ensures { IsTrue result ↔ HasRoom self.now.server (admitted_rows self.now.rows) contract.now (level_number level) }
     {
         let bound = u64::from(self.bounds.at(level));
         if self.whole_load_with(contract, level) <= bound {
@@ -256,7 +257,7 @@ impl LevelSums {
 
     // The last level that has no room for a row of this contract, or 0.
     fn last_full(&self, contract: &Contract) -> u8
-        ensures { IsLastFull self.now.server (rows_of self.now.rows) contract.now (length self.now.server.bounds) result }
+        ensures { IsLastFull self.now.server (admitted_rows self.now.rows) contract.now (length self.now.server.bounds) result }
     {
         let mut full = 0;
         for index in 0..self.bounds.len() {

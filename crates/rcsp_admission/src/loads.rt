@@ -1,19 +1,19 @@
 //! The running loads of a link's levels, and what a row adds to them.
 ghost use Rattle.std.specs.Prelude.{◌≡◌, ◌+◌, ◌^◌, ◌<◌, ◌≤◌, ℕ, length, slice_index};
 ghost use Rattle.net_units.specs.Numbers.{level_number};
-ghost use Rattle.rcsp_admission.specs.Sums.{row_of};
+ghost use Rattle.rcsp_admission.specs.Sums.{admitted_row};
 ghost use Rattle.rcsp_admission.specs.Kept.{held_of};
 ghost use Rattle.rcsp_admission.specs.Loads.{level_work, AreRaised};
 
 use crate::rows::{KeptRow, work};
 use net_units::{Bounds, Level};
 
-// Adds what a row brings to the load of its level and of each level behind it.
+// Adds what a row brings to the load of its level and of each level after it.
 pub(crate) fn add_row(loads: &mut [u64], bounds: &Bounds, rate: u32, row: &KeptRow)
     requires rate { 1 ≤ rate }
     requires count { length bounds.now ≤ length loads.old }
     requires small { (i : ℕ) → i < length bounds.now → slice_index loads.old i < 2 ^ 62 }
-    ensures { AreRaised rate bounds.now (row_of (held_of row.now)) loads.old loads.new }
+    ensures { AreRaised rate bounds.now (admitted_row (held_of row.now)) loads.old loads.new }
 {
     for index in row.level.get() - 1..bounds.len() {
         let window = u64::from(bounds.at(level_at(index + 1)));
@@ -25,8 +25,8 @@ pub(crate) fn add_row(loads: &mut [u64], bounds: &Bounds, rate: u32, row: &KeptR
 pub(crate) fn take_row(loads: &mut [u64], bounds: &Bounds, rate: u32, row: &KeptRow)
     requires rate { 1 ≤ rate }
     requires count { length bounds.now ≤ length loads.old }
-    requires within { (i : ℕ) → i < length bounds.now → level_work rate bounds.now (i + 1) (row_of (held_of row.now)) ≤ slice_index loads.old i }
-    ensures { AreRaised rate bounds.now (row_of (held_of row.now)) loads.new loads.old }
+    requires within { (i : ℕ) → i < length bounds.now → level_work rate bounds.now (i + 1) (admitted_row (held_of row.now)) ≤ slice_index loads.old i }
+    ensures { AreRaised rate bounds.now (admitted_row (held_of row.now)) loads.new loads.old }
 {
     for index in row.level.get() - 1..bounds.len() {
         let window = u64::from(bounds.at(level_at(index + 1)));

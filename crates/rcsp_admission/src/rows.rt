@@ -1,6 +1,7 @@
 //! The rows of a link: their work, and a change of level.
 ghost use Rattle.std.specs.Prelude.{◌≡◌, ◌^◌, ◌<◌, ◌≤◌, Some, map, find};
 ghost use Rattle.net_units.specs.Numbers.{level_number};
+ghost use Rattle.net_units.specs.Limits.{most_bound};
 ghost use Rattle.traffic_contract.specs.Admission.{total, work_in, work_up_to};
 ghost use Rattle.rcsp_admission.specs.Sums.{Holds, has_key, moved};
 ghost use Rattle.rcsp_admission.specs.Kept.{held_of, kept_rows};
@@ -20,7 +21,7 @@ pub(crate) struct KeptRow {
 #[tactic(auto, unfolding(traffic_contract::specs::Admission::work_in))]
 pub(crate) fn work(contract: &Contract, rate: u32, window: u64) -> u64
     requires rate { 1 ≤ rate }
-    requires window { window ≤ 1048576 }
+    requires window { window ≤ most_bound }
     ensures value { result ≡ work_in rate contract.now window }
     ensures small { result < 2 ^ 40 }
 {
@@ -30,7 +31,7 @@ pub(crate) fn work(contract: &Contract, rate: u32, window: u64) -> u64
 // The ticks of work that the rows at levels up to this one may bring in a window.
 pub(crate) fn work_of(rows: &[KeptRow], rate: u32, level: Level, window: u64) -> u64
     requires rate { 1 ≤ rate }
-    requires window { window ≤ 1048576 }
+    requires window { window ≤ most_bound }
     requires fits { total (work_up_to rate (level_number level) window) (kept_rows rows.now) < 2 ^ 63 }
     ensures { result ≡ total (work_up_to rate (level_number level) window) (kept_rows rows.now) }
 {

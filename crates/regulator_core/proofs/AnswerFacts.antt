@@ -5,7 +5,7 @@ use Rattle.std.proofs.lemmas.Bool.{leb-true, le-leb}
 use Rattle.std.proofs.lemmas.Bool.Decides.{Decides-and}
 use Rattle.std.proofs.lemmas.List.{get_or-drop}
 use Rattle.std.specs.Prelude.{reverse, slice_get}
-use Rattle.traffic_contract.specs.Contract.{Terms, IsContract, burst_of}
+use Rattle.traffic_contract.specs.Contract.{Traffic, IsContract, burst_of}
 use Rattle.traffic_contract.specs.Keeping.{Keeps, starts_before, may_follow, keeps_newest_first}
 use Rattle.traffic_contract.specs.Eligible.{first_from, newest, eligible}
 use Rattle.traffic_contract.proofs.ContractFacts.{burst-least}
@@ -19,7 +19,7 @@ starts_before-first_after t least [] = (λ _. omega arith, λ _. refl)
 starts_before-first_after t least (u ∷ past) = (leb-true (u + least) t, le-leb (u + least) t)
 
 -- t may follow exactly from both first ticks on
-may_follow-tells : (c : Terms) (past : List ℕ) (t : ℕ) → Decides (may_follow c past t) ((first_after c.xmin past ≤ t) × (first_after c.interval (drop (burst_of c - 1) past) ≤ t))
+may_follow-tells : (c : Traffic) (past : List ℕ) (t : ℕ) → Decides (may_follow c past t) ((first_after c.xmin past ≤ t) × (first_after c.interval (drop (burst_of c - 1) past) ≤ t))
 unfolding may_follow
 may_follow-tells c past t =
     Decides-and _ _ (starts_before-first_after t c.xmin past) (starts_before-first_after t c.interval (drop (burst_of c - 1) past))
@@ -53,30 +53,30 @@ first_after-get_or : (least : ℕ) (past : List ℕ) → first_after least past 
 first_after-get_or least [] = omega arith
 first_after-get_or least (t ∷ past) = omega arith
 
-first_after-drop : (c : Terms) (n : ℕ) (past : List ℕ) → keeps_newest_first c past ≡ true → first_after c.interval (drop n past) ≤ newest past + c.interval
+first_after-drop : (c : Traffic) (n : ℕ) (past : List ℕ) → keeps_newest_first c past ≡ true → first_after c.interval (drop n past) ≤ newest past + c.interval
 first_after-drop c n past kept =
     let e = get_or-drop n past 0 0 in
     omega (arith, e, first_after-get_or c.interval (drop n past), get_or-le-newest c past (n + 0) kept)
 
 -- the two first ticks come at most an interval after the newest
-pub firsts-le : (c : Terms) (past : List ℕ) → IsContract c → Keeps c (reverse past) → (first_after c.xmin past ≤ newest past + c.interval) × (first_after c.interval (drop (burst_of c - 1) past) ≤ newest past + c.interval)
+pub firsts-le : (c : Traffic) (past : List ℕ) → IsContract c → Keeps c (reverse past) → (first_after c.xmin past ≤ newest past + c.interval) × (first_after c.interval (drop (burst_of c - 1) past) ≤ newest past + c.interval)
 firsts-le c past valid keeps =
     let kept = (Decides-keeps_newest_first c past (burst-least c valid)).1 keeps in
     (first_after-le c.xmin c.interval past (omega (arith, valid.xave_least, valid.interval_least)), first_after-drop c (burst_of c - 1) past kept)
 
 -- no kept tick is later than the newest
-pub get_or-newest : (c : Terms) (past : List ℕ) (k : ℕ) → IsContract c → Keeps c (reverse past) → get_or past k 0 ≤ newest past
+pub get_or-newest : (c : Traffic) (past : List ℕ) (k : ℕ) → IsContract c → Keeps c (reverse past) → get_or past k 0 ≤ newest past
 get_or-newest c past k valid keeps =
     get_or-le-newest c past k ((Decides-keeps_newest_first c past (burst-least c valid)).1 keeps)
 
 -- the later of the three ticks is the eligible tick
-pub eligible-latest : (c : Terms) (past : List ℕ) (low : ℕ) → IsContract c → Keeps c (reverse past) → max (max low (first_after c.xmin past)) (first_after c.interval (drop (burst_of c - 1) past)) ≡ eligible c past low
+pub eligible-latest : (c : Traffic) (past : List ℕ) (low : ℕ) → IsContract c → Keeps c (reverse past) → max (max low (first_after c.xmin past)) (first_after c.interval (drop (burst_of c - 1) past)) ≡ eligible c past low
 unfolding eligible
 eligible-latest c past low valid keeps =
     let few = firsts-le c past valid keeps in
     sym (first_from-is (may_follow c past) low (newest past + c.interval - low) (max (max low (first_after c.xmin past)) (first_after c.interval (drop (burst_of c - 1) past))) (omega arith) (omega (arith, few.0, few.1)) ((may_follow-tells c past _).1 (omega arith, omega arith)) (λ t from holds. (let both = (may_follow-tells c past t).0 holds in omega (arith, both.0, both.1))))
 
 -- so it comes at most an interval after the newest, or where the packet may go
-pub eligible-le : (c : Terms) (past : List ℕ) (low : ℕ) → IsContract c → Keeps c (reverse past) → eligible c past low ≤ max low (newest past + c.interval)
+pub eligible-le : (c : Traffic) (past : List ℕ) (low : ℕ) → IsContract c → Keeps c (reverse past) → eligible c past low ≤ max low (newest past + c.interval)
 eligible-le c past low valid keeps =
     let few = firsts-le c past valid keeps in omega (arith, few.0, few.1, eligible-latest c past low valid keeps)

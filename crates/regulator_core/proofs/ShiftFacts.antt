@@ -3,7 +3,7 @@ use Rattle.std.proofs.Common.{◌≡◌, ℕ, ◌+◌, ◌-◌, ◌<◌, ◌↔�
 use Rattle.std.proofs.lemmas.Bool.{leb-true, le-leb}
 use Rattle.std.proofs.lemmas.Bool.Decides.{same_from_decides}
 use Rattle.std.proofs.lemmas.List.{get_or-map, length-map, drop-map}
-use Rattle.traffic_contract.specs.Contract.{Terms, burst_of}
+use Rattle.traffic_contract.specs.Contract.{Traffic, burst_of}
 use Rattle.traffic_contract.specs.Keeping.{Spaced, Keeps, starts_before, may_follow, keeps_newest_first}
 use Rattle.regulator_core.specs.Shifted.{later_by, shifted_by}
 
@@ -35,7 +35,7 @@ Spaced-unshifted gap least shift ticks spaced = record {
 }
 
 -- so the shifted list keeps a contract exactly where the list does
-pub Keeps-shifted_by : (c : Terms) (ticks : List ℕ) (shift : ℕ) → Keeps c (shifted_by shift ticks) ↔ Keeps c ticks
+pub Keeps-shifted_by : (c : Traffic) (ticks : List ℕ) (shift : ℕ) → Keeps c (shifted_by shift ticks) ↔ Keeps c ticks
 Keeps-shifted_by c ticks shift = (
   λ kept. record {
     neighbours = Spaced-unshifted 1 c.xmin shift ticks kept.neighbours;
@@ -55,12 +55,12 @@ starts_before-shifted_by t least shift (u ∷ past) =
     ((λ e. (let h = leb-true (u + least) t e in omega (arith, h))), (λ h. le-leb (u + least) t (omega (arith, h))))
 
 -- and may follow them where it may follow without the shift
-pub may_follow-shifted_by : (c : Terms) (past : List ℕ) (t shift : ℕ) → may_follow c (shifted_by shift past) (t + shift) ≡ may_follow c past t
+pub may_follow-shifted_by : (c : Traffic) (past : List ℕ) (t shift : ℕ) → may_follow c (shifted_by shift past) (t + shift) ≡ may_follow c past t
 unfolding may_follow
 may_follow-shifted_by c past t shift =
     rw (starts_before-shifted_by t c.xmin shift past, drop-map (later_by shift) (burst_of c - 1) past, starts_before-shifted_by t c.interval shift (drop (burst_of c - 1) past)) refl
 
-pub keeps_newest_first-shifted_by : (c : Terms) (past : List ℕ) (shift : ℕ) → keeps_newest_first c (shifted_by shift past) ≡ keeps_newest_first c past
+pub keeps_newest_first-shifted_by : (c : Traffic) (past : List ℕ) (shift : ℕ) → keeps_newest_first c (shifted_by shift past) ≡ keeps_newest_first c past
 unfolding keeps_newest_first
 keeps_newest_first-shifted_by c [] shift = refl
 keeps_newest_first-shifted_by c (t ∷ past) shift =

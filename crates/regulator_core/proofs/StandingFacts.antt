@@ -5,35 +5,35 @@ use Rattle.std.proofs.lemmas.List.{reverse-append, length-take, take_all, take-a
 use Rattle.std.specs.Prelude.{reverse}
 use Rattle.traffic_contract.specs.Contract.{IsContract, burst_of}
 use Rattle.traffic_contract.specs.Keeping.{Keeps}
-use Rattle.traffic_contract.specs.Eligible.{IsEligible, eligible}
+use Rattle.traffic_contract.specs.Eligible.{IsEligible, eligible, newest_burst}
 use Rattle.traffic_contract.proofs.ContractFacts.{burst-least}
 use Rattle.traffic_contract.proofs.EligibleFacts.{eligible-is, eligible-take, take-cons-take}
 use Rattle.traffic_contract.proofs.KeepingFacts.{Keeps-suffix}
-use Rattle.regulator_core.specs.Kept.{Kept, StandsFor, kept_with, newest_burst}
+use Rattle.regulator_core.specs.Kept.{KeptTicks, RegulatorStandsFor, regulator_with}
 
 -- what it computes from the kept ticks is the eligible tick after the whole list
-pub eligible-stands : (kept : Kept) (past : List ℕ) (low : ℕ) → IsContract kept.terms → StandsFor kept past → eligible kept.terms kept.recent low ≡ eligible kept.terms past low
+pub eligible-stands : (kept : KeptTicks) (past : List ℕ) (low : ℕ) → IsContract kept.contract → RegulatorStandsFor kept past → eligible kept.contract kept.recent low ≡ eligible kept.contract past low
 eligible-stands kept past low valid stands =
-    ap (λ ticks. eligible kept.terms ticks low) (sym stands.latest) ∙ eligible-take kept.terms past low (burst-least kept.terms valid)
+    ap (λ ticks. eligible kept.contract ticks low) (sym stands.latest) ∙ eligible-take kept.contract past low (burst-least kept.contract valid)
 
-pub IsEligible-stands : (kept : Kept) (past : List ℕ) (low : ℕ) → IsContract kept.terms → StandsFor kept past → IsEligible kept.terms (reverse past) low (eligible kept.terms kept.recent low)
+pub IsEligible-stands : (kept : KeptTicks) (past : List ℕ) (low : ℕ) → IsContract kept.contract → RegulatorStandsFor kept past → IsEligible kept.contract (reverse past) low (eligible kept.contract kept.recent low)
 IsEligible-stands kept past low valid stands =
-    subst (IsEligible kept.terms (reverse past) low) (sym (eligible-stands kept past low valid stands))
-    (eligible-is kept.terms past low valid (burst-least kept.terms valid) stands.keeps)
+    subst (IsEligible kept.contract (reverse past) low) (sym (eligible-stands kept past low valid stands))
+    (eligible-is kept.contract past low valid (burst-least kept.contract valid) stands.keeps)
 
 -- with its answer it stands for the longer list
-pub StandsFor-answered : (kept : Kept) (past : List ℕ) (low e : ℕ) → StandsFor kept past → IsEligible kept.terms (reverse past) low e → StandsFor (kept_with kept e) (e ∷ past)
+pub StandsFor-answered : (kept : KeptTicks) (past : List ℕ) (low e : ℕ) → RegulatorStandsFor kept past → IsEligible kept.contract (reverse past) low e → RegulatorStandsFor (regulator_with kept e) (e ∷ past)
 StandsFor-answered kept past low e stands is = record {
-  keeps = subst (Keeps kept.terms) (sym (reverse-append (e ∷ []) past)) is.holds;
-  latest = sym (take-cons-take (burst_of kept.terms) e past) ∙ ap (λ ticks. newest_burst kept.terms (e ∷ ticks)) stands.latest;
+  keeps = subst (Keeps kept.contract) (sym (reverse-append (e ∷ []) past)) is.holds;
+  latest = sym (take-cons-take (burst_of kept.contract) e past) ∙ ap (λ ticks. newest_burst kept.contract (e ∷ ticks)) stands.latest;
 }
 
 -- and what it stands for, it stands for by its newest ticks alone
-pub StandsFor-own : (kept : Kept) (past : List ℕ) → StandsFor kept past → StandsFor kept kept.recent
+pub StandsFor-own : (kept : KeptTicks) (past : List ℕ) → RegulatorStandsFor kept past → RegulatorStandsFor kept kept.recent
 StandsFor-own kept past stands =
-    let parts : reverse (drop (burst_of kept.terms) past) ++ reverse (take (burst_of kept.terms) past) ≡ reverse past = sym (reverse-append (take (burst_of kept.terms) past) (drop (burst_of kept.terms) past)) ∙ ap reverse (take-append-drop (burst_of kept.terms) past) in
-    let newest_keep : Keeps kept.terms (reverse (take (burst_of kept.terms) past)) = Keeps-suffix kept.terms (reverse (drop (burst_of kept.terms) past)) (reverse (take (burst_of kept.terms) past)) (subst (Keeps kept.terms) (sym parts) stands.keeps) in
+    let parts : reverse (drop (burst_of kept.contract) past) ++ reverse (take (burst_of kept.contract) past) ≡ reverse past = sym (reverse-append (take (burst_of kept.contract) past) (drop (burst_of kept.contract) past)) ∙ ap reverse (take-append-drop (burst_of kept.contract) past) in
+    let newest_keep : Keeps kept.contract (reverse (take (burst_of kept.contract) past)) = Keeps-suffix kept.contract (reverse (drop (burst_of kept.contract) past)) (reverse (take (burst_of kept.contract) past)) (subst (Keeps kept.contract) (sym parts) stands.keeps) in
     record {
-      keeps = subst (λ ticks. Keeps kept.terms (reverse ticks)) stands.latest newest_keep;
-      latest = take_all (burst_of kept.terms) kept.recent (subst (λ ticks. length ticks ≤ burst_of kept.terms) stands.latest (omega (arith, length-take (burst_of kept.terms) past)));
+      keeps = subst (λ ticks. Keeps kept.contract (reverse ticks)) stands.latest newest_keep;
+      latest = take_all (burst_of kept.contract) kept.recent (subst (λ ticks. length ticks ≤ burst_of kept.contract) stands.latest (omega (arith, length-take (burst_of kept.contract) past)));
     }

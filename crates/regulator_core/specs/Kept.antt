@@ -7,30 +7,22 @@
 use Rattle.std.specs.Prelude.{◌≡◌, ℕ, ◌+◌, max, List, [], ◌∷◌, reverse, take}
 use Rattle.net_units.specs.declared.Kind.{Kind}
 use Rattle.net_units.specs.declared.Kind.TheVariants.{Rate, Jitter}
-use Rattle.traffic_contract.specs.Contract.{Terms, burst_of}
+use Rattle.traffic_contract.specs.Eligible.{newest_burst}
+use Rattle.traffic_contract.specs.Contract.{Traffic, burst_of}
 use Rattle.traffic_contract.specs.Keeping.{Keeps}
 
 -- the contract and kind of a regulator, and the newest of the eligible ticks that it has answered, newest first
-pub record Kept : Type 0 where
-  pub terms : Terms
+pub record KeptTicks : Type 0 where
+  pub contract : Traffic
   pub kind : Kind
   pub recent : List ℕ
 
-abbrev pub kept_of : Terms → Kind → List ℕ → Kept
-kept_of terms kind recent = record { terms = terms; kind = kind; recent = recent }
-
--- the newest of these ticks, newest first, as many as a burst
-abbrev pub newest_burst : Terms → List ℕ → List ℕ
-newest_burst terms past = take (burst_of terms) past
+abbrev pub kept_ticks : Traffic → Kind → List ℕ → KeptTicks
+kept_ticks contract kind recent = record { contract = contract; kind = kind; recent = recent }
 
 -- what is kept after one more eligible tick e
-abbrev pub kept_with : Kept → ℕ → Kept
-kept_with kept e = kept_of kept.terms kept.kind (newest_burst kept.terms (e ∷ kept.recent))
-
--- the tick from which a packet may go that arrives at `at` and is due at `due`
-abbrev pub earliest_tick : Kind → ℕ → ℕ → ℕ
-earliest_tick Rate at due = at
-earliest_tick Jitter at due = max at due
+abbrev pub regulator_with : KeptTicks → ℕ → KeptTicks
+regulator_with kept e = kept_ticks kept.contract kept.kind (newest_burst kept.contract (e ∷ kept.recent))
 
 -- the first tick that is at least `least` ticks after the newest of these, or 0 where there is none
 abbrev pub first_after : ℕ → List ℕ → ℕ
@@ -39,6 +31,6 @@ first_after least (t ∷ past) = t + least
 
 -- the regulator stands for the eligible ticks `past`, newest first: they keep the contract in order of time, and
 -- the newest of them are the kept ones
-pub record StandsFor (kept : Kept) (past : List ℕ) : Type 0 where
-  pub keeps : Keeps kept.terms (reverse past)
-  pub latest : newest_burst kept.terms past ≡ kept.recent
+pub record RegulatorStandsFor (kept : KeptTicks) (past : List ℕ) : Type 0 where
+  pub keeps : Keeps kept.contract (reverse past)
+  pub latest : newest_burst kept.contract past ≡ kept.recent

@@ -2,10 +2,10 @@
 -- distance between them.
 use Rattle.std.specs.Prelude.{ℕ, ◌+◌, List, map}
 
--- this tick, so many ticks later
+-- this tick, `shift` ticks later
 abbrev pub later_by : ℕ → ℕ → ℕ
 later_by shift t = t + shift
 
--- these ticks, each so many ticks later
+-- these ticks, each `shift` ticks later
 abbrev pub shifted_by : ℕ → List ℕ → List ℕ
 shifted_by shift ticks = map (later_by shift) ticks

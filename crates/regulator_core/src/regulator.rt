@@ -1,9 +1,9 @@
 //! The regulator of one channel at one link.
 ghost use Rattle.std.specs.Prelude.{◌≡◌, ◌+◌, ◌-◌, ◌^◌, ◌<◌, ◌≤◌, ℕ, List, [], ◌∷◌, reverse, max, drop, slice_index, IfOk};
 ghost use Rattle.traffic_contract.specs.Contract.{IsContract};
-ghost use Rattle.traffic_contract.specs.Eligible.{IsEligible, newest, eligible};
+ghost use Rattle.traffic_contract.specs.Eligible.{IsEligible, newest, eligible, earliest_tick};
 ghost use Rattle.traffic_contract.specs.Keeping.{Keeps};
-ghost use Rattle.regulator_core.specs.Kept.{StandsFor, kept_of, kept_with, earliest_tick, first_after};
+ghost use Rattle.regulator_core.specs.Kept.{RegulatorStandsFor, kept_ticks, regulator_with, first_after};
 
 use circular_buffer::HeapCircularBuffer;
 use net_units::{Kind, OutOfMemory};
@@ -14,7 +14,7 @@ use traffic_contract::Contract;
 /// The regulator of one channel at one link.
 ///
 /// It enforces the contract on whatever comes, and keeps as many eligible ticks as the contract's burst. A contract
-/// sees the record `Kept`: the channel's contract, its kind of control, and those ticks, newest first.
+/// sees the record `KeptTicks`: the channel's contract, its kind of control, and those ticks, newest first.
 #[derive(Drop)]
 pub struct Regulator {
     contract: Contract,
@@ -25,22 +25,22 @@ pub struct Regulator {
 impl Model for Regulator {
     ghost use Rattle.std.specs.Prelude.{◌≡◌};
     ghost use Rattle.traffic_contract.specs.Contract.{burst_of};
-    ghost use Rattle.regulator_core.specs.Kept.{Kept, StandsFor, kept_of};
+    ghost use Rattle.regulator_core.specs.Kept.{KeptTicks, RegulatorStandsFor, kept_ticks};
 
-    ghost Value = { Kept };
+    ghost Value = { KeptTicks };
 
-    ghost view = { λ r. kept_of r.contract r.kind r.recent.items };
+    ghost view = { λ r. kept_ticks r.contract r.kind r.recent.items };
 
     ghost invariant = { λ r. (r.recent.capacity ≡ burst_of r.contract)
-        × StandsFor (kept_of r.contract r.kind r.recent.items) r.recent.items };
+        × RegulatorStandsFor (kept_ticks r.contract r.kind r.recent.items) r.recent.items };
 }
 
 impl Regulator {
     /// A regulator that has answered no tick yet. It takes all memory that it will ever need; an `Err` comes only
     /// where that isn't there.
     pub fn new(alloc: Global, contract: Contract, kind: Kind) -> Result<Regulator, OutOfMemory>
-        ensures value { IfOk result (λ regulator. regulator ≡ kept_of contract kind []) }
-        ensures stands { IfOk result (λ regulator. StandsFor regulator []) }
+        ensures value { IfOk result (λ regulator. regulator ≡ kept_ticks contract kind []) }
+        ensures stands { IfOk result (λ regulator. RegulatorStandsFor regulator []) }
     {
         let recent = HeapCircularBuffer::with_capacity(alloc, contract.burst() as usize)?;
         Ok(Regulator {
@@ -60,22 +60,22 @@ impl Regulator {
         requires due { due < 2 ^ 62 }
         requires last { newest self.old.recent < 2 ^ 63 }
         ensures value { result ≡
-            eligible self.old.terms self.old.recent (earliest_tick self.old.kind at due) }
-        ensures kept { self.new ≡ kept_with self.old result }
+            eligible self.old.contract self.old.recent (earliest_tick self.old.kind at due) }
+        ensures kept { self.new ≡ regulator_with self.old result }
 
         // The same of every list of ticks that the regulator stands for, and so of all that it has answered.
-        ensures every_value { (past : List ℕ) → StandsFor self.old past →
-            result ≡ eligible self.old.terms past (earliest_tick self.old.kind at due) }
-        ensures every_list { (past : List ℕ) → StandsFor self.old past →
-            IsEligible self.old.terms (reverse past) (earliest_tick self.old.kind at due) result }
-        ensures stands { (past : List ℕ) → StandsFor self.old past → StandsFor self.new (result ∷ past) }
+        ensures every_value { (past : List ℕ) → RegulatorStandsFor self.old past →
+            result ≡ eligible self.old.contract past (earliest_tick self.old.kind at due) }
+        ensures every_list { (past : List ℕ) → RegulatorStandsFor self.old past →
+            IsEligible self.old.contract (reverse past) (earliest_tick self.old.kind at due) result }
+        ensures stands { (past : List ℕ) → RegulatorStandsFor self.old past → RegulatorStandsFor self.new (result ∷ past) }
 
         // The ticks that it keeps are such a list, and the answer joins them as the newest. No packet waits
         // longer than an interval after the newest before.
-        ensures own { StandsFor self.old self.old.recent }
+        ensures own { RegulatorStandsFor self.old self.old.recent }
         ensures last { newest self.new.recent ≡ result }
         ensures most { result ≤ max (earliest_tick self.old.kind at due)
-            (newest self.old.recent + self.old.terms.interval) }
+            (newest self.old.recent + self.old.contract.interval) }
     {
         let eligible = least_eligible(&self.contract, &self.recent, earliest(self.kind, at, due));
         self.recent.push_front(eligible);

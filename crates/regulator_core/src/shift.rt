@@ -1,6 +1,6 @@
 //! A contract speaks of distances between ticks alone.
 ghost use Rattle.std.specs.Prelude.{◌≡◌, ◌↔◌, ℕ, List};
-ghost use Rattle.traffic_contract.specs.Contract.{Terms};
+ghost use Rattle.traffic_contract.specs.Contract.{Traffic};
 ghost use Rattle.traffic_contract.specs.Keeping.{Keeps, keeps_newest_first};
 ghost use Rattle.regulator_core.specs.Shifted.{shifted_by};
 
@@ -10,8 +10,8 @@ ghost use Rattle.regulator_core.specs.Shifted.{shifted_by};
 /// The call does nothing: the law is its contract, for the list in order of time and for the test of a list with the
 /// newest tick first.
 pub fn shifted_ticks_keep()
-    ensures fact { (terms : Terms) (ticks : List ℕ) (shift : ℕ) →
-        (Keeps terms (shifted_by shift ticks) ↔ Keeps terms ticks) }
-    ensures newest_first { (terms : Terms) (past : List ℕ) (shift : ℕ) →
-        keeps_newest_first terms (shifted_by shift past) ≡ keeps_newest_first terms past }
+    ensures fact { (contract : Traffic) (ticks : List ℕ) (shift : ℕ) →
+        (Keeps contract (shifted_by shift ticks) ↔ Keeps contract ticks) }
+    ensures newest_first { (contract : Traffic) (past : List ℕ) (shift : ℕ) →
+        keeps_newest_first contract (shifted_by shift past) ≡ keeps_newest_first contract past }
 {}

@@ -1,4 +1,4 @@
--- The shares of the slack, from the last hop to the first: what one more hop makes of those behind it.
+-- The shares of the slack, from the last hop to the first: what one more hop makes of those after it.
 use Rattle.std.proofs.Common.{◌≡◌, ℕ, zero, suc, ◌+◌, ◌-◌, ◌/◌, ◌<◌, ◌≤◌, true, Option, Some, None, List, [], ◌∷◌, length, map, take, drop, set, get_or, inl, inr, ap, subst, sym, refl, ◌∙◌, arith}
 use Rattle.std.specs.List.{slice_get}
 use Rattle.std.proofs.Math.Seq.{drop-cons}
@@ -13,7 +13,7 @@ use Rattle.hop_reservation.specs.Offers.{delay_over}
 use Rattle.relaxation.specs.Laws.{HaveBounds}
 use Rattle.relaxation.specs.Allotment.{bound_at_end, limit_before, relaxed, with_level, allotment, IsWithin}
 
--- a list from a place on is the item there and what is behind it
+-- a list from a place on is the item there and what is after it
 pub drop-item : {X : Type 0} (xs : List X) (i : ℕ) (x : X) → slice_get xs i ≡ Some x → drop i xs ≡ x ∷ drop (suc i) xs
 drop-item xs i x found = drop-cons xs i x (slice_get_within xs i x found) ∙ ap (λ y. y ∷ drop (suc i) xs) (get_or_from_slice_get xs i x x found)
 
@@ -47,7 +47,7 @@ bound_at_end-at (first ∷ hops) (offer ∷ next ∷ offers) hop some found =
 
 -- ---- the limit
 
--- behind the last hop the limit is that of the jitter
+-- after the last hop the limit is that of the jitter
 pub limit-last : (jitter : Option ℕ) (offers : List ℕ) (place : ℕ) → length offers ≤ place → limit_before jitter (drop place offers) ≡ jitter
 limit-last jitter offers place past = ap (limit_before jitter) (drop_all place offers past)
 
@@ -72,7 +72,7 @@ limit-kept jitter hops offers place hop one upto found within most is =
 
 -- ---- one more hop
 
--- the hop at an index, before those behind it
+-- the hop at an index, before those after it
 allotment-at : (jitter : Option ℕ) (slack : ℕ) (hops : List Hop) (offers : List ℕ) (i : ℕ) (hop : Hop) → slice_get hops i ≡ Some hop → i < length offers
     → allotment jitter slack i (drop i hops) (drop i offers)
     ≡ with_level hop (get_or offers i 0) (allotment jitter slack (suc i) (drop (suc i) hops) (drop (suc i) offers))
@@ -96,7 +96,7 @@ unfolding allotment
 allotment-empty jitter slack before [] = refl
 allotment-empty jitter slack before (hop ∷ hops) = refl
 
--- behind the last hop the whole slack is left
+-- after the last hop the whole slack is left
 pub allotment-none : (jitter : Option ℕ) (slack : ℕ) (hops : List Hop) (offers : List ℕ) (place : ℕ) → length offers ≤ place
     → allotment jitter slack place (drop place hops) (drop place offers) ≡ record { levels = []; slack = slack }
 allotment-none jitter slack hops offers place past = rw (drop_all place offers past) (allotment-empty jitter slack place (drop place hops))
@@ -120,11 +120,11 @@ share-step jitter slack hops offers place hop offer level left one upto found is
 
 -- ---- the levels in their array
 
--- none are behind the last place
+-- none are after the last place
 pub put-none : (levels : List Level) (n place : ℕ) → n ≤ place → map level_number (take (n - place) (drop place levels)) ≡ []
 put-none levels n place past = (let e : n - place ≡ 0 = omega (arith, past) in rw e refl)
 
--- one more stands before those behind the place
+-- one more stands before those after the place
 pub put-one : (levels : List Level) (n place : ℕ) (level : Level) → 1 ≤ place → place ≤ n → n ≤ length levels
     → map level_number (take (n - (place - 1)) (drop (place - 1) (set levels (place - 1) level))) ≡ level_number level ∷ map level_number (take (n - place) (drop place levels))
 put-one levels n place level one upto fits =

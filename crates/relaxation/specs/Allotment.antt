@@ -42,18 +42,18 @@ pub record Allotment : Type 0 where
   pub slack : ℕ
 
 -- a number of ticks, cut to a limit where there is one
-abbrev pub up_to : Option ℕ → ℕ → ℕ
-up_to None ticks = ticks
-up_to (Some limit) ticks = min limit ticks
+abbrev pub capped : Option ℕ → ℕ → ℕ
+capped None ticks = ticks
+capped (Some limit) ticks = min limit ticks
 
--- the limit of a hop with these offers behind it: the last hop alone has one
+-- the limit of a hop with these offers after it: the last hop alone has one
 abbrev pub limit_before : Option ℕ → List ℕ → Option ℕ
 limit_before jitter [] = jitter
 limit_before jitter (offer ∷ behind) = None
 
 -- the largest level whose bound is within the offered bound and a share of the slack
 abbrev pub relaxed : Option ℕ → Hop → ℕ → ℕ → ℕ
-relaxed limit hop offer share = levels_within hop.bounds (up_to limit (bound_at hop.bounds offer + share))
+relaxed limit hop offer share = levels_within hop.bounds (capped limit (bound_at hop.bounds offer + share))
 
 -- a hop gets this level, before the hops that have theirs
 abbrev pub with_level : Hop → ℕ → Allotment → ℕ → Allotment
@@ -62,7 +62,7 @@ with_level hop offer behind level = record {
   slack = behind.slack - (bound_at hop.bounds level - bound_at hop.bounds offer);
 }
 
--- what these hops are allotted of the slack, with so many hops before them
+-- what these hops are allotted of the slack, with `before` hops before them
 unfoldable pub allotment : Option ℕ → ℕ → ℕ → List Hop → List ℕ → Allotment
 allotment jitter slack before [] offers = record { levels = []; slack = slack }
 allotment jitter slack before (hop ∷ hops) [] = record { levels = []; slack = slack }

@@ -3,7 +3,7 @@
 -- larger. The bounds and propagations of the route add up to the delay bound at most, and under delay-jitter control the
 -- bound of the last hop is at most the jitter bound.
 use Rattle.std.specs.Prelude.{◌≡◌, ℕ, ◌≤◌, IsTrue, max, Option, None, List, [], ◌∷◌}
-use Rattle.net_units.specs.LevelBounds.{are_bounds, bound_at, levels_within}
+use Rattle.net_units.specs.LevelBounds.{are_bounds, bound_at, levels_within, reach_of}
 use Rattle.hop_reservation.specs.declared.route.Hop.{Hop}
 use Rattle.hop_reservation.specs.Offers.{delay_over, IsLevelOf, AreLevels}
 use Rattle.relaxation.specs.Allotment.{bound_at_end, denial_of, allotted, IsWithin}
@@ -13,15 +13,11 @@ unfoldable pub HaveBounds : List Hop → Type 0
 HaveBounds [] = Unit {0}
 HaveBounds (hop ∷ hops) = IsTrue (are_bounds hop.bounds) × HaveBounds hops
 
--- the largest level to which a request with this delay bound could be relaxed at a hop with this offer
-abbrev pub reach_of : Hop → ℕ → ℕ → ℕ
-reach_of hop delay offer = levels_within hop.bounds (max delay (bound_at hop.bounds offer))
-
 -- a level from the offered one to the reach
 pub record IsWithinReach (hop : Hop) (delay offer level : ℕ) : Type 0 where
   pub is_level : IsLevelOf hop level
   pub from_offer : offer ≤ level
-  pub up_to_reach : level ≤ reach_of hop delay offer
+  pub up_to_reach : level ≤ reach_of hop.bounds delay offer
 
 -- so each hop that has offered, and no other has a level
 unfoldable pub AreWithinReach : ℕ → List Hop → List ℕ → List ℕ → Type 0

@@ -10,7 +10,7 @@ ghost use Rattle.net_units.specs.Allotted.{levels_of};
 ghost use Rattle.net_units.specs.Numbers.{level_number};
 ghost use Rattle.net_units.specs.LevelBounds.{are_bounds, bound_at};
 ghost use Rattle.hop_reservation.specs.Offers.{delay_over, AreLevels, IsLevelOf};
-ghost use Rattle.relaxation.specs.Allotment.{allotted, allotment, denial_of, bound_at_end, relaxed, up_to, IsWithin};
+ghost use Rattle.relaxation.specs.Allotment.{allotted, allotment, denial_of, bound_at_end, relaxed, capped, IsWithin};
 ghost use Rattle.relaxation.specs.Laws.{AreWithinReach, HaveBounds, KeepBounds};
 
 pub mod laws;
@@ -142,7 +142,7 @@ fn within_share(offer: &Offer, limit: Option<u64>, share: u64) -> Level
 
 // These ticks, but no more than the limit.
 fn cut(limit: Option<u64>, ticks: u64) -> u64
-    ensures { result ≡ up_to limit ticks }
+    ensures { result ≡ capped limit ticks }
 {
     match limit {
         Some(limit) => limit.min(ticks),

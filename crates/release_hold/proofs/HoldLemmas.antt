@@ -2,7 +2,7 @@
 use Rattle.std.proofs.Common.{◌≡◌, ◌==◌, ◌&&◌, ◌||◌, ℕ, suc, ◌+◌, ◌≤◌, true, nat_le, List, [], ◌∷◌, length, refl, ap, arith}
 use Rattle.std.proofs.lemmas.Bool.Decides.{nat_tests}
 use Rattle.std.specs.List.{All, list_all}
-use Rattle.release_hold.specs.Hold.{has_passed, is_over, Counts}
+use Rattle.release_hold.specs.Hold.{has_passed, is_over, CountsTicks}
 
 -- once the bound of the newest tick has passed, those of the earlier ones have passed too
 pub all_passed : (top now tick : ℕ) (past : List ℕ) → All (λ earlier. earlier ≤ tick) past → tick + top ≤ now → list_all (has_passed top now) past ≡ true
@@ -18,7 +18,7 @@ pub newest_decides : (top now tick : ℕ) (past : List ℕ) → All (λ earlier.
 newest_decides top now tick past below = grind (arith, nat_tests, all_passed top now tick past below)
 
 -- the hold by the count and the last tick
-pub is_over-counted : (last eligible last_tick top now : ℕ) (ticks : List ℕ) → Counts eligible last_tick ticks
+pub is_over-counted : (last eligible last_tick top now : ℕ) (ticks : List ℕ) → CountsTicks eligible last_tick ticks
     → is_over last ticks top now ≡ ((last == 0) || ((eligible == last) && nat_le (last_tick + top) now))
 is_over-counted last eligible last_tick top now [] counts = grind (arith, nat_tests)
 is_over-counted last eligible last_tick top now (tick ∷ past) counts =

@@ -2,7 +2,7 @@
 #![tactic(auto)]
 
 ghost use Rattle.std.specs.Prelude.{◌≡◌, ◌+◌, ◌^◌, ◌<◌, ◌≤◌, ◌↔◌, ◌⊎◌, ℕ, List, IsTrue};
-ghost use Rattle.release_hold.specs.Hold.{Counts, is_over};
+ghost use Rattle.release_hold.specs.Hold.{CountsTicks, is_over};
 
 /// What is left to wait for at a link before a released channel's row expires.
 ///
@@ -30,7 +30,7 @@ impl Draining {
         ensures exact { IsTrue result ↔ ((self.now.last ≡ 0) ⊎ ((self.now.eligible ≡ self.now.last) × (self.now.last_tick + top ≤ now))) }
 
         // The same for the whole list of eligible ticks of which this has the count and the last.
-        ensures over { (ticks : List ℕ) → Counts self.now.eligible self.now.last_tick ticks → result ≡ is_over self.now.last ticks top now }
+        ensures over { (ticks : List ℕ) → CountsTicks self.now.eligible self.now.last_tick ticks → result ≡ is_over self.now.last ticks top now }
     {
         self.last == 0 || (self.eligible == self.last && self.last_tick + top <= now)
     }

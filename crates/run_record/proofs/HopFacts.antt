@@ -6,7 +6,7 @@ use Rattle.std.proofs.lemmas.List.{get_or_past, get_or-replicate, length-replica
 use Rattle.net_units.specs.Numbers.{channel_number, link_number}
 use Rattle.net_units.specs.declared.numbers.ChanNo.{ChanNo}
 use Rattle.run_record.specs.Hops.{AreOffered, AreHops, hops_at, no_hops}
-use Rattle.run_record.specs.Rows.{next_place, place_in, hop_of, is_to, offer_by, links_of}
+use Rattle.run_record.specs.Rows.{next_place, place_in, hop_among, is_to, offer_by, links_of}
 use Rattle.run_record.specs.declared.done.Done.{Done}
 use Rattle.run_record.specs.declared.hops.Hops.{Hops}
 
@@ -35,7 +35,7 @@ unfolding place_in
 place-other n m [] apart = rw (ne_eqb m n apart) refl
 place-other n m (k ∷ links) apart = rw (place-other n m links apart) refl
 
--- the first offer of a link puts it behind the others
+-- the first offer of a link puts it after the others
 pub place-new : (n : ℕ) (links : List ℕ) → place_in n links ≡ 0 → place_in n (links ++ n ∷ []) ≡ suc (length links)
 unfolding place_in
 place-new n [] none = rw (eq-eqb n n refl) refl
@@ -91,7 +91,7 @@ unfolding links_of
 no-table = λ c. none-offered
 
 -- a channel without a place in the table has no hops
-pub none-at : (entries : List Done) (table : List Hops) (c n : ℕ) → AreHops entries table → length table ≤ c → n < 32 → hop_of n (links_of c entries) ≡ 0
+pub none-at : (entries : List Done) (table : List Hops) (c n : ℕ) → AreHops entries table → length table ≤ c → n < 32 → hop_among n (links_of c entries) ≡ 0
 none-at entries table c n are past within =
     let bare : AreOffered (links_of c entries) no_hops = rw (get_or_past table c no_hops past) at (are c) in
     sym (bare.places n within) ∙ get_or-replicate 32 n 0 0 within

@@ -9,7 +9,7 @@ use Rattle.std.specs.Cmp.{IsStrictWeakOrder}
 use Rattle.std.specs.List.Sorted.{IsSortedBy, IsStableBy, ties}
 use Rattle.net_units.specs.Numbers.{channel_number}
 use Rattle.link_steps.specs.Lists.{Each}
-use Rattle.run_record.specs.Rows.{is_before, put_row, in_order}
+use Rattle.run_record.specs.Rows.{comes_before, put_row, in_order}
 use Rattle.run_record.specs.declared.rows.HopRow.{HopRow}
 
 -- ---- lists in order
@@ -99,68 +99,68 @@ one-order lt o (y ∷ ys) (z ∷ zs) up down same =
 each-put : (P : HopRow → Type 0) (row : HopRow) (rows : List HopRow) → P row → Each P rows → Each P (put_row row rows)
 unfolding put_row
 each-put P row [] here all = (here, tt)
-each-put P row (other ∷ rows) here all = elim (cases_Bool (is_before other row)) [
+each-put P row (other ∷ rows) here all = elim (cases_Bool (comes_before other row)) [
   | inl before ↦ rw (before) (all.0, each-put P row rows here all.1)
   | inr behind ↦ rw (behind) (here, all)
 ]
 
-each-behind : (o : IsStrictWeakOrder is_before) (row other : HopRow) (rows : List HopRow) → is_before other row ≡ false → NoneBelow is_before other rows → NoneBelow is_before row rows
+each-behind : (o : IsStrictWeakOrder comes_before) (row other : HopRow) (rows : List HopRow) → comes_before other row ≡ false → NoneBelow comes_before other rows → NoneBelow comes_before row rows
 each-behind o row other [] behind all = tt
 each-behind o row other (next ∷ rows) behind all = (o.chain next other row all.0 behind, each-behind o row other rows behind all.1)
 
-put-ascends : (o : IsStrictWeakOrder is_before) (row : HopRow) (rows : List HopRow) → Ascends is_before rows → Ascends is_before (put_row row rows)
+put-ascends : (o : IsStrictWeakOrder comes_before) (row : HopRow) (rows : List HopRow) → Ascends comes_before rows → Ascends comes_before (put_row row rows)
 unfolding put_row
 put-ascends o row [] up = (tt, tt)
-put-ascends o row (other ∷ rows) up = elim (cases_Bool (is_before other row)) [
-  | inl before ↦ rw (before) (each-put (λ y. is_before y other ≡ false) row rows (o.one_way other row before) up.0, put-ascends o row rows up.1)
+put-ascends o row (other ∷ rows) up = elim (cases_Bool (comes_before other row)) [
+  | inl before ↦ rw (before) (each-put (λ y. comes_before y other ≡ false) row rows (o.one_way other row before) up.0, put-ascends o row rows up.1)
   | inr behind ↦ rw (behind) ((behind, each-behind o row other rows behind up.0), up)
 ]
 
-order-ascends : (o : IsStrictWeakOrder is_before) (rows : List HopRow) → Ascends is_before (in_order rows)
+order-ascends : (o : IsStrictWeakOrder comes_before) (rows : List HopRow) → Ascends comes_before (in_order rows)
 unfolding in_order
 order-ascends o [] = tt
 order-ascends o (row ∷ rows) = put-ascends o row (in_order rows) (order-ascends o rows)
 
 -- two that tie with a third aren't before one another
-tied-both : (o : IsStrictWeakOrder is_before) (x row other : HopRow) → ties is_before x row ≡ true → ties is_before x other ≡ true → is_before other row ≡ false
+tied-both : (o : IsStrictWeakOrder comes_before) (x row other : HopRow) → ties comes_before x row ≡ true → ties comes_before x other ≡ true → comes_before other row ≡ false
 tied-both o x row other first second =
-    elim (cases_Bool (is_before x row)) [
+    elim (cases_Bool (comes_before x row)) [
       | inl less ↦ let odd : false ≡ true = rw (less) at first in absurd (cc)
-      | inr level ↦ elim (cases_Bool (is_before other x)) [
-        | inl less ↦ let one : is_before x other ≡ false = o.one_way other x less in let odd : false ≡ true = rw (one, less) at second in absurd (cc)
+      | inr level ↦ elim (cases_Bool (comes_before other x)) [
+        | inl less ↦ let one : comes_before x other ≡ false = o.one_way other x less in let odd : false ≡ true = rw (one, less) at second in absurd (cc)
         | inr none ↦ o.chain other x row none level
       ]
     ]
 
-put-ties : (o : IsStrictWeakOrder is_before) (x row : HopRow) (rows : List HopRow) → filter (ties is_before x) (put_row row rows) ≡ filter (ties is_before x) (row ∷ rows)
+put-ties : (o : IsStrictWeakOrder comes_before) (x row : HopRow) (rows : List HopRow) → filter (ties comes_before x) (put_row row rows) ≡ filter (ties comes_before x) (row ∷ rows)
 unfolding put_row
 put-ties o x row [] = refl
-put-ties o x row (other ∷ rows) = elim (cases_Bool (is_before other row)) [
+put-ties o x row (other ∷ rows) = elim (cases_Bool (comes_before other row)) [
   | inr behind ↦ rw (behind) refl
   | inl before ↦
-      let later : filter (ties is_before x) (put_row row rows) ≡ filter (ties is_before x) (row ∷ rows) = put-ties o x row rows in
-      rw (before) (elim (cases_Bool (ties is_before x row)) [
+      let later : filter (ties comes_before x) (put_row row rows) ≡ filter (ties comes_before x) (row ∷ rows) = put-ties o x row rows in
+      rw (before) (elim (cases_Bool (ties comes_before x row)) [
         | inr apart ↦ simp (later, apart)
-        | inl tie ↦ elim (cases_Bool (ties is_before x other)) [
+        | inl tie ↦ elim (cases_Bool (ties comes_before x other)) [
           | inr apart ↦ simp (later, apart, tie)
           | inl both ↦ let odd : true ≡ false = sym before ∙ tied-both o x row other tie both in absurd (cc)
         ]
       ])
 ]
 
-order-ties : (o : IsStrictWeakOrder is_before) (rows : List HopRow) → SameTies is_before (in_order rows) rows
+order-ties : (o : IsStrictWeakOrder comes_before) (rows : List HopRow) → SameTies comes_before (in_order rows) rows
 unfolding in_order
 order-ties o [] = λ x. refl
 order-ties o (row ∷ rows) = λ x.
-    let rest : filter (ties is_before x) (in_order rows) ≡ filter (ties is_before x) rows = order-ties o rows x in
+    let rest : filter (ties comes_before x) (in_order rows) ≡ filter (ties comes_before x) rows = order-ties o rows x in
     put-ties o x row (in_order rows) ∙ (rw (rest) refl)
 
 -- ---- the order of rows
 
-pub is-order : IsStrictWeakOrder is_before
+pub is-order : IsStrictWeakOrder comes_before
 is-order = ranks_by (then_total (then_total (on_total (λ (row : HopRow). channel_number row.chan) nat_cmp_total) (on_total (λ (row : HopRow). row.number) nat_cmp_total)) (on_total (λ (row : HopRow). row.hop) nat_cmp_total)) (λ (row : HopRow). row)
 
 -- a stable sort puts them in order
-pub order-sorted : (old new : List HopRow) → IsSortedBy is_before new → IsStableBy is_before old new → new ≡ in_order old
+pub order-sorted : (old new : List HopRow) → IsSortedBy comes_before new → IsStableBy comes_before old new → new ≡ in_order old
 order-sorted old new sorted stable =
-    one-order is_before is-order new (in_order old) (ascends-sorted is_before is-order new sorted) (order-ascends is-order old) (λ x. stable x ∙ sym (order-ties is-order old x))
+    one-order comes_before is-order new (in_order old) (ascends-sorted comes_before is-order new sorted) (order-ascends is-order old) (λ x. stable x ∙ sym (order-ties is-order old x))

@@ -1,6 +1,6 @@
 -- What is kept of the offers: for each channel how many there were, and the place of each link among those that have made one.
 use Rattle.std.specs.Prelude.{◌≡◌, ℕ, ◌<◌, min, List, length, replicate, slice_index, slice_index_or}
-use Rattle.run_record.specs.Rows.{hop_of, links_of}
+use Rattle.run_record.specs.Rows.{hop_among, links_of}
 use Rattle.run_record.specs.declared.done.Done.{Done}
 use Rattle.run_record.specs.declared.hops.Hops.{Hops}
 
@@ -8,7 +8,7 @@ use Rattle.run_record.specs.declared.hops.Hops.{Hops}
 pub record AreOffered (links : List ℕ) (hops : Hops) : Type 0 where
   pub whole : length hops.places ≡ 32
   pub count : hops.offers ≡ min 255 (length links)
-  pub places : (n : ℕ) → n < 32 → slice_index hops.places n ≡ hop_of n links
+  pub places : (n : ℕ) → n < 32 → slice_index hops.places n ≡ hop_among n links
 
 -- before the first offer
 abbrev pub no_hops : Hops

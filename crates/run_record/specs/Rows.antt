@@ -44,8 +44,8 @@ place_in n [] = zero
 place_in n (m ∷ ms) = if nat_eq m n then 1 else next_place (place_in n ms)
 
 -- the hop that is over the link of this number, where these links have made offers
-abbrev pub hop_of : ℕ → List ℕ → ℕ
-hop_of n links = min 255 (place_in n links)
+abbrev pub hop_among : ℕ → List ℕ → ℕ
+hop_among n links = min 255 (place_in n links)
 
 -- ---- departures
 
@@ -54,7 +54,7 @@ abbrev pub row_of : List ℕ → LinkNo → ℕ → Sent → HopRow
 row_of links link clock sent = record {
   chan = sent.packet.chan;
   number = sent.packet.number;
-  hop = hop_of (link_number link) links;
+  hop = hop_among (link_number link) links;
   link = link;
   size = sent.packet.size;
   at = sent.at;
@@ -87,13 +87,13 @@ IsEarly _ = Unit {0}
 abbrev pub compare : HopRow → HopRow → Ordering
 compare x y = ordering_then (ordering_then (nat_cmp (channel_number x.chan) (channel_number y.chan)) (nat_cmp x.number y.number)) (nat_cmp x.hop y.hop)
 
-abbrev pub is_before : HopRow → HopRow → Bool
-is_before x y = is_lt (compare x y)
+abbrev pub comes_before : HopRow → HopRow → Bool
+comes_before x y = is_lt (compare x y)
 
--- a row before the first one that it doesn't come behind
+-- a row before the first one that it doesn't come after
 unfoldable pub put_row : HopRow → List HopRow → List HopRow
 put_row row [] = row ∷ []
-put_row row (other ∷ rows) = if is_before other row then other ∷ put_row row rows else row ∷ other ∷ rows
+put_row row (other ∷ rows) = if comes_before other row then other ∷ put_row row rows else row ∷ other ∷ rows
 
 unfoldable pub in_order : List HopRow → List HopRow
 in_order [] = []

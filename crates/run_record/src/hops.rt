@@ -1,7 +1,7 @@
 //! Which links have made an offer to each channel, and in which order.
 ghost use Rattle.std.specs.Prelude.{◌≡◌, ℕ, ◌<◌, ◌^◌, [], ◌∷◌, ◌++◌, List, IfOk, OnOk, length, min};
 ghost use Rattle.run_record.specs.Hops.{AreHops, hops_at};
-ghost use Rattle.run_record.specs.Rows.{hop_of, links_of, offer_by};
+ghost use Rattle.run_record.specs.Rows.{hop_among, links_of, offer_by};
 ghost use Rattle.net_units.specs.Numbers.{channel_number, link_number};
 ghost use Rattle.run_record.specs.declared.done.Done.{Done as Step};
 
@@ -44,7 +44,7 @@ impl Hops {
 
     // The place of a link.
     fn place_of(&self, link: LinkNo) -> u8
-        ensures { (links : List ℕ) → AreOffered links self.now → result ≡ hop_of (link_number link) links }
+        ensures { (links : List ℕ) → AreOffered links self.now → result ≡ hop_among (link_number link) links }
     {
         self.places[usize::from(link.get())]
     }
@@ -99,7 +99,7 @@ fn grow(table: &mut Vec<Hops>, chan: ChanNo) -> Result<(), OutOfMemory>
 
 // The hop of a channel that is over a link.
 pub(crate) fn hop_at(table: &[Hops], chan: ChanNo, link: LinkNo) -> u8
-    ensures { (entries : List Step) → AreHops entries table.now → result ≡ hop_of (link_number link) (links_of (channel_number chan) entries) }
+    ensures { (entries : List Step) → AreHops entries table.now → result ≡ hop_among (link_number link) (links_of (channel_number chan) entries) }
 {
     match table.get(chan.get() as usize) {
         Some(hops) => hops.place_of(link),

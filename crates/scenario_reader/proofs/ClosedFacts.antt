@@ -5,11 +5,11 @@ use Rattle.std.specs.List.{slice_index_or}
 use Rattle.net_units.specs.Numbers.{channel_number}
 use Rattle.call_script.specs.declared.entries.RequestEntry.{RequestEntry}
 use Rattle.scenario_reader.specs.Drafts.{Said, own_request, is_closed}
-use Rattle.scenario_reader.specs.Kept.{IsDraft, IsKept}
+use Rattle.scenario_reader.specs.Kept.{IsDraft, IsKeptBeside}
 use Rattle.scenario_reader.proofs.NamedFacts.{own_is}
 
 pub closed_own : (said : Said) (links requests callers : List (List ℕ)) (closed : List Bool) (load : ℕ) (name : List ℕ) (entry : RequestEntry) → IsDraft said
-    → IsKept said links requests callers closed load → own_request said name ≡ Some entry
+    → IsKeptBeside said links requests callers closed load → own_request said name ≡ Some entry
     → slice_index_or closed (channel_number entry.request.chan) false ≡ is_closed said entry.request.chan
 closed_own said links requests callers closed load name entry draft kept e =
     let own = own_is said name entry e in

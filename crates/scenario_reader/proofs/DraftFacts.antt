@@ -181,7 +181,7 @@ draft_more said (item.Do what) d may = draft_do said what d may
 
 -- ---- a complete draft is a plan
 
--- behind the tail stands a link
+-- after the tail stands a link
 linked_tail : (said : Said) → IsDraft said → is_complete said ≡ true → said.links ≡ [] → ⊥
 linked_tail said d complete none = by said.tail complete (d.unrounded (d.unlinked_rounds none)) where
   by : (tail : Option ℕ) → is_some tail ≡ true → tail ≡ None → ⊥

@@ -2,11 +2,11 @@
 use Rattle.std.proofs.Common.{◌≡◌, ℕ, suc, ◌-◌, ◌≤◌, true, cond, eqb, ltb, List, [], ◌∷◌, Some, None, length, drop, refl, sym, ◌∙◌, inl, inr, arith, length-drop}
 use Rattle.std.proofs.lemmas.List.{drop_all}
 use Rattle.std.proofs.lemmas.Bool.{lt-ltb, ne_eqb, eq-eqb, cases_eq}
-use Rattle.scenario_reader.specs.Forms.{one_if, has_form}
+use Rattle.scenario_reader.specs.Forms.{one_field, has_form}
 use Rattle.scenario_reader.specs.declared.form.Part.{Part}
 
 -- where one field is taken, there is one
-pub one_left : (fields : List (List ℕ)) → one_if (λ field. true) fields ≡ cond (ltb 0 (length fields)) (Some 1) None
+pub one_left : (fields : List (List ℕ)) → one_field (λ field. true) fields ≡ cond (ltb 0 (length fields)) (Some 1) None
 one_left [] = refl
 one_left (f ∷ fields) = rw (lt-ltb 0 (suc (length fields)) (omega arith)) refl
 
@@ -15,7 +15,7 @@ pub form_ends : (fields : List (List ℕ)) → has_form [] fields ≡ eqb (lengt
 form_ends [] = refl
 form_ends (f ∷ fields) = sym (ne_eqb (suc (length fields)) 0 (omega arith))
 
--- behind the whole form, the fields have to be at their end too
+-- after the whole form, the fields have to be at their end too
 pub form_at_end : (form : List Part) (fields : List (List ℕ)) (i place : ℕ) → length form ≤ i → place ≤ length fields → has_form (drop i form) (drop place fields) ≡ eqb place (length fields)
 form_at_end form fields i place h k =
     rw (drop_all i form h) (form_ends (drop place fields) ∙ same_test (length (drop place fields)) place (length fields) (length-drop place fields) k)

@@ -4,7 +4,7 @@ use Rattle.std.proofs.lemmas.Bool.{leb-true, and_parts}
 use Rattle.std.proofs.lemmas.Slice.Eq.{bytes_eq-Decides}
 use Rattle.std.specs.Cmp.Lexicographic.{pointwise}
 use Rattle.scenario_reader.specs.Fields.{field_at}
-use Rattle.scenario_reader.specs.Forms.{text_of, is_word, route_length, up_to, on_taken, has_form}
+use Rattle.scenario_reader.specs.Forms.{text_of, is_word, route_length, fields_up_to, on_taken, has_form}
 use Rattle.scenario_reader.specs.declared.form.Keyword.{Keyword}
 use Rattle.scenario_reader.specs.declared.form.Part.{Part}
 use Rattle.scenario_reader.specs.declared.form.Part.TheVariants as part
@@ -22,7 +22,7 @@ written (part.Route ∷ parts) fields place =
     take (route_length (drop place fields)) (drop place fields) ++ written parts fields (place + route_length (drop place fields))
 written (part.Bounds ∷ parts) fields place = drop place fields ++ written parts fields (place + length (drop place fields))
 
--- a form goes on behind a fixed word
+-- a form goes on after a fixed word
 pub behind_word : (keyword : Keyword) (parts : List Part) (fs : List (List ℕ)) → has_form (part.Word keyword ∷ parts) fs ≡ true
     → (fs ≡ text_of keyword ∷ drop 1 fs) × (has_form parts (drop 1 fs) ≡ true)
 behind_word keyword parts [] e = cc
@@ -33,34 +33,34 @@ behind_word keyword parts (f ∷ fs) e = on_test (is_word keyword f) refl e
     on_test true t e = (ap (λ g. g ∷ fs) (same_bytes f (text_of keyword) t), e)
     on_test false t e = cc
 
--- a form goes on behind a field
+-- a form goes on after a field
 pub behind_field : (parts : List Part) (fs : List (List ℕ)) → has_form (part.Field ∷ parts) fs ≡ true
     → (fs ≡ get_or fs 0 [] ∷ drop 1 fs) × (has_form parts (drop 1 fs) ≡ true)
 behind_field parts [] e = cc
 behind_field parts (f ∷ fs) e = (refl, e)
 
 -- fields that are taken are one at least, and at most so many
-pub few_taken : (most count : ℕ) (go_on : ℕ → Bool) → on_taken (up_to most count) go_on ≡ true → (1 ≤ count) × (count ≤ most) × (go_on count ≡ true)
+pub few_taken : (most count : ℕ) (go_on : ℕ → Bool) → on_taken (fields_up_to most count) go_on ≡ true → (1 ≤ count) × (count ≤ most) × (go_on count ≡ true)
 few_taken most count go_on e = on_test (nat_le 1 count && nat_le count most) refl e
   where
     on_test : (test : Bool) → (nat_le 1 count && nat_le count most) ≡ test → on_taken (cond test (Some count) None) go_on ≡ true → (1 ≤ count) × (count ≤ most) × (go_on count ≡ true)
     on_test true t e = (let p = and_parts (nat_le 1 count) (nat_le count most) t in (leb-true 1 count p.0, leb-true count most p.1, e))
     on_test false t e = cc
 
--- a form goes on behind the links of a route, of which there is one at least
+-- a form goes on after the links of a route, of which there is one at least
 pub behind_links : (parts : List Part) (fs : List (List ℕ)) → has_form (part.Route ∷ parts) fs ≡ true
     → (1 ≤ route_length fs) × (route_length fs ≤ 16) × (has_form parts (drop (route_length fs) fs) ≡ true)
 behind_links parts fs e = few_taken 16 (route_length fs) (λ count. has_form parts (drop count fs)) e
 
--- a form goes on behind the bounds of a link
+-- a form goes on after the bounds of a link
 pub behind_bounds : (parts : List Part) (fs : List (List ℕ)) → has_form (part.Bounds ∷ parts) fs ≡ true → has_form parts (drop (length fs) fs) ≡ true
 behind_bounds parts fs e = (few_taken 8 (length fs) (λ count. has_form parts (drop count fs)) e).2
 
--- behind a field stands the next
+-- after a field stands the next
 behind_one : (fields : List (List ℕ)) (place : ℕ) → drop 1 (drop place fields) ≡ drop (place + 1) fields
 behind_one fields place = drop-drop 1 place fields
 
--- behind all fields nothing stands
+-- after all fields nothing stands
 all_taken : (fs : List (List ℕ)) → fs ≡ fs ++ drop (length fs) fs
 all_taken [] = refl
 all_taken (f ∷ fs) = ap (λ rest. f ∷ rest) (all_taken fs)
@@ -93,7 +93,7 @@ as_written (part.Bounds ∷ parts) fields place e =
     let rest = as_written parts fields (place + length fs) (subst (λ gs. has_form parts gs ≡ true) (drop-drop (length fs) place fields) p) in
     all_taken fs ∙ ap (λ gs. fs ++ gs) (drop-drop (length fs) place fields ∙ rest)
 
--- ---- a form behind single fields
+-- ---- a form after single fields
 
 -- each part takes one field
 abbrev pub AreSingle : List Part → Type 0
@@ -103,7 +103,7 @@ AreSingle (part.Field ∷ parts) = AreSingle parts
 AreSingle (part.Route ∷ parts) = ⊥
 AreSingle (part.Bounds ∷ parts) = ⊥
 
--- a form goes on behind parts that take one field each
+-- a form goes on after parts that take one field each
 pub behind_front : (front behind : List Part) (fields : List (List ℕ)) (place : ℕ) → AreSingle front → has_form (front ++ behind) (drop place fields) ≡ true
     → has_form behind (drop (place + length front) fields) ≡ true
 behind_front [] behind fields place single e = subst (λ n. has_form behind (drop n fields) ≡ true) (omega arith) e

@@ -25,11 +25,11 @@ use Rattle.call_script.proofs.GrowthFacts.{last-passes, get-more, total-more, ad
 use Rattle.call_script.proofs.Growing.{HaveRequests, callers-load, all-have}
 use Rattle.call_script.proofs.OpeningFacts.{owner-inside}
 use Rattle.scenario_reader.specs.Drafts.{Said, nothing_said, with_item, parts_said}
-use Rattle.scenario_reader.specs.Kept.{IsDraft, IsKept, MayPutLink, MayPutCaller, MayPutOpen, MayPutOp, MayDo}
+use Rattle.scenario_reader.specs.Kept.{IsDraft, IsKeptBeside, MayPutLink, MayPutCaller, MayPutOpen, MayPutOp, MayDo}
 use Rattle.scenario_reader.specs.declared.item.Item.TheVariants as item
 
 -- before the first line
-pub kept_begins : IsKept nothing_said [] [] [] [] 0
+pub kept_begins : IsKeptBeside nothing_said [] [] [] [] 0
 kept_begins = record {
   same_links = refl;
   same_requests = refl;
@@ -45,8 +45,8 @@ kept_begins = record {
 }
 
 -- a link more
-pub kept_link : (said : Said) (links requests callers : List (List ℕ)) (closed : List Bool) (load : ℕ) (entry : LinkEntry) → IsKept said links requests callers closed load → MayPutLink said entry
-    → IsKept (with_item (item.Link entry) said) (links ++ entry.name ∷ []) requests callers closed load
+pub kept_link : (said : Said) (links requests callers : List (List ℕ)) (closed : List Bool) (load : ℕ) (entry : LinkEntry) → IsKeptBeside said links requests callers closed load → MayPutLink said entry
+    → IsKeptBeside (with_item (item.Link entry) said) (links ++ entry.name ∷ []) requests callers closed load
 kept_link said links requests callers closed load entry k may = record {
   same_links = ap (λ names. names ++ entry.name ∷ []) k.same_links ∙ sym (map-append (λ (e : LinkEntry). e.name) said.links (entry ∷ []));
   same_requests = k.same_requests;
@@ -70,8 +70,8 @@ last_new (caller ∷ []) name = refl
 last_new (caller ∷ next ∷ callers) name = last_new (next ∷ callers) name
 
 -- a caller more
-pub kept_caller : (said : Said) (links requests callers : List (List ℕ)) (closed : List Bool) (load : ℕ) (name : List ℕ) → IsDraft said → IsKept said links requests callers closed load → MayPutCaller said name
-    → IsKept (with_item (item.Caller name) said) links requests (callers ++ name ∷ []) closed load
+pub kept_caller : (said : Said) (links requests callers : List (List ℕ)) (closed : List Bool) (load : ℕ) (name : List ℕ) → IsDraft said → IsKeptBeside said links requests callers closed load → MayPutCaller said name
+    → IsKeptBeside (with_item (item.Caller name) said) links requests (callers ++ name ∷ []) closed load
 kept_caller said links requests callers closed load name d k may = record {
   same_links = k.same_links;
   same_requests = k.same_requests;
@@ -124,14 +124,14 @@ unfolding are_there
 opened_in_parts parts there =
     (and_parts (list_all (route_is_there parts.links) parts.requests && list_all (λ (c : CallerEntry). list_all (pour_is_there parts.links) c.ops) parts.callers) (are_opened parts.callers) there).1
 
--- marks with one more behind them
+-- marks with one more after them
 mark_more : (closed : List Bool) (n : ℕ) → slice_index_or (closed ++ false ∷ []) n false ≡ slice_index_or closed n false
 mark_more [] zero = refl
 mark_more [] (suc n) = refl
 mark_more (b ∷ closed) zero = refl
 mark_more (b ∷ closed) (suc n) = mark_more closed n
 
--- behind the marks stands none
+-- after the marks stands none
 mark_none : (closed : List Bool) (n : ℕ) → length closed ≤ n → slice_index_or closed n false ≡ false
 mark_none [] n h = refl
 mark_none (b ∷ closed) zero h = absurd (omega arith)
@@ -179,8 +179,8 @@ fresh_channel said c d new =
     ]
 
 -- a request more
-pub kept_open : (said : Said) (links requests callers : List (List ℕ)) (closed : List Bool) (load : ℕ) (entry : RequestEntry) → IsDraft said → IsKept said links requests callers closed load → MayPutOpen said entry
-    → IsKept (with_item (item.Open entry) said) links (requests ++ entry.name ∷ []) callers (closed ++ false ∷ []) load
+pub kept_open : (said : Said) (links requests callers : List (List ℕ)) (closed : List Bool) (load : ℕ) (entry : RequestEntry) → IsDraft said → IsKeptBeside said links requests callers closed load → MayPutOpen said entry
+    → IsKeptBeside (with_item (item.Open entry) said) links (requests ++ entry.name ∷ []) callers (closed ++ false ∷ []) load
 kept_open said links requests callers closed load entry d k may =
     let op = Open entry.request.chan in
     let some : 1 ≤ length said.callers = omega (arith, may.request.caller) in
@@ -217,8 +217,8 @@ op_load said (Close chan) d may = omega (arith, d.keeps.load)
 op_load said (Pour link count gap size) d may = may.load
 
 -- an operation more that closes no channel
-pub kept_packets : (said : Said) (links requests callers : List (List ℕ)) (closed : List Bool) (load packets : ℕ) (what : Op) → IsDraft said → IsKept said links requests callers closed load → MayPutOp said what
-    → packets ≡ load_of said.requests what → ((c : ℕ) → closes c what ≡ false) → IsKept (with_item (item.Op what) said) links requests callers closed (load + packets)
+pub kept_packets : (said : Said) (links requests callers : List (List ℕ)) (closed : List Bool) (load packets : ℕ) (what : Op) → IsDraft said → IsKeptBeside said links requests callers closed load → MayPutOp said what
+    → packets ≡ load_of said.requests what → ((c : ℕ) → closes c what ≡ false) → IsKeptBeside (with_item (item.Op what) said) links requests callers closed (load + packets)
 kept_packets said links requests callers closed load packets what d k may of none =
     let longer = added-length what said.callers in
     let more = load_added (load_of said.requests) what said.callers may.some in
@@ -239,8 +239,8 @@ kept_packets said links requests callers closed load packets what d k may of non
     }
 
 -- a close more
-pub kept_close : (said : Said) (links requests callers : List (List ℕ)) (closed : List Bool) (load : ℕ) (chan : ChanNo) → IsDraft said → IsKept said links requests callers closed load → MayPutOp said (Close chan)
-    → IsKept (with_item (item.Op (Close chan)) said) links requests callers (set closed (channel_number chan) true) load
+pub kept_close : (said : Said) (links requests callers : List (List ℕ)) (closed : List Bool) (load : ℕ) (chan : ChanNo) → IsDraft said → IsKeptBeside said links requests callers closed load → MayPutOp said (Close chan)
+    → IsKeptBeside (with_item (item.Op (Close chan)) said) links requests callers (set closed (channel_number chan) true) load
 kept_close said links requests callers closed load chan d k may =
     let op = Close chan in
     let longer = added-length (Close chan) said.callers in
@@ -273,8 +273,8 @@ kept_close said links requests callers closed load chan d k may =
     }
 
 -- rounds
-pub kept_rounds : (said : Said) (links requests callers : List (List ℕ)) (closed : List Bool) (load count : ℕ) → IsKept said links requests callers closed load → count ≤ 524288
-    → IsKept (with_item (item.Rounds count) said) links requests callers closed load
+pub kept_rounds : (said : Said) (links requests callers : List (List ℕ)) (closed : List Bool) (load count : ℕ) → IsKeptBeside said links requests callers closed load → count ≤ 524288
+    → IsKeptBeside (with_item (item.Rounds count) said) links requests callers closed load
 kept_rounds said links requests callers closed load count k few = record {
   same_links = k.same_links;
   same_requests = k.same_requests;
@@ -290,8 +290,8 @@ kept_rounds said links requests callers closed load count k few = record {
 }
 
 -- the header
-pub kept_header : (said : Said) (links requests callers : List (List ℕ)) (closed : List Bool) (load : ℕ) (version : Version) → IsKept said links requests callers closed load
-    → IsKept (with_item (item.Header version) said) links requests callers closed load
+pub kept_header : (said : Said) (links requests callers : List (List ℕ)) (closed : List Bool) (load : ℕ) (version : Version) → IsKeptBeside said links requests callers closed load
+    → IsKeptBeside (with_item (item.Header version) said) links requests callers closed load
 kept_header said links requests callers closed load version k = record {
   same_links = k.same_links;
   same_requests = k.same_requests;
@@ -307,8 +307,8 @@ kept_header said links requests callers closed load version k = record {
 }
 
 -- the tail
-pub kept_tail : (said : Said) (links requests callers : List (List ℕ)) (closed : List Bool) (load : ℕ) (count : ℕ) → IsKept said links requests callers closed load
-    → IsKept (with_item (item.Tail count) said) links requests callers closed load
+pub kept_tail : (said : Said) (links requests callers : List (List ℕ)) (closed : List Bool) (load : ℕ) (count : ℕ) → IsKeptBeside said links requests callers closed load
+    → IsKeptBeside (with_item (item.Tail count) said) links requests callers closed load
 kept_tail said links requests callers closed load count k = record {
   same_links = k.same_links;
   same_requests = k.same_requests;

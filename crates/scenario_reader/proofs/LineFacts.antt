@@ -10,9 +10,9 @@ use Rattle.hop_reservation.specs.declared.route.Hop.{Hop}
 use Rattle.call_script.specs.declared.entries.LinkEntry.{LinkEntry}
 use Rattle.call_script.specs.declared.entries.RequestEntry.{RequestEntry}
 use Rattle.scenario_reader.specs.Fields.{line_of, ended_line}
-use Rattle.scenario_reader.specs.PlanText.{best_fields, bounds_fields, route_names, with_name, contract_fields, bound_fields, open_fields, link_text, spaced, link_front}
+use Rattle.scenario_reader.specs.PlanText.{best_fields, bounds_fields, route_names, with_name, contract_fields, delay_fields, open_fields, link_text, spaced, link_line_front}
 
--- the bounds from one on: that bound, and those behind it
+-- the bounds from one on: that bound, and those after it
 pub bounds-next : (bounds : List ℕ) (i j : ℕ) (before after all : List ℕ) → i < length bounds → j ≡ i + 1 → after ≡ before ++ 32 ∷ decimal (get_or bounds i 0) → before ++ spaced (map decimal (drop i bounds)) ≡ all → after ++ spaced (map decimal (drop j bounds)) ≡ all
 bounds-next bounds i j before after all within next is so_far =
     let at : j ≡ suc i = omega (arith, next) in
@@ -24,7 +24,7 @@ bounds-next bounds i j before after all within next is so_far =
     behind (x ∷ xs) zero inside = refl
     behind (x ∷ xs) (suc n) inside = behind xs n (omega arith)
 
--- the hops of a route from one on: the name of its link, if there is one, and those behind it
+-- the hops of a route from one on: the name of its link, if there is one, and those after it
 pub hops-next : (links : List LinkEntry) (route : List Hop) (i j : ℕ) (hop : Hop) (before after all : List ℕ) → slice_get route i ≡ Some hop → j ≡ i + 1 → after ≡ before ++ spaced (with_name (slice_get links (link_number hop.link)) [])
     → before ++ spaced (route_names links (drop i route)) ≡ all → after ++ spaced (route_names links (drop j route)) ≡ all
 hops-next links route i j hop before after all found next is so_far =
@@ -46,7 +46,7 @@ hops-next links route i j hop before after all found next is so_far =
 spaced-append : (xs ys : List (List ℕ)) → spaced (xs ++ ys) ≡ spaced xs ++ spaced ys
 spaced-append xs ys = flat_map-append (λ (field : List ℕ). 32 ∷ field) xs ys
 
--- the first field, and then the others each behind a space
+-- the first field, and then the others each after a space
 pub line-of-fields : (field : List ℕ) (fields : List (List ℕ)) → line_of (field ∷ fields) ≡ field ++ spaced fields
 line-of-fields field [] = sym (append-nil field)
 line-of-fields field (next ∷ fields) = ap (λ (rest : List ℕ). field ++ 32 ∷ rest) (line-of-fields next fields)
@@ -60,17 +60,17 @@ three-parts field first second third =
     ∙ sym (line-of-fields field (first ++ (second ++ third)))
     )
 
-pub link-line : (entry : LinkEntry) → ((link_front entry ++ spaced (best_fields entry.shape.best)) ++ spaced (bounds_fields entry.shape.bounds)) ++ 10 ∷ [] ≡ link_text entry
+pub link-line : (entry : LinkEntry) → ((link_line_front entry ++ spaced (best_fields entry.shape.best)) ++ spaced (bounds_fields entry.shape.bounds)) ++ 10 ∷ [] ≡ link_text entry
 unfolding link_text
 link-line entry = three-parts (codes "link")
     (entry.name ∷ entry.from ∷ entry.to ∷ codes "rate" ∷ decimal entry.shape.rate ∷ codes "cap" ∷ decimal entry.shape.cap ∷ codes "prop" ∷ decimal entry.shape.prop ∷ codes "buffer" ∷ decimal entry.shape.buffer ∷ [])
     (best_fields entry.shape.best) (bounds_fields entry.shape.bounds)
 
 pub open-line : (links : List LinkEntry) (entry : RequestEntry) (line : List ℕ) → line ≡ codes "open" ++ spaced (entry.name ∷ codes "route" ∷ [])
-    → (((line ++ spaced (route_names links entry.request.route)) ++ spaced (contract_fields entry.request.contract)) ++ spaced (bound_fields entry.request)) ++ 10 ∷ [] ≡ ended_line (open_fields links entry)
+    → (((line ++ spaced (route_names links entry.request.route)) ++ spaced (contract_fields entry.request.contract)) ++ spaced (delay_fields entry.request)) ++ 10 ∷ [] ≡ ended_line (open_fields links entry)
 open-line links entry line begins =
     let front = entry.name ∷ codes "route" ∷ [] in
     let route = route_names links entry.request.route in
-    ap (λ (l : List ℕ). (((l ++ spaced route) ++ spaced (contract_fields entry.request.contract)) ++ spaced (bound_fields entry.request)) ++ 10 ∷ []) begins
-    ∙ ap (λ (l : List ℕ). ((l ++ spaced (contract_fields entry.request.contract)) ++ spaced (bound_fields entry.request)) ++ 10 ∷ []) (append_assoc (codes "open") (spaced front) (spaced route) ∙ ap (λ (rest : List ℕ). codes "open" ++ rest) (sym (spaced-append front route)))
-    ∙ three-parts (codes "open") (front ++ route) (contract_fields entry.request.contract) (bound_fields entry.request)
+    ap (λ (l : List ℕ). (((l ++ spaced route) ++ spaced (contract_fields entry.request.contract)) ++ spaced (delay_fields entry.request)) ++ 10 ∷ []) begins
+    ∙ ap (λ (l : List ℕ). ((l ++ spaced (contract_fields entry.request.contract)) ++ spaced (delay_fields entry.request)) ++ 10 ∷ []) (append_assoc (codes "open") (spaced front) (spaced route) ∙ ap (λ (rest : List ℕ). codes "open" ++ rest) (sym (spaced-append front route)))
+    ∙ three-parts (codes "open") (front ++ route) (contract_fields entry.request.contract) (delay_fields entry.request)

@@ -3,7 +3,7 @@ use Rattle.std.proofs.Common.{◌≡◌, ℕ, ◌<◌, ◌≤◌, Bool, true, fa
 use Rattle.std.specs.Prelude.{if◌then◌else◌}
 use Rattle.std.proofs.lemmas.Bool.{le-leb, lt-ltb, and_parts, eqb-true, eqb-false}
 use Rattle.std.proofs.lemmas.List.{drop_all, length-map}
-use Rattle.net_units.specs.Numbers.{link_number}
+use Rattle.net_units.specs.Numbers.{link_number, link_at}
 use Rattle.net_units.specs.Quotient.{ceil_quotient}
 use Rattle.net_units.specs.LevelBounds.{bound_at}
 use Rattle.net_units.proofs.BoundFacts.{AreBounds, bounds_parts}
@@ -16,7 +16,7 @@ use Rattle.call_script.specs.declared.version.Version.{Version}
 use Rattle.scenario_reader.specs.BothWays.{HasNames}
 use Rattle.scenario_reader.specs.Causes.{unless}
 use Rattle.scenario_reader.specs.Drafts.{Said}
-use Rattle.scenario_reader.specs.Entries.{LinkNumbers, link_at, has_bounds, shape_of}
+use Rattle.scenario_reader.specs.Entries.{LinkNumbers, has_bounds, shape_of}
 use Rattle.scenario_reader.specs.Fields.{field_at}
 use Rattle.scenario_reader.specs.Forms.{is_among, has_form, name_rule, new_name_rule, number_rule}
 use Rattle.scenario_reader.specs.LinkLine.{is_link_line, bound_fields, best_in, link_numbers, link_numbers_rule, best_rule, bound_numbers_rule, link_fields_rule, link_rule, link_said}
@@ -27,13 +27,13 @@ use Rattle.scenario_reader.proofs.ShapeFacts.{link_is, shape_is}
 use Rattle.scenario_reader.proofs.NumberText.{value-decimal, decimal_passes, decimals_pass, values-decimals}
 use Rattle.scenario_reader.proofs.RulesBack.{pass_all, unless_holds, name_back, new_name_back}
 
--- ---- the fields of a link line, with these behind the buffer
+-- ---- the fields of a link line, with these after the buffer
 
 abbrev front_with : LinkEntry → List (List ℕ) → List (List ℕ)
 front_with entry rest = codes "link" ∷ entry.name ∷ entry.from ∷ entry.to ∷ codes "rate" ∷ decimal entry.shape.rate ∷ codes "cap" ∷ decimal entry.shape.cap
     ∷ codes "prop" ∷ decimal entry.shape.prop ∷ codes "buffer" ∷ decimal entry.shape.buffer ∷ rest
 
--- what stands behind the buffer, and what it says
+-- what stands after the buffer, and what it says
 record IsBehind (version : Version) (entry : LinkEntry) (rest : List (List ℕ)) : Type 0 where
   form : is_link_line version (front_with entry rest) ≡ true
   bounds : bound_fields (front_with entry rest) ≡ map decimal entry.shape.bounds

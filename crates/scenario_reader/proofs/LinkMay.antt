@@ -3,7 +3,7 @@ use Rattle.std.proofs.Common.{◌≡◌, ℕ, ◌≤◌, Bool, true, false, not,
 use Rattle.std.proofs.lemmas.Bool.{ltb-true, eqb-true, and_parts, and_from, or_cases, true≢false}
 use Rattle.std.proofs.lemmas.Option.{same_Some}
 use Rattle.std.specs.Prelude.{unwrap_or}
-use Rattle.net_units.specs.Numbers.{link_number}
+use Rattle.net_units.specs.Numbers.{link_number, link_at}
 use Rattle.net_units.specs.declared.numbers.LinkNo.{LinkNo}
 use Rattle.traffic_contract.specs.declared.admission.Test.{Test}
 use Rattle.traffic_contract.specs.declared.admission.Test.TheVariants.{Whole, Least}
@@ -16,7 +16,7 @@ use Rattle.call_script.specs.declared.version.Version.{Version}
 use Rattle.call_script.specs.declared.version.Version.TheVariants.{One, Two, Three}
 use Rattle.scenario_reader.specs.Causes.{unless}
 use Rattle.scenario_reader.specs.Drafts.{Said, parts_said}
-use Rattle.scenario_reader.specs.Entries.{LinkNumbers, link_at, has_rate, has_room, has_bounds, shape_with, shape_where, shape_of}
+use Rattle.scenario_reader.specs.Entries.{LinkNumbers, has_rate, has_room, has_bounds, shape_with, shape_where, shape_of}
 use Rattle.scenario_reader.specs.Fields.{field_at}
 use Rattle.scenario_reader.specs.Forms.{has_form, name_rule, new_name_rule}
 use Rattle.scenario_reader.specs.Grammar.{caller_form, caller_rule}

@@ -21,7 +21,7 @@ place_told tell test (x ∷ xs) = ap (λ n. cond (not (test (tell x))) (1 + n) 0
 place_some : {X : Type 0} (test : X → Bool) (xs : List X) (n : ℕ) → position test xs ≡ Some n → position_or_len test xs ≡ n
 place_some test xs n e = grind (arith, common_steps)
 
--- where none is found it is behind all
+-- where none is found it is after all
 place_none : {X : Type 0} (test : X → Bool) (xs : List X) → position test xs ≡ None → length xs ≤ position_or_len test xs
 place_none test xs e = grind (arith, common_steps)
 

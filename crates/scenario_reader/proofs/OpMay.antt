@@ -5,8 +5,9 @@ use Rattle.std.proofs.lemmas.Option.{slice_get_within}
 use Rattle.std.specs.List.{slice_get}
 use Rattle.std.specs.Prelude.{unwrap_or}
 use Rattle.net_units.specs.Numbers.{link_number, channel_number}
+use Rattle.net_units.specs.Limits.{is_within}
 use Rattle.call_script.specs.Growing.{IsOpenedThere}
-use Rattle.call_script.specs.Rules.{hops_of, load_in, is_from, packets_in_range, takes_best_effort}
+use Rattle.call_script.specs.Rules.{hops_of, load_in, packets_in_range, takes_best_effort}
 use Rattle.call_script.specs.Versions.{has_best_effort}
 use Rattle.call_script.specs.declared.entries.LinkEntry.{LinkEntry}
 use Rattle.call_script.specs.declared.entries.RequestEntry.{RequestEntry}
@@ -19,7 +20,7 @@ use Rattle.scenario_reader.specs.Drafts.{Said, parts_said, link_named, own_reque
 use Rattle.scenario_reader.specs.Fields.{field_at}
 use Rattle.scenario_reader.specs.Forms.{has_form, used_name_rule, number_rule}
 use Rattle.scenario_reader.specs.Grammar.{send_form, packets_rule, is_closed_request, load_rule, send_rule, send_on, send_said, close_form, close_rule, close_of, close_said, pour_form, pour_rule, pour_over, pour_said}
-use Rattle.scenario_reader.specs.Kept.{IsDraft, IsLinked, MayPutOp}
+use Rattle.scenario_reader.specs.Kept.{IsDraft, HasALink, MayPutOp}
 use Rattle.scenario_reader.specs.declared.cause.Cause.TheVariants as cause
 use Rattle.scenario_reader.proofs.LinkMay.{headed_is, some_items, longer_than_none, is_none_said}
 use Rattle.scenario_reader.proofs.NamedFacts.{own_is}
@@ -27,8 +28,8 @@ use Rattle.scenario_reader.proofs.OpenMay.{from_range, link_found}
 use Rattle.scenario_reader.proofs.OwnFacts.{own_opened}
 use Rattle.scenario_reader.proofs.PassFacts.{all_pass, unless_passes, made_some}
 
--- behind a caller stands a link
-linked_by : (version : Version) (said : Said) → IsDraft said → said.version ≡ Some version → not (nat_eq (length said.callers) 0) ≡ true → is_none said.rounds ≡ true → IsLinked said
+-- after a caller stands a link
+linked_by : (version : Version) (said : Said) → IsDraft said → said.version ≡ Some version → not (nat_eq (length said.callers) 0) ≡ true → is_none said.rounds ≡ true → HasALink said
 linked_by version said draft v some none = record {
   before = record { headed = headed_is said version v; unrounded = is_none_said said.rounds none };
   linked = λ no. some_items said.callers some (draft.unlinked_callers no);
@@ -38,8 +39,8 @@ linked_by version said draft v some none = record {
 packets_pass : (fields : List (List ℕ)) → packets_rule fields ≡ None → packets_in_range (value_of (field_at fields 2)) (value_of (field_at fields 3)) (value_of (field_at fields 4)) ≡ true
 packets_pass fields e =
     let p = all_pass (number_rule 1 262144 (field_at fields 2) ∷ number_rule 1 1048576 (field_at fields 3) ∷ number_rule 1 65536 (field_at fields 4) ∷ []) e in
-    and_from (is_from 1 262144 (value_of (field_at fields 2)) && is_from 1 1048576 (value_of (field_at fields 3))) (is_from 1 65536 (value_of (field_at fields 4)))
-    (and_from (is_from 1 262144 (value_of (field_at fields 2))) (is_from 1 1048576 (value_of (field_at fields 3))) (from_range 1 262144 (field_at fields 2) p.0) (from_range 1 1048576 (field_at fields 3) p.1.0))
+    and_from (is_within 1 262144 (value_of (field_at fields 2)) && is_within 1 1048576 (value_of (field_at fields 3))) (is_within 1 65536 (value_of (field_at fields 4)))
+    (and_from (is_within 1 262144 (value_of (field_at fields 2))) (is_within 1 1048576 (value_of (field_at fields 3))) (from_range 1 262144 (field_at fields 2) p.0) (from_range 1 1048576 (field_at fields 3) p.1.0))
     (from_range 1 65536 (field_at fields 4) p.1.1.0)
 
 -- a request of the last caller that isn't closed may be used

@@ -3,11 +3,12 @@ use Rattle.std.proofs.Common.{◌≡◌, ℕ, suc, zero, ◌+◌, ◌<◌, ◌�
 use Rattle.std.specs.Prelude.{is_some, is_none}
 use Rattle.std.proofs.lemmas.Bool.{le-leb, lt-ltb, and_from, and_parts, or_left, or_right}
 use Rattle.std.specs.List.{slice_get}
-use Rattle.net_units.specs.Numbers.{link_number, actor_number, channel_number}
+use Rattle.net_units.specs.Numbers.{link_number, actor_number, channel_number, actor_at, channel_at}
 use Rattle.net_units.specs.Text.{is_name}
 use Rattle.net_units.specs.declared.numbers.ActorNo.{ActorNo}
 use Rattle.net_units.specs.declared.numbers.ChanNo.{ChanNo}
-use Rattle.traffic_contract.specs.Contract.{Terms, IsContract, burst_of}
+use Rattle.net_units.specs.Limits.{is_within}
+use Rattle.traffic_contract.specs.Contract.{Traffic, IsContract, burst_of}
 use Rattle.traffic_contract.specs.Refusal.{first_bad}
 use Rattle.hop_reservation.specs.Routes.{IsRoute, fault_in}
 use Rattle.hop_reservation.specs.declared.route.Hop.{Hop}
@@ -15,18 +16,18 @@ use Rattle.hop_reservation.proofs.RouteFacts.{none-from_route}
 use Rattle.link_steps.specs.Lists.{Each}
 use Rattle.setup_protocol.specs.declared.request.Control.{Control}
 use Rattle.setup_protocol.specs.declared.request.Control.TheVariants.{Rate, Jitter}
-use Rattle.call_script.specs.Rules.{request_names, is_joined, request_in_range, control_in_range, is_from}
+use Rattle.call_script.specs.Rules.{request_names, is_joined, request_in_range, control_in_range}
 use Rattle.call_script.specs.declared.entries.LinkEntry.{LinkEntry}
 use Rattle.call_script.specs.declared.entries.RequestEntry.{RequestEntry}
 use Rattle.call_script.proofs.RuleFacts.{from-low}
 use Rattle.scenario_reader.specs.Causes.{unless}
 use Rattle.scenario_reader.specs.Decimal.{value_of}
 use Rattle.scenario_reader.specs.Drafts.{Said, last_caller, link_named, route_over}
-use Rattle.scenario_reader.specs.Entries.{actor_at, channel_at, hop_of}
+use Rattle.scenario_reader.specs.Entries.{hop_of}
 use Rattle.scenario_reader.specs.Fields.{field_at}
 use Rattle.scenario_reader.specs.Forms.{is_word, is_among, route_length, has_form, new_name_rule, number_rule}
-use Rattle.scenario_reader.specs.OpenLine.{is_open_line, route_hops, route_fields, behind_route, has_jitter, control_in, terms_in, contract_of, hops_in, route_names_rule, terms_rule, jitter_rule, open_fields_rule, is_way, open_limits_rule, open_rule, request_said}
-use Rattle.scenario_reader.specs.PlanText.{with_name, route_names, control_fields, bound_fields, open_fields}
+use Rattle.scenario_reader.specs.OpenLine.{is_open_line, route_hops, route_fields, behind_route, has_jitter, control_in, contract_told, contract_of, hops_in, route_names_rule, terms_rule, jitter_rule, open_fields_rule, is_way, open_limits_rule, open_rule, request_said}
+use Rattle.scenario_reader.specs.PlanText.{with_name, route_names, control_fields, delay_fields, open_fields}
 use Rattle.scenario_reader.specs.declared.cause.Cause.TheVariants as cause
 use Rattle.scenario_reader.specs.declared.form.Keyword.TheVariants as word
 use Rattle.scenario_reader.specs.declared.form.Part.{Part}
@@ -110,15 +111,15 @@ line_is name names behind none =
           ap (field_at (line_with name names behind)) at ∙ at_behind names (codes "contract" ∷ behind) place (length names + place) refl;
     }
 
--- a form behind the route
+-- a form after the route
 form_behind : (parts : List Part) (names behind : List (List ℕ)) → NoWords names → 1 ≤ length names → length names ≤ 16 → has_form (part.Route ∷ parts) (names ++ codes "contract" ∷ behind) ≡ has_form parts (codes "contract" ∷ behind)
 form_behind parts names behind none least most =
     rw (hops_count names behind none, le-leb 1 (length names) least, le-leb (length names) 16 most) (ap (has_form parts) (drop_names names (codes "contract" ∷ behind)))
 
 abbrev end_fields : RequestEntry → List (List ℕ)
-end_fields entry = decimal entry.request.contract.xmin ∷ decimal entry.request.contract.xave ∷ decimal entry.request.contract.interval ∷ decimal entry.request.contract.smax ∷ bound_fields entry.request
+end_fields entry = decimal entry.request.contract.xmin ∷ decimal entry.request.contract.xave ∷ decimal entry.request.contract.interval ∷ decimal entry.request.contract.smax ∷ delay_fields entry.request
 
--- the parts behind the route
+-- the parts after the route
 abbrev end_parts : List Part → List Part
 end_parts control = part.Word word.Contract ∷ part.Field ∷ part.Field ∷ part.Field ∷ part.Field ∷ part.Word word.Delay ∷ part.Field ∷ control
 
@@ -146,7 +147,7 @@ form_says name names entry none least most = by entry.request.control refl where
 
 -- ---- the contract
 
-good_terms : (terms : Terms) → IsContract terms → first_bad terms ≡ None
+good_terms : (terms : Traffic) → IsContract terms → first_bad terms ≡ None
 good_terms terms c =
     rw (
       le-leb 1 terms.xmin c.xmin_least,
@@ -160,7 +161,7 @@ good_terms terms c =
       le-leb terms.smax 65536 c.smax_most,
     ) refl
 
-contract_back : (terms : Terms) → IsContract terms → is_some (contract_of terms) ≡ true
+contract_back : (terms : Traffic) → IsContract terms → is_some (contract_of terms) ≡ true
 contract_back terms c = rw (good_terms terms c) refl
 
 -- ---- the line passes
@@ -192,7 +193,7 @@ open_back said entry is =
     let none = no_words said.links request.route is.hops in
     let count = names_count said.links request.route is.hops in
     let line = line_is entry.name names (end_fields entry) none in
-    let range = and_parts (is_from 1 67108864 request.delay) (control_in_range request.control) is.range in
+    let range = and_parts (is_within 1 67108864 request.delay) (control_in_range request.control) is.range in
     let delay = from-low 1 67108864 request.delay range.0 in
     let at_control : (place : ℕ) → behind_route fields (7 + place) ≡ field_at (control_fields request.control) place = λ place.
     line.fields (7 + place) ∙ ap (field_at (codes "contract" ∷ end_fields entry)) (seven place) in
@@ -202,7 +203,7 @@ open_back said entry is =
     let xave : value_of (behind_route fields 2) ≡ request.contract.xave = ap value_of (line.fields 2) ∙ small request.contract.xave (omega (arith, c.xave_most)) in
     let interval : value_of (behind_route fields 3) ≡ request.contract.interval = ap value_of (line.fields 3) ∙ small request.contract.interval c.interval_most in
     let smax : value_of (behind_route fields 4) ≡ request.contract.smax = ap value_of (line.fields 4) ∙ small request.contract.smax (omega (arith, c.smax_most)) in
-    let terms : terms_in fields ≡ request.contract = rw (xmin, xave, interval, smax) refl in
+    let terms : contract_told fields ≡ request.contract = rw (xmin, xave, interval, smax) refl in
     let wait : value_of (behind_route fields 6) ≡ request.delay = ap value_of (line.fields 6) ∙ value-decimal request.delay (omega (arith, delay.1)) in
     let route : hops_in said fields ≡ request.route = ap (route_over said.links) line.route ∙ route_again said.links request.route is.hops in
     let numbers = pass_all (number_rule 1 1048576 (behind_route fields 1) ∷ number_rule 1 1048576 (behind_route fields 2) ∷ number_rule 1 16777216 (behind_route fields 3) ∷ number_rule 1 65536 (behind_route fields 4) ∷ []) (
@@ -223,9 +224,9 @@ open_back said entry is =
       ),
     ) in
     let way : is_way said (hops_in said fields) ≡ true = ap (is_way said) route ∙ and_from (is_none (fault_in request.route)) (is_joined said.links request.route) (ap is_none (none-from_route request.route is.route)) is.joined in
-    let limits = pass_all (unless (nat_lt (length said.requests) 1024) cause.Many ∷ unless (is_some (contract_of (terms_in fields))) cause.Contract ∷ unless (is_way said (hops_in said fields)) cause.Route ∷ []) (
+    let limits = pass_all (unless (nat_lt (length said.requests) 1024) cause.Many ∷ unless (is_some (contract_of (contract_told fields))) cause.Contract ∷ unless (is_way said (hops_in said fields)) cause.Route ∷ []) (
       unless_holds (nat_lt (length said.requests) 1024) cause.Many (lt-ltb (length said.requests) 1024 is.few),
-      (unless_holds (is_some (contract_of (terms_in fields))) cause.Contract (ap (λ (t : Terms). is_some (contract_of t)) terms ∙ contract_back request.contract c), (unless_holds (is_way said (hops_in said fields)) cause.Route way, tt)),
+      (unless_holds (is_some (contract_of (contract_told fields))) cause.Contract (ap (λ (t : Traffic). is_some (contract_of t)) terms ∙ contract_back request.contract c), (unless_holds (is_way said (hops_in said fields)) cause.Route way, tt)),
     ) in
     let form = form_says entry.name names entry none (omega (arith, count, is.route.least)) (omega (arith, count, is.route.most)) in
     record {
@@ -233,13 +234,13 @@ open_back said entry is =
       says =
           let caller : actor_at (last_caller said) ≡ entry.caller = sym (actor_is entry.caller (last_caller said) is.callers is.caller) in
           let chan : channel_at (length said.requests) ≡ entry.request.chan = sym (channel_is entry.request.chan (length said.requests) (omega (arith, is.few)) is.number) in
-          same_entry entry (actor_at (last_caller said)) (channel_at (length said.requests)) (hops_in said fields) (terms_in fields) (control_in fields) (value_of (behind_route fields 6)) caller chan route terms control.0 wait;
+          same_entry entry (actor_at (last_caller said)) (channel_at (length said.requests)) (hops_in said fields) (contract_told fields) (control_in fields) (value_of (behind_route fields 6)) caller chan route terms control.0 wait;
     }
   where
     seven : (place : ℕ) → 7 + place ≡ suc (suc (suc (suc (suc (suc (suc place))))))
     seven place = omega arith
 
-    same_entry : (e : RequestEntry) (caller : ActorNo) (chan : ChanNo) (route : List Hop) (contract : Terms) (control : Control) (delay : ℕ) → caller ≡ e.caller → chan ≡ e.request.chan → route ≡ e.request.route → contract ≡ e.request.contract
+    same_entry : (e : RequestEntry) (caller : ActorNo) (chan : ChanNo) (route : List Hop) (contract : Traffic) (control : Control) (delay : ℕ) → caller ≡ e.caller → chan ≡ e.request.chan → route ≡ e.request.route → contract ≡ e.request.contract
         → control ≡ e.request.control → delay ≡ e.request.delay
         → record { name = e.name; caller = caller; request = record { chan = chan; route = route; contract = contract; control = control; delay = delay } } ≡ e
     same_entry e caller chan route contract control delay a b c d f g = rw (a, b, c, d, f, g) refl

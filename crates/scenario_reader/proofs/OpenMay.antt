@@ -5,12 +5,13 @@ use Rattle.std.proofs.lemmas.List.Folds.{find_at}
 use Rattle.std.proofs.lemmas.Option.{same_Some, slice_get_within}
 use Rattle.std.specs.List.{list_all, slice_get, position_or_len}
 use Rattle.net_units.specs.Numbers.{link_number}
+use Rattle.net_units.specs.Limits.{is_within}
 use Rattle.hop_reservation.specs.Routes.{fault_in}
 use Rattle.hop_reservation.specs.declared.route.Hop.{Hop}
 use Rattle.hop_reservation.proofs.RouteFacts.{route-from_none}
 use Rattle.link_steps.specs.Lists.{Each}
 use Rattle.call_script.specs.Parts.{FollowsLink}
-use Rattle.call_script.specs.Rules.{is_named, request_names, has_link, is_joined, is_from, control_in_range}
+use Rattle.call_script.specs.Rules.{is_named, request_names, has_link, is_joined, control_in_range}
 use Rattle.call_script.specs.declared.entries.LinkEntry.{LinkEntry}
 use Rattle.call_script.specs.declared.version.Version.{Version}
 use Rattle.scenario_reader.specs.Causes.{unless}
@@ -19,7 +20,7 @@ use Rattle.scenario_reader.specs.Drafts.{Said, parts_said, link_named, with_hop,
 use Rattle.scenario_reader.specs.Fields.{field_at}
 use Rattle.scenario_reader.specs.Forms.{new_name_rule, number_rule}
 use Rattle.scenario_reader.specs.Kept.{IsDraft, MayPutOpen}
-use Rattle.scenario_reader.specs.OpenLine.{is_open_line, route_fields, behind_route, has_jitter, control_in, terms_in, contract_of, hops_in, route_names_rule, terms_rule, jitter_rule, open_fields_rule, is_way, open_limits_rule, open_rule, request_said}
+use Rattle.scenario_reader.specs.OpenLine.{is_open_line, route_fields, behind_route, has_jitter, control_in, contract_told, contract_of, hops_in, route_names_rule, terms_rule, jitter_rule, open_fields_rule, is_way, open_limits_rule, open_rule, request_said}
 use Rattle.scenario_reader.specs.declared.cause.Cause.TheVariants as cause
 use Rattle.scenario_reader.proofs.LinkMay.{headed_is, some_items, longer_than_none, is_none_said}
 use Rattle.scenario_reader.proofs.OwnFacts.{few_parts}
@@ -64,7 +65,7 @@ route_follows links (name ∷ names) numbered = by (link_named links name) refl 
       )
 
 -- a number in its range
-pub from_range : (low high : ℕ) (field : List ℕ) → number_rule low high field ≡ None → is_from low high (value_of field) ≡ true
+pub from_range : (low high : ℕ) (field : List ℕ) → number_rule low high field ≡ None → is_within low high (value_of field) ≡ true
 from_range low high field e =
     let n = number_passes low high field e in
     and_from (nat_le low (value_of field)) (nat_le (value_of field) high) (le-leb low (value_of field) n.least) (le-leb (value_of field) high n.most)
@@ -82,7 +83,7 @@ open_may version said fields draft v stands rule =
     let p = all_pass (unless (is_open_line fields) cause.Shape ∷ open_fields_rule said fields ∷ open_limits_rule said fields ∷ []) rule in
     let q = all_pass (new_name_rule (request_names said.requests) (field_at fields 1) ∷ route_names_rule said (route_fields fields) ∷ terms_rule fields
     ∷ number_rule 1 67108864 (behind_route fields 6) ∷ jitter_rule fields ∷ []) p.1.0 in
-    let l = all_pass (unless (nat_lt (length said.requests) 1024) cause.Many ∷ unless (is_some (contract_of (terms_in fields))) cause.Contract
+    let l = all_pass (unless (nat_lt (length said.requests) 1024) cause.Many ∷ unless (is_some (contract_of (contract_told fields))) cause.Contract
     ∷ unless (is_way said (hops_in said fields)) cause.Route ∷ []) p.1.1.0 in
     let may = and_parts (not (nat_eq (length said.callers) 0)) (is_none said.rounds) stands in
     let some = longer_than_none said.callers may.0 in
@@ -102,11 +103,11 @@ open_may version said fields draft v stands rule =
         caller = omega arith;
         there = route_there said.links (route_fields fields) numbered;
         joined = way.1;
-        range = and_from (is_from 1 67108864 (value_of (behind_route fields 6))) (control_in_range (control_in fields))
+        range = and_from (is_within 1 67108864 (value_of (behind_route fields 6))) (control_in_range (control_in fields))
             (from_range 1 67108864 (behind_route fields 6) q.1.1.1.0) (control_range fields q.1.1.1.1.0);
         hops = route_follows said.links (route_fields fields) numbered;
         terms = record {
-          contract = contract_passes (terms_in fields) (unless_passes (is_some (contract_of (terms_in fields))) cause.Contract l.1.0);
+          contract = contract_passes (contract_told fields) (unless_passes (is_some (contract_of (contract_told fields))) cause.Contract l.1.0);
           route = route-from_none (hops_in said fields) (is_none_said (fault_in (hops_in said fields)) way.0);
         };
       };

@@ -4,7 +4,7 @@ use Rattle.std.proofs.lemmas.Bool.{leb-true, eqb-true, eq-eqb, and_parts, not-tr
 use Rattle.std.proofs.lemmas.List.{nil_from_length}
 use Rattle.std.proofs.lemmas.Option.{same_Some}
 use Rattle.net_units.specs.Text.{is_name}
-use Rattle.traffic_contract.specs.Contract.{Terms, IsContract, burst_of}
+use Rattle.traffic_contract.specs.Contract.{Traffic, IsContract, burst_of}
 use Rattle.traffic_contract.specs.Refusal.{first_bad, fits_xmin, fits_xave, fits_interval, fits_smax}
 use Rattle.traffic_contract.specs.declared.contract.ContractField.{ContractField}
 use Rattle.traffic_contract.specs.declared.contract.ContractField.TheVariants.{Xmin, Xave, Interval, Smax}
@@ -99,13 +99,13 @@ pub not_said : {X : Type 0} (o : Option X) → is_none o ≡ true → o ≡ None
 not_said None e = refl
 not_said (Some x) e = cc
 
--- where no number is refused, this one fits, and none behind it is refused
+-- where no number is refused, this one fits, and none after it is refused
 bad_part : (holds : Bool) (rest : Option ContractField) (bad : ContractField) → (if holds then rest else Some bad) ≡ None → (holds ≡ true) × (rest ≡ None)
 bad_part true rest bad e = (refl, e)
 bad_part false rest bad e = cc
 
 -- terms of which no number is refused are a contract
-pub none_bad : (terms : Terms) → first_bad terms ≡ None → IsContract terms
+pub none_bad : (terms : Traffic) → first_bad terms ≡ None → IsContract terms
 none_bad terms e =
     let p = bad_part (fits_xmin terms) _ Xmin e in
     let q = bad_part (fits_xave terms) _ Xave p.1 in
@@ -128,10 +128,10 @@ none_bad terms e =
     }
 
 -- terms that are given passed the test
-given_terms : (b : Bool) (terms : Terms) → is_some (if b then Some terms else None) ≡ true → b ≡ true
+given_terms : (b : Bool) (terms : Traffic) → is_some (if b then Some terms else None) ≡ true → b ≡ true
 given_terms true terms e = refl
 given_terms false terms e = cc
 
 -- four numbers that are a contract
-pub contract_passes : (terms : Terms) → is_some (contract_of terms) ≡ true → IsContract terms
+pub contract_passes : (terms : Traffic) → is_some (contract_of terms) ≡ true → IsContract terms
 contract_passes terms e = none_bad terms (not_said (first_bad terms) (given_terms (is_none (first_bad terms)) terms e))

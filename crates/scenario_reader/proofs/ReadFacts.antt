@@ -1,4 +1,4 @@
--- Before the first line, what is ahead comes to what all bytes come to, and so it does behind each line.
+-- Before the first line, what is ahead comes to what all bytes come to, and so it does after each line.
 use Rattle.std.proofs.Common.{◌≡◌, ◌≢◌, ℕ, suc, false, List, [], ◌∷◌, ◌++◌, Option, Some, None, IfSome, Ok, Err, refl, arith, true, ◌+◌, ◌∙◌, ap, ap₂, subst, sym, append_assoc}
 use Rattle.std.proofs.KnownBytes.{Consumes-nil, Consumes-trans}
 use Rattle.std.proofs.lemmas.List.{length-append}
@@ -15,10 +15,10 @@ use Rattle.std.proofs.lemmas.Result.{err_from_is_err_and}
 use Rattle.std.specs.Prelude.{IsErrAnd, Result}
 use Rattle.scenario_reader.specs.declared.cause.Cause.TheVariants as cause
 use Rattle.scenario_reader.specs.declared.reader.ReadRefusal.TheVariants as refusal
-use Rattle.scenario_reader.specs.Reading.{IsRead, IsBad, IsOver, at_end, Reading, reading, passes_and, are_let_pass, LetsPass}
+use Rattle.scenario_reader.specs.Reading.{PlanRead, BadLine, TooManyBytes, at_end, Reading, reading, passes_and, are_let_pass, LetsPass}
 use Rattle.scenario_reader.specs.Grammar.{judge}
 use Rattle.scenario_reader.specs.declared.item.Item.{Item}
-use Rattle.scenario_reader.specs.ReadSteps.{reading_ahead, Foretells, PassesOn, StopsPassing, ComesToEnd, ReadsLine, Tells}
+use Rattle.scenario_reader.specs.ReadSteps.{reading_ahead, ForetellsReading, PassesOn, StopsPassing, ComesToEnd, ReadsLine, TellsReading}
 use Rattle.scenario_reader.specs.declared.reader.ReadRefusal.{ReadRefusal}
 use Rattle.scenario_reader.specs.declared.reader.ReadRefusal.TheVariants.{ReadFault}
 use Rattle.scenario_reader.specs.declared.reader.TheConstants.{MOST_BYTES}
@@ -27,13 +27,13 @@ use Rattle.scenario_reader.specs.declared.reader.TheConstants.{MOST_BYTES}
 abbrev pub at_start : Cutting
 at_start = record { most = MOST_BYTES; taken = 0; pending = []; ended = false; number = 0; line = [] }
 
-pub foretells_at_start : (left : Option (List ℕ)) → Foretells left (reading_ahead at_start nothing_said left)
+pub foretells_at_start : (left : Option (List ℕ)) → ForetellsReading left (reading_ahead at_start nothing_said left)
 unfolding reading
 foretells_at_start None = tt
 foretells_at_start (Some bytes) = refl
 
--- what is ahead comes to the same behind one line more
-pub foretells_next : (told : Option (List ℕ)) (now after : Option Reading) → Foretells told now → IfSome now (λ r. after ≡ Some r) → Foretells told after
+-- what is ahead comes to the same after one line more
+pub foretells_next : (told : Option (List ℕ)) (now after : Option Reading) → ForetellsReading told now → IfSome now (λ r. after ≡ Some r) → ForetellsReading told after
 foretells_next None now after f e = tt
 foretells_next (Some bytes) None after f e = cc
 foretells_next (Some bytes) (Some r) after f e = e ∙ f
@@ -76,7 +76,7 @@ passes_fault s t said left left' faults faults' a =
 pub passes_at_start : (left : Option (List ℕ)) → PassesOn at_start at_start nothing_said nothing_said left left
 passes_at_start left = record { bytes = []; from_source = Consumes-nil left; counted = refl; same = λ more. refl }
 
--- and so on behind one line more
+-- and so on after one line more
 pub passes_next : (r s t : Cutting) (first said after : Said) (left left' left'' : Option (List ℕ)) → PassesOn r s first said left left' → PassesOn s t said after left' left''
     → PassesOn r t first after left left''
 passes_next r s t first said after left left' left'' p q = record {
@@ -112,50 +112,50 @@ foretold (Some s) r P e p = subst P (same_Some s r e) p
 
 -- a refusal tells what the bytes come to
 pub tells_refused : (e : ReadRefusal) (s t : Cutting) (said after : Said) (told left left' : Option (List ℕ)) (faults faults' : ℕ) → s.most ≡ MOST_BYTES
-    → Foretells told (reading_ahead s said left) → ReadsLine (Err e) s t said after left left' faults faults' → Tells (Err e) told
+    → ForetellsReading told (reading_ahead s said left) → ReadsLine (Err e) s t said after left left' faults faults' → TellsReading (Err e) told
 tells_refused e s t said after None left left' faults faults' most f reads = tt
 tells_refused refusal.Memory s t said after (Some bytes) left left' faults faults' most f reads = tt
 tells_refused refusal.ReadFault s t said after (Some bytes) left left' faults faults' most f reads = tt
 tells_refused (refusal.TooLong taken) s t said after (Some bytes) left left' faults faults' most f reads =
-    (foretold (reading_ahead s said left) (reading MOST_BYTES bytes) (λ r. r ≡ IsOver) f reads.0, reads.1 ∙ ap (λ n. n + 1) most)
+    (foretold (reading_ahead s said left) (reading MOST_BYTES bytes) (λ r. r ≡ TooManyBytes) f reads.0, reads.1 ∙ ap (λ n. n + 1) most)
 tells_refused (refusal.Refused line cause) s t said after (Some bytes) left left' faults faults' most f reads =
-    foretold (reading_ahead s said left) (reading MOST_BYTES bytes) (λ r. r ≡ IsBad line cause) f reads
+    foretold (reading_ahead s said left) (reading MOST_BYTES bytes) (λ r. r ≡ BadLine line cause) f reads
 
 -- at the end the bytes come to what was said
 ended : (told : Option (List ℕ)) (s t : Cutting) (said after : Said) (left left' : Option (List ℕ)) (P : Reading → Type 0)
-    → Foretells told (reading_ahead s said left) → ComesToEnd s t said after left left' → P (at_end all_given s.number said) → IfSome told (λ bytes. P (reading MOST_BYTES bytes))
+    → ForetellsReading told (reading_ahead s said left) → ComesToEnd s t said after left left' → P (at_end all_given s.number said) → IfSome told (λ bytes. P (reading MOST_BYTES bytes))
 ended None s t said after left left' P f end p = tt
 ended (Some bytes) s t said after left left' P f end p =
     subst P (sym (foretold (reading_ahead s said left) (reading MOST_BYTES bytes) (λ r. r ≡ at_end all_given s.number said) f end.ends)) p
 
 -- a scenario that is complete is read
-pub tells_read : (told : Option (List ℕ)) (s t : Cutting) (said after : Said) (left left' : Option (List ℕ)) (read : PlanParts × Schedule) → Foretells told (reading_ahead s said left)
-    → ComesToEnd s t said after left left' → is_complete after ≡ true → read.0 ≡ parts_said after → read.1 ≡ schedule_said after → Tells (Ok read) told
+pub tells_read : (told : Option (List ℕ)) (s t : Cutting) (said after : Said) (left left' : Option (List ℕ)) (read : PlanParts × Schedule) → ForetellsReading told (reading_ahead s said left)
+    → ComesToEnd s t said after left left' → is_complete after ≡ true → read.0 ≡ parts_said after → read.1 ≡ schedule_said after → TellsReading (Ok read) told
 tells_read told s t said after left left' read f end complete plan schedule =
     let whole : is_complete said ≡ true = ap is_complete (sym end.same) ∙ complete in
-    let comes : at_end all_given s.number said ≡ IsRead read.0 read.1 =
-    rw whole (sym (ap₂ IsRead (plan ∙ ap parts_said end.same) (schedule ∙ ap schedule_said end.same))) in
-    by told (ended told s t said after left left' (λ r. r ≡ IsRead read.0 read.1) f end comes)
+    let comes : at_end all_given s.number said ≡ PlanRead read.0 read.1 =
+    rw whole (sym (ap₂ PlanRead (plan ∙ ap parts_said end.same) (schedule ∙ ap schedule_said end.same))) in
+    by told (ended told s t said after left left' (λ r. r ≡ PlanRead read.0 read.1) f end comes)
   where
-    by : (told : Option (List ℕ)) → IfSome told (λ bytes. reading MOST_BYTES bytes ≡ IsRead read.0 read.1) → Tells (Ok read) told
+    by : (told : Option (List ℕ)) → IfSome told (λ bytes. reading MOST_BYTES bytes ≡ PlanRead read.0 read.1) → TellsReading (Ok read) told
     by None e = tt
     by (Some bytes) e = e
 
 -- one that isn't has come to its end
-pub tells_end : (told : Option (List ℕ)) (s t : Cutting) (said after : Said) (left left' : Option (List ℕ)) → Foretells told (reading_ahead s said left)
-    → ComesToEnd s t said after left left' → is_complete after ≡ false → (number : ℕ) → number ≡ t.number + 1 → Tells (Err (refusal.Refused number cause.End)) told
+pub tells_end : (told : Option (List ℕ)) (s t : Cutting) (said after : Said) (left left' : Option (List ℕ)) → ForetellsReading told (reading_ahead s said left)
+    → ComesToEnd s t said after left left' → is_complete after ≡ false → (number : ℕ) → number ≡ t.number + 1 → TellsReading (Err (refusal.Refused number cause.End)) told
 tells_end told s t said after left left' f end incomplete number is =
     let part : is_complete said ≡ false = ap is_complete (sym end.same) ∙ incomplete in
     let at : suc s.number ≡ number = omega (arith, is, end.number) in
-    let comes : at_end all_given s.number said ≡ IsBad number cause.End = rw part (ap (λ n. IsBad n cause.End) at) in
-    by told (ended told s t said after left left' (λ r. r ≡ IsBad number cause.End) f end comes)
+    let comes : at_end all_given s.number said ≡ BadLine number cause.End = rw part (ap (λ n. BadLine n cause.End) at) in
+    by told (ended told s t said after left left' (λ r. r ≡ BadLine number cause.End) f end comes)
   where
-    by : (told : Option (List ℕ)) → IfSome told (λ bytes. reading MOST_BYTES bytes ≡ IsBad number cause.End) → Tells (Err (refusal.Refused number cause.End)) told
+    by : (told : Option (List ℕ)) → IfSome told (λ bytes. reading MOST_BYTES bytes ≡ BadLine number cause.End) → TellsReading (Err (refusal.Refused number cause.End)) told
     by None e = tt
     by (Some bytes) e = e
 
 -- a refusal that is handed on tells the same
-pub tells_handed : (r : Result (PlanParts × Schedule) ReadRefusal) (e : ReadRefusal) (told : Option (List ℕ)) → IsErrAnd r (λ y. y ≡ e) → Tells (Err e) told → Tells r told
+pub tells_handed : (r : Result (PlanParts × Schedule) ReadRefusal) (e : ReadRefusal) (told : Option (List ℕ)) → IsErrAnd r (λ y. y ≡ e) → TellsReading (Err e) told → TellsReading r told
 tells_handed r e told h tells =
     let p = err_from_is_err_and r h in
     rw (p.1, p.2) tells

@@ -1,4 +1,4 @@
--- Each line of a plan is read, behind those before it.
+-- Each line of a plan is read, after those before it.
 use Rattle.std.proofs.Common.{◌≡◌, ℕ, ◌+◌, ◌*◌, ◌<◌, ◌≤◌, true, false, not, nat_eq, List, [], ◌∷◌, ◌++◌, length, Some, None, Ok, refl, ◌∙◌, ap, arith}
 use Rattle.std.specs.Prelude.{◌&&◌, option_map}
 use Rattle.std.proofs.lemmas.Bool.{and_from, ne_eqb, not_from_false}
@@ -100,7 +100,7 @@ pour_read version links requests callers link count gap size entry some has is a
     (and_from (has_best_effort version && not (nat_eq (length callers) 0)) true (and_from (has_best_effort version) (not (nat_eq (length callers) 0)) has (not_none callers some)) refl)
     (stated_back (pour_rule said (pour_fields count gap size entry)) (option_map item.Op (pour_said said (pour_fields count gap size entry))) (item.Op (op.Pour link count gap size)) (pour_back said link count gap size entry is are load) (ap (option_map item.Op) (pour_says said link count gap size entry is are))))
 
--- ---- behind the operations
+-- ---- after the operations
 
 -- what was read up to `tail`
 abbrev pub whole : Version → List LinkEntry → List RequestEntry → List CallerEntry → ℕ → ℕ → Said

@@ -47,7 +47,7 @@ length-route fields =
 pub route_at : (fields : List (List ℕ)) (place : ℕ) → place < route_hops fields → get_or fields (3 + place) [] ≡ get_or (route_fields fields) place []
 route_at fields place h = sym (rw (get_or-take, get_or-drop) refl)
 
--- a call that hands on the cause of a rule that is behind its own
+-- a call that hands on the cause of a rule that is after its own
 pub judges_stop : {X : Type 0} (r : Result X Cause) (rule : Rule) (said : X) (cause : Cause) → IsErrAnd r (λ y. y ≡ cause) → rule ≡ Some cause → Judges r rule said
 judges_stop r rule said cause h e =
     let p = err_from_is_err_and r h in

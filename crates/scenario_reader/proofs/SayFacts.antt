@@ -3,7 +3,7 @@ use Rattle.std.proofs.Common.{◌≡◌, ℕ, ◌+◌, ◌*◌, ◌≤◌, Bool,
 use Rattle.std.proofs.lemmas.Bool.{leb-true, and_parts, not-true}
 use Rattle.std.proofs.lemmas.List.{length-map}
 use Rattle.std.proofs.lemmas.List.Quantifiers.{position-Some}
-use Rattle.net_units.specs.Numbers.{actor_number}
+use Rattle.net_units.specs.Numbers.{actor_number, actor_at}
 use Rattle.call_script.specs.Rules.{is_named, caller_names}
 use Rattle.call_script.specs.declared.entries.CallerEntry.{CallerEntry}
 use Rattle.call_script.specs.declared.schedule.Do.{Do}
@@ -11,7 +11,6 @@ use Rattle.call_script.specs.declared.version.Version.{Version}
 use Rattle.scenario_reader.specs.Causes.{unless}
 use Rattle.scenario_reader.specs.Decimal.{value_of}
 use Rattle.scenario_reader.specs.Drafts.{Said, rounds_of, caller_named}
-use Rattle.scenario_reader.specs.Entries.{actor_at}
 use Rattle.scenario_reader.specs.Fields.{fields_of, are_fields, field_at}
 use Rattle.scenario_reader.specs.Forms.{has_form, number_rule}
 use Rattle.scenario_reader.specs.Grammar.{header_version, header_said, caller_rule, send_rule, send_said, close_rule, close_said, pour_rule, pour_said, rounds_form, rounds_rule, are_few_ticks, tail_form, tail_rule, schedule_rule, do_form, is_plane, actor_rule, actor_named, actor_said, do_rule, do_by, do_said, may_stand, line_word, judge_as, judge_word, judge_after, judge_fields, is_passed_over, judge}
@@ -29,7 +28,7 @@ use Rattle.scenario_reader.proofs.OpMay.{send_may, close_may, pour_may}
 use Rattle.scenario_reader.proofs.OpenMay.{open_may}
 use Rattle.scenario_reader.proofs.PassFacts.{judged_ok, stated_ok, made_some, unless_passes, all_pass, number_passes}
 
--- ---- the lines behind the callers
+-- ---- the lines after the callers
 
 rounds_may : (version : Version) (said : Said) (fields : List (List ℕ)) → said.version ≡ Some version → (not (nat_eq (length said.links) 0) && is_none said.rounds) ≡ true
     → rounds_rule fields ≡ None → MayPutRounds said (value_of (field_at fields 1))
@@ -137,7 +136,7 @@ ok_unless : (fails : Bool) (r : Result Item Cause) (c : Cause) (what : Item) →
 ok_unless true r c what e = cc
 ok_unless false r c what e = e
 
--- what a line behind the header says
+-- what a line after the header says
 says_word : (keyword : Option Keyword) (version : Version) (said : Said) (number : ℕ) (fields : List (List ℕ)) (what : Item) → IsDraft said → said.version ≡ Some version
     → judge_word keyword version said number fields ≡ Ok what → MayAdd said what
 says_word None version said number fields what draft v e = cc
@@ -149,7 +148,7 @@ header_may : (found : Option Version) (said : Said) (what : Item) → said.versi
 header_may None said what v e = cc
 header_may (Some version) said what v e = (let same : item.Header version ≡ what = cc in subst (MayAdd said) same v)
 
--- what a line of fields says, before and behind the header
+-- what a line of fields says, before and after the header
 says_after : (headed : Option Version) (said : Said) (number : ℕ) (fields : List (List ℕ)) (what : Item) → IsDraft said → said.version ≡ headed
     → judge_after headed said number fields ≡ Ok what → MayAdd said what
 says_after None said number fields what draft v e = header_may (header_version fields) said what v e

@@ -5,7 +5,7 @@ use Rattle.std.proofs.lemmas.Bool.{cond-false}
 use Rattle.std.proofs.lemmas.List.{append-nil}
 use Rattle.std.proofs.lemmas.Option.{slice_get_cases}
 use Rattle.std.specs.List.{slice_get}
-use Rattle.net_units.specs.Numbers.{actor_number}
+use Rattle.net_units.specs.Numbers.{actor_number, actor_at}
 use Rattle.net_units.specs.Text.{is_name}
 use Rattle.net_units.specs.declared.numbers.ActorNo.{ActorNo}
 use Rattle.link_steps.specs.Lists.{Each}
@@ -18,7 +18,6 @@ use Rattle.call_script.proofs.FitFacts.{each-at}
 use Rattle.scenario_reader.specs.BothWays.{unnumbered, SameSchedule}
 use Rattle.scenario_reader.specs.Causes.{unless}
 use Rattle.scenario_reader.specs.Drafts.{Said, is_complete, parts_said, schedule_said, caller_named}
-use Rattle.scenario_reader.specs.Entries.{actor_at}
 use Rattle.scenario_reader.specs.Fields.{line_of, is_field, are_fields}
 use Rattle.scenario_reader.specs.Forms.{has_form, used_name_rule, number_rule}
 use Rattle.scenario_reader.specs.Grammar.{judge, is_plane, actor_rule, actor_named, do_form, do_rule, do_said}
@@ -107,7 +106,7 @@ then_some xs ys said between P first rest = λ n.
     let two = rest one.end in
     record { end = two.end; after = two.after; leads = leads_on xs ys n one.end two.end said between two.after one.leads two.leads; holds = two.holds }
 
--- the items behind those done
+-- the items after those done
 record ItemsRead (parts : PlanParts) (done items : List Do) (after : Said) : Type 0 where
   again : List Do
   is : after ≡ scheduled parts (done ++ again)

@@ -5,23 +5,24 @@ use Rattle.std.proofs.Math.Bridge.{le_prop}
 use Rattle.std.proofs.lemmas.Bool.{le-leb, and_from}
 use mathlib.Core.Bool.{Bool-set}
 use mathlib.Core.HLevel.{is_prop→PathP}
-use Rattle.net_units.specs.Numbers.{link_number, actor_number, channel_number}
+use Rattle.net_units.specs.Numbers.{link_number, actor_number, channel_number, link_at, actor_at, channel_at}
 use Rattle.net_units.specs.Quotient.{ceil_quotient}
 use Rattle.net_units.specs.LevelBounds.{are_bounds, bound_at}
 use Rattle.net_units.specs.declared.numbers.ActorNo.{ActorNo}
 use Rattle.net_units.specs.declared.numbers.ChanNo.{ChanNo}
 use Rattle.net_units.specs.declared.numbers.LinkNo.{LinkNo}
 use Rattle.traffic_contract.specs.declared.admission.Test.{Test}
-use Rattle.link_steps.specs.Shape.{is_within, first_bad_field, IsShapeOf}
+use Rattle.link_steps.specs.Shape.{first_bad_field, IsShapeOf}
 use Rattle.link_steps.specs.declared.shape.LinkShape.{LinkShape}
 use Rattle.link_steps.specs.declared.shape.ShapeField.TheVariants.{Bounds}
 use Rattle.std.proofs.lemmas.Option.{cond_some}
+use Rattle.net_units.specs.Limits.{is_within}
 use Rattle.scenario_reader.specs.Causes.{unless}
 use Rattle.scenario_reader.specs.LinkFields.{AreFigures, numbers_with}
 use Rattle.scenario_reader.specs.LinkLine.{bounds_of}
 use Rattle.scenario_reader.specs.declared.cause.Cause.TheVariants.{Levels}
 use Rattle.scenario_reader.specs.declared.link_line.LinkFields.{LinkFields}
-use Rattle.scenario_reader.specs.Entries.{LinkNumbers, link_at, actor_at, channel_at, has_rate, has_room, has_bounds, shape_with, shape_where, shape_of}
+use Rattle.scenario_reader.specs.Entries.{LinkNumbers, has_rate, has_room, has_bounds, shape_with, shape_where, shape_of}
 
 -- ---- numbers
 

@@ -21,7 +21,7 @@ use Rattle.scenario_reader.specs.BothWays.{AreNamed, unnumbered, APlansTextIsRea
 use Rattle.scenario_reader.specs.Drafts.{Said, nothing_said, is_complete, parts_said, schedule_said}
 use Rattle.scenario_reader.specs.Kept.{IsScheduleOf}
 use Rattle.scenario_reader.specs.PlanText.{header_fields, link_fields, caller_lines, rounds_fields, tail_fields, schedule_lines, plan_lines, plan_text}
-use Rattle.scenario_reader.specs.Reading.{IsRead, IsBad, reading_on, reading}
+use Rattle.scenario_reader.specs.Reading.{PlanRead, BadLine, reading_on, reading}
 use Rattle.scenario_reader.specs.declared.cause.Cause.TheVariants as cause
 use Rattle.scenario_reader.specs.declared.item.Item.TheVariants as item
 use Rattle.scenario_reader.specs.Drafts.{with_item}
@@ -138,15 +138,15 @@ text_is_read parts schedule plan named is few =
           ap (λ rest. reading_on 0 rest nothing_said) (lines_of_text (plan_lines parts schedule) 4194304 are few)
           ∙ leads_reading (plan_lines parts schedule) 0 lead.end nothing_said lead.after lead.leads
           ∙ at_its_end lead.end lead.after lead.holds.complete
-          ∙ ap (λ (p : PlanParts). IsRead p (schedule_said lead.after)) lead.holds.parts_are;
+          ∙ ap (λ (p : PlanParts). PlanRead p (schedule_said lead.after)) lead.holds.parts_are;
       same = lead.holds.same;
     }
   where
-    at_its_end : (end : ℕ) (after : Said) → is_complete after ≡ true → (if is_complete after then IsRead (parts_said after) (schedule_said after) else IsBad (suc end) cause.End) ≡ IsRead (parts_said after) (schedule_said after)
+    at_its_end : (end : ℕ) (after : Said) → is_complete after ≡ true → (if is_complete after then PlanRead (parts_said after) (schedule_said after) else BadLine (suc end) cause.End) ≡ PlanRead (parts_said after) (schedule_said after)
     at_its_end end after complete = rw complete refl
 
 -- what was read of one text is the same
-one_read : (parts other : PlanParts) (schedule its : Schedule) → IsRead parts schedule ≡ IsRead other its → (parts ≡ other) × (schedule ≡ its)
+one_read : (parts other : PlanParts) (schedule its : Schedule) → PlanRead parts schedule ≡ PlanRead other its → (parts ≡ other) × (schedule ≡ its)
 one_read parts other schedule its same = (cc, cc)
 
 pub text_of_one : ATextIsOfOnePlan

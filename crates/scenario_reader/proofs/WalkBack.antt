@@ -1,5 +1,5 @@
 -- The callers of a plan are read one after another, each with its operations: what was read so far keeps the rules, and what
--- is left of the plan is behind it.
+-- is left of the plan is after it.
 use Rattle.std.proofs.Common.{◌≡◌, ℕ, suc, zero, ◌+◌, ◌*◌, ◌-◌, ◌<◌, ◌≤◌, Bool, true, false, not, nat_eq, List, [], ◌∷◌, ◌++◌, length, map, Option, Some, refl, sym, ◌∙◌, ap, subst, inl, inr, append_assoc, arith}
 use Rattle.std.specs.Prelude.{◌&&◌, option_map}
 use Rattle.std.proofs.lemmas.Bool.{and_parts, eq-eqb, not-true, ltb-true}

@@ -10,7 +10,7 @@ use Rattle.call_script.specs.declared.entries.RequestEntry.{RequestEntry}
 use Rattle.scenario_reader.specs.Entries.{shape_of}
 use Rattle.scenario_reader.specs.Grammar.{judge}
 use Rattle.scenario_reader.specs.PlanText.{plan_text}
-use Rattle.scenario_reader.specs.Reading.{Reading, IsRead, IsBad, IsOver, reading}
+use Rattle.scenario_reader.specs.Reading.{Reading, PlanRead, BadLine, TooManyBytes, reading}
 use Rattle.scenario_reader.specs.declared.cause.Cause.TheVariants as cause
 
 -- two links, a caller and its request over both
@@ -22,9 +22,9 @@ small = front ++ codes "send r1 3 10 2\nrounds 30\ntail 1\n"
 
 -- the text of the plan that was read
 abbrev text_again : Reading → List ℕ
-text_again (IsRead parts schedule) = plan_text parts schedule
-text_again (IsBad line cause) = []
-text_again IsOver = []
+text_again (PlanRead parts schedule) = plan_text parts schedule
+text_again (BadLine line cause) = []
+text_again TooManyBytes = []
 
 -- numbers of the plan that was read: the rounds, those of each link, and those of each request
 abbrev numbers_of_link : LinkEntry → List ℕ
@@ -37,9 +37,9 @@ abbrev numbers_of : PlanParts → List (List ℕ)
 numbers_of parts = (parts.rounds ∷ parts.tail ∷ []) ∷ (map numbers_of_link parts.links ++ map numbers_of_request parts.requests)
 
 abbrev numbers_read : Reading → List (List ℕ)
-numbers_read (IsRead parts schedule) = numbers_of parts
-numbers_read (IsBad line cause) = []
-numbers_read IsOver = []
+numbers_read (PlanRead parts schedule) = numbers_of parts
+numbers_read (BadLine line cause) = []
+numbers_read TooManyBytes = []
 
 small-numbers : numbers_read (reading 4194304 small) ≡ (30 ∷ 1 ∷ []) ∷ (1 ∷ 4 ∷ 2 ∷ 100 ∷ 10 ∷ 20 ∷ []) ∷ (2 ∷ 4 ∷ 3 ∷ 90 ∷ 10 ∷ []) ∷ (5 ∷ 10 ∷ 20 ∷ 2 ∷ 50 ∷ []) ∷ []
 unfolding reading judge shape_of repeated_from
@@ -50,10 +50,10 @@ unfolding reading judge shape_of repeated_from plan_text digits
 small-again = refl
 
 -- a request that isn't known, and a line that was cut
-send-of-another : reading 4194304 (front ++ codes "send r2 3 10 2\nrounds 30\ntail 1\n") ≡ IsBad 6 cause.Unknown
+send-of-another : reading 4194304 (front ++ codes "send r2 3 10 2\nrounds 30\ntail 1\n") ≡ BadLine 6 cause.Unknown
 unfolding reading judge shape_of repeated_from
 send-of-another = refl
 
-tail-cut : reading 4194304 (front ++ codes "rounds 30\ntail 1") ≡ IsBad 7 cause.Cut
+tail-cut : reading 4194304 (front ++ codes "rounds 30\ntail 1") ≡ BadLine 7 cause.Cut
 unfolding reading judge shape_of repeated_from
 tail-cut = refl

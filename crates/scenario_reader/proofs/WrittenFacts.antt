@@ -1,14 +1,14 @@
--- Texts that are added one behind another, and the items of a list each with its text.
+-- Texts that are added one after another, and the items of a list each with its text.
 use Rattle.std.proofs.Common.{◌≡◌, ℕ, suc, zero, ◌+◌, ◌<◌, List, [], ◌∷◌, ◌++◌, length, get_or, take, drop, refl, sym, ap, ◌∙◌, subst, append_assoc, arith}
 use Rattle.std.proofs.lemmas.Grind.{flat_map-append}
 use Rattle.std.proofs.lemmas.List.{append-nil}
 use Rattle.std.specs.List.{flat_map}
 use Rattle.std.specs.Prelude.{Option, Result, Ok, Err}
 use Rattle.std.proofs.KnownBytes.{Appends-trans}
-use Rattle.byte_ends.specs.Faults.{Rises}
+use Rattle.byte_ends.specs.Faults.{FaultsRise}
 use Rattle.byte_ends.proofs.Gathering.{gathers-nothing, gathers-on, gathers-then-part, part-of-longer, rises-later}
 use Rattle.byte_ends.specs.Gathering.{WritesPart}
-use Rattle.scenario_reader.specs.Written.{AddsAll, Adds}
+use Rattle.scenario_reader.specs.Written.{AddsAll, AddsText}
 use Rattle.scenario_reader.specs.declared.fault.ReportFault.{ReportFault}
 use Rattle.scenario_reader.specs.declared.fault.ReportFault.TheVariants.{Memory, WriteFault}
 
@@ -16,8 +16,8 @@ use Rattle.scenario_reader.specs.declared.fault.ReportFault.TheVariants.{Memory,
 pub adds-nothing : (a : Option (List ℕ)) (g : List ℕ) (f : ℕ) → AddsAll a a g g f f []
 adds-nothing a g f = record { gathers = gathers-nothing a g; counts = omega arith }
 
--- one text behind another
-pub adds-on : (r : Result (Unit {0}) ReportFault) (a b c : Option (List ℕ)) (g g' g'' : List ℕ) (f f' f'' : ℕ) (text text' : List ℕ) → AddsAll a b g g' f f' text → Adds r b c g' g'' f' f'' text' → Adds r a c g g'' f f'' (text ++ text')
+-- one text after another
+pub adds-on : (r : Result (Unit {0}) ReportFault) (a b c : Option (List ℕ)) (g g' g'' : List ℕ) (f f' f'' : ℕ) (text text' : List ℕ) → AddsAll a b g g' f f' text → AddsText r b c g' g'' f' f'' text' → AddsText r a c g g'' f f'' (text ++ text')
 adds-on (Ok _) a b c g g' g'' f f' f'' text text' first rest = record { gathers = gathers-on a b c g g' g'' text text' first.gathers rest.gathers; counts = omega (arith, first.counts, rest.counts) }
 adds-on (Err Memory) a b c g g' g'' f f' f'' text text' first rest = record { part = gathers-then-part a b c g g' text text' first.gathers rest.part; counts = omega (arith, first.counts, rest.counts) }
 adds-on (Err WriteFault) a b c g g' g'' f f' f'' text text' first rest = record { part = gathers-then-part a b c g g' text text' first.gathers rest.part; rises = rises-later f f' f'' first.counts rest.rises }
@@ -26,7 +26,7 @@ longer : (a b : Option (List ℕ)) (g text more : List ℕ) → WritesPart a b (
 longer a b g text more part = subst (λ (t : List ℕ). WritesPart a b t) (append_assoc g text more) (part-of-longer a b (g ++ text) more part)
 
 -- what failed within a text has failed within a longer one
-pub fails-longer : (r : Result (Unit {0}) ReportFault) (e : ReportFault) (a b : Option (List ℕ)) (g g' g'' : List ℕ) (f f' : ℕ) (text more : List ℕ) → r ≡ Err e → Adds (Err e) a b g g' f f' text → Adds r a b g g'' f f' (text ++ more)
+pub fails-longer : (r : Result (Unit {0}) ReportFault) (e : ReportFault) (a b : Option (List ℕ)) (g g' g'' : List ℕ) (f f' : ℕ) (text more : List ℕ) → r ≡ Err e → AddsText (Err e) a b g g' f f' text → AddsText r a b g g'' f f' (text ++ more)
 fails-longer (Ok _) e a b g g' g'' f f' text more same failed = cc
 fails-longer (Err Memory) Memory a b g g' g'' f f' text more same failed = record { part = longer a b g text more failed.part; counts = failed.counts }
 fails-longer (Err Memory) WriteFault a b g g' g'' f f' text more same failed = cc
@@ -57,9 +57,9 @@ item-added text xs i j x a b c g g' g'' f f' f'' within next is first rest =
 
 -- an item failed
 pub item-failed : {X : Type 0} (text : X → List ℕ) (xs : List X) (i : ℕ) (x : X) (r : Result (Unit {0}) ReportFault) (e : ReportFault) (a b c : Option (List ℕ)) (g g' g'' : List ℕ) (f f' f'' : ℕ) → i < length xs → x ≡ get_or xs i x → r ≡ Err e
-    → AddsAll a b g g' f f' (flat_map text (take i xs)) → Adds (Err e) b c g' g'' f' f'' (text x) → Adds r a c g g'' f f'' (flat_map text xs)
+    → AddsAll a b g g' f f' (flat_map text (take i xs)) → AddsText (Err e) b c g' g'' f' f'' (text x) → AddsText r a c g g'' f f'' (flat_map text xs)
 item-failed text xs i x r e a b c g g' g'' f f' f'' within is same first failed =
-    subst (λ (t : List ℕ). Adds r a c g g'' f f'' t) (append_assoc (flat_map text (take i xs)) (text x) (flat_map text (drop (suc i) xs)) ∙ sym (text-behind text xs i x within is))
+    subst (λ (t : List ℕ). AddsText r a c g g'' f f'' t) (append_assoc (flat_map text (take i xs)) (text x) (flat_map text (drop (suc i) xs)) ∙ sym (text-behind text xs i x within is))
     (fails-longer r e a c g g'' g'' f f'' (flat_map text (take i xs) ++ text x) (flat_map text (drop (suc i) xs)) same (adds-on (Err e) a b c g g' g'' f f' f'' (flat_map text (take i xs)) (text x) first failed))
 
 -- ---- texts of texts
@@ -71,7 +71,7 @@ text-of-lists text items (x ∷ xs) = flat_map-append text (items x) (flat_map i
 -- ---- what a failure says
 
 -- the count of faults rose, where a write failed
-pub failed-rises : (e : ReportFault) (r : Result (Unit {0}) ReportFault) (a b : Option (List ℕ)) (g g' : List ℕ) (f f' : ℕ) (text : List ℕ) → r ≡ Err e → Adds (Err e) a b g g' f f' text → r ≡ Err WriteFault → Rises f f'
+pub failed-rises : (e : ReportFault) (r : Result (Unit {0}) ReportFault) (a b : Option (List ℕ)) (g g' : List ℕ) (f f' : ℕ) (text : List ℕ) → r ≡ Err e → AddsText (Err e) a b g g' f f' text → r ≡ Err WriteFault → FaultsRise f f'
 failed-rises Memory r a b g g' f f' text is failed fault = cc
 failed-rises WriteFault r a b g g' f f' text is failed fault = failed.rises
 

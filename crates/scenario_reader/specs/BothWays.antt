@@ -3,6 +3,7 @@
 -- that is made are; and its schedule is one that a scenario can have.
 use Rattle.std.specs.Prelude.{◌≡◌, ◌≤◌, true, length, map}
 use Rattle.net_units.specs.Text.{is_name}
+use Rattle.scenario_reader.specs.declared.reader.TheConstants.{MOST_BYTES}
 use Rattle.link_steps.specs.Lists.{Each}
 use Rattle.call_script.specs.Parts.{PlanParts}
 use Rattle.call_script.specs.Plans.{IsPlan}
@@ -13,7 +14,7 @@ use Rattle.call_script.specs.declared.schedule.Do.{Do}
 use Rattle.call_script.specs.declared.schedule.Schedule.{Schedule}
 use Rattle.scenario_reader.specs.Kept.{IsScheduleOf}
 use Rattle.scenario_reader.specs.PlanText.{plan_text}
-use Rattle.scenario_reader.specs.Reading.{Reading, IsRead, reading}
+use Rattle.scenario_reader.specs.Reading.{Reading, PlanRead, reading}
 
 -- a link and its nodes go by names
 pub record HasNames (entry : LinkEntry) : Type 0 where
@@ -38,12 +39,12 @@ pub record SameSchedule (one other : Schedule) : Type 0 where
 -- what was read is this plan, with this schedule
 pub record ReadsAs (read : Reading) (parts : PlanParts) (schedule : Schedule) : Type 0 where
   pub again : Schedule
-  pub is : read ≡ IsRead parts again
+  pub is : read ≡ PlanRead parts again
   pub same : SameSchedule again schedule
 
 abbrev pub APlansTextIsRead : Type 0
-APlansTextIsRead = (parts : PlanParts) (schedule : Schedule) → IsPlan parts → AreNamed parts → IsScheduleOf parts.callers schedule → length (plan_text parts schedule) ≤ 4194304
-    → ReadsAs (reading 4194304 (plan_text parts schedule)) parts schedule
+APlansTextIsRead = (parts : PlanParts) (schedule : Schedule) → IsPlan parts → AreNamed parts → IsScheduleOf parts.callers schedule → length (plan_text parts schedule) ≤ MOST_BYTES
+    → ReadsAs (reading MOST_BYTES (plan_text parts schedule)) parts schedule
 
 -- two plans with one text are one plan, with one schedule up to the numbers of lines
 pub record AreOne (parts other : PlanParts) (schedule its : Schedule) : Type 0 where
@@ -52,4 +53,4 @@ pub record AreOne (parts other : PlanParts) (schedule its : Schedule) : Type 0 w
 
 abbrev pub ATextIsOfOnePlan : Type 0
 ATextIsOfOnePlan = (parts other : PlanParts) (schedule its : Schedule) → IsPlan parts → IsPlan other → AreNamed parts → AreNamed other → IsScheduleOf parts.callers schedule → IsScheduleOf other.callers its
-    → length (plan_text parts schedule) ≤ 4194304 → plan_text parts schedule ≡ plan_text other its → AreOne parts other schedule its
+    → length (plan_text parts schedule) ≤ MOST_BYTES → plan_text parts schedule ≡ plan_text other its → AreOne parts other schedule its

@@ -46,22 +46,22 @@ route_length [] = 0
 route_length (field ∷ fields) = if is_word word.Contract field then 0 else suc (route_length fields)
 
 -- one field, where the test holds of the first
-abbrev pub one_if : (List ℕ → Bool) → List (List ℕ) → Option ℕ
-one_if test [] = None
-one_if test (field ∷ fields) = if test field then Some 1 else None
+abbrev pub one_field : (List ℕ → Bool) → List (List ℕ) → Option ℕ
+one_field test [] = None
+one_field test (field ∷ fields) = if test field then Some 1 else None
 
--- so many fields, where they are from 1 to `most`
-abbrev pub up_to : ℕ → ℕ → Option ℕ
-up_to most count = if nat_le 1 count && nat_le count most then Some count else None
+-- `count` fields, where they are from 1 to `most`
+abbrev pub fields_up_to : ℕ → ℕ → Option ℕ
+fields_up_to most count = if nat_le 1 count && nat_le count most then Some count else None
 
 -- how many of the fields a part takes from the first on, or none where they don't fit it
-abbrev pub taken_by : Part → List (List ℕ) → Option ℕ
-taken_by (part.Word keyword) fields = one_if (is_word keyword) fields
-taken_by part.Field fields = one_if (λ field. true) fields
-taken_by part.Route fields = up_to 16 (route_length fields)
-taken_by part.Bounds fields = up_to 8 (length fields)
+abbrev pub fields_taken : Part → List (List ℕ) → Option ℕ
+fields_taken (part.Word keyword) fields = one_field (is_word keyword) fields
+fields_taken part.Field fields = one_field (λ field. true) fields
+fields_taken part.Route fields = fields_up_to 16 (route_length fields)
+fields_taken part.Bounds fields = fields_up_to 8 (length fields)
 
--- goes on behind the fields that a part takes
+-- goes on after the fields that a part takes
 abbrev pub on_taken : Option ℕ → (ℕ → Bool) → Bool
 on_taken None go_on = false
 on_taken (Some count) go_on = go_on count
@@ -70,7 +70,7 @@ on_taken (Some count) go_on = go_on count
 abbrev pub has_form : List Part → List (List ℕ) → Bool
 has_form [] [] = true
 has_form [] (field ∷ fields) = false
-has_form (part ∷ parts) fields = on_taken (taken_by part fields) (λ count. has_form parts (drop count fields))
+has_form (part ∷ parts) fields = on_taken (fields_taken part fields) (λ count. has_form parts (drop count fields))
 
 -- a field that has to be a name of any kind
 abbrev pub name_rule : List ℕ → Rule

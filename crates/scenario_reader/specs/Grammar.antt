@@ -5,7 +5,6 @@
 -- forms don't exist.
 use Rattle.std.specs.Prelude.{ℕ, ◌+◌, ◌*◌, Bool, true, false, nat_eq, nat_lt, nat_le, not, ◌&&◌, if◌then◌else◌, Option, Some, None, Result, Ok, Err, List, [], ◌∷◌, length, option_map, codes, is_some, is_none}
 use Rattle.std.specs.Cmp.Lexicographic.{pointwise}
-use Rattle.call_script.specs.Limits.{most_callers, most_packets, most_gap, most_size, most_rounds}
 use Rattle.call_script.specs.Rules.{caller_names, hops_of, load_in, takes_best_effort}
 use Rattle.call_script.specs.Versions.{has_best_effort}
 use Rattle.call_script.specs.declared.entries.LinkEntry.{LinkEntry}
@@ -16,13 +15,13 @@ use Rattle.call_script.specs.declared.schedule.Do.{Do}
 use Rattle.call_script.specs.declared.version.Version.{Version}
 use Rattle.call_script.specs.declared.version.Version.TheVariants.{One, Two, Three}
 use Rattle.net_units.specs.declared.numbers.ActorNo.{ActorNo}
+use Rattle.net_units.specs.Limits.{most_steps, most_callers, most_packets, most_gap, most_size, most_rounds}
+use Rattle.net_units.specs.Numbers.{actor_at}
 use Rattle.scenario_reader.specs.Causes.{Rule, unless, first_cause, judged, stated}
 use Rattle.scenario_reader.specs.Decimal.{value_of}
 use Rattle.scenario_reader.specs.Drafts.{Said, rounds_of, link_named, caller_named, own_request, is_closed}
-use Rattle.scenario_reader.specs.Entries.{actor_at}
 use Rattle.scenario_reader.specs.Fields.{fields_of, are_fields, field_at}
 use Rattle.scenario_reader.specs.Forms.{is_word, has_form, new_name_rule, used_name_rule, number_rule}
-use Rattle.scenario_reader.specs.Limits.{most_steps}
 use Rattle.scenario_reader.specs.LinkLine.{link_rule, link_said}
 use Rattle.scenario_reader.specs.OpenLine.{open_rule, request_said}
 use Rattle.scenario_reader.specs.declared.cause.Cause.{Cause}
@@ -188,7 +187,7 @@ is_plane field = pointwise nat_eq field (codes "plane")
 abbrev pub actor_rule : Said → List ℕ → Rule
 actor_rule said field = if is_plane field then None else used_name_rule (is_some (caller_named said.callers field)) field
 
--- the number of the actor that it names, which for the plane is behind those of the callers
+-- the number of the actor that it names, which for the plane is after those of the callers
 abbrev pub actor_named : Said → List ℕ → Option ℕ
 actor_named said field = if is_plane field then Some (length said.callers) else caller_named said.callers field
 
@@ -260,7 +259,7 @@ abbrev pub judge_word : Option Keyword → Version → Said → ℕ → List (Li
 judge_word None version said number fields = Err cause.Word
 judge_word (Some keyword) version said number fields = if may_stand version said keyword then judge_as keyword version said number fields else Err cause.Word
 
--- the first line is the header; behind it each line begins with a word
+-- the first line is the header; after it each line begins with a word
 abbrev pub judge_after : Option Version → Said → ℕ → List (List ℕ) → Result Item Cause
 judge_after None said number fields = header_said (header_version fields)
 judge_after (Some version) said number fields = judge_word (line_word (field_at fields 0)) version said number fields

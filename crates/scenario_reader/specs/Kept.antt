@@ -4,10 +4,10 @@
 use Rattle.std.specs.Prelude.{◌≡◌, ℕ, ◌+◌, ◌*◌, ◌≤◌, Bool, true, false, None, Some, IfSome, List, [], length}
 use Rattle.std.specs.List.{slice_get, slice_index_or}
 use Rattle.net_units.specs.Numbers.{actor_number}
+use Rattle.net_units.specs.Limits.{most_steps, most_links, most_callers, most_requests, most_packets, most_rounds}
 use Rattle.link_steps.specs.Lists.{Each}
 use Rattle.call_script.specs.Growing.{KeepSoFar, MayAddLink, MayAddCaller, MayOpen, IsOpenedThere, MaySend, MayPour}
 use Rattle.call_script.specs.Parts.{PlanParts}
-use Rattle.call_script.specs.Limits.{most_links, most_callers, most_requests, most_packets, most_rounds}
 use Rattle.call_script.specs.Rules.{link_names, request_names, caller_names, load_in}
 use Rattle.call_script.specs.declared.entries.CallerEntry.{CallerEntry}
 use Rattle.call_script.specs.declared.entries.LinkEntry.{LinkEntry}
@@ -17,7 +17,6 @@ use Rattle.call_script.specs.declared.operations.Op.TheVariants as op
 use Rattle.call_script.specs.declared.schedule.Do.{Do}
 use Rattle.call_script.specs.declared.schedule.Schedule.{Schedule}
 use Rattle.scenario_reader.specs.Drafts.{Said, nothing_said, rounds_of, parts_said, schedule_said, last_caller, is_closed}
-use Rattle.scenario_reader.specs.Limits.{most_steps}
 use Rattle.scenario_reader.specs.declared.item.Item.{Item}
 use Rattle.scenario_reader.specs.declared.item.Item.TheVariants as item
 
@@ -45,7 +44,7 @@ pub record IsDraft (said : Said) : Type 0 where
 
 -- what is kept beside it, so that none of it is looked for again: the names, whether each request was closed, the load, and
 -- that there are few parts
-pub record IsKept (said : Said) (links requests callers : List (List ℕ)) (closed : List Bool) (load : ℕ) : Type 0 where
+pub record IsKeptBeside (said : Said) (links requests callers : List (List ℕ)) (closed : List Bool) (load : ℕ) : Type 0 where
   pub same_links : links ≡ link_names said.links
   pub same_requests : requests ≡ request_names said.requests
   pub same_callers : callers ≡ caller_names said.callers
@@ -68,7 +67,7 @@ pub record IsBefore (said : Said) : Type 0 where
   pub unrounded : said.rounds ≡ None
 
 -- a link was read, too
-pub record IsLinked (said : Said) : Type 0 where
+pub record HasALink (said : Said) : Type 0 where
   pub before : IsBefore said
   pub linked : said.links ≡ [] → ⊥
 
@@ -77,11 +76,11 @@ pub record MayPutLink (said : Said) (entry : LinkEntry) : Type 0 where
   pub link : MayAddLink (parts_said said) entry
 
 pub record MayPutCaller (said : Said) (name : List ℕ) : Type 0 where
-  pub before : IsLinked said
+  pub before : HasALink said
   pub caller : MayAddCaller (parts_said said) name
 
 pub record MayPutOpen (said : Said) (entry : RequestEntry) : Type 0 where
-  pub before : IsLinked said
+  pub before : HasALink said
   pub request : MayOpen (parts_said said) entry
 
 -- what a send, a close and a pour have to pass
@@ -92,12 +91,12 @@ MayDo parts (op.Close chan) = IsOpenedThere parts chan
 MayDo parts (op.Pour link count gap size) = MayPour parts link count gap size
 
 pub record MayPutOp (said : Said) (what : Op) : Type 0 where
-  pub before : IsLinked said
+  pub before : HasALink said
   pub some : 1 ≤ length said.callers
   pub op : MayDo (parts_said said) what
 
 pub record MayPutRounds (said : Said) (count : ℕ) : Type 0 where
-  pub before : IsLinked said
+  pub before : HasALink said
   pub most : count ≤ most_rounds
 
 pub record MayPutTail (said : Said) (count : ℕ) : Type 0 where

@@ -3,7 +3,6 @@ pub mod Words
 pub mod Decimal
 pub mod Fields
 pub mod Forms
-pub mod Limits
 pub mod Entries
 pub mod Drafts
 pub mod LinkLine

@@ -1,10 +1,9 @@
 -- The fields of a link line as the code holds them, each of which passes.
 use Rattle.std.specs.Prelude.{ℕ, ◌≤◌, List}
-use Rattle.net_units.specs.Limits.{most_bound}
+use Rattle.net_units.specs.Limits.{most_buffer, most_rate, most_size, most_propagation}
 use Rattle.scenario_reader.specs.Decimal.{value_of}
 use Rattle.scenario_reader.specs.Entries.{LinkNumbers}
 use Rattle.scenario_reader.specs.Fields.{field_at}
-use Rattle.scenario_reader.specs.Limits.{most_rate, most_cap, most_buffer}
 use Rattle.scenario_reader.specs.LinkLine.{best_in, bound_fields, bounds_of}
 use Rattle.scenario_reader.specs.declared.link_line.Figures.{Figures}
 use Rattle.scenario_reader.specs.declared.link_line.LinkFields.{LinkFields}
@@ -15,8 +14,8 @@ pub record AreFigures (figures : Figures) : Type 0 where
   pub rate_least : 1 ≤ figures.rate
   pub rate_most : figures.rate ≤ most_rate
   pub cap_least : 1 ≤ figures.cap
-  pub cap_most : figures.cap ≤ most_cap
-  pub prop_most : figures.prop ≤ most_bound
+  pub cap_most : figures.cap ≤ most_size
+  pub prop_most : figures.prop ≤ most_propagation
   pub buffer_most : figures.buffer ≤ most_buffer
 
 -- the figures of a line
@@ -29,8 +28,8 @@ figures_in fields = record {
 }
 
 -- the fields of a line
-abbrev pub link_in : List (List ℕ) → LinkFields
-link_in fields = record {
+abbrev pub link_told : List (List ℕ) → LinkFields
+link_told fields = record {
   name = field_at fields 1;
   from = field_at fields 2;
   to = field_at fields 3;

@@ -1,9 +1,9 @@
 -- The line of a link: link NAME NODE NODE rate R cap C prop P buffer U levels D1 .. Dn. From version three on the fields
 -- best K may stand before `levels`.
 use Rattle.std.specs.Prelude.{ℕ, ◌&&◌, ◌||◌, Bool, nat_lt, if◌then◌else◌, Option, Some, None, List, [], ◌∷◌, length, map, drop, option_map}
-use Rattle.net_units.specs.Limits.{most_bound}
+use Rattle.net_units.specs.Limits.{most_bound, most_best, most_buffer, most_rate, most_size, most_links, most_propagation}
 use Rattle.net_units.specs.LevelBounds.{are_bounds}
-use Rattle.call_script.specs.Limits.{most_links}
+use Rattle.net_units.specs.Numbers.{link_at}
 use Rattle.call_script.specs.Rules.{link_names}
 use Rattle.call_script.specs.Versions.{test_of, has_best_effort}
 use Rattle.call_script.specs.declared.entries.LinkEntry.{LinkEntry}
@@ -12,10 +12,9 @@ use Rattle.link_steps.specs.declared.shape.LinkShape.{LinkShape}
 use Rattle.scenario_reader.specs.Causes.{Rule, unless, first_cause}
 use Rattle.scenario_reader.specs.Decimal.{value_of}
 use Rattle.scenario_reader.specs.Drafts.{Said}
-use Rattle.scenario_reader.specs.Entries.{LinkNumbers, link_at, has_bounds, shape_of}
+use Rattle.scenario_reader.specs.Entries.{LinkNumbers, has_bounds, shape_of}
 use Rattle.scenario_reader.specs.Fields.{field_at}
 use Rattle.scenario_reader.specs.Forms.{is_word, has_form, name_rule, new_name_rule, number_rule}
-use Rattle.scenario_reader.specs.Limits.{most_rate, most_cap, most_buffer, most_best}
 use Rattle.scenario_reader.specs.declared.cause.Cause.TheVariants as cause
 use Rattle.scenario_reader.specs.declared.form.Keyword.TheVariants as word
 use Rattle.scenario_reader.specs.declared.form.Part.{Part}
@@ -36,7 +35,7 @@ best_form = link_front (part.Word word.Best ∷ part.Field ∷ part.Word word.Le
 abbrev pub is_link_line : Version → List (List ℕ) → Bool
 is_link_line version fields = has_form plain_form fields || (has_best_effort version && has_form best_form fields)
 
--- whether the fields `best K` stand behind the buffer
+-- whether the fields `best K` stand after the buffer
 abbrev pub has_best : List (List ℕ) → Bool
 has_best fields = is_word word.Best (field_at fields 12)
 
@@ -71,8 +70,8 @@ link_numbers fields = record {
 abbrev pub link_numbers_rule : List (List ℕ) → Rule
 link_numbers_rule fields = first_cause (
     number_rule 1 most_rate (field_at fields 5)
-    ∷ number_rule 1 most_cap (field_at fields 7)
-    ∷ number_rule 0 most_bound (field_at fields 9)
+    ∷ number_rule 1 most_size (field_at fields 7)
+    ∷ number_rule 0 most_propagation (field_at fields 9)
     ∷ number_rule 0 most_buffer (field_at fields 11)
     ∷ [])
 

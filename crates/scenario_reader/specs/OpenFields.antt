@@ -3,7 +3,7 @@ use Rattle.std.specs.Prelude.{ℕ, List}
 use Rattle.scenario_reader.specs.Decimal.{value_of}
 use Rattle.scenario_reader.specs.Drafts.{Said}
 use Rattle.scenario_reader.specs.Fields.{field_at}
-use Rattle.scenario_reader.specs.OpenLine.{behind_route, control_in, terms_in, contract_of, hops_in}
+use Rattle.scenario_reader.specs.OpenLine.{behind_route, control_in, contract_told, contract_of, hops_in}
 use Rattle.scenario_reader.specs.declared.open_line.OpenFields.{OpenFields}
 
 -- the fields of a line, after what was read
@@ -11,7 +11,7 @@ abbrev pub open_in : Said → List (List ℕ) → OpenFields
 open_in said fields = record {
   name = field_at fields 1;
   hops = hops_in said fields;
-  contract = contract_of (terms_in fields);
+  contract = contract_of (contract_told fields);
   delay = value_of (behind_route fields 6);
   control = control_in fields;
 }

@@ -1,22 +1,20 @@
 -- The line of a request: open NAME route LINK1 .. LINKh contract XMIN XAVE I SMAX delay D, and then either rate or jitter J.
 use Rattle.std.specs.Prelude.{ℕ, ◌+◌, Bool, nat_lt, ◌&&◌, ◌||◌, if◌then◌else◌, Option, Some, None, List, [], ◌∷◌, length, map, take, drop, is_some, is_none}
-use Rattle.net_units.specs.Limits.{most_bound}
-use Rattle.traffic_contract.specs.Contract.{Terms, terms_of}
+use Rattle.net_units.specs.Limits.{most_interval, most_requests, most_delay, most_size, most_gap}
+use Rattle.net_units.specs.Numbers.{actor_at, channel_at}
+use Rattle.traffic_contract.specs.Contract.{Traffic, terms_of}
 use Rattle.traffic_contract.specs.Refusal.{first_bad}
 use Rattle.hop_reservation.specs.Routes.{fault_in}
 use Rattle.hop_reservation.specs.declared.route.Hop.{Hop}
 use Rattle.setup_protocol.specs.declared.request.Control.{Control}
 use Rattle.setup_protocol.specs.declared.request.Control.TheVariants.{Rate, Jitter}
-use Rattle.call_script.specs.Limits.{most_requests, most_delay, most_size}
 use Rattle.call_script.specs.Rules.{request_names, is_joined}
 use Rattle.call_script.specs.declared.entries.RequestEntry.{RequestEntry}
 use Rattle.scenario_reader.specs.Causes.{Rule, unless, first_cause}
 use Rattle.scenario_reader.specs.Decimal.{value_of}
 use Rattle.scenario_reader.specs.Drafts.{Said, last_caller, link_named, route_over}
-use Rattle.scenario_reader.specs.Entries.{actor_at, channel_at}
 use Rattle.scenario_reader.specs.Fields.{field_at}
 use Rattle.scenario_reader.specs.Forms.{is_word, route_length, has_form, new_name_rule, used_name_rule, number_rule}
-use Rattle.scenario_reader.specs.Limits.{most_interval}
 use Rattle.scenario_reader.specs.declared.cause.Cause.TheVariants as cause
 use Rattle.scenario_reader.specs.declared.form.Keyword.TheVariants as word
 use Rattle.scenario_reader.specs.declared.form.Part.{Part}
@@ -44,11 +42,11 @@ route_hops fields = route_length (drop 3 fields)
 abbrev pub route_fields : List (List ℕ) → List (List ℕ)
 route_fields fields = take (route_hops fields) (drop 3 fields)
 
--- the field that stands `place` places behind the route, from 0: the word `contract` and what follows it
+-- the field that stands `place` places after the route, from 0: the word `contract` and what follows it
 abbrev pub behind_route : List (List ℕ) → ℕ → List ℕ
 behind_route fields place = field_at fields (3 + route_hops fields + place)
 
--- whether a jitter bound stands behind the delay bound
+-- whether a jitter bound stands after the delay bound
 abbrev pub has_jitter : List (List ℕ) → Bool
 has_jitter fields = is_word word.Jitter (behind_route fields 7)
 
@@ -56,11 +54,11 @@ abbrev pub control_in : List (List ℕ) → Control
 control_in fields = if has_jitter fields then Jitter (value_of (behind_route fields 8)) else Rate
 
 -- the four numbers of the contract
-abbrev pub terms_in : List (List ℕ) → Terms
-terms_in fields = terms_of (value_of (behind_route fields 1)) (value_of (behind_route fields 2)) (value_of (behind_route fields 3)) (value_of (behind_route fields 4))
+abbrev pub contract_told : List (List ℕ) → Traffic
+contract_told fields = terms_of (value_of (behind_route fields 1)) (value_of (behind_route fields 2)) (value_of (behind_route fields 3)) (value_of (behind_route fields 4))
 
 -- the contract that four numbers are, if they are one
-abbrev pub contract_of : Terms → Option Terms
+abbrev pub contract_of : Traffic → Option Traffic
 contract_of terms = if is_none (first_bad terms) then Some terms else None
 
 -- the hops of the route
@@ -77,8 +75,8 @@ route_names_rule said route = first_cause (map (route_link_rule said) route)
 -- the numbers of the contract, each in its range
 abbrev pub terms_rule : List (List ℕ) → Rule
 terms_rule fields = first_cause (
-    number_rule 1 most_bound (behind_route fields 1)
-    ∷ number_rule 1 most_bound (behind_route fields 2)
+    number_rule 1 most_gap (behind_route fields 1)
+    ∷ number_rule 1 most_gap (behind_route fields 2)
     ∷ number_rule 1 most_interval (behind_route fields 3)
     ∷ number_rule 1 most_size (behind_route fields 4)
     ∷ [])
@@ -105,7 +103,7 @@ is_way said hops = is_none (fault_in hops) && is_joined said.links hops
 abbrev pub open_limits_rule : Said → List (List ℕ) → Rule
 open_limits_rule said fields = first_cause (
     unless (nat_lt (length said.requests) most_requests) cause.Many
-    ∷ unless (is_some (contract_of (terms_in fields))) cause.Contract
+    ∷ unless (is_some (contract_of (contract_told fields))) cause.Contract
     ∷ unless (is_way said (hops_in said fields)) cause.Route
     ∷ [])
 
@@ -124,7 +122,7 @@ request_said said fields = record {
   request = record {
     chan = channel_at (length said.requests);
     route = hops_in said fields;
-    contract = terms_in fields;
+    contract = contract_told fields;
     control = control_in fields;
     delay = value_of (behind_route fields 6);
   };

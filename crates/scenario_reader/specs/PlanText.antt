@@ -10,7 +10,7 @@ use Rattle.hop_reservation.specs.declared.route.Hop.{Hop}
 use Rattle.setup_protocol.specs.declared.request.Control.{Control}
 use Rattle.setup_protocol.specs.declared.request.Control.TheVariants.{Rate, Jitter}
 use Rattle.setup_protocol.specs.declared.request.Request.{Request}
-use Rattle.traffic_contract.specs.Contract.{Terms}
+use Rattle.traffic_contract.specs.Contract.{Traffic}
 use Rattle.call_script.specs.Parts.{PlanParts}
 use Rattle.call_script.specs.declared.entries.LinkEntry.{LinkEntry}
 use Rattle.call_script.specs.declared.entries.RequestEntry.{RequestEntry}
@@ -62,18 +62,18 @@ abbrev pub route_names : List LinkEntry → List Hop → List (List ℕ)
 route_names links [] = []
 route_names links (hop ∷ hops) = with_name (slice_get links (link_number hop.link)) (route_names links hops)
 
-abbrev pub contract_fields : Terms → List (List ℕ)
+abbrev pub contract_fields : Traffic → List (List ℕ)
 contract_fields terms = codes "contract" ∷ decimal terms.xmin ∷ decimal terms.xave ∷ decimal terms.interval ∷ decimal terms.smax ∷ []
 
 abbrev pub control_fields : Control → List (List ℕ)
 control_fields Rate = codes "rate" ∷ []
 control_fields (Jitter bound) = codes "jitter" ∷ decimal bound ∷ []
 
-abbrev pub bound_fields : Request → List (List ℕ)
-bound_fields request = codes "delay" ∷ decimal request.delay ∷ control_fields request.control
+abbrev pub delay_fields : Request → List (List ℕ)
+delay_fields request = codes "delay" ∷ decimal request.delay ∷ control_fields request.control
 
 abbrev pub open_fields : List LinkEntry → RequestEntry → List (List ℕ)
-open_fields links entry = codes "open" ∷ entry.name ∷ codes "route" ∷ (route_names links entry.request.route ++ (contract_fields entry.request.contract ++ bound_fields entry.request))
+open_fields links entry = codes "open" ∷ entry.name ∷ codes "route" ∷ (route_names links entry.request.route ++ (contract_fields entry.request.contract ++ delay_fields entry.request))
 
 -- ---- send NAME COUNT GAP SIZE
 
@@ -146,13 +146,13 @@ plan_text parts schedule = flat_map ended_line (plan_lines parts schedule)
 
 -- ---- the text of a part
 
--- fields behind others of a line, each behind a space
+-- fields after others of a line, each after a space
 abbrev pub spaced : List (List ℕ) → List ℕ
 spaced fields = flat_map (λ field. 32 ∷ field) fields
 
 -- a link's line up to its buffer
-abbrev pub link_front : LinkEntry → List ℕ
-link_front entry = codes "link" ++ spaced (entry.name ∷ entry.from ∷ entry.to ∷ codes "rate" ∷ decimal entry.shape.rate ∷ codes "cap" ∷ decimal entry.shape.cap
+abbrev pub link_line_front : LinkEntry → List ℕ
+link_line_front entry = codes "link" ++ spaced (entry.name ∷ entry.from ∷ entry.to ∷ codes "rate" ∷ decimal entry.shape.rate ∷ codes "cap" ∷ decimal entry.shape.cap
     ∷ codes "prop" ∷ decimal entry.shape.prop ∷ codes "buffer" ∷ decimal entry.shape.buffer ∷ [])
 
 unfoldable pub link_text : LinkEntry → List ℕ
@@ -183,6 +183,6 @@ head_text parts = ended_line (header_fields parts.version) ++ flat_map link_text
 unfoldable pub rounds_text : ℕ → ℕ → List ℕ
 rounds_text rounds tail = ended_line (rounds_fields rounds) ++ ended_line (tail_fields tail)
 
--- what stands behind the callers
+-- what stands after the callers
 unfoldable pub end_text : PlanParts → Schedule → List ℕ
 end_text parts schedule = rounds_text parts.rounds parts.tail ++ schedule_text parts.callers schedule

@@ -4,12 +4,12 @@ use Rattle.std.specs.Prelude.{◌≡◌, ℕ, ◌+◌, ◌≤◌, ◌++◌, leng
 use Rattle.std.specs.Io.KnownBytes.{Consumes, IsAtEnd}
 use Rattle.byte_ends.specs.Cutting.{Cutting, IsCutting, IsOf, allowance}
 use Rattle.byte_ends.specs.WholeLines.{all_given, outlook, whole_lines}
-use Rattle.byte_ends.specs.Faults.{Rises}
+use Rattle.byte_ends.specs.Faults.{FaultsRise}
 use Rattle.call_script.specs.Parts.{PlanParts}
 use Rattle.call_script.specs.declared.schedule.Schedule.{Schedule}
 use Rattle.scenario_reader.specs.Drafts.{Said, with_item}
 use Rattle.scenario_reader.specs.Grammar.{judge}
-use Rattle.scenario_reader.specs.Reading.{Reading, IsRead, IsBad, IsOver, at_end, reading_on, reading, are_let_pass}
+use Rattle.scenario_reader.specs.Reading.{Reading, PlanRead, BadLine, TooManyBytes, at_end, reading_on, reading, are_let_pass}
 use Rattle.scenario_reader.specs.declared.item.Item.{Item}
 use Rattle.scenario_reader.specs.declared.reader.ReadRefusal.{ReadRefusal}
 use Rattle.scenario_reader.specs.declared.reader.ReadRefusal.TheVariants as refusal
@@ -21,14 +21,14 @@ reading_ahead t said None = None
 reading_ahead t said (Some left) = Some (reading_on t.number (outlook (allowance t) (t.pending ++ left)) said)
 
 -- a line was judged and what it says was added, or it was refused, or memory was wanted
-abbrev pub Adds : Result (Unit {0}) ReadRefusal → ℕ → List ℕ → Said → Said → Type 0
-Adds (Ok _) number line said after = (item : Item) × (judge said number line ≡ Ok item) × (after ≡ with_item item said)
-Adds (Err (refusal.Refused at cause)) number line said after = (at ≡ number) × (judge said number line ≡ Err cause)
-Adds (Err refusal.Memory) number line said after = ⊤
-Adds (Err refusal.ReadFault) number line said after = ⊥
-Adds (Err (refusal.TooLong _)) number line said after = ⊥
+abbrev pub AddsLine : Result (Unit {0}) ReadRefusal → ℕ → List ℕ → Said → Said → Type 0
+AddsLine (Ok _) number line said after = (item : Item) × (judge said number line ≡ Ok item) × (after ≡ with_item item said)
+AddsLine (Err (refusal.Refused at cause)) number line said after = (at ≡ number) × (judge said number line ≡ Err cause)
+AddsLine (Err refusal.Memory) number line said after = ⊤
+AddsLine (Err refusal.ReadFault) number line said after = ⊥
+AddsLine (Err (refusal.TooLong _)) number line said after = ⊥
 
--- bytes were taken, and what they say was added: whatever stands behind them, the lines that were ahead are let pass
+-- bytes were taken, and what they say was added: whatever stands after them, the lines that were ahead are let pass
 -- exactly where those that are ahead now are
 pub record PassesOn (s t : Cutting) (said after : Said) (left left' : Option (List ℕ)) : Type 0 where
   pub bytes : List ℕ
@@ -44,12 +44,12 @@ pub record StopsPassing (s : Cutting) (said : Said) (left left' : Option (List �
   pub passing : are_let_pass s.number (whole_lines (allowance s) (s.pending ++ bytes)) said ≡ true
 
 -- the source failed where neither a whole line that is refused nor a byte too many had been taken from it
-pub record Fails (s : Cutting) (said : Said) (left left' : Option (List ℕ)) (faults faults' : ℕ) : Type 0 where
-  pub rises : Rises faults faults'
+pub record FailsWhileReading (s : Cutting) (said : Said) (left left' : Option (List ℕ)) (faults faults' : ℕ) : Type 0 where
+  pub rises : FaultsRise faults faults'
   pub stops : StopsPassing s said left left'
 
 -- one line more was read and added
-pub record GoesOn (s t : Cutting) (said after : Said) (left left' : Option (List ℕ)) : Type 0 where
+pub record ReadsOn (s t : Cutting) (said after : Said) (left left' : Option (List ℕ)) : Type 0 where
   pub number : t.number ≡ s.number + 1
   pub most : t.most ≡ s.most
   pub cutting : IsCutting t
@@ -66,27 +66,27 @@ pub record ComesToEnd (s t : Cutting) (said after : Said) (left left' : Option (
 
 -- what reading one line more answers: whether there was one, or why the scenario is refused
 abbrev pub ReadsLine : Result Bool ReadRefusal → Cutting → Cutting → Said → Said → Option (List ℕ) → Option (List ℕ) → ℕ → ℕ → Type 0
-ReadsLine (Ok true) s t said after left left' faults faults' = GoesOn s t said after left left'
+ReadsLine (Ok true) s t said after left left' faults faults' = ReadsOn s t said after left left'
 ReadsLine (Ok false) s t said after left left' faults faults' = ComesToEnd s t said after left left'
 ReadsLine (Err refusal.Memory) s t said after left left' faults faults' = ⊤
-ReadsLine (Err refusal.ReadFault) s t said after left left' faults faults' = Fails s said left left' faults faults'
-ReadsLine (Err (refusal.TooLong taken)) s t said after left left' faults faults' = IfSome (reading_ahead s said left) (λ r. r ≡ IsOver) × (taken ≡ s.most + 1)
-ReadsLine (Err (refusal.Refused line cause)) s t said after left left' faults faults' = IfSome (reading_ahead s said left) (λ r. r ≡ IsBad line cause)
+ReadsLine (Err refusal.ReadFault) s t said after left left' faults faults' = FailsWhileReading s said left left' faults faults'
+ReadsLine (Err (refusal.TooLong taken)) s t said after left left' faults faults' = IfSome (reading_ahead s said left) (λ r. r ≡ TooManyBytes) × (taken ≡ s.most + 1)
+ReadsLine (Err (refusal.Refused line cause)) s t said after left left' faults faults' = IfSome (reading_ahead s said left) (λ r. r ≡ BadLine line cause)
 
 -- what a reading answers
-abbrev pub Answers : Result (PlanParts × Schedule) ReadRefusal → Reading → Type 0
-Answers (Ok read) r = r ≡ IsRead read.0 read.1
-Answers (Err (refusal.Refused line cause)) r = r ≡ IsBad line cause
-Answers (Err (refusal.TooLong taken)) r = (r ≡ IsOver) × (taken ≡ MOST_BYTES + 1)
-Answers (Err refusal.Memory) r = ⊤
-Answers (Err refusal.ReadFault) r = ⊤
+abbrev pub AnswersReading : Result (PlanParts × Schedule) ReadRefusal → Reading → Type 0
+AnswersReading (Ok read) r = r ≡ PlanRead read.0 read.1
+AnswersReading (Err (refusal.Refused line cause)) r = r ≡ BadLine line cause
+AnswersReading (Err (refusal.TooLong taken)) r = (r ≡ TooManyBytes) × (taken ≡ MOST_BYTES + 1)
+AnswersReading (Err refusal.Memory) r = ⊤
+AnswersReading (Err refusal.ReadFault) r = ⊤
 
 -- where the source tells its bytes, the answer is that of the reading of them
-abbrev pub Tells : Result (PlanParts × Schedule) ReadRefusal → Option (List ℕ) → Type 0
-Tells answer None = ⊤
-Tells answer (Some bytes) = Answers answer (reading MOST_BYTES bytes)
+abbrev pub TellsReading : Result (PlanParts × Schedule) ReadRefusal → Option (List ℕ) → Type 0
+TellsReading answer None = ⊤
+TellsReading answer (Some bytes) = AnswersReading answer (reading MOST_BYTES bytes)
 
 -- what is ahead comes to what all bytes come to, where the source told them
-abbrev pub Foretells : Option (List ℕ) → Option Reading → Type 0
-Foretells None now = ⊤
-Foretells (Some bytes) now = now ≡ Some (reading MOST_BYTES bytes)
+abbrev pub ForetellsReading : Option (List ℕ) → Option Reading → Type 0
+ForetellsReading None now = ⊤
+ForetellsReading (Some bytes) now = now ≡ Some (reading MOST_BYTES bytes)

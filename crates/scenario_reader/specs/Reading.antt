@@ -1,7 +1,7 @@
 -- What the bytes of a scenario come to. Lines are judged one after another, each after what the lines before it
 -- said; the first that is refused gives the verdict. A line ends with a line feed, and only the lines that are
 -- whole within the first `most` bytes are judged. Where none is refused, more bytes than that are too many; a rest
--- behind the last line feed is a line that was cut; and without a `tail` line the input ended too early.
+-- after the last line feed is a line that was cut; and without a `tail` line the input ended too early.
 use Rattle.std.specs.Prelude.{◌≡◌, ℕ, ◌≤◌, suc, length, Bool, true, false, if◌then◌else◌, Option, Result, Ok, Err, List, [], ◌∷◌}
 use Rattle.std.specs.Io.KnownBytes.{Consumes}
 use Rattle.byte_ends.specs.WholeLines.{Ending, all_given, cut_short, too_long, Outlook, outlook, whole_lines}
@@ -15,22 +15,22 @@ use Rattle.scenario_reader.specs.declared.item.Item.{Item}
 
 -- the plan and the schedule that were read; the line, from 1, that is refused, and its cause; or too many bytes
 pub data Reading : Type 0 where
-  IsRead : PlanParts → Schedule → Reading
-  IsBad : ℕ → Cause → Reading
-  IsOver : Reading
+  PlanRead : PlanParts → Schedule → Reading
+  BadLine : ℕ → Cause → Reading
+  TooManyBytes : Reading
 
--- what the end of the input comes to, behind `count` lines that say this
+-- what the end of the input comes to, after `count` lines that say this
 abbrev pub at_end : Ending → ℕ → Said → Reading
-at_end all_given count said = if is_complete said then IsRead (parts_said said) (schedule_said said) else IsBad (suc count) cause.End
-at_end cut_short count said = IsBad (suc count) cause.Cut
-at_end too_long count said = IsOver
+at_end all_given count said = if is_complete said then PlanRead (parts_said said) (schedule_said said) else BadLine (suc count) cause.End
+at_end cut_short count said = BadLine (suc count) cause.Cut
+at_end too_long count said = TooManyBytes
 
 -- a refused line is the verdict; otherwise reading goes on after what the line says
 abbrev pub on_judged : Result Item Cause → ℕ → Said → (Said → Reading) → Reading
 on_judged (Ok item) line said go_on = go_on (with_item item said)
-on_judged (Err cause) line said go_on = IsBad line cause
+on_judged (Err cause) line said go_on = BadLine line cause
 
--- what these lines and the end behind them come to, after `count` lines that say this
+-- what these lines and the end after them come to, after `count` lines that say this
 abbrev pub reading_of : ℕ → List (List ℕ) → Ending → Said → Reading
 reading_of count [] ending said = at_end ending count said
 reading_of count (line ∷ lines) ending said =
@@ -44,7 +44,7 @@ reading_on count rest said = reading_of count rest.lines rest.ending said
 unfoldable pub reading : ℕ → List ℕ → Reading
 reading most bytes = reading_on 0 (outlook most bytes) nothing_said
 
--- a line that is let pass, and then those behind it
+-- a line that is let pass, and then those after it
 abbrev pub passes_and : Result Item Cause → Said → (Said → Bool) → Bool
 passes_and (Ok item) said go_on = go_on (with_item item said)
 passes_and (Err cause) said go_on = false

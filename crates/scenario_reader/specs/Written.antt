@@ -1,7 +1,7 @@
 -- What writing does. A text goes into what is gathered, of which the front may have been written. After a refusal a front
 -- of what was gathered before and of the text was written, and a write fails only where the sink's count of faults rose.
 use Rattle.std.specs.Prelude.{ℕ, ◌≤◌, List, ◌++◌, Option, Result, Ok, Err}
-use Rattle.byte_ends.specs.Faults.{Rises}
+use Rattle.byte_ends.specs.Faults.{FaultsRise}
 use Rattle.byte_ends.specs.Gathering.{Gathers, WritesPart}
 use Rattle.scenario_reader.specs.declared.fault.ReportFault.{ReportFault}
 use Rattle.scenario_reader.specs.declared.fault.ReportFault.TheVariants.{Memory, WriteFault}
@@ -19,10 +19,10 @@ pub record StopsThere (written written' : Option (List ℕ)) (faults faults' : �
 -- a front was written, and the sink failed
 pub record FailsThere (written written' : Option (List ℕ)) (faults faults' : ℕ) (text : List ℕ) : Type 0 where
   pub part : WritesPart written written' text
-  pub rises : Rises faults faults'
+  pub rises : FaultsRise faults faults'
 
 -- what a call that adds this text answers
-abbrev pub Adds : Result (Unit {0}) ReportFault → Option (List ℕ) → Option (List ℕ) → List ℕ → List ℕ → ℕ → ℕ → List ℕ → Type 0
-Adds (Ok _) written written' gathered gathered' faults faults' text = AddsAll written written' gathered gathered' faults faults' text
-Adds (Err Memory) written written' gathered gathered' faults faults' text = StopsThere written written' faults faults' (gathered ++ text)
-Adds (Err WriteFault) written written' gathered gathered' faults faults' text = FailsThere written written' faults faults' (gathered ++ text)
+abbrev pub AddsText : Result (Unit {0}) ReportFault → Option (List ℕ) → Option (List ℕ) → List ℕ → List ℕ → ℕ → ℕ → List ℕ → Type 0
+AddsText (Ok _) written written' gathered gathered' faults faults' text = AddsAll written written' gathered gathered' faults faults' text
+AddsText (Err Memory) written written' gathered gathered' faults faults' text = StopsThere written written' faults faults' (gathered ++ text)
+AddsText (Err WriteFault) written written' gathered gathered' faults faults' text = FailsThere written written' faults faults' (gathered ++ text)

@@ -1,5 +1,6 @@
 //! What was read of a scenario so far.
 ghost use Rattle.std.specs.Prelude.{◌≡◌, ◌≤◌, IfOk, IsTrue};
+ghost use Rattle.net_units.specs.Limits.{most_rounds};
 ghost use Rattle.scenario_reader.specs.Drafts.{nothing_said, is_complete, parts_said, schedule_said, rounds_of};
 ghost use Rattle.scenario_reader.specs.Kept.{IsScheduleOf};
 
@@ -36,14 +37,14 @@ pub struct Draft {
 
 impl Model for Draft {
     ghost use Rattle.scenario_reader.specs.Drafts.{Said, said_of};
-    ghost use Rattle.scenario_reader.specs.Kept.{IsDraft, IsKept};
+    ghost use Rattle.scenario_reader.specs.Kept.{IsDraft, IsKeptBeside};
 
     ghost Value = { Said };
 
     ghost view = { λ d. said_of d.version d.links.items d.requests.items d.callers.items d.rounds d.tail d.written d.items.items };
 
     ghost invariant = { λ d. IsDraft (said_of d.version d.links.items d.requests.items d.callers.items d.rounds d.tail d.written d.items.items)
-        × IsKept (said_of d.version d.links.items d.requests.items d.callers.items d.rounds d.tail d.written d.items.items)
+        × IsKeptBeside (said_of d.version d.links.items d.requests.items d.callers.items d.rounds d.tail d.written d.items.items)
         d.link_names d.request_names d.caller_names d.closed.items d.load };
 }
 
@@ -79,7 +80,7 @@ impl Draft {
     // How many rounds the plane makes beside the callers.
     pub(crate) fn rounds(&self) -> u64
         ensures value { result ≡ rounds_of self.now }
-        ensures most { result ≤ 524288 }
+        ensures most { result ≤ most_rounds }
     {
         self.rounds.unwrap_or(0)
     }

@@ -1,7 +1,7 @@
 //! The forms of a scenario's lines.
 ghost use Rattle.std.specs.Prelude.{◌≡◌, ◌≤◌, ◌+◌, ◌-◌, if◌then◌else◌, IfSome, Some, None, length, drop, min};
 ghost use Rattle.scenario_reader.specs.Fields.{fields_of};
-ghost use Rattle.scenario_reader.specs.Forms.{text_of, is_word, route_length, up_to, taken_by, has_form};
+ghost use Rattle.scenario_reader.specs.Forms.{text_of, is_word, route_length, fields_up_to, fields_taken, has_form};
 
 use crate::fields::{field, field_count};
 
@@ -98,7 +98,7 @@ pub fn has_form(form: &[Part], line: &[u8]) -> bool
 impl Part {
     // How many fields the part takes from a place on, None where they don't fit it.
     fn taken(&self, line: &[u8], place: usize) -> Option<usize>
-        ensures value { result ≡ taken_by self.now (drop place (fields_of line.now)) }
+        ensures value { result ≡ fields_taken self.now (drop place (fields_of line.now)) }
         ensures within { IfSome result (λ count. place + count ≤ length (fields_of line.now)) }
     {
         let left = field_count(line).saturating_sub(place);
@@ -118,7 +118,7 @@ fn one_if(holds: bool) -> Option<usize>
 }
 
 fn up_to(most: usize, count: usize) -> Option<usize>
-    ensures { result ≡ up_to most count }
+    ensures { result ≡ fields_up_to most count }
 {
     if 1 <= count && count <= most {
         Some(count)

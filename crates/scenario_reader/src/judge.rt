@@ -17,8 +17,8 @@ use crate::item::Item;
 use crate::round_lines::{judge_rounds, judge_schedule};
 use crate::values::{new_name, require};
 use call_script::Version;
-use call_script::limits::MOST_CALLERS;
 use net_units::Name;
+use net_units::limits::MOST_CALLERS;
 
 const CALLER_FORM: [Part; 2] = [Part::Word(Keyword::Caller), Part::Field];
 
@@ -38,7 +38,7 @@ impl Draft {
         self.judge_after(number, line)
     }
 
-    // The first line is the header; behind it each line begins with a word.
+    // The first line is the header; after it each line begins with a word.
     fn judge_after(&self, number: u64, line: &[u8]) -> Result<Item, Cause>
         ensures judged { result ≡ judge_after self.now.version self.now number (fields_of line.now) }
         ensures room { IfOk result (MayAdd self.now) }

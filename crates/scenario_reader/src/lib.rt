@@ -10,7 +10,6 @@ mod hops;
 pub mod item;
 mod judge;
 pub mod laws;
-pub mod limits;
 mod lines;
 pub mod link_line;
 pub mod names;

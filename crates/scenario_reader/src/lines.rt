@@ -3,7 +3,7 @@ ghost use Rattle.std.specs.Prelude.{◌≡◌, ◌++◌, [], IfOk, OnOk, IfSome,
 ghost use Rattle.std.specs.List.{slice_get};
 ghost use Rattle.net_units.specs.Numbers.{link_number, actor_number};
 ghost use Rattle.scenario_reader.specs.Fields.{ended_line};
-ghost use Rattle.scenario_reader.specs.PlanText.{header_fields, best_fields, bounds_fields, link_text, caller_fields, route_names, with_name, contract_fields, bound_fields, open_fields, send_fields, close_fields, pour_fields, op_text, rounds_fields, tail_fields, actor_field, do_text, schedule_fields, spaced, link_front};
+ghost use Rattle.scenario_reader.specs.PlanText.{header_fields, best_fields, bounds_fields, link_text, caller_fields, route_names, with_name, contract_fields, delay_fields, open_fields, send_fields, close_fields, pour_fields, op_text, rounds_fields, tail_fields, actor_field, do_text, schedule_fields, spaced, link_line_front};
 
 use call_script::{CallerEntry, Do, LinkEntry, Op, RequestEntry, Version};
 use hop_reservation::Route;
@@ -36,7 +36,7 @@ pub(crate) fn link_line(alloc: Global, entry: &LinkEntry) -> Result<String, OutO
 
 // The link up to its buffer.
 fn push_link(line: &mut String, entry: &LinkEntry) -> Result<(), AllocError>
-    ensures { OnOk result (string_bytes line.new ≡ string_bytes line.old ++ link_front entry.now) }
+    ensures { OnOk result (string_bytes line.new ≡ string_bytes line.old ++ link_line_front entry.now) }
 {
     let (name, from, to) = (entry.name, entry.from, entry.to);
     let (rate, cap) = (entry.shape.rate, entry.shape.cap);
@@ -138,7 +138,7 @@ fn push_contract(line: &mut String, contract: &Contract) -> Result<(), AllocErro
 
 // The bound on the delay, and that on the jitter, where there is one.
 fn push_bound(line: &mut String, request: &Request) -> Result<(), AllocError>
-    ensures { OnOk result (string_bytes line.new ≡ string_bytes line.old ++ spaced (bound_fields request.now)) }
+    ensures { OnOk result (string_bytes line.new ≡ string_bytes line.old ++ spaced (delay_fields request.now)) }
 {
     let delay = request.delay;
     match request.control {

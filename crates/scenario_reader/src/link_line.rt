@@ -1,23 +1,26 @@
 //! Judging a link line.
 ghost use Rattle.std.specs.Prelude.{◌≡◌, ◌≤◌, ◌<◌, IfOk, IsTrue, ℕ, List, map, length};
+ghost use Rattle.net_units.specs.Limits.{most_best};
+ghost use Rattle.net_units.specs.Numbers.{link_at};
 ghost use Rattle.call_script.specs.Versions.{test_of};
 ghost use Rattle.scenario_reader.specs.Causes.{Judges, States, unless};
 ghost use Rattle.scenario_reader.specs.Decimal.{value_of};
-ghost use Rattle.scenario_reader.specs.Entries.{link_at, has_bounds, shape_of};
+ghost use Rattle.scenario_reader.specs.Entries.{has_bounds, shape_of};
 ghost use Rattle.scenario_reader.specs.Fields.{fields_of};
-ghost use Rattle.scenario_reader.specs.Limits.{most_best};
-ghost use Rattle.scenario_reader.specs.LinkFields.{AreFigures, figures_in, link_in, numbers_with};
+ghost use Rattle.scenario_reader.specs.LinkFields.{AreFigures, figures_in, link_told, numbers_with};
 ghost use Rattle.scenario_reader.specs.LinkLine.{is_link_line, has_best, bound_start, bound_fields, bounds_of, best_in, link_numbers_rule, best_rule, bound_numbers_rule, link_fields_rule, link_rule, link_said};
 
 use crate::cause::Cause;
 use crate::draft::Draft;
 use crate::fields::{field, field_count};
 use crate::form::{Keyword, Part, has_form};
-use crate::limits::{MOST_BEST, MOST_BUFFER, MOST_CAP, MOST_RATE};
 use crate::values::{name, new_name, number, require};
 use call_script::{LinkEntry, Version};
 use link_steps::LinkShape;
-use net_units::limits::{MOST_BOUND, MOST_LEVELS, MOST_LINKS};
+use net_units::limits::{
+    MOST_BEST, MOST_BOUND, MOST_BUFFER, MOST_LEVELS, MOST_LINKS, MOST_PROPAGATION, MOST_RATE,
+    MOST_SIZE,
+};
 use net_units::{Bounds, LinkNo, Name};
 
 const PLAIN_FORM: [Part; 14] = [
@@ -94,10 +97,10 @@ impl Draft {
         })
     }
 
-    // The fields behind its word, from left to right.
+    // The fields after its word, from left to right.
     fn judge_link_fields(&self, line: &[u8]) -> Result<LinkFields, Cause>
         requires { length (bound_fields (fields_of line.now)) ≤ 8 }
-        ensures judged { Judges result (link_fields_rule self.now (fields_of line.now)) (link_in (fields_of line.now)) }
+        ensures judged { Judges result (link_fields_rule self.now (fields_of line.now)) (link_told (fields_of line.now)) }
         ensures figures { IfOk result (λ link. AreFigures link.figures) }
         ensures best { IfOk result (λ link. link.best ≤ most_best) }
     {
@@ -153,7 +156,7 @@ fn is_link_line(version: Version, line: &[u8]) -> bool
     has_form(&PLAIN_FORM, line) || (version.has_best_effort() && has_form(&BEST_FORM, line))
 }
 
-// Whether best-effort packets stand behind the buffer.
+// Whether best-effort packets stand after the buffer.
 fn has_best(line: &[u8]) -> bool
     ensures { result ≡ has_best (fields_of line.now) }
 {
@@ -165,10 +168,10 @@ fn judge_figures(line: &[u8]) -> Result<Figures, Cause>
     ensures judged { Judges result (link_numbers_rule (fields_of line.now)) (figures_in (fields_of line.now)) }
     ensures figures { IfOk result AreFigures }
 {
-    let rate = number(field(line, 5), 1, MOST_RATE)?;
-    let cap = number(field(line, 7), 1, MOST_CAP)?;
-    let prop = number(field(line, 9), 0, u64::from(MOST_BOUND))?;
-    let buffer = number(field(line, 11), 0, MOST_BUFFER)?;
+    let rate = number(field(line, 5), 1, u64::from(MOST_RATE))?;
+    let cap = number(field(line, 7), 1, u64::from(MOST_SIZE))?;
+    let prop = number(field(line, 9), 0, u64::from(MOST_PROPAGATION))?;
+    let buffer = number(field(line, 11), 0, u64::from(MOST_BUFFER))?;
     Ok(Figures {
         rate: rate as u32,
         cap: cap as u32,
@@ -183,7 +186,7 @@ fn judge_best(line: &[u8]) -> Result<u32, Cause>
     ensures most { IfOk result (λ best. best ≤ most_best) }
 {
     if has_best(line) {
-        Ok(number(field(line, 13), 1, MOST_BEST)? as u32)
+        Ok(number(field(line, 13), 1, u64::from(MOST_BEST))? as u32)
     } else {
         Ok(0)
     }

@@ -4,8 +4,8 @@ ghost use Rattle.std.specs.List.{slice_get};
 ghost use Rattle.call_script.specs.Rules.{is_named};
 ghost use Rattle.scenario_reader.specs.Forms.{is_among};
 
-use call_script::limits::MOST_REQUESTS;
 use indexmap::IndexSet;
+use net_units::limits::MOST_REQUESTS;
 use net_units::{Name, OutOfMemory};
 use std::alloc::Global;
 use std::marker::Model;

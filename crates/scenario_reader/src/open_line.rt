@@ -1,27 +1,28 @@
 //! Judging an open line.
 ghost use Rattle.std.specs.Prelude.{◌≡◌, ◌+◌, ◌<◌, ◌≤◌, ℕ, List, IsTrue, is_none, option_map, length};
+ghost use Rattle.net_units.specs.Numbers.{actor_at, channel_at};
 ghost use Rattle.call_script.specs.declared.entries.LinkEntry.{LinkEntry as Linked};
 ghost use Rattle.call_script.specs.Rules.{meets, is_joined};
 ghost use Rattle.scenario_reader.specs.Causes.{Judges, States, unless};
 ghost use Rattle.scenario_reader.specs.Decimal.{value_of};
 ghost use Rattle.scenario_reader.specs.Drafts.{link_named, last_caller};
-ghost use Rattle.scenario_reader.specs.Entries.{actor_at, channel_at, hop_of as hop_over};
+ghost use Rattle.scenario_reader.specs.Entries.{hop_of as hop_over};
 ghost use Rattle.scenario_reader.specs.Fields.{fields_of, field_at};
 ghost use Rattle.scenario_reader.specs.OpenFields.{open_in};
-ghost use Rattle.scenario_reader.specs.OpenLine.{is_open_line, route_hops, route_fields, behind_route, has_jitter, control_in, terms_in, contract_of, hops_in, route_link_rule, route_names_rule, terms_rule, jitter_rule, open_fields_rule, is_way, open_limits_rule, open_rule, request_said};
+ghost use Rattle.scenario_reader.specs.OpenLine.{is_open_line, route_hops, route_fields, behind_route, has_jitter, control_in, contract_told, contract_of, hops_in, route_link_rule, route_names_rule, terms_rule, jitter_rule, open_fields_rule, is_way, open_limits_rule, open_rule, request_said};
 
 use crate::cause::Cause;
 use crate::draft::Draft;
 use crate::fields::field;
 use crate::form::{Keyword, Part, has_form, route_length};
 use crate::hops::Hops;
-use crate::limits::MOST_INTERVAL;
 use crate::values::{new_name, number, require};
 use call_script::RequestEntry;
-use call_script::limits::{MOST_DELAY, MOST_REQUESTS, MOST_SIZE};
 use hop_reservation::{Hop, Route};
 use link_steps::LinkShape;
-use net_units::limits::{MOST_BOUND, MOST_HOPS};
+use net_units::limits::{
+    MOST_BOUND, MOST_DELAY, MOST_GAP, MOST_HOPS, MOST_INTERVAL, MOST_REQUESTS, MOST_SIZE,
+};
 use net_units::{ActorNo, ChanNo, LinkNo, Name};
 use setup_protocol::{Control, Request};
 use traffic_contract::Contract;
@@ -78,7 +79,7 @@ impl Draft {
         self.judge_open_limits(&asked)
     }
 
-    // The fields behind its word, from left to right.
+    // The fields after its word, from left to right.
     fn judge_open_fields(&self, line: &[u8]) -> Result<OpenFields, Cause>
         requires least { 1 ≤ route_hops (fields_of line.now) }
         requires most { route_hops (fields_of line.now) ≤ 16 }
@@ -216,15 +217,15 @@ fn is_open_line(line: &[u8]) -> bool
     has_form(&RATE_FORM, line) || has_form(&JITTER_FORM, line)
 }
 
-// The contract that the four numbers behind the route are, None where they aren't one.
+// The contract that the four numbers after the route are, None where they aren't one.
 fn judge_terms(line: &[u8], hops: usize) -> Result<Option<Contract>, Cause>
     requires hops { hops ≡ route_hops (fields_of line.now) }
     requires few { hops ≤ 16 }
-    ensures { Judges result (terms_rule (fields_of line.now)) (contract_of (terms_in (fields_of line.now))) }
+    ensures { Judges result (terms_rule (fields_of line.now)) (contract_of (contract_told (fields_of line.now))) }
 {
-    let xmin = number(field(line, 3 + hops + 1), 1, u64::from(MOST_BOUND))?;
-    let xave = number(field(line, 3 + hops + 2), 1, u64::from(MOST_BOUND))?;
-    let interval = number(field(line, 3 + hops + 3), 1, MOST_INTERVAL)?;
+    let xmin = number(field(line, 3 + hops + 1), 1, u64::from(MOST_GAP))?;
+    let xave = number(field(line, 3 + hops + 2), 1, u64::from(MOST_GAP))?;
+    let interval = number(field(line, 3 + hops + 3), 1, u64::from(MOST_INTERVAL))?;
     let smax = number(field(line, 3 + hops + 4), 1, u64::from(MOST_SIZE))?;
     Ok(Contract::new(xmin as u32, xave as u32, interval as u32, smax as u32).ok())
 }

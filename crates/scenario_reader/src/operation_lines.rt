@@ -1,5 +1,6 @@
 //! Judging the lines of a caller's operations on channels that it has opened, and its pours.
 ghost use Rattle.std.specs.Prelude.{◌≡◌, ◌≤◌, ℕ, List, IfOk, IfSome, is_some, Some, Ok, length};
+ghost use Rattle.net_units.specs.Limits.{most_packets};
 ghost use Rattle.call_script.specs.Rules.{hops_of, load_in};
 ghost use Rattle.scenario_reader.specs.Causes.{Judges, States, unless};
 ghost use Rattle.scenario_reader.specs.Decimal.{value_of};
@@ -13,9 +14,9 @@ use crate::draft::Draft;
 use crate::fields::field;
 use crate::form::{Keyword, Part, has_form};
 use crate::values::{name, number, require};
-use call_script::limits::{MOST_GAP, MOST_PACKETS, MOST_SIZE};
 use call_script::{LinkEntry, Op, RequestEntry};
 use net_units::Name;
+use net_units::limits::{MOST_GAP, MOST_PACKETS, MOST_SIZE};
 
 const SEND_FORM: [Part; 5] = [
     Part::Word(Keyword::Send),
@@ -158,10 +159,10 @@ fn judge_packets(line: &[u8]) -> Result<Packets, Cause>
       gap = value_of (field_at (fields_of line.now) 3);
       size = value_of (field_at (fields_of line.now) 4);
     }) }
-    ensures range { IfOk result (λ packets. packets.count ≤ 262144) }
+    ensures range { IfOk result (λ packets. packets.count ≤ most_packets) }
 {
     let count = number(field(line, 2), 1, MOST_PACKETS)?;
-    let gap = number(field(line, 3), 1, MOST_GAP)?;
+    let gap = number(field(line, 3), 1, u64::from(MOST_GAP))?;
     let size = number(field(line, 4), 1, u64::from(MOST_SIZE))?;
     Ok(Packets {
         count,

@@ -163,7 +163,7 @@ impl Draft {
     }
 }
 
-// Adds an operation behind those of the last caller. Want of memory changes nothing.
+// Adds an operation after those of the last caller. Want of memory changes nothing.
 fn add_op(callers: &mut Vec<CallerEntry>, op: Op) -> Result<(), OutOfMemory>
     requires { 1 ≤ length callers.old.items }
     ensures ok { OnOk result (callers.new.items ≡ add_op op callers.old.items) }

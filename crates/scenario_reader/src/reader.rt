@@ -2,9 +2,9 @@
 ghost use Rattle.std.specs.Prelude.{◌≡◌, ◌≤◌, Err, Some, IfOk, OnOk};
 ghost use Rattle.std.specs.Io.KnownBytes.{IsAtEnd};
 ghost use Rattle.byte_ends.specs.Cutting.{IsCutting, IsOf};
-ghost use Rattle.byte_ends.specs.Faults.{Rises};
+ghost use Rattle.byte_ends.specs.Faults.{FaultsRise};
 ghost use Rattle.scenario_reader.specs.Kept.{IsScheduleOf};
-ghost use Rattle.scenario_reader.specs.ReadSteps.{Adds, ReadsLine, Tells};
+ghost use Rattle.scenario_reader.specs.ReadSteps.{AddsLine, ReadsLine, TellsReading};
 ghost use Rattle.scenario_reader.specs.Reading.{LetsPass};
 ghost use Rattle.scenario_reader.specs.Words.{refusal_text};
 
@@ -68,10 +68,10 @@ impl Display for ReadRefusal {
 /// Reads a scenario to its end, or up to the line that is refused.
 pub fn read_plan<S: Source>(alloc: Global, source: &mut S) -> Result<(Plan, Schedule), ReadRefusal>
     // Where the source tells its bytes, they determine the answer.
-    ensures told { Tells result (S.left source.old) }
+    ensures told { TellsReading result (S.left source.old) }
     ensures schedule { IfOk result (λ read. IsScheduleOf read.0.callers read.1) }
     ensures ended { OnOk result (IsAtEnd (S.left source.new)) }
-    ensures fault { result ≡ Err ReadRefusal.ReadFault → Rises (S.faults source.old) (S.faults source.new) }
+    ensures fault { result ≡ Err ReadRefusal.ReadFault → FaultsRise (S.faults source.old) (S.faults source.new) }
     ensures passing { result ≡ Err ReadRefusal.ReadFault → LetsPass MOST_BYTES (S.left source.old) (S.left source.new) }
     ensures counts { S.faults source.old ≤ S.faults source.new }
 {
@@ -120,7 +120,7 @@ fn read_line<S: Source>(
 
 // Judges a line and adds what it says.
 fn add_line(alloc: Global, draft: &mut Draft, number: u64, line: &[u8]) -> Result<(), ReadRefusal>
-    ensures { Adds result number line.now draft.old draft.new }
+    ensures { AddsLine result number line.now draft.old draft.new }
 {
     match draft.judge(number, line) {
         Ok(item) => Ok(draft.put(alloc, &item)?),

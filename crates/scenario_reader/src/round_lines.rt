@@ -1,5 +1,6 @@
-//! Judging the lines behind the callers: rounds, tail, and those of a schedule.
+//! Judging the lines after the callers: rounds, tail, and those of a schedule.
 ghost use Rattle.std.specs.Prelude.{◌≡◌, ◌≤◌, ◌<◌, IfOk, length, codes};
+ghost use Rattle.net_units.specs.Limits.{most_rounds};
 ghost use Rattle.scenario_reader.specs.Causes.{Judges, States};
 ghost use Rattle.scenario_reader.specs.Decimal.{value_of};
 ghost use Rattle.scenario_reader.specs.Drafts.{caller_named};
@@ -11,11 +12,10 @@ use crate::cause::Cause;
 use crate::draft::Draft;
 use crate::fields::field;
 use crate::form::{Keyword, Part, has_form};
-use crate::limits::MOST_STEPS;
 use crate::values::{name, number, require};
 use call_script::Do;
-use call_script::limits::MOST_ROUNDS;
 use net_units::ActorNo;
+use net_units::limits::{MOST_ROUNDS, MOST_STEPS};
 
 const ROUNDS_FORM: [Part; 2] = [Part::Word(Keyword::Rounds), Part::Field];
 
@@ -50,7 +50,7 @@ impl Draft {
 
     // Whether the ticks of all links together are within the limit.
     fn are_few_ticks(&self, tail: u64) -> bool
-        requires { tail ≤ 524288 }
+        requires { tail ≤ most_rounds }
         ensures { result ≡ are_few_ticks self.now tail }
     {
         (self.rounds() + tail) * self.links.len() as u64 <= MOST_ROUNDS

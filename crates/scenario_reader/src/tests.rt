@@ -185,7 +185,7 @@ link B n2 n3 rate 1 cap 4 prop 2 buffer 100 levels 10 20 40
 caller k1
 ";
 
-// The line behind these is refused by this cause.
+// The line after these is refused by this cause.
 fn refuses(
     rt: &impl std::process::Abort,
     alloc: Global,

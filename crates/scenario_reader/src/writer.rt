@@ -3,12 +3,12 @@ ghost use Rattle.std.specs.Prelude.{◌≡◌, ◌≤◌, length, Err, OnOk, OnE
 ghost use Rattle.std.specs.List.{flat_map};
 ghost use Rattle.std.specs.Io.KnownBytes.{Appends};
 ghost use Rattle.net_units.specs.Numbers.{actor_number};
-ghost use Rattle.byte_ends.specs.Faults.{Rises};
+ghost use Rattle.byte_ends.specs.Faults.{FaultsRise};
 ghost use Rattle.byte_ends.specs.Gathering.{WritesPart};
 ghost use Rattle.link_steps.specs.Lists.{Each};
 ghost use Rattle.call_script.specs.declared.schedule.Do.{Do as Item};
 ghost use Rattle.scenario_reader.specs.PlanText.{plan_text, head_text, link_text, op_text, caller_text, do_text, rounds_text, schedule_text, end_text};
-ghost use Rattle.scenario_reader.specs.Written.{Adds};
+ghost use Rattle.scenario_reader.specs.Written.{AddsText};
 
 use crate::fault::ReportFault;
 use crate::lines::{
@@ -32,7 +32,7 @@ pub fn write_plan<K: Sink>(
 ) -> Result<(), ReportFault>
     requires actors { Each (λ (item : Item). actor_number item.actor ≤ length plan.now.callers) schedule.now.items }
     ensures text { OnOk result (Appends (K.written sink.old) (K.written sink.new) (plan_text plan.now schedule.now)) }
-    ensures fault { result ≡ Err ReportFault.WriteFault → Rises (K.faults sink.old) (K.faults sink.new) }
+    ensures fault { result ≡ Err ReportFault.WriteFault → FaultsRise (K.faults sink.old) (K.faults sink.new) }
     ensures front { OnErr result (WritesPart (K.written sink.old) (K.written sink.new) (plan_text plan.now schedule.now)) }
     ensures counts { K.faults sink.old ≤ K.faults sink.new }
 {
@@ -50,7 +50,7 @@ fn write_lines<K: Sink>(
     plan: &Plan,
     schedule: &Schedule,
 ) -> Result<(), ReportFault>
-    ensures { Adds result (K.written sink.old) (K.written sink.new) out.old out.new (K.faults sink.old) (K.faults sink.new) (plan_text plan.now schedule.now) }
+    ensures { AddsText result (K.written sink.old) (K.written sink.new) out.old out.new (K.faults sink.old) (K.faults sink.new) (plan_text plan.now schedule.now) }
 {
     write_head(alloc, out, sink, plan)?;
     write_callers(
@@ -71,13 +71,13 @@ fn write_head<K: Sink>(
     sink: &mut K,
     plan: &Plan,
 ) -> Result<(), ReportFault>
-    ensures { Adds result (K.written sink.old) (K.written sink.new) out.old out.new (K.faults sink.old) (K.faults sink.new) (head_text plan.now) }
+    ensures { AddsText result (K.written sink.old) (K.written sink.new) out.old out.new (K.faults sink.old) (K.faults sink.new) (head_text plan.now) }
 {
     write_line(out, sink, header_line(alloc, plan.version()))?;
     write_links(alloc, out, sink, plan.links())
 }
 
-// What stands behind the callers.
+// What stands after the callers.
 fn write_end<K: Sink>(
     alloc: Global,
     out: &mut Gather,
@@ -85,7 +85,7 @@ fn write_end<K: Sink>(
     plan: &Plan,
     schedule: &Schedule,
 ) -> Result<(), ReportFault>
-    ensures { Adds result (K.written sink.old) (K.written sink.new) out.old out.new (K.faults sink.old) (K.faults sink.new) (end_text plan.now schedule.now) }
+    ensures { AddsText result (K.written sink.old) (K.written sink.new) out.old out.new (K.faults sink.old) (K.faults sink.new) (end_text plan.now schedule.now) }
 {
     write_rounds(alloc, out, sink, plan.rounds(), plan.tail())?;
     write_schedule(alloc, out, sink, plan.callers(), schedule)
@@ -97,7 +97,7 @@ fn write_links<K: Sink>(
     sink: &mut K,
     links: &[LinkEntry],
 ) -> Result<(), ReportFault>
-    ensures { Adds result (K.written sink.old) (K.written sink.new) out.old out.new (K.faults sink.old) (K.faults sink.new) (flat_map link_text links.now) }
+    ensures { AddsText result (K.written sink.old) (K.written sink.new) out.old out.new (K.faults sink.old) (K.faults sink.new) (flat_map link_text links.now) }
 {
     for entry in links {
         write_line(out, sink, link_line(alloc, entry))?;
@@ -113,7 +113,7 @@ fn write_callers<K: Sink>(
     requests: &[RequestEntry],
     callers: &[CallerEntry],
 ) -> Result<(), ReportFault>
-    ensures { Adds result (K.written sink.old) (K.written sink.new) out.old out.new (K.faults sink.old) (K.faults sink.new) (flat_map (caller_text links.now requests.now) callers.now) }
+    ensures { AddsText result (K.written sink.old) (K.written sink.new) out.old out.new (K.faults sink.old) (K.faults sink.new) (flat_map (caller_text links.now requests.now) callers.now) }
 {
     for caller in callers {
         write_caller(alloc, out, sink, links, requests, caller)?;
@@ -129,7 +129,7 @@ fn write_caller<K: Sink>(
     requests: &[RequestEntry],
     caller: &CallerEntry,
 ) -> Result<(), ReportFault>
-    ensures { Adds result (K.written sink.old) (K.written sink.new) out.old out.new (K.faults sink.old) (K.faults sink.new) (caller_text links.now requests.now caller.now) }
+    ensures { AddsText result (K.written sink.old) (K.written sink.new) out.old out.new (K.faults sink.old) (K.faults sink.new) (caller_text links.now requests.now caller.now) }
 {
     write_line(out, sink, caller_line(alloc, caller.name))?;
     write_ops(alloc, out, sink, links, requests, caller.ops.as_slice())
@@ -143,7 +143,7 @@ fn write_ops<K: Sink>(
     requests: &[RequestEntry],
     ops: &[Op],
 ) -> Result<(), ReportFault>
-    ensures { Adds result (K.written sink.old) (K.written sink.new) out.old out.new (K.faults sink.old) (K.faults sink.new) (flat_map (op_text links.now requests.now) ops.now) }
+    ensures { AddsText result (K.written sink.old) (K.written sink.new) out.old out.new (K.faults sink.old) (K.faults sink.new) (flat_map (op_text links.now requests.now) ops.now) }
 {
     for op in ops {
         write_op(alloc, out, sink, links, requests, op)?;
@@ -159,7 +159,7 @@ fn write_op<K: Sink>(
     requests: &[RequestEntry],
     op: &Op,
 ) -> Result<(), ReportFault>
-    ensures { Adds result (K.written sink.old) (K.written sink.new) out.old out.new (K.faults sink.old) (K.faults sink.new) (op_text links.now requests.now op.now) }
+    ensures { AddsText result (K.written sink.old) (K.written sink.new) out.old out.new (K.faults sink.old) (K.faults sink.new) (op_text links.now requests.now op.now) }
 {
     match op_line(alloc, links, requests, op) {
         Some(line) => write_line(out, sink, line),
@@ -174,7 +174,7 @@ fn write_rounds<K: Sink>(
     rounds: u64,
     tail: u64,
 ) -> Result<(), ReportFault>
-    ensures { Adds result (K.written sink.old) (K.written sink.new) out.old out.new (K.faults sink.old) (K.faults sink.new) (rounds_text rounds tail) }
+    ensures { AddsText result (K.written sink.old) (K.written sink.new) out.old out.new (K.faults sink.old) (K.faults sink.new) (rounds_text rounds tail) }
 {
     write_line(out, sink, rounds_line(alloc, rounds))?;
     write_line(out, sink, tail_line(alloc, tail))
@@ -187,7 +187,7 @@ fn write_schedule<K: Sink>(
     callers: &[CallerEntry],
     schedule: &Schedule,
 ) -> Result<(), ReportFault>
-    ensures { Adds result (K.written sink.old) (K.written sink.new) out.old out.new (K.faults sink.old) (K.faults sink.new) (schedule_text callers.now schedule.now) }
+    ensures { AddsText result (K.written sink.old) (K.written sink.new) out.old out.new (K.faults sink.old) (K.faults sink.new) (schedule_text callers.now schedule.now) }
 {
     if !schedule.written {
         return Ok(());
@@ -203,7 +203,7 @@ fn write_items<K: Sink>(
     callers: &[CallerEntry],
     items: &[Do],
 ) -> Result<(), ReportFault>
-    ensures { Adds result (K.written sink.old) (K.written sink.new) out.old out.new (K.faults sink.old) (K.faults sink.new) (flat_map (do_text callers.now) items.now) }
+    ensures { AddsText result (K.written sink.old) (K.written sink.new) out.old out.new (K.faults sink.old) (K.faults sink.new) (flat_map (do_text callers.now) items.now) }
 {
     for item in items {
         write_line(out, sink, do_line(alloc, callers, item))?;

@@ -22,7 +22,7 @@ use Rattle.relaxation.specs.Laws.{HaveBounds}
 use Rattle.relaxation.specs.declared.EndDenial.{EndDenial}
 use Rattle.relaxation.proofs.LawFacts.{allotted-fit}
 use Rattle.setup_protocol.specs.Requests.{jitter_of}
-use Rattle.setup_protocol.specs.Laws.{AsksHop, EveryAskFits}
+use Rattle.setup_protocol.specs.Laws.{AsksHop, EverySetupAskFits}
 use Rattle.setup_protocol.specs.Setup.{is_offer, reach_in, offers_in, behind_offers, reach_after, undoing, relaxing, on_the_way, behind_test, asked, asked_of, reserve_of, relax_of, bound_if, bound_given}
 use Rattle.setup_protocol.specs.declared.request.Request.{Request}
 use Rattle.setup_protocol.specs.declared.verdict.Deny.{Deny}
@@ -125,7 +125,7 @@ relax-fits request levels (suc left) to ask bounds are whole is =
       bound_most = given-most request.route levels (suc left - 1) bounds;
     })
 
--- on the way, and behind the test
+-- on the way, and after the test
 way-fits : (request : Request) (replies rest : List Reply) (to : LinkNo) (ask : Ask) → IsContract request.contract → HaveBounds request.route → behind_offers replies ≡ rest
     → asked request (on_the_way (offers_in replies) (reach_after 0 request.route replies) rest) ≡ Some (to, ask) → AsksHop request to ask
 way-fits request replies [] to ask contract bounds behind is = reserve-fits request replies to ask contract bounds behind is
@@ -141,7 +141,7 @@ test-fits request replies None to ask bounds are whole tested is =
     let have = reach-have request.delay request.route (offers_in replies) levels fit.0 in
     relax-fits request levels (length request.route - length (behind_offers replies)) to ask bounds have.0 (omega (arith, have.1, whole, levels-fit request.route (offers_in replies) are)) is
 
-pub ask-fits : EveryAskFits
+pub ask-fits : EverySetupAskFits
 ask-fits request replies to ask contract bounds are is =
     elim (cases_lt (length (offers_in replies)) (length request.route)) [
       | inl fits ↦ way-fits request replies (behind_offers replies) to ask contract bounds refl (subst (λ p. asked request p ≡ Some (to, ask)) (progress-on_the_way request replies fits) is)

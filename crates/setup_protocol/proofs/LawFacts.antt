@@ -31,7 +31,7 @@ relaxed-accepts : (request : Request) (left : ℕ) (levels : List ℕ) (outcome 
 relaxed-accepts request zero levels outcome settled = cc
 relaxed-accepts request (suc left) levels outcome settled = absurd (let clash : None ≡ Some outcome = settled in cc)
 
--- behind the test: denied where it denies, and else accepted
+-- after the test: denied where it denies, and else accepted
 record IsTested (request : Request) (replies : List Reply) (outcome : Outcome) : Type 0 where
   accepted : is_accepted outcome ≡ true → denial_of request.route (offers_in replies) request.delay (jitter_of request.control) ≡ None
   passed : denial_of request.route (offers_in replies) request.delay (jitter_of request.control) ≡ None

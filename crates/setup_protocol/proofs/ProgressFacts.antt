@@ -36,7 +36,7 @@ behind-other (first ∷ replies) reply other =
       | inr plain ↦ rw plain refl
     ]
 
--- ---- one offer more, behind offers alone
+-- ---- one offer more, after offers alone
 
 pub offers-more : (replies : List Reply) (reply : Reply) → behind_offers replies ≡ [] → is_offer reply ≡ true → offers_in (replies ++ reply ∷ []) ≡ offers_in replies ++ level_in reply ∷ []
 unfolding offers_in behind_offers
@@ -108,7 +108,7 @@ relaxing-less request total count (suc left) levels reply same expected =
 
 -- ---- how far a setup has come
 
--- on the way, and behind the destination's test
+-- on the way, and after the destination's test
 pub progress-on_the_way : (request : Request) (replies : List Reply) → length (offers_in replies) < length request.route
     → progress_of request replies ≡ on_the_way (offers_in replies) (reach_after 0 request.route replies) (behind_offers replies)
 progress-on_the_way request replies fits = rw (lt-ltb (length (offers_in replies)) (length request.route) fits) refl
@@ -140,7 +140,7 @@ reserved-advances request replies (Closing count cancelled) fits none expected =
 reserved-advances request replies (Taken clock eligible) fits none expected = absurd (let clash : false ≡ true = expected in cc)
 reserved-advances request replies (Ticked clock full sent best_sent best_lost) fits none expected = absurd (let clash : false ≡ true = expected in cc)
 
--- a reply on the way, with these replies behind the offers
+-- a reply on the way, with these replies after the offers
 way-advances : (request : Request) (replies : List Reply) (reply : Reply) (rest : List Reply) → length (offers_in replies) < length request.route → behind_offers replies ≡ rest
     → is_expected request (on_the_way (offers_in replies) (reach_after 0 request.route replies) rest) reply ≡ true
     → progress_of request (replies ++ reply ∷ []) ≡ advance request (on_the_way (offers_in replies) (reach_after 0 request.route replies) rest) reply
@@ -153,7 +153,7 @@ way-advances request replies reply (first ∷ denied) fits behind expected =
     progress-on_the_way request (replies ++ reply ∷ []) (omega (arith, fits, ap length other))
     ∙ rw more (rw other (ap (λ n. undoing (length (offers_in replies) - n) deny) (one-more denied reply))) ∙ less.1
 
--- behind the test, one reply more that is no offer
+-- after the test, one reply more that is no offer
 tested-more : (request : Request) (replies : List Reply) (reply : Reply) (denial : Option EndDenial) → length request.route ≤ length (offers_in replies)
     → denial_of request.route (offers_in replies) request.delay (jitter_of request.control) ≡ denial → is_offer reply ≡ false
     → progress_of request (replies ++ reply ∷ []) ≡ behind_test request (offers_in replies) (suc (length (behind_offers replies))) denial
@@ -163,7 +163,7 @@ tested-more request replies reply denial whole is plain =
     progress-tested request (replies ++ reply ∷ []) (omega (arith, whole, ap length other))
     ∙ rw more (rw other (ap (behind_test request (offers_in replies) (suc (length (behind_offers replies)))) is))
 
--- a reply behind the test, whose result this is
+-- a reply after the test, whose result this is
 test-advances : (request : Request) (replies : List Reply) (reply : Reply) (denial : Option EndDenial) → length request.route ≤ length (offers_in replies)
     → denial_of request.route (offers_in replies) request.delay (jitter_of request.control) ≡ denial
     → is_expected request (behind_test request (offers_in replies) (length (behind_offers replies)) denial) reply ≡ true

@@ -1,5 +1,5 @@
 -- Each hop that has offered is asked once more before the request settles: the replies up to that ask are the offers and so
--- many behind them as there are hops behind this one.
+-- many after them as there are hops after this one.
 use Rattle.std.proofs.Common.{◌≡◌, ℕ, zero, suc, ◌+◌, ◌-◌, ◌<◌, ◌≤◌, Option, Some, None, List, [], ◌∷◌, ◌++◌, length, take, inl, inr, ap, subst, sym, refl, ◌∙◌, arith}
 use Rattle.std.specs.List.{slice_get}
 use Rattle.std.proofs.lemmas.Bool.{cases_Bool, cases_lt}
@@ -41,7 +41,7 @@ offers-front (first ∷ replies) (suc count) most =
       | inr plain ↦ rw plain refl
     ]
 
--- and so many behind them
+-- and so many after them
 behind-front : (replies : List Reply) (count behind : ℕ) → count ≡ length (offers_in replies) + behind → behind_offers (take count replies) ≡ take behind (behind_offers replies)
 unfolding offers_in behind_offers
 behind-front [] count behind is = ap behind_offers (take-none count) ∙ sym (take-none behind)
@@ -56,7 +56,7 @@ behind-front (first ∷ replies) (suc count) behind is =
       | inr plain ↦ (let same : suc count ≡ 0 + behind = rw plain at is in let all : behind ≡ suc count = omega (arith, same) in rw plain (rw all refl))
     ]
 
--- the replies are the offers and those behind them
+-- the replies are the offers and those after them
 pub count-all : (replies : List Reply) → length replies ≡ length (offers_in replies) + length (behind_offers replies)
 unfolding offers_in behind_offers
 count-all [] = refl
@@ -66,7 +66,7 @@ count-all (first ∷ replies) =
       | inr plain ↦ rw plain (omega arith)
     ]
 
--- ---- the ask behind a front
+-- ---- the ask after a front
 
 -- a list at one of its places
 record IsSplit {X : Type 0} (xs : List X) (place : ℕ) : Type 0 where
@@ -121,7 +121,7 @@ relaxed-is hops (suc left) levels outcome settled = absurd (let clash : None ≡
 
 -- ---- a request that was refused on the way
 
--- the hop at this place, with `last` hops behind it that have offered, is asked to give its row back
+-- the hop at this place, with `last` hops after it that have offered, is asked to give its row back
 undo-asked : (request : Request) (left index : ℕ) (deny : Deny) (hop : Hop) → left ≡ suc index → slice_get request.route index ≡ Some hop → asked request (undoing left deny) ≡ Some (hop.link, GiveBack request.chan)
 undo-asked request zero index deny hop is found = absurd (omega (arith, is))
 undo-asked request (suc left) index deny hop is found =
@@ -160,7 +160,7 @@ relax-asked request (suc left) index levels hop is found =
     let same : suc left - 1 ≡ index = omega (arith, is) in
     ap (λ f. asked_of f (λ h. relax_of request levels (suc left))) (ap (slice_get request.route) same ∙ found) ∙ ap (λ n. Some (hop.link, relax_of request levels n)) is
 
--- the progress behind a front of a tested request
+-- the progress after a front of a tested request
 front-tested : (request : Request) (replies : List Reply) (made : ℕ) (denial : Option EndDenial) → length request.route ≤ length (offers_in replies) → made ≤ length (behind_offers replies)
     → denial_of request.route (offers_in replies) request.delay (jitter_of request.control) ≡ denial
     → progress_of request (take (length (offers_in replies) + made) replies) ≡ behind_test request (offers_in replies) made denial

@@ -54,12 +54,12 @@ pub record AsksHop (request : Request) (to : LinkNo) (ask : Ask) : Type 0 where
   pub fits : (shape : LinkShape) → shape.bounds ≡ hop.bounds → AskFits shape ask
 
 -- wherever the offers are levels of their hops
-abbrev pub EveryAskFits : Type 0
-EveryAskFits = (request : Request) (replies : List Reply) (to : LinkNo) (ask : Ask)
+abbrev pub EverySetupAskFits : Type 0
+EverySetupAskFits = (request : Request) (replies : List Reply) (to : LinkNo) (ask : Ask)
     → IsContract request.contract → HaveBounds request.route → AreLevels request.route (offers_in replies)
     → next_ask request replies ≡ Some (to, ask) → AsksHop request to ask
 
--- the replies on the way back: those behind the refusal of a hop, or behind the offers of all
+-- the replies on the way back: those after the refusal of a hop, or after the offers of all
 abbrev pub replies_back : Request → List Reply → List Reply
 replies_back request replies = if nat_lt (length (offers_in replies)) (length request.route) then drop 1 (behind_offers replies) else behind_offers replies
 

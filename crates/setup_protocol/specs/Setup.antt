@@ -4,7 +4,7 @@
 -- refusal. Where all hops have offered, the destination tests the offers. Where it denies, every hop is asked to give its
 -- row back, from the last to the first; else each is asked to relax to the level that it is allotted, from the last to
 -- the first, so that the first hop is committed last. What is asked next follows from the replies so far: the offers at
--- their front, and how many replies came behind these.
+-- their front, and how many replies came after these.
 use Rattle.std.specs.Prelude.{ℕ, zero, suc, ◌-◌, Bool, true, false, nat_lt, nat_le, nat_eq, ◌&&◌, if◌then◌else◌, Option, Some, None, option_map, List, [], ◌∷◌, length, slice_index}
 use Rattle.std.specs.List.{slice_get}
 use Rattle.net_units.specs.Numbers.{level_number}
@@ -47,7 +47,7 @@ unfoldable pub offers_in : List Reply → List ℕ
 offers_in [] = []
 offers_in (reply ∷ replies) = if is_offer reply then level_in reply ∷ offers_in replies else []
 
--- the replies behind the offers
+-- the replies after the offers
 unfoldable pub behind_offers : List Reply → List Reply
 behind_offers [] = []
 behind_offers (reply ∷ replies) = if is_offer reply then behind_offers replies else reply ∷ replies
@@ -65,7 +65,7 @@ pub data Outcome : Type 0 where
   Accepts : List ℕ → ℕ → Outcome
   Denies : Deny → Outcome
 
--- the hops reserve, with the levels offered and the last reach; so many hops are left to give their rows back, or to be
+-- the hops reserve, with the levels offered and the last reach; `left` hops are left to give their rows back, or to be
 -- relaxed; or nothing is left
 pub data Progress : Type 0 where
   Reserving : List ℕ → ℕ → Progress
@@ -73,27 +73,27 @@ pub data Progress : Type 0 where
   Relaxing : ℕ → List ℕ → Progress
   Settled : Outcome → Progress
 
--- with so many hops left to give their rows back
+-- with `left` hops left to give their rows back
 abbrev pub undoing : ℕ → Deny → Progress
 undoing zero deny = Settled (Denies deny)
 undoing (suc left) deny = Undoing (suc left) deny
 
--- with so many hops left to be relaxed
+-- with `left` hops left to be relaxed
 abbrev pub relaxing : List Hop → ℕ → List ℕ → Progress
 relaxing hops zero levels = Settled (Accepts levels (delay_over hops levels))
 relaxing hops (suc left) levels = Relaxing (suc left) levels
 
--- the refusal that a reply tells; no other reply stands behind offers on the way forward
+-- the refusal that a reply tells; no other reply stands after offers on the way forward
 abbrev pub refusal_in : Reply → Refusal
 refusal_in (Refused refusal) = refusal
 refusal_in _ = NoSuch
 
--- on the way forward, with these offers and replies behind them
+-- on the way forward, with these offers and replies after them
 abbrev pub on_the_way : List ℕ → ℕ → List Reply → Progress
 on_the_way offers reach [] = Reserving offers reach
 on_the_way offers reach (reply ∷ denied) = undoing (length offers - length denied) (AtHop (suc (length offers)) (refusal_in reply))
 
--- behind the destination's test, with so many replies behind the offers
+-- after the destination's test, with `count` replies after the offers
 abbrev pub behind_test : Request → List ℕ → ℕ → Option EndDenial → Progress
 behind_test request offers count (Some denial) = undoing (length request.route - count) (End denial)
 behind_test request offers count None = relaxing request.route (length request.route - count) (allotted request.route offers request.delay (jitter_of request.control))
@@ -117,13 +117,13 @@ asked_of None ask = None
 asked_of (Some hop) ask = Some (hop.link, ask hop)
 
 -- the link of a hop
-abbrev pub link_in : Hop → LinkNo
-link_in hop = hop.link
+abbrev pub hop_link : Hop → LinkNo
+hop_link hop = hop.link
 
 -- the reserve of the first hop that has no level
 abbrev pub reserve_of : Request → List ℕ → ℕ → Ask
 reserve_of request offers reach =
-    Reserve request.chan request.contract (kind_of request.control) request.delay reach (nat_eq (length offers) 0) (option_map link_in (slice_get request.route (suc (length offers))))
+    Reserve request.chan request.contract (kind_of request.control) request.delay reach (nat_eq (length offers) 0) (option_map hop_link (slice_get request.route (suc (length offers))))
 
 -- the bound of a hop's level, if the hop is there
 abbrev pub bound_if : Option Hop → ℕ → ℕ
@@ -146,7 +146,7 @@ asked request (Undoing left deny) = asked_of (slice_get request.route (left - 1)
 asked request (Relaxing left levels) = asked_of (slice_get request.route (left - 1)) (λ hop. relax_of request levels left)
 asked request (Settled outcome) = None
 
--- the next ask behind these replies, if one is left
+-- the next ask after these replies, if one is left
 abbrev pub next_ask : Request → List Reply → Option (LinkNo × Ask)
 next_ask request replies = asked request (progress_of request replies)
 

@@ -9,5 +9,5 @@ abbrev pub progress_in : Setup → Progress
 progress_in setup = progress_at setup.itinerary.levels setup.itinerary.reach setup.state
 
 -- a setup stands for these replies, in their order
-abbrev pub Stands : Setup → List Reply → Type 0
-Stands setup replies = progress_in setup ≡ progress_of setup.request replies
+abbrev pub SetupStands : Setup → List Reply → Type 0
+SetupStands setup replies = progress_in setup ≡ progress_of setup.request replies

@@ -48,7 +48,7 @@ abbrev pub IsVerdictOf : List Hop → Verdict → Type 0
 IsVerdictOf route (verdict.Accepted levels delay) = HaveLevels route (levels_of levels)
 IsVerdictOf route (verdict.Denied deny) = IsDenyOf route deny
 
--- a state that a setup over this route, with so many offers, can be in
+-- a state that a setup over this route, with this number of offers, can be in
 abbrev pub IsStateOf : List Hop → List ℕ → State → Type 0
 IsStateOf route offers state.Reserving = suc (length offers) ≤ length route
 IsStateOf route offers (state.Undoing left deny) = IsPlace route left × IsDenyOf route deny
@@ -57,11 +57,11 @@ IsStateOf route offers (state.Settled verdict) = IsVerdictOf route verdict
 
 -- ---- one reply more
 
--- with the offers of some hops, or of all, and no reply behind them
+-- with the offers of some hops, or of all, and no reply after them
 abbrev pub with_offers : Request → List ℕ → ℕ → Progress
 with_offers request offers reach = if nat_lt (length offers) (length request.route) then Reserving offers reach else at_destination request offers 0
 
--- behind the reply to the reserve of the first hop that has no level
+-- after the reply to the reserve of the first hop that has no level
 abbrev pub after_reserve : Request → List ℕ → Reply → Progress
 after_reserve request offers (Offer level reach) = with_offers request (offers ++ level_number level ∷ []) (next_bound request.route offers (level_number reach))
 after_reserve request offers reply = undoing (length offers) (AtHop (suc (length offers)) (refusal_in reply))

@@ -17,15 +17,15 @@ is_closing (Closing count cancelled) = true
 is_closing _ = false
 
 -- the count of packets that a reply tells
-abbrev pub count_in : Reply → ℕ
-count_in (Closing count cancelled) = count
-count_in _ = 0
+abbrev pub told_count : Reply → ℕ
+told_count (Closing count cancelled) = count
+told_count _ = 0
 
 -- the count that the first hop has told
 abbrev pub first_count : List Reply → Option ℕ
 first_count [] = None
-first_count (reply ∷ replies) = Some (count_in reply)
+first_count (reply ∷ replies) = Some (told_count reply)
 
--- the next ask behind these replies, if one is left
+-- the next ask after these replies, if one is left
 abbrev pub next_release : ChanNo → List Hop → List Reply → Option (LinkNo × Ask)
 next_release chan route replies = asked_of (slice_get route (length replies)) (λ hop. Release chan (first_count replies))

@@ -10,10 +10,10 @@ use Rattle.net_units.specs.Numbers.{level_number}
 use Rattle.net_units.specs.declared.numbers.ChanNo.{ChanNo}
 use Rattle.net_units.specs.declared.numbers.Level.{Level}
 use Rattle.net_units.specs.declared.numbers.LinkNo.{LinkNo}
+use Rattle.net_units.specs.LevelBounds.{reach_of}
 use Rattle.hop_reservation.specs.Offers.{AreLevels}
 use Rattle.hop_reservation.specs.declared.route.Hop.{Hop}
 use Rattle.link_steps.specs.Legal.{AskFits}
-use Rattle.link_steps.specs.Replies.{reach_of}
 use Rattle.link_steps.specs.declared.asks.Ask.{Ask}
 use Rattle.link_steps.specs.declared.asks.Ask.TheVariants.{Relax, Release, Deny as GiveBack}
 use Rattle.link_steps.specs.declared.replies.Reply.{Reply}
@@ -30,7 +30,7 @@ abbrev pub back_of : Request → ℕ → Outcome → Ask
 back_of request index (Denies deny) = GiveBack request.chan
 back_of request index (Accepts levels delay) = relax_of request levels (suc index)
 
--- behind the first of these replies the hop was asked so, and it replied
+-- after the first of these replies the hop was asked so, and it replied
 pub record IsAskedBack (request : Request) (replies : List Reply) (hop : Hop) (ask : Ask) : Type 0 where
   pub before : List Reply
   pub reply : Reply

@@ -1,5 +1,5 @@
 //! Laws of a setup, each as the contract of a function that does nothing.
-ghost use Rattle.setup_protocol.specs.Laws.{AcceptedKeepTheirBounds, AcceptedWhereAllPass, EveryAskFits, EveryOfferIsAskedBack};
+ghost use Rattle.setup_protocol.specs.Laws.{AcceptedKeepTheirBounds, AcceptedWhereAllPass, EverySetupAskFits, EveryOfferIsAskedBack};
 ghost use Rattle.setup_protocol.specs.WayBack.{EveryHopIsAskedBack, EveryRelaxIsFit, EveryReleaseGoesToItsHop};
 
 /// A settled request is accepted exactly where every hop of its route has offered and the destination denies nothing.
@@ -16,7 +16,7 @@ pub fn accepted_requests_keep_their_bounds()
 /// Each ask of a setup goes to a hop of the request's route, and meets the conditions on an ask at every link that has
 /// that hop's bounds.
 pub fn every_ask_fits()
-    ensures { EveryAskFits }
+    ensures { EverySetupAskFits }
 {}
 
 /// A settled request has at least as many replies on the way back, to denies or to relaxes, as there were offers: each hop

@@ -6,7 +6,7 @@ ghost use Rattle.net_units.specs.Numbers.{level_number};
 ghost use Rattle.hop_reservation.specs.Offers.{delay_over, next_levels};
 ghost use Rattle.hop_reservation.specs.declared.route.Hop.{Hop};
 ghost use Rattle.link_steps.specs.declared.replies.Reply.{Reply as Replied};
-ghost use Rattle.setup_protocol.specs.Setup.{answers_reserve, asked, asked_of, at_destination, bound_given, is_expected, is_reserve_refusal, link_in, next_ask, progress_of, relax_of, relaxing, reserve_of, settled_in, undoing, verdict_of};
+ghost use Rattle.setup_protocol.specs.Setup.{answers_reserve, asked, asked_of, at_destination, bound_given, is_expected, is_reserve_refusal, hop_link, next_ask, progress_of, relax_of, relaxing, reserve_of, settled_in, undoing, verdict_of};
 ghost use Rattle.link_steps.specs.declared.asks.Ask.TheVariants.{Deny as GiveBack};
 ghost use Rattle.setup_protocol.specs.State.{advance, after_reserve, outcome_of, progress_at, with_offers, HaveLevels, IsDenyOf, IsPlace, IsStateOf, IsVerdictOf};
 ghost use Rattle.setup_protocol.specs.StateProp.{IsStateOf-prop};
@@ -44,12 +44,12 @@ pub struct Setup {
 }
 
 impl Setup {
-    ghost use Rattle.setup_protocol.specs.Standing.{progress_in, Stands};
+    ghost use Rattle.setup_protocol.specs.Standing.{progress_in, SetupStands};
 
     /// A setup that has asked nothing yet.
     pub fn new(request: &Request) -> Setup
         ensures request { result.request ≡ request.now }
-        ensures stands { Stands result [] }
+        ensures stands { SetupStands result [] }
     {
         Setup {
             request: *request,
@@ -61,7 +61,7 @@ impl Setup {
     /// The next ask, and the link that it goes to; None exactly where the request is settled.
     pub fn next_ask(&self) -> Option<(LinkNo, Ask)>
         ensures asked { result ≡ asked self.now.request (progress_in self.now) }
-        ensures next { (replies : List Replied) → Stands self.now replies → result ≡ next_ask self.now.request replies }
+        ensures next { (replies : List Replied) → SetupStands self.now replies → result ≡ next_ask self.now.request replies }
         ensures settled { IsNone result ↔ IsSome (settled_in (progress_in self.now)) }
     {
         match &self.state {
@@ -77,7 +77,7 @@ impl Setup {
         requires { settled_in (progress_in self.old) ≡ None }
         ensures request { self.new.request ≡ self.old.request }
         ensures expected { IsOk result ↔ IsTrue (is_expected self.old.request (progress_in self.old) reply) }
-        ensures taken { OnOk result ((replies : List Replied) → Stands self.old replies → Stands self.new (replies ++ reply ∷ [])) }
+        ensures taken { OnOk result ((replies : List Replied) → SetupStands self.old replies → SetupStands self.new (replies ++ reply ∷ [])) }
         ensures unexpected { IfErr result (λ odd. (odd.reply ≡ reply) × (option_map (λ to. to.1) (asked self.old.request (progress_in self.old)) ≡ Some odd.ask)) }
         ensures unchanged { OnErr result (self.new ≡ self.old) }
     {
@@ -97,7 +97,7 @@ impl Setup {
     pub fn verdict(&self) -> Option<Verdict>
         ensures value { option_map outcome_of result ≡ settled_in (progress_in self.now) }
         ensures fits { IfSome result (λ verdict. IsVerdictOf self.now.request.route verdict) }
-        ensures verdict { (replies : List Replied) → Stands self.now replies → option_map outcome_of result ≡ verdict_of self.now.request replies }
+        ensures verdict { (replies : List Replied) → SetupStands self.now replies → option_map outcome_of result ≡ verdict_of self.now.request replies }
     {
         match self.state {
             State::Settled(verdict) => Some(verdict),
@@ -224,10 +224,10 @@ fn refuses_reserve(refusal: &Refusal) -> bool
     )
 }
 
-// The link of the hop behind a place, where there is one.
+// The link of the hop after a place, where there is one.
 fn link_behind(route: &Route, place: u8) -> Option<LinkNo>
     requires { IsPlace route.now place }
-    ensures { result ≡ option_map link_in (slice_get route.now place) }
+    ensures { result ≡ option_map hop_link (slice_get route.now place) }
 {
     if place < route.len() {
         Some(route.hop(place + 1).link)

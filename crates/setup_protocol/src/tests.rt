@@ -39,7 +39,7 @@ fn offer() -> Result<Reply, Fail> {
     })
 }
 
-// The reserve of a hop: the reach before it, and the link behind it.
+// The reserve of a hop: the reach before it, and the link after it.
 fn reserve(request: &Request, up_reach: u64, first: bool, next: Option<u8>) -> Ask {
     Ask::Reserve {
         chan: request.chan,

@@ -22,7 +22,7 @@ use Rattle.relaxation.specs.Allotment.{denial_of, allotted}
 use Rattle.relaxation.specs.declared.EndDenial.{EndDenial}
 use Rattle.setup_protocol.specs.Requests.{jitter_of}
 use Rattle.setup_protocol.specs.Setup.{Progress, Reserving, Undoing, Relaxing, Settled, offers_in, behind_offers, undoing, relaxing, behind_test, at_destination, next_ask, progress_of, is_expected}
-use Rattle.setup_protocol.specs.Standing.{progress_in, Stands}
+use Rattle.setup_protocol.specs.Standing.{progress_in, SetupStands}
 use Rattle.setup_protocol.specs.State.{with_offers, after_reserve, advance, progress_at, IsStateOf}
 use Rattle.setup_protocol.specs.declared.request.Request.{Request}
 use Rattle.setup_protocol.specs.declared.setup.Setup.{Setup}
@@ -37,7 +37,7 @@ use Rattle.link_ledger.specs.Tokens.{Token, IsLink, Steps}
 use Rattle.link_ledger.specs.declared.entries.OwnEntry.{OwnEntry}
 use Rattle.shared_network.specs.Added.{IsSamePass}
 use Rattle.shared_network.specs.Calls.{Follows, reply_in}
-use Rattle.shared_network.specs.Ready.{MayStep, GoesOn}
+use Rattle.shared_network.specs.Ready.{MayStep, PassGoesOn}
 use Rattle.shared_network.proofs.StepFacts.{drawn-own}
 use Rattle.shared_network.proofs.SetupGoes.{IsSound, SetupRows, SetupGoes}
 use Rattle.std.proofs.lemmas.Bool.{ne_eqb, cases_eq}
@@ -51,14 +51,14 @@ use Rattle.link_steps.specs.declared.asks.Ask.TheVariants.{Reserve, Relax, Deny,
 use Rattle.link_steps.proofs.ListFacts.{Each-filter}
 use Rattle.relaxation.specs.Laws.{HaveBounds}
 use Rattle.setup_protocol.specs.Laws.{AsksHop, is_accepted}
-use Rattle.setup_protocol.specs.Setup.{Outcome, Accepts, Denies, asked, asked_of, link_in, reach_after, relax_of, reserve_of, settled_in}
+use Rattle.setup_protocol.specs.Setup.{Outcome, Accepts, Denies, asked, asked_of, hop_link, reach_after, relax_of, reserve_of, settled_in}
 use Rattle.setup_protocol.proofs.AskFacts.{ask-fits}
 use Rattle.setup_protocol.proofs.ProgressFacts.{progress-advances, progress-none}
 use Rattle.channel_laws.specs.Asks.{IsOff}
 use Rattle.channel_laws.proofs.Places.{Each-at}
 use Rattle.link_ledger.specs.Owners.{OwnsAsk, NextBelow, IsBelow}
 use Rattle.shared_network.specs.Calls.{HasNone, IsHopOf, IsCommitted, IsEstablished, hold_at}
-use Rattle.shared_network.specs.Holds.{Hold, Free, Untold, reserved, relaxed, denied, hold_with, hold_from, hold_of}
+use Rattle.shared_network.specs.Holds.{Hold, Free, Untold, reserved, hold_relaxed, denied, hold_with, hold_from, hold_of}
 use Rattle.shared_network.specs.Sight.{FitsAt, IsSend}
 use Rattle.shared_network.proofs.HoldSteps.{AnswersOf, answers}
 use Rattle.shared_network.proofs.LinkNumbers.{same-link}
@@ -132,9 +132,9 @@ pub record SettingUp (table : TableId) (owners : List ActorNo) (links : List Lin
   pub own : pass'.own ≡ pass.own ++ entries
   pub follows : Follows (next_ask request) [] entries
   pub request_is : setup.request ≡ request
-  pub stands : Stands setup (map reply_in entries)
+  pub stands : SetupStands setup (map reply_in entries)
   pub rows : SetupRows request pass'.own (map reply_in entries)
-  pub goes : GoesOn table owners links pass pass'
+  pub goes : PassGoesOn table owners links pass pass'
   pub same : IsSamePass pass pass'
   pub few : length entries + setup_left setup ≤ 32
 
@@ -143,7 +143,7 @@ pub record SettingUp (table : TableId) (owners : List ActorNo) (links : List Lin
 -- an entry that names another channel, or none, tells nothing
 off-hold : (c : ℕ) (hold : Hold) (ask : Ask) (reply : Reply) → IsOff c ask → hold_with c hold ask reply ≡ hold
 off-hold c hold (Reserve chan contract kind delay up_reach first next) reply off = ap (λ b. cond b (reserved hold (λ level reach. tentative chan contract kind first next up_reach level reach) reply) hold) (ne_eqb (channel_number chan) c off)
-off-hold c hold (Relax chan level up_bound) reply off = ap (λ b. cond b (relaxed hold (committed level up_bound) reply) hold) (ne_eqb (channel_number chan) c off)
+off-hold c hold (Relax chan level up_bound) reply off = ap (λ b. cond b (hold_relaxed hold (committed level up_bound) reply) hold) (ne_eqb (channel_number chan) c off)
 off-hold c hold (Deny chan) reply off = ap (λ b. cond b (denied hold reply) hold) (ne_eqb (channel_number chan) c off)
 off-hold c hold (Submit chan count gap size) reply off = refl
 off-hold c hold (Release chan upstream) reply off = ap (λ b. cond b Untold hold) (ne_eqb (channel_number chan) c off)
@@ -172,7 +172,7 @@ rows-first request own some none = record {
   up = λ alone. refl;
 }
 
-pub setting-first : (table : TableId) (owners : List ActorNo) (links : List Link) (request : Request) (pass : Token) (setup : Setup) → IsContract request.contract → IsRoute request.route → Each (IsHopOf links) request.route → MayStep table owners links pass → HasNone request.chan pass.own → setup.request ≡ request → Stands setup [] → SettingUp table owners links request pass pass setup
+pub setting-first : (table : TableId) (owners : List ActorNo) (links : List Link) (request : Request) (pass : Token) (setup : Setup) → IsContract request.contract → IsRoute request.route → Each (IsHopOf links) request.route → MayStep table owners links pass → HasNone request.chan pass.own → setup.request ≡ request → SetupStands setup [] → SettingUp table owners links request pass pass setup
 unfolding Follows
 setting-first table owners links request pass setup contract route hops may none request_is stands =
     let at_first : progress_in setup ≡ Reserving [] 0 = stands ∙ ap (λ (r : Request). progress_of r []) request_is ∙ progress-none request route.least in
@@ -205,7 +205,7 @@ owns-asked owners a request (Relaxing left levels) to ask owner same = owns-hop 
 owns-asked owners a request (Settled outcome) to ask owner same = absurd (let clash : None ≡ Some (to, ask) = same in cc)
 
 -- and each reserve a next link of the network
-next-found : (links : List Link) (route : List Hop) (i : ℕ) (found : Option Hop) → Each (IsHopOf links) route → slice_get route i ≡ found → IsBelow (length links) (option_map link_in found)
+next-found : (links : List Link) (route : List Hop) (i : ℕ) (found : Option Hop) → Each (IsHopOf links) route → slice_get route i ≡ found → IsBelow (length links) (option_map hop_link found)
 next-found links route i None hops is = tt
 next-found links route i (Some hop) hops is = (let at = Each-at (IsHopOf links) route i hop hops is in slice_get_within links (link_number hop.link) at.link at.is_link)
 
@@ -242,7 +242,7 @@ module _ (table : TableId) (owners : List ActorNo) (links : List Link) (request 
   pub next-there : NextBelow (length links) ask
   next-there = next-asked links request (progress_of request (map reply_in so.entries)) to ask so.sound.hops asks
 
-  module _ (pass' : Token) (reply : Reply) (splits : Each SplitFits links) (owner : IsOwner owners pass0.actor request.chan) (steps : Steps links (link_number to) ask pass pass' reply) (goes : GoesOn table owners links pass pass') (same : IsSamePass pass pass') where
+  module _ (pass' : Token) (reply : Reply) (splits : Each SplitFits links) (owner : IsOwner owners pass0.actor request.chan) (steps : Steps links (link_number to) ask pass pass' reply) (goes : PassGoesOn table owners links pass pass') (same : IsSamePass pass pass') where
     abbrev e : OwnEntry
     e = steps.entry
 
@@ -259,7 +259,7 @@ module _ (table : TableId) (owners : List ActorNo) (links : List Link) (request 
     pub expected-there : is_expected setup.request (progress_in setup) reply ≡ true
     expected-there = (λ i. is_expected (so.request_is i) (so.stands i) reply) ∙ (λ i. is_expected request (progress_of (so.request_is i) (map reply_in so.entries)) (sym steps.reply_is i)) ∙ goes-one.expected
 
-    module _ (setup' : Setup) (request_is : setup'.request ≡ setup.request) (stands : Stands setup' (map reply_in so.entries ++ reply ∷ [])) where
+    module _ (setup' : Setup) (request_is : setup'.request ≡ setup.request) (stands : SetupStands setup' (map reply_in so.entries ++ reply ∷ [])) where
       pub left-less : setup_left setup' < setup_left setup
       left-less =
           let goes_to : progress_in setup' ≡ advance setup.request (progress_in setup) reply =

@@ -17,14 +17,14 @@ use Rattle.link_steps.specs.declared.replies.Entry.{Entry as Done}
 use Rattle.link_steps.proofs.JournalFacts.{journals-are-histories}
 use Rattle.link_steps.proofs.ListFacts.{Each-if}
 use Rattle.step_stamp.specs.Lists.{Has}
-use Rattle.step_stamp.specs.Marks.{RisesFrom, Rises, NoTwice, drawn_for}
+use Rattle.step_stamp.specs.Marks.{RisesFrom, StampsRise, NoTwice, drawn_for}
 use Rattle.step_stamp.specs.Views.{known_of}
 use Rattle.step_stamp.specs.declared.marks.Drawn.{Drawn}
 use Rattle.step_stamp.specs.declared.marks.Mark.{Mark}
 use Rattle.step_stamp.specs.declared.views.View.{View}
 use Rattle.step_stamp.proofs.ListFacts.{each_has, has_each, has_split, has_kept, has_passed}
-use Rattle.link_ledger.specs.Journals.{mark_in, done_in, done_of, marks_in, history_in, told_after, journal_of}
-use Rattle.link_ledger.specs.Own.{own_mark, own_drawn, own_entry, own_at, IsPlaced}
+use Rattle.link_ledger.specs.Journals.{mark_in, done_in, history_entry_of, marks_in, history_in, told_after, journal_of}
+use Rattle.link_ledger.specs.Own.{own_mark, own_drawn, own_entry, own_at, IsAtPlace}
 use Rattle.link_ledger.specs.Tokens.{Token}
 use Rattle.link_ledger.specs.declared.entries.Entry.{Entry}
 use Rattle.link_ledger.specs.declared.entries.Journal.{Journal}
@@ -32,7 +32,7 @@ use Rattle.link_ledger.specs.declared.entries.OwnEntry.{OwnEntry}
 use Rattle.link_ledger.proofs.JournalFacts.{journal-told, told-append, past_after}
 use Rattle.link_ledger.proofs.OwnFacts.{get-left}
 use Rattle.shared_network.specs.Closing.{number_of, StandsIn, IsOfOne, IsClosed}
-use Rattle.shared_network.specs.Gathering.{actor_in, all_drawn, IsPartOf, AreAll, AreGathered, IsSettled, AreSettled}
+use Rattle.shared_network.specs.Gathering.{token_actor, all_drawn, IsPartOf, AreAll, AreGathered, IsSettled, AreSettled}
 use Rattle.shared_network.specs.Ready.{MayStep}
 use Rattle.shared_network.proofs.GatherFacts.{prefix-then}
 use Rattle.shared_network.proofs.LinkNumbers.{numbered-at, numbered-length}
@@ -95,7 +95,7 @@ place-told low (x ∷ ms) (suc j) zero m n rises one other same = absurd (let is
 place-told low (x ∷ ms) (suc j) (suc k) m n rises one other same = ap (λ i. suc i) (place-told x.stamp ms j k m n rises.1 one other same)
 
 -- own entries of one stamp are the same
-same-own : (actor : ActorNo) (own : List OwnEntry) (e o : OwnEntry) → Rises (map (own_mark actor) own) → Has e own → Has o own → e.stamp ≡ o.stamp → e ≡ o
+same-own : (actor : ActorNo) (own : List OwnEntry) (e o : OwnEntry) → StampsRise (map (own_mark actor) own) → Has e own → Has o own → e.stamp ≡ o.stamp → e ≡ o
 same-own actor own e o rises one other same =
     let at_e = has-get own e one in
     let at_o = has-get own o other in
@@ -132,7 +132,7 @@ journal-begins link known entries legal begins = (told_after link (past_after li
 told-marks : (link : Link) (past : List Done) (ms : List Mark) → marks_in (told_after link past ms) ≡ ms
 unfolding told_after
 told-marks link past [] = refl
-told-marks link past (m ∷ ms) = ap (λ xs. m ∷ xs) (told-marks link (done_of m (reply_to link past m.ask) ∷ past) ms)
+told-marks link past (m ∷ ms) = ap (λ xs. m ∷ xs) (told-marks link (history_entry_of m (reply_to link past m.ask) ∷ past) ms)
 
 module _ (table : TableId) (owners : List ActorNo) (links : List Link) (passes : List Token) (v : View) (journals : List Journal) (all : AreAll table owners links passes) (so : AreGathered (length passes) passes v) (settled : AreSettled links v journals) where
   settled-at : (l : ℕ) (journal : Journal) → slice_get journals l ≡ Some journal → IsSettled links v journal × (number_of journal ≡ l) × (l < length links)
@@ -156,7 +156,7 @@ module _ (table : TableId) (owners : List ActorNo) (links : List Link) (passes :
       let entries : List Entry = journal.entries.items in
       let there = settled-at l journal at_journal.1 in
       let knew = may.knows l link at_link.1 in
-      let placed = each_has (IsPlaced pass.actor pass.view) e pass.own may.exact.placed has in
+      let placed = each_has (IsAtPlace pass.actor pass.view) e pass.own may.exact.placed has in
       let part = each-get (IsPartOf v) passes i pass so.parts found in
       let legal : IsLegal link (history_in entries) = (journals-are-histories link (map done_in entries)).0 (there.0.legal link (ap (λ k. slice_get links k) there.1 ∙ at_link.1)) in
       let begins : IsPrefix (known_of l pass.view) (marks_in entries) = prefix-then (known_of l pass.view) (known_of l v) (marks_in entries) (part l) (subst (λ k. IsPrefix (known_of k v) (marks_in entries)) there.1 there.0.begins) in
@@ -202,9 +202,9 @@ module _ (table : TableId) (owners : List ActorNo) (links : List Link) (passes :
             (let other_stands = in_place j other o found has on in
             let there_too : o.place - 1 ≡ k = omega (arith, at) in
             let same_entry : own_entry other.actor o ≡ own_entry it.pass.actor e = same_Some (own_entry other.actor o) (own_entry it.pass.actor e) (sym other_stands.1 ∙ ap (slice_get entries) (there_too ∙ sym place) ∙ stands.1) in
-            sym (numbered-at actor_in passes (length passes) j other all.actors (slice_get_within passes j other found) found)
+            sym (numbered-at token_actor passes (length passes) j other all.actors (slice_get_within passes j other found) found)
             ∙ ap (λ (y : Entry). actor_number y.actor) same_entry
-            ∙ numbered-at actor_in passes (length passes) it.index it.pass all.actors (slice_get_within passes it.index it.pass it.found) it.found);
+            ∙ numbered-at token_actor passes (length passes) it.index it.pass all.actors (slice_get_within passes it.index it.pass it.found) it.found);
       }
 
   -- no stamp stands in two journals
@@ -220,9 +220,9 @@ module _ (table : TableId) (owners : List ActorNo) (links : List Link) (passes :
   closed-told = record {
     numbers = settled.numbers;
     legal = λ l link journal is found. (let there = settled-at l journal found in there.0.legal link (ap (λ k. slice_get links k) there.1 ∙ is));
-    rises = Each-if (IsSettled links v) (λ (journal : Journal). Rises (marks_in journal.entries.items)) journals (λ journal is. is.rises) settled.settled;
+    rises = Each-if (IsSettled links v) (λ (journal : Journal). StampsRise (marks_in journal.entries.items)) journals (λ journal is. is.rises) settled.settled;
     apart = stamps-apart;
     stands = has_each (λ (pass : Token). Each (StandsIn journals pass.actor) pass.own) passes (λ pass has. (let at = has-get passes pass has in has_each (StandsIn journals pass.actor) pass.own (λ e own. stands-in at.0 pass e at.1 own)));
     of_one = of-one;
-    in_order = Each-if (MayStep table owners links) (λ (pass : Token). Rises (map (own_mark pass.actor) pass.own)) passes (λ pass may. may.rises) all.may_step;
+    in_order = Each-if (MayStep table owners links) (λ (pass : Token). StampsRise (map (own_mark pass.actor) pass.own)) passes (λ pass may. may.rises) all.may_step;
   }

@@ -24,12 +24,12 @@ up_to-get (suc n) k below =
           ap (slice_get (up_to n ++ n ∷ [])) is ∙ get-last (up_to n) n ∙ ap (λ j. Some j) (sym (up_to-length n) ∙ sym is))
     ]
 
--- the element behind a front
+-- the element after a front
 pub get-behind : {X : Type 0} (xs ys : List X) (y : X) → slice_get (xs ++ y ∷ ys) (length xs) ≡ Some y
 get-behind [] ys y = refl
 get-behind (x ∷ xs) ys y = get-behind xs ys y
 
--- behind the first numbers comes their count
+-- after the first numbers comes their count
 pub up_to-next : (n : ℕ) (xs ys : List ℕ) (y : ℕ) → xs ++ y ∷ ys ≡ up_to n → y ≡ length xs
 up_to-next n xs ys y is =
     let long : length (xs ++ y ∷ ys) ≡ n = ap length is ∙ up_to-length n in

@@ -12,7 +12,7 @@ use Rattle.link_steps.specs.Lists.{Each}
 use Rattle.link_steps.specs.Split.{Link}
 use Rattle.link_steps.proofs.ListFacts.{Each-if, Each-append}
 use Rattle.step_stamp.specs.Lists.{Has, up_to}
-use Rattle.step_stamp.specs.Marks.{RisesFrom, Rises, NoTwice, drawn_for, longer}
+use Rattle.step_stamp.specs.Marks.{RisesFrom, StampsRise, NoTwice, drawn_for, longer}
 use Rattle.step_stamp.specs.Seats.{Gathered, Settled}
 use Rattle.step_stamp.specs.Views.{known_of}
 use Rattle.step_stamp.specs.declared.marks.Drawn.{Drawn}
@@ -25,8 +25,8 @@ use Rattle.link_ledger.specs.Own.{own_mark, own_drawn}
 use Rattle.link_ledger.specs.Tokens.{Token, IsLink}
 use Rattle.link_ledger.specs.declared.entries.Journal.{Journal}
 use Rattle.link_ledger.specs.declared.entries.OwnEntry.{OwnEntry}
-use Rattle.shared_network.specs.Closing.{kept_of, number_of, HaveGivenUp}
-use Rattle.shared_network.specs.Gathering.{actor_in, all_drawn, IsPartOf, AreGathered, IsSettled}
+use Rattle.shared_network.specs.Closing.{kept_pass, number_of, HaveGivenUp}
+use Rattle.shared_network.specs.Gathering.{token_actor, all_drawn, IsPartOf, AreGathered, IsSettled}
 use Rattle.shared_network.specs.Ready.{MayStep}
 
 -- ---- prefixes
@@ -75,7 +75,7 @@ pub gathered-next : (table : TableId) (owners : List ActorNo) (links : List Link
 gathered-next table owners links n passes pass v w v' may is so joined = record {
   drawn = joined.drawn ∙ (λ i. so.drawn i ++ (is i).drawn) ∙ sym (all_drawn-more passes pass);
   once = joined.once;
-  actors_are = joined.actors ∙ (λ i. so.actors_are i ++ (is i).actors) ∙ ap (λ ns. map actor_in passes ++ ns) may.acts ∙ sym (map-append actor_in passes (pass ∷ []));
+  actors_are = joined.actors ∙ (λ i. so.actors_are i ++ (is i).actors) ∙ ap (λ ns. map token_actor passes ++ ns) may.acts ∙ sym (map-append token_actor passes (pass ∷ []));
   among = joined.among ∙ so.among;
   parts = Each-append (IsPartOf v') passes (pass ∷ []) (Each-if (IsPartOf v) (IsPartOf v') passes (λ p part l. prefix-then (known_of l p.view) (known_of l v) (known_of l v') (part l) (both l).0) so.parts)
       ((λ l. subst (λ (x : View). IsPrefix (known_of l x) (known_of l v')) is (both l).1), tt);
@@ -92,7 +92,7 @@ pub given-more : (done closed closed' : List Token) (pass gone : Token) → Have
 given-more done closed closed' pass gone so more actor own has =
     subst (HaveGivenUp (done ++ pass ∷ [])) (sym more)
     (record {
-      kept = map-append kept_of closed (gone ∷ []) ∙ (λ i. so.kept i ++ record { actor = actor i; own = own i } ∷ []) ∙ sym (map-append kept_of done (pass ∷ []));
+      kept = map-append kept_pass closed (gone ∷ []) ∙ (λ i. so.kept i ++ record { actor = actor i; own = own i } ∷ []) ∙ sym (map-append kept_pass done (pass ∷ []));
       gone = Each-append (λ (p : Token). p.has_seat ≡ false) closed (gone ∷ []) so.gone (has, tt);
     })
 
@@ -118,7 +118,7 @@ pub settled-next : (links : List Link) (v0 v v' k : View) (l count : ℕ) (journ
 settled-next links v0 v v' k l count journal rules stays acts is number joined marks is_link legal = (
   record {
     legal = λ link found. subst (λ (x : Link). IsLegalJournal x (map done_in journal.entries.items)) (same_Some rules link (sym is_link ∙ ap (λ j. slice_get links j) (sym number) ∙ found)) legal;
-    rises = subst Rises (sym marks) joined.rises;
+    rises = subst StampsRise (sym marks) joined.rises;
     begins = subst (λ j. IsPrefix (known_of j v0) (marks_in journal.entries.items)) (sym number) (subst (IsPrefix (known_of l v0)) (sym marks) (subst (λ ms. IsPrefix ms (known_of l k)) (stays.knows l (omega (arith, is))) joined.begins));
     drawn = λ m has. subst (λ j. Has (drawn_for j m) v0.drawn) (sym number) (subst (Has (drawn_for l m)) stays.drawn (joined.all all m (subst (Has m) marks has)));
   },

@@ -14,7 +14,7 @@ use Rattle.net_units.specs.declared.Kind.{Kind}
 use Rattle.net_units.specs.declared.numbers.ChanNo.{ChanNo}
 use Rattle.net_units.specs.declared.numbers.Level.{Level}
 use Rattle.net_units.specs.declared.numbers.LinkNo.{LinkNo}
-use Rattle.traffic_contract.specs.Contract.{Terms}
+use Rattle.traffic_contract.specs.Contract.{Traffic}
 use Rattle.link_steps.specs.Legal.{IsLegal}
 use Rattle.link_steps.specs.Lists.{Each}
 use Rattle.link_steps.specs.Replies.{reply_to}
@@ -36,12 +36,12 @@ use Rattle.channel_laws.specs.Asks.{IsOff}
 use Rattle.channel_laws.specs.Laws.{held_after}
 use Rattle.channel_laws.specs.Reservations.{held_by}
 use Rattle.channel_laws.proofs.TermsAfter.{held-off, held-offered, held-relaxed, held-denied, held-submitted}
-use Rattle.link_ledger.specs.Journals.{history_in, journal_of, done_of}
+use Rattle.link_ledger.specs.Journals.{history_in, journal_of, history_entry_of}
 use Rattle.link_ledger.specs.Owners.{OwnsAsk, IsOwner}
 use Rattle.link_ledger.specs.declared.entries.OwnEntry.{OwnEntry}
 use Rattle.link_ledger.proofs.AnswerFacts.{past-told}
 use Rattle.link_ledger.proofs.JournalFacts.{past_after}
-use Rattle.shared_network.specs.Holds.{Hold, Free, Holds, Untold, reserved, relaxed, denied, hold_with, hold_from, IsHeld}
+use Rattle.shared_network.specs.Holds.{Hold, Free, Holds, Untold, reserved, hold_relaxed, denied, hold_with, hold_from, IsHeld}
 
 -- ---- own entries
 
@@ -72,7 +72,7 @@ module _ (shape : LinkShape) (chan : ChanNo) (t : ℕ) (scan : Scan) (differ : D
   held-other Untold ask reply off is = tt
 
   -- a reserve of it
-  held-reserved : (hold : Hold) (contract : Terms) (kind : Kind) (delay up_reach : ℕ) (first : Bool) (next : Option LinkNo) (reply : Reply) → IsHeld hold now → IsHeld (reserved hold (λ level reach. tentative chan contract kind first next up_reach level reach) reply) (later (Reserve chan contract kind delay up_reach first next) reply)
+  held-reserved : (hold : Hold) (contract : Traffic) (kind : Kind) (delay up_reach : ℕ) (first : Bool) (next : Option LinkNo) (reply : Reply) → IsHeld hold now → IsHeld (reserved hold (λ level reach. tentative chan contract kind first next up_reach level reach) reply) (later (Reserve chan contract kind delay up_reach first next) reply)
   unfolding after
   held-reserved Free contract kind delay up_reach first next (Is.Offer level reach) is = (held-offered shape chan t scan contract kind delay up_reach first next level reach is, refl)
   held-reserved (Holds terms) contract kind delay up_reach first next (Is.Offer level reach) is = tt
@@ -86,7 +86,7 @@ module _ (shape : LinkShape) (chan : ChanNo) (t : ℕ) (scan : Scan) (differ : D
   held-reserved hold contract kind delay up_reach first next (Is.Ticked clock full sent best_sent best_lost) is = tt
 
   -- a relax
-  held-settled : (hold : Hold) (level : Level) (up_bound : ℕ) (reply : Reply) → IsHeld hold now → IsHeld (relaxed hold (committed level up_bound) reply) (later (Relax chan level up_bound) reply)
+  held-settled : (hold : Hold) (level : Level) (up_bound : ℕ) (reply : Reply) → IsHeld hold now → IsHeld (hold_relaxed hold (committed level up_bound) reply) (later (Relax chan level up_bound) reply)
   held-settled Free level up_bound (Is.Relaxed clock) is = held-relaxed shape chan t scan level up_bound clock ∙ ap (option_map (committed level up_bound)) is
   held-settled (Holds terms) level up_bound (Is.Relaxed clock) is = (held-relaxed shape chan t scan level up_bound clock ∙ ap (option_map (committed level up_bound)) is.0, refl)
   held-settled Untold level up_bound (Is.Relaxed clock) is = tt
@@ -118,8 +118,8 @@ module _ (shape : LinkShape) (chan : ChanNo) (t : ℕ) (scan : Scan) (differ : D
       (λ on. subst (λ (x : ChanNo). IsHeld (reserved hold (λ level reach. tentative x contract kind first next up_reach level reach) reply) (later (Reserve x contract kind delay up_reach first next) reply)) (sym (same-chan chan' chan (eqb-true (channel_number chan') c on))) (held-reserved hold contract kind delay up_reach first next reply is))
       (λ off. held-other hold (Reserve chan' contract kind delay up_reach first next) reply (eqb-false (channel_number chan') c off) is)
   held-next hold (Relax chan' level up_bound) reply is =
-      cond_both (eqb (channel_number chan') c) (relaxed hold (committed level up_bound) reply) hold (λ h. IsHeld h (later (Relax chan' level up_bound) reply))
-      (λ on. subst (λ (x : ChanNo). IsHeld (relaxed hold (committed level up_bound) reply) (later (Relax x level up_bound) reply)) (sym (same-chan chan' chan (eqb-true (channel_number chan') c on))) (held-settled hold level up_bound reply is))
+      cond_both (eqb (channel_number chan') c) (hold_relaxed hold (committed level up_bound) reply) hold (λ h. IsHeld h (later (Relax chan' level up_bound) reply))
+      (λ on. subst (λ (x : ChanNo). IsHeld (hold_relaxed hold (committed level up_bound) reply) (later (Relax x level up_bound) reply)) (sym (same-chan chan' chan (eqb-true (channel_number chan') c on))) (held-settled hold level up_bound reply is))
       (λ off. held-other hold (Relax chan' level up_bound) reply (eqb-false (channel_number chan') c off) is)
   held-next hold (Deny chan') reply is =
       cond_both (eqb (channel_number chan') c) (denied hold reply) hold (λ h. IsHeld h (later (Deny chan') reply))
@@ -162,7 +162,7 @@ off-marks owners a chan (m ∷ ms) owner none owned =
 legal-down : (link : Link) (past : List Done) (ms : List Mark) → IsLegal link (past_after link past ms) → IsLegal link past
 unfolding past_after IsLegal
 legal-down link past [] legal = legal
-legal-down link past (m ∷ ms) legal = (legal-down link (done_of m (reply_to link past m.ask) ∷ past) ms legal).0
+legal-down link past (m ∷ ms) legal = (legal-down link (history_entry_of m (reply_to link past m.ask) ∷ past) ms legal).0
 
 -- what is held stays through entries of others
 pub held-rest : (link : Link) (chan : ChanNo) (hold : Hold) (past : List Done) (ms : List Mark) → SplitFits link → IsLegal link (past_after link past ms) → Each (λ (m : Mark). IsOff (channel_number chan) m.ask) ms → IsHeld hold (held_after link.shape chan past) → IsHeld hold (held_after link.shape chan (past_after link past ms))
@@ -171,14 +171,14 @@ held-rest link chan hold past [] fits legal off is = is
 held-rest link chan hold past (m ∷ ms) fits legal off is =
     let reply : Reply = reply_to link past m.ask in
     let before : IsLegal link past = legal-down link past (m ∷ ms) legal in
-    held-rest link chan hold (done_of m reply ∷ past) ms fits legal off.1
+    held-rest link chan hold (history_entry_of m reply ∷ past) ms fits legal off.1
     (held-other link.shape chan (clock_of past) (scan_of link.shape past) (legal-channels link.shape past (legal-admissible link past fits before)) hold m.ask reply off.0 is)
 
 -- marks in two parts
 pub past-parts : (link : Link) (past : List Done) (xs ys : List Mark) → past_after link past (xs ++ ys) ≡ past_after link (past_after link past xs) ys
 unfolding past_after
 past-parts link past [] ys = refl
-past-parts link past (x ∷ xs) ys = past-parts link (done_of x (reply_to link past x.ask) ∷ past) xs ys
+past-parts link past (x ∷ xs) ys = past-parts link (history_entry_of x (reply_to link past x.ask) ∷ past) xs ys
 
 -- the history that marks tell
 pub history-told : (link : Link) (ms : List Mark) → history_in (journal_of link ms) ≡ past_after link [] ms

@@ -17,7 +17,7 @@ use Rattle.link_steps.specs.declared.replies.Reply.{Reply}
 use Rattle.link_steps.proofs.LegalAdmissible.{legal-admissible}
 use Rattle.link_steps.proofs.LegalChannels.{legal-channels}
 use Rattle.step_stamp.specs.Lists.{Has}
-use Rattle.step_stamp.specs.Marks.{Rises, marks_of}
+use Rattle.step_stamp.specs.Marks.{StampsRise, marks_of}
 use Rattle.step_stamp.specs.Views.{known_of}
 use Rattle.step_stamp.specs.declared.marks.Mark.{Mark}
 use Rattle.channel_laws.specs.Laws.{held_after}
@@ -84,7 +84,7 @@ module _ (table : TableId) (owners : List ActorNo) (links : List Link) (l : ℕ)
       ∙ history-told steps.link (known ++ rest) ∙ past-parts steps.link [] known rest
 
   none : marks_of (actor_number a) rest ≡ []
-  none = rest_none a l pass.view pass.own rest may.exact (subst (Has (actor_number a)) (sym may.acts) (inl refl)) (subst Rises (sym whole) steps.acted.rises) (λ m has on. steps.acted.own m (subst (Has m) whole has) on)
+  none = rest_none a l pass.view pass.own rest may.exact (subst (Has (actor_number a)) (sym may.acts) (inl refl)) (subst StampsRise (sym whole) steps.acted.rises) (λ m has on. steps.acted.own m (subst (Has m) whole has) on)
 
   owned : Each (λ (m : Mark). OwnsAsk owners m.actor m.ask) rest
   owned = each-right (λ (m : Mark). OwnsAsk owners m.actor m.ask) known rest (subst (Each (λ (m : Mark). OwnsAsk owners m.actor m.ask)) (sym whole) (each-left (λ (m : Mark). OwnsAsk owners m.actor m.ask) (marks_in steps.entries) (own_mark a e ∷ []) (subst (Each (λ (m : Mark). OwnsAsk owners m.actor m.ask)) steps.acted.knows order.owned)))

@@ -14,7 +14,7 @@ use Rattle.link_steps.specs.Lists.{Each}
 use Rattle.link_steps.specs.Rows.{Row}
 use Rattle.link_steps.specs.Scan.{Scan, clock_of, is_row_of, is_row_at_hop, names_first_hop, relax_row, plan_row, close_row, arrived_row, with_arrival, without_expired, with_sources, with_best, best_step_at, after_tick, after, scan_of}
 use Rattle.link_steps.specs.Service.{Arrival, here_at}
-use Rattle.link_steps.specs.Sources.{SourceStep, Rests, Brings, Loses, step_of, packet_of, row_after, taken_by, source_packets, rows_after}
+use Rattle.link_steps.specs.Sources.{SourceStep, Rests, Brings, Drops, step_of, packet_of, row_after, taken_by, source_packets, rows_after}
 use Rattle.link_steps.proofs.ListFacts.{Each-append, Each-filter, Each-find, Each-change_first, Each-without_first}
 use Rattle.link_ledger.specs.Owners.{NextBelow, IsBelow}
 
@@ -32,12 +32,12 @@ pub record NextsBelow (n : ℕ) (scan : Scan) : Type 0 where
 
 step-row : (n t place : ℕ) (row : Row) (step : SourceStep) → RowNext n row → RowNext n (row_after step t place row)
 step-row n t place row Rests is = is
-step-row n t place row Loses is = is
+step-row n t place row Drops is = is
 step-row n t place row (Brings size) is = is
 
 step-packet : (n t place : ℕ) (row : Row) (step : SourceStep) → RowNext n row → Each (PacketNext n) (packet_of step t place row)
 step-packet n t place row Rests is = tt
-step-packet n t place row Loses is = tt
+step-packet n t place row Drops is = tt
 step-packet n t place row (Brings size) is = (is, tt)
 
 source-rows : (n : ℕ) (bounds : List ℕ) (here : List Arrival) (t taken : ℕ) (rows : List Row) → Each (RowNext n) rows → Each (RowNext n) (rows_after bounds here t taken rows)
@@ -54,7 +54,7 @@ source-nexts n bounds here t taken (row ∷ rows) is =
 
 best-nexts : (n : ℕ) (bounds : List ℕ) (place t : ℕ) (step : SourceStep) → Each (PacketNext n) (best_packet step bounds place t)
 best-nexts n bounds place t Rests = tt
-best-nexts n bounds place t Loses = tt
+best-nexts n bounds place t Drops = tt
 best-nexts n bounds place t (Brings size) = (tt, tt)
 
 tick-nexts : (n : ℕ) (shape : LinkShape) (t : ℕ) (scan : Scan) → NextsBelow n scan → NextsBelow n (after_tick shape t scan)

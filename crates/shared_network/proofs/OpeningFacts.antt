@@ -12,7 +12,7 @@ use Rattle.link_steps.proofs.ListFacts.{Each-if}
 use Rattle.step_stamp.specs.Lists.{up_to}
 use Rattle.step_stamp.specs.Opening.{IsNewLink, IsNewPass}
 use Rattle.step_stamp.specs.Marks.{marks_of}
-use Rattle.step_stamp.specs.Seats.{actor_of, knows_of}
+use Rattle.step_stamp.specs.Seats.{seat_actor, knows_of}
 use Rattle.step_stamp.specs.Views.{shelf_of, known_of, first_view, new_pass}
 use Rattle.step_stamp.specs.declared.seats.LinkSeat.{LinkSeat}
 use Rattle.step_stamp.specs.declared.seats.PassSeat.{PassSeat}
@@ -121,5 +121,5 @@ unfolding shelf_of
 nothing-known l = refl
 
 -- its seat knows nothing
-pub new-knows : (table : TableId) (n : ℕ) (seat : PassSeat) → IsNewPass table n seat → (l : ℕ) → marks_of (actor_of seat) (knows_of seat l) ≡ []
-new-knows table n seat new l = ap (λ (v : View). marks_of (actor_of seat) (known_of l v)) new.view_is ∙ ap (marks_of (actor_of seat)) (nothing-known l)
+pub new-knows : (table : TableId) (n : ℕ) (seat : PassSeat) → IsNewPass table n seat → (l : ℕ) → marks_of (seat_actor seat) (knows_of seat l) ≡ []
+new-knows table n seat new l = ap (λ (v : View). marks_of (seat_actor seat) (known_of l v)) new.view_is ∙ ap (marks_of (seat_actor seat)) (nothing-known l)

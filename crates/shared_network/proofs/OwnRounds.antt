@@ -25,7 +25,7 @@ use Rattle.step_stamp.specs.Views.{known_of}
 use Rattle.step_stamp.specs.declared.marks.Mark.{Mark}
 use Rattle.step_stamp.proofs.ListFacts.{each_has, has_left, has_right, has_each, has_kept, has_passed}
 use Rattle.tick_plane.specs.Planes.{flight_in}
-use Rattle.link_ledger.specs.Journals.{mark_in, done_in, done_of, marks_in, history_in, journal_of, told_after}
+use Rattle.link_ledger.specs.Journals.{mark_in, done_in, history_entry_of, marks_in, history_in, journal_of, told_after}
 use Rattle.link_ledger.specs.Own.{own_at, own_entry}
 use Rattle.link_ledger.specs.Owners.{NextBelow}
 use Rattle.link_ledger.specs.Tokens.{Token, IsLink}
@@ -65,7 +65,7 @@ rising-length low top (m ∷ ms) rises most le = let rest = rising-length m.stam
 marks-told : (link : Link) (ms : List Mark) (past : List Done) → marks_in (told_after link past ms) ≡ ms
 unfolding told_after
 marks-told link [] past = refl
-marks-told link (m ∷ ms) past = ap (λ rest. m ∷ rest) (marks-told link ms (done_of m (reply_to link past m.ask) ∷ past))
+marks-told link (m ∷ ms) past = ap (λ rest. m ∷ rest) (marks-told link ms (history_entry_of m (reply_to link past m.ask) ∷ past))
 
 clock-one : (ask : Ask) (t : ℕ) → clock_with ask t ≤ suc t
 clock-one (Reserve a b c d e f g) t = omega arith

@@ -33,7 +33,7 @@ use Rattle.relaxation.specs.Allotment.{allotted}
 use Rattle.relaxation.specs.Laws.{HaveBounds, AreWithinReach}
 use Rattle.relaxation.proofs.LawFacts.{allotted-fit}
 use Rattle.setup_protocol.specs.Requests.{kind_of, jitter_of}
-use Rattle.setup_protocol.specs.Setup.{Progress, Reserving, is_offer, level_in, reach_in, offers_in, behind_offers, reach_after, undoing, relaxing, asked, asked_of, reserve_of, relax_of, bound_if, bound_given, link_in, next_ask, progress_of, is_expected, answers_reserve}
+use Rattle.setup_protocol.specs.Setup.{Progress, Reserving, is_offer, level_in, reach_in, offers_in, behind_offers, reach_after, undoing, relaxing, asked, asked_of, reserve_of, relax_of, bound_if, bound_given, hop_link, next_ask, progress_of, is_expected, answers_reserve}
 use Rattle.setup_protocol.specs.State.{with_offers, after_reserve, advance}
 use Rattle.setup_protocol.specs.declared.request.Request.{Request}
 use Rattle.setup_protocol.specs.declared.verdict.Deny.{Deny as Denial}
@@ -193,7 +193,7 @@ module _ (links : List Link) (request : Request) (own : List OwnEntry) (replies 
   way-free w = (way-says w (length (offers_in replies)) w.here.hop w.here.stands).tail (omega arith)
 
   abbrev offer_of : Level → Level → Reservation
-  offer_of level reach = tentative request.chan request.contract (kind_of request.control) (nat_eq (length (offers_in replies)) 0) (option_map link_in (slice_get request.route (suc (length (offers_in replies))))) (reach_after 0 request.route replies) level reach
+  offer_of level reach = tentative request.chan request.contract (kind_of request.control) (nat_eq (length (offers_in replies)) 0) (option_map hop_link (slice_get request.route (suc (length (offers_in replies))))) (reach_after 0 request.route replies) level reach
 
   -- what the hop holds after its reply
   way-held : (w : Way) (reply : Reply) → e.reply ≡ reply → hold_at request.chan w.here.hop (own ++ e ∷ []) ≡ reserved Free offer_of reply

@@ -15,13 +15,13 @@ use Rattle.link_steps.specs.declared.asks.Ask.{Ask}
 use Rattle.link_steps.specs.declared.replies.Reply.{Reply}
 use Rattle.link_steps.proofs.ListFacts.{Each-if, Each-append, Each-map}
 use Rattle.step_stamp.specs.Lists.{Has}
-use Rattle.step_stamp.specs.Marks.{Rises}
+use Rattle.step_stamp.specs.Marks.{StampsRise}
 use Rattle.step_stamp.specs.Views.{known_of, saw}
 use Rattle.step_stamp.specs.declared.marks.Mark.{Mark}
 use Rattle.step_stamp.proofs.MarkFacts.{rises-append}
 use Rattle.link_ledger.specs.Journals.{history_in, journal_of, entries_of}
 use Rattle.link_ledger.specs.Order.{AreInOrder}
-use Rattle.link_ledger.specs.Own.{IsExact, IsPlaced, own_mark, own_entry, own_at}
+use Rattle.link_ledger.specs.Own.{IsExact, IsAtPlace, own_mark, own_entry, own_at}
 use Rattle.link_ledger.specs.Tokens.{Token, IsLink, Steps}
 use Rattle.link_ledger.specs.declared.entries.Entry.{Entry}
 use Rattle.link_ledger.specs.declared.entries.OwnEntry.{OwnEntry}
@@ -31,7 +31,7 @@ use Rattle.link_ledger.specs.Owners.{IsOwner}
 use Rattle.channel_laws.specs.Laws.{held_after}
 use Rattle.shared_network.specs.Holds.{hold_of, IsHeld}
 use Rattle.shared_network.specs.Added.{Adds}
-use Rattle.shared_network.specs.Ready.{KnowsLink, MayStep, GoesOn}
+use Rattle.shared_network.specs.Ready.{KnowsLink, MayStep, PassGoesOn}
 use Rattle.shared_network.proofs.HoldSteps.{hold-after}
 use Rattle.shared_network.proofs.LinkNumbers.{same-link}
 
@@ -52,10 +52,10 @@ module _ (table : TableId) (owners : List ActorNo) (links : List Link) (l : ℕ)
   exact : IsExact a pass'.view (pass.own ++ e ∷ [])
   exact = exact-after steps.link l a ask pass.view pass'.view steps.entries pass.own e has_actor may.exact steps.acted
 
-  rises : Rises (map (own_mark a) (pass.own ++ e ∷ []))
+  rises : StampsRise (map (own_mark a) (pass.own ++ e ∷ []))
   rises =
       let above = steps.acted.above in
-      subst Rises (sym (map-append (own_mark a) pass.own (e ∷ [])))
+      subst StampsRise (sym (map-append (own_mark a) pass.own (e ∷ [])))
       (rises-append 0 pass.view.seen (map (own_mark a) pass.own) (own_mark a e) may.rises (Each-map (λ (m : Mark). m.stamp ≤ pass.view.seen) (own_mark a) pass.own may.most) (omega arith) above)
 
   most : Each (λ (o : OwnEntry). o.stamp ≤ pass'.view.seen) (pass.own ++ e ∷ [])
@@ -102,7 +102,7 @@ module _ (table : TableId) (owners : List ActorNo) (links : List Link) (l : ℕ)
     acts = steps.acted.actors ∙ may.acts ∙ ap (λ (x : ActorNo). actor_number x ∷ []) (sym actor);
     exact = subst (λ (x : ActorNo × List OwnEntry). IsExact x.0 pass'.view x.1) (λ i. (sym actor i, sym steps.own i)) exact;
     linked = subst (Each (λ (o : OwnEntry). link_number o.link < length links)) (sym steps.own) linked;
-    rises = subst (λ (x : ActorNo × List OwnEntry). Rises (map (own_mark x.0) x.1)) (λ i. (sym actor i, sym steps.own i)) rises;
+    rises = subst (λ (x : ActorNo × List OwnEntry). StampsRise (map (own_mark x.0) x.1)) (λ i. (sym actor i, sym steps.own i)) rises;
     most = subst (Each (λ (o : OwnEntry). o.stamp ≤ pass'.view.seen)) (sym steps.own) most;
     knows = λ k link is. ⊎_elim
         (λ (same : k ≡ l). subst (λ j. KnowsLink owners (length links) link j pass') (sym same) (knows-here link (subst (λ j. IsLink links j link) same is)))
@@ -110,7 +110,7 @@ module _ (table : TableId) (owners : List ActorNo) (links : List Link) (l : ℕ)
         (cases_eq k l);
   }
 
-  pub goes-on : GoesOn table owners links pass pass'
+  pub goes-on : PassGoesOn table owners links pass pass'
   goes-on = record { may_step = may-after; among = steps.acted.among }
 
 -- as many stamps are drawn as there are entries
@@ -118,16 +118,16 @@ pub drawn-own : (table : TableId) (owners : List ActorNo) (links : List Link) (p
 drawn-own table owners links pass may = ap length may.exact.drawn ∙ length-map pass.own _
 
 -- a stamp that is seen changes nothing else
-pub seen-goes : (table : TableId) (owners : List ActorNo) (links : List Link) (top : ℕ) (pass pass' : Token) → pass.view.seen ≤ top → pass' ≡ record pass { view = saw top pass.view } → MayStep table owners links pass → GoesOn table owners links pass pass'
+pub seen-goes : (table : TableId) (owners : List ActorNo) (links : List Link) (top : ℕ) (pass pass' : Token) → pass.view.seen ≤ top → pass' ≡ record pass { view = saw top pass.view } → MayStep table owners links pass → PassGoesOn table owners links pass pass'
 seen-goes table owners links top pass pass' least is may =
-    subst (GoesOn table owners links pass) (sym is)
+    subst (PassGoesOn table owners links pass) (sym is)
     (record {
       may_step = record {
         has_seat = may.has_seat;
         table_is = may.table_is;
         unspent = may.unspent;
         acts = may.acts;
-        exact = record { drawn = may.exact.drawn; known = may.exact.known; placed = Each-if (IsPlaced pass.actor pass.view) (IsPlaced pass.actor (saw top pass.view)) pass.own (λ e is. record { least = is.least; here = is.here }) may.exact.placed };
+        exact = record { drawn = may.exact.drawn; known = may.exact.known; placed = Each-if (IsAtPlace pass.actor pass.view) (IsAtPlace pass.actor (saw top pass.view)) pass.own (λ e is. record { least = is.least; here = is.here }) may.exact.placed };
         linked = may.linked;
         rises = may.rises;
         most = Each-if (λ (o : OwnEntry). o.stamp ≤ pass.view.seen) (λ (o : OwnEntry). o.stamp ≤ top) pass.own (λ o low. omega (arith, low, least)) may.most;

@@ -23,7 +23,7 @@ use Rattle.link_steps.specs.declared.replies.Reply.{Reply}
 use Rattle.link_steps.specs.declared.replies.Reply.TheVariants as Is
 use Rattle.setup_protocol.specs.Releases.{Releases}
 use Rattle.setup_protocol.specs.Setup.{asked_of}
-use Rattle.setup_protocol.specs.Teardown.{is_closing, count_in, first_count, next_release}
+use Rattle.setup_protocol.specs.Teardown.{is_closing, told_count, first_count, next_release}
 use Rattle.setup_protocol.specs.declared.request.Request.{Request}
 use Rattle.setup_protocol.specs.declared.teardown.Teardown.{Teardown}
 use Rattle.channel_laws.specs.Reservations.{held_by, IsReleased}
@@ -36,7 +36,7 @@ use Rattle.link_ledger.specs.declared.entries.OwnEntry.{OwnEntry}
 use Rattle.shared_network.specs.Added.{IsSamePass}
 use Rattle.shared_network.specs.Calls.{Follows, IsHopOf, IsCommitted, IsEstablished, TearsDown, reply_in, hold_at}
 use Rattle.shared_network.specs.Holds.{hold_of, IsHeld}
-use Rattle.shared_network.specs.Ready.{MayStep, GoesOn}
+use Rattle.shared_network.specs.Ready.{MayStep, PassGoesOn}
 use Rattle.shared_network.specs.Sight.{FitsAt}
 use Rattle.shared_network.proofs.CallFacts.{follows-more}
 use Rattle.shared_network.proofs.HoldSteps.{AnswersOf, answers}
@@ -53,7 +53,7 @@ pub record TearingDown (table : TableId) (owners : List ActorNo) (links : List L
   pub route_is : teardown.route ≡ request.route
   pub releases : Releases teardown (map reply_in entries)
   pub holds : (i : ℕ) (hop : Hop) → slice_get request.route i ≡ Some hop → length entries ≤ i → IsCommitted (nat_eq i 0) (hold_at request.chan hop pass'.own)
-  pub goes : GoesOn table owners links pass pass'
+  pub goes : PassGoesOn table owners links pass pass'
   pub same : IsSamePass pass pass'
   pub count_is : count ≡ first_count (map reply_in entries)
   pub few : length entries ≤ length request.route
@@ -80,7 +80,7 @@ first-named : (replies : List Reply) → nat_eq (length replies) 0 ≡ names_fir
 first-named [] = refl
 first-named (reply ∷ replies) = ne_eqb (length (reply ∷ replies)) 0 (λ is. omega (arith, is))
 
-first-more : (replies : List Reply) (reply : Reply) → Some (unwrap_or (first_count replies) (count_in reply)) ≡ first_count (replies ++ reply ∷ [])
+first-more : (replies : List Reply) (reply : Reply) → Some (unwrap_or (first_count replies) (told_count reply)) ≡ first_count (replies ++ reply ∷ [])
 first-more [] reply = refl
 first-more (r ∷ replies) reply = refl
 
@@ -135,7 +135,7 @@ module _ (table : TableId) (owners : List ActorNo) (links : List Link) (request 
   within : length so.entries < length request.route
   within = (let inside = slice_get_within request.route (length replies) hop-asked.hop hop-asked.stands in let same = many in omega (arith, inside, same))
 
-  module _ (pass' : Token) (reply : Reply) (splits : Each SplitFits links) (owner : IsOwner owners pass0.actor request.chan) (steps : Steps links (link_number to) ask pass pass' reply) (goes : GoesOn table owners links pass pass') (same : IsSamePass pass pass') where
+  module _ (pass' : Token) (reply : Reply) (splits : Each SplitFits links) (owner : IsOwner owners pass0.actor request.chan) (steps : Steps links (link_number to) ask pass pass' reply) (goes : PassGoesOn table owners links pass pass') (same : IsSamePass pass pass') where
     abbrev e : OwnEntry
     e = steps.entry
 
@@ -170,7 +170,7 @@ module _ (table : TableId) (owners : List ActorNo) (links : List Link) (request 
           let same = many in
           omega (arith, long, before, more, was, one, inside, same)
 
-      pub tearing-next : (count' : Option ℕ) → count' ≡ Some (unwrap_or count (count_in reply)) → TearingDown table owners links request pass0 pass' teardown' count'
+      pub tearing-next : (count' : Option ℕ) → count' ≡ Some (unwrap_or count (told_count reply)) → TearingDown table owners links request pass0 pass' teardown' count'
       tearing-next count' count_is =
           let told : map reply_in (so.entries ++ e ∷ []) ≡ replies ++ reply ∷ [] = map-append reply_in so.entries (e ∷ []) ∙ ap (λ r. replies ++ r ∷ []) steps.reply_is in
           let more = length_push so.entries e in
@@ -189,7 +189,7 @@ module _ (table : TableId) (owners : List ActorNo) (links : List Link) (request 
                 subst (IsCommitted (nat_eq i 0)) (sym (ap (hold_at request.chan hop) steps.own ∙ hold-elsewhere request.chan hop pass.own e other)) (so.holds i hop found (omega (arith, from, more))));
             goes = record { may_step = goes.may_step; among = goes.among ∙ so.goes.among };
             same = record { actor = same.actor ∙ so.same.actor; table = same.table ∙ so.same.table; has_seat = same.has_seat };
-            count_is = count_is ∙ ap (λ c. Some (unwrap_or c (count_in reply))) so.count_is ∙ first-more replies reply ∙ ap first_count (sym told);
+            count_is = count_is ∙ ap (λ c. Some (unwrap_or c (told_count reply))) so.count_is ∙ first-more replies reply ∙ ap first_count (sym told);
             few = omega (arith, more, inside);
           }
 

@@ -17,10 +17,10 @@ use Rattle.link_steps.proofs.ListFacts.{Each-from, Each-if, Each-map}
 use Rattle.setup_protocol.specs.declared.request.Request.{Request}
 use Rattle.step_stamp.specs.Lists.{up_to}
 use Rattle.step_stamp.specs.Opening.{AreLinks, ArePasses}
-use Rattle.step_stamp.specs.Seats.{actor_of}
+use Rattle.step_stamp.specs.Seats.{seat_actor}
 use Rattle.step_stamp.specs.declared.seats.LinkSeat.{LinkSeat}
 use Rattle.step_stamp.specs.declared.seats.PassSeat.{PassSeat}
-use Rattle.tick_plane.specs.Kept.{Kept}
+use Rattle.tick_plane.specs.Kept.{KeptPlane}
 use Rattle.tick_plane.specs.Planes.{plane_start, plane_of}
 use Rattle.link_ledger.specs.Owners.{IsOwner}
 use Rattle.link_ledger.specs.Tokens.{Token, IsLink}
@@ -53,32 +53,32 @@ unfolding up_to
 one-all table owners links pass may among actor = record { some = omega arith; actors = ap (λ n. n ∷ []) actor; among = (among, tt); may_step = (may, tt) }
 
 -- a plane that stands at the start of its first round has asked nothing
-pub planes-first : (links : ℕ) (plane : Kept) (own : List OwnEntry) → own ≡ [] → plane.at ≡ plane_start → IsPlanes links plane own
+pub planes-first : (links : ℕ) (plane : KeptPlane) (own : List OwnEntry) → own ≡ [] → plane.at ≡ plane_start → IsPlanes links plane own
 unfolding Follows plane_of
 planes-first links plane own none start = subst (IsPlanes links plane) (sym none) (record { follows = tt; stands = start })
 
 -- ---- an opening
 
 pub seats-are : (table : TableId) (n links : ℕ) (seats : List LinkSeat) (passes : List PassSeat) → AreLinks table n links seats → ArePasses table n n passes → AreLinks table (length passes) links seats
-seats-are table n links seats passes are of = subst (λ k. AreLinks table k links seats) (sym (numbered-length actor_of passes n of.numbers)) are
+seats-are table n links seats passes are of = subst (λ k. AreLinks table k links seats) (sym (numbered-length seat_actor passes n of.numbers)) are
 
 pub passes-are : (table : TableId) (n : ℕ) (passes : List PassSeat) → ArePasses table n n passes → ArePasses table (length passes) (length passes) passes
-passes-are table n passes of = subst (λ k. ArePasses table k k passes) (sym (numbered-length actor_of passes n of.numbers)) of
+passes-are table n passes of = subst (λ k. ArePasses table k k passes) (sym (numbered-length seat_actor passes n of.numbers)) of
 
 module _ (table : TableId) (owners : List ActorNo) (links : List Link) (n : ℕ) (seats : List PassSeat) (of : ArePasses table n n seats) (passes rest : List Token) (pass : Token) (split : pass ∷ rest ≡ passes) where
   pub first-new : Each (IsNew table owners links (length seats)) passes → IsNew table owners links n pass
-  first-new each = subst (λ k. IsNew table owners links k pass) (numbered-length actor_of seats n of.numbers) (subst (Each (IsNew table owners links (length seats))) (sym split) each).0
+  first-new each = subst (λ k. IsNew table owners links k pass) (numbered-length seat_actor seats n of.numbers) (subst (Each (IsNew table owners links (length seats))) (sym split) each).0
 
   pub first-actor : map (λ (p : Token). actor_number p.actor) passes ≡ up_to (length seats) → 0 < n → actor_number pass.actor ≡ 0
-  first-actor are some = numbered-at (λ (p : Token). actor_number p.actor) passes n 0 pass (are ∙ ap up_to (numbered-length actor_of seats n of.numbers)) some (ap (λ ps. slice_get ps 0) (sym split))
+  first-actor are some = numbered-at (λ (p : Token). actor_number p.actor) passes n 0 pass (are ∙ ap up_to (numbered-length seat_actor seats n of.numbers)) some (ap (λ ps. slice_get ps 0) (sym split))
 
 -- the second pass of an opening, and its actor
 module _ (table : TableId) (owners : List ActorNo) (links : List Link) (n : ℕ) (seats : List PassSeat) (of : ArePasses table n n seats) (passes rest : List Token) (first second : Token) (split : first ∷ second ∷ rest ≡ passes) where
   pub second-new : Each (IsNew table owners links (length seats)) passes → IsNew table owners links n second
-  second-new each = subst (λ k. IsNew table owners links k second) (numbered-length actor_of seats n of.numbers) (subst (Each (IsNew table owners links (length seats))) (sym split) each).1.0
+  second-new each = subst (λ k. IsNew table owners links k second) (numbered-length seat_actor seats n of.numbers) (subst (Each (IsNew table owners links (length seats))) (sym split) each).1.0
 
   pub second-actor : map (λ (p : Token). actor_number p.actor) passes ≡ up_to (length seats) → 1 < n → actor_number second.actor ≡ 1
-  second-actor are some = numbered-at (λ (p : Token). actor_number p.actor) passes n 1 second (are ∙ ap up_to (numbered-length actor_of seats n of.numbers)) some (ap (λ ps. slice_get ps 1) (sym split))
+  second-actor are some = numbered-at (λ (p : Token). actor_number p.actor) passes n 1 second (are ∙ ap up_to (numbered-length seat_actor seats n of.numbers)) some (ap (λ ps. slice_get ps 1) (sym split))
 
 -- a new pass may set up the channel of its number over the link of its number
 pub new-job : (table : TableId) (owners : List ActorNo) (links : List Link) (n k : ℕ) (pass : Token) (request : Request) (shape : LinkShape) → IsNew table owners links n pass → slice_get (map (λ (a : ActorNo). actor_number a) owners) k ≡ Some k → actor_number pass.actor ≡ k → channel_number request.chan ≡ k → IsLink links k (whole shape) → IsWorkedLink shape → Each (IsOverLink k) request.route → IsJob table owners links pass request

@@ -1,5 +1,5 @@
 -- What a setup and a teardown add to the own entries of a pass, and when they may be called. The entries are exactly the asks of
--- the protocol, each behind the replies of those before it. A setup's verdict is that of its replies; a teardown answers the
+-- the protocol, each after the replies of those before it. A setup's verdict is that of its replies; a teardown answers the
 -- count that the first hop has told.
 use Rattle.std.specs.Prelude.{◌≡◌, ◌≢◌, ℕ, nat_eq, Bool, Option, Some, List, [], ◌∷◌, ◌++◌, length, map}
 use Rattle.std.specs.List.{slice_get}
@@ -37,7 +37,7 @@ HasNone chan own = Each (λ (e : OwnEntry). IsOff (channel_number chan) e.ask) o
 abbrev pub reply_in : OwnEntry → Reply
 reply_in e = e.reply
 
--- these entries are what a protocol asks behind these replies, one after the other
+-- these entries are what a protocol asks after these replies, one after the other
 unfoldable pub Follows : (List Reply → Option (LinkNo × Ask)) → List Reply → List OwnEntry → Type 0
 Follows next replies [] = Unit {0}
 Follows next replies (e ∷ entries) = (next replies ≡ Some (e.link, e.ask)) × Follows next (replies ++ e.reply ∷ []) entries

@@ -10,7 +10,7 @@ use Rattle.link_steps.specs.Journals.{IsLegalJournal}
 use Rattle.link_steps.specs.Lists.{Each}
 use Rattle.link_steps.specs.Split.{Link}
 use Rattle.step_stamp.specs.Lists.{Has, up_to}
-use Rattle.step_stamp.specs.Marks.{Rises}
+use Rattle.step_stamp.specs.Marks.{StampsRise}
 use Rattle.link_ledger.specs.Journals.{marks_in, done_in}
 use Rattle.link_ledger.specs.Own.{own_entry, own_mark}
 use Rattle.link_ledger.specs.Tokens.{Token, IsLink}
@@ -43,21 +43,21 @@ pub record IsOfOne (passes : List Token) (l k : ℕ) (x : Entry) : Type 0 where
 pub record IsClosed (links : List Link) (passes : List Token) (journals : List Journal) : Type 0 where
   pub numbers : map number_of journals ≡ up_to (length links)
   pub legal : (l : ℕ) (link : Link) (journal : Journal) → IsLink links l link → slice_get journals l ≡ Some journal → IsLegalJournal link (map done_in journal.entries.items)
-  pub rises : Each (λ (journal : Journal). Rises (marks_in journal.entries.items)) journals
+  pub rises : Each (λ (journal : Journal). StampsRise (marks_in journal.entries.items)) journals
   pub apart : (k l : ℕ) (one other : Journal) (x y : Entry) → k ≢ l → slice_get journals k ≡ Some one → slice_get journals l ≡ Some other → Has x one.entries.items → Has y other.entries.items → x.stamp ≢ y.stamp
   pub stands : Each (λ (pass : Token). Each (StandsIn journals pass.actor) pass.own) passes
   pub of_one : (l k : ℕ) (journal : Journal) (x : Entry) → slice_get journals l ≡ Some journal → slice_get journal.entries.items k ≡ Some x → IsOfOne passes l k x
-  pub in_order : Each (λ (pass : Token). Rises (map (own_mark pass.actor) pass.own)) passes
+  pub in_order : Each (λ (pass : Token). StampsRise (map (own_mark pass.actor) pass.own)) passes
 
 -- what a pass keeps when it gives its seat up: its actor and its own entries
-pub record Kept : Type 0 where
+pub record KeptPass : Type 0 where
   pub actor : ActorNo
   pub own : List OwnEntry
 
-abbrev pub kept_of : Token → Kept
-kept_of pass = record { actor = pass.actor; own = pass.own }
+abbrev pub kept_pass : Token → KeptPass
+kept_pass pass = record { actor = pass.actor; own = pass.own }
 
 -- the passes have given their seats up, and keep the rest
 pub record HaveGivenUp (passes closed : List Token) : Type 0 where
-  pub kept : map kept_of closed ≡ map kept_of passes
+  pub kept : map kept_pass closed ≡ map kept_pass passes
   pub gone : Each (λ (pass : Token). pass.has_seat ≡ false) closed

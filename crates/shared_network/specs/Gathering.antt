@@ -10,7 +10,7 @@ use Rattle.link_steps.specs.Journals.{IsLegalJournal}
 use Rattle.link_steps.specs.Lists.{Each}
 use Rattle.link_steps.specs.Split.{Link}
 use Rattle.step_stamp.specs.Lists.{Has, up_to}
-use Rattle.step_stamp.specs.Marks.{Rises, NoTwice, drawn_for}
+use Rattle.step_stamp.specs.Marks.{StampsRise, NoTwice, drawn_for}
 use Rattle.step_stamp.specs.Views.{known_of}
 use Rattle.step_stamp.specs.declared.marks.Drawn.{Drawn}
 use Rattle.step_stamp.specs.declared.marks.Mark.{Mark}
@@ -21,13 +21,13 @@ use Rattle.link_ledger.specs.declared.entries.Journal.{Journal}
 use Rattle.shared_network.specs.Closing.{number_of}
 use Rattle.shared_network.specs.Ready.{MayStep}
 
-abbrev pub actor_in : Token → ℕ
-actor_in pass = actor_number pass.actor
+abbrev pub token_actor : Token → ℕ
+token_actor pass = actor_number pass.actor
 
 -- all passes of an opening, in the order of their actors, each of which may step
 pub record AreAll (table : TableId) (owners : List ActorNo) (links : List Link) (passes : List Token) : Type 0 where
   pub some : 1 ≤ length passes
-  pub actors : map actor_in passes ≡ up_to (length passes)
+  pub actors : map token_actor passes ≡ up_to (length passes)
   pub among : Each (λ (pass : Token). pass.view.among ≡ length passes) passes
   pub may_step : Each (MayStep table owners links) passes
 
@@ -40,18 +40,18 @@ all_drawn (pass ∷ passes) = pass.view.drawn ++ all_drawn passes
 abbrev pub IsPartOf : View → Token → Type 0
 IsPartOf v pass = (l : ℕ) → IsPrefix (known_of l pass.view) (known_of l v)
 
--- the seats of these passes were joined into this view, for an opening of so many actors
+-- the seats of these passes were joined into this view, for an opening of `actors` actors
 pub record AreGathered (actors : ℕ) (passes : List Token) (v : View) : Type 0 where
   pub drawn : v.drawn ≡ all_drawn passes
   pub once : NoTwice v.drawn
-  pub actors_are : v.actors ≡ map actor_in passes
+  pub actors_are : v.actors ≡ map token_actor passes
   pub among : v.among ≡ actors
   pub parts : Each (IsPartOf v) passes
 
 -- a link's seat was joined into this view: what it knew begins the journal, and all marks there were drawn
 pub record IsSettled (links : List Link) (v : View) (journal : Journal) : Type 0 where
   pub legal : (link : Link) → IsLink links (number_of journal) link → IsLegalJournal link (map done_in journal.entries.items)
-  pub rises : Rises (marks_in journal.entries.items)
+  pub rises : StampsRise (marks_in journal.entries.items)
   pub begins : IsPrefix (known_of (number_of journal) v) (marks_in journal.entries.items)
   pub drawn : (m : Mark) → Has m (marks_in journal.entries.items) → Has (drawn_for (number_of journal) m) v.drawn
 

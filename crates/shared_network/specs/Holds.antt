@@ -19,26 +19,26 @@ pub data Hold : Type 0 where
   Untold : Hold
 
 -- after an offer with these terms
-abbrev pub offered : Hold → Reservation → Hold
-offered Free terms = Holds terms
-offered (Holds old) terms = Untold
-offered Untold terms = Untold
+abbrev pub hold_offered : Hold → Reservation → Hold
+hold_offered Free terms = Holds terms
+hold_offered (Holds old) terms = Untold
+hold_offered Untold terms = Untold
 
 -- after the reply to a reserve, whose offer at a level and reach has these terms
 abbrev pub reserved : Hold → (Level → Level → Reservation) → Reply → Hold
-reserved hold terms (Offer level reach) = offered hold (terms level reach)
+reserved hold terms (Offer level reach) = hold_offered hold (terms level reach)
 reserved hold terms (Refused refusal) = hold
 reserved hold terms _ = Untold
 
-abbrev pub settled : Hold → (Reservation → Reservation) → Hold
-settled Free change = Free
-settled (Holds terms) change = Holds (change terms)
-settled Untold change = Untold
+abbrev pub hold_settled : Hold → (Reservation → Reservation) → Hold
+hold_settled Free change = Free
+hold_settled (Holds terms) change = Holds (change terms)
+hold_settled Untold change = Untold
 
 -- after the reply to a relax, which changes the terms so
-abbrev pub relaxed : Hold → (Reservation → Reservation) → Reply → Hold
-relaxed hold change (Relaxed clock) = settled hold change
-relaxed hold change _ = Untold
+abbrev pub hold_relaxed : Hold → (Reservation → Reservation) → Reply → Hold
+hold_relaxed hold change (Relaxed clock) = hold_settled hold change
+hold_relaxed hold change _ = Untold
 
 abbrev pub freed : Hold → Hold
 freed Free = Free
@@ -53,7 +53,7 @@ denied hold _ = Untold
 -- what one entry makes of it
 abbrev pub hold_with : ℕ → Hold → Ask → Reply → Hold
 hold_with c hold (Reserve chan contract kind delay up_reach first next) reply = if channel_number chan == c then reserved hold (λ level reach. tentative chan contract kind first next up_reach level reach) reply else hold
-hold_with c hold (Relax chan level up_bound) reply = if channel_number chan == c then relaxed hold (committed level up_bound) reply else hold
+hold_with c hold (Relax chan level up_bound) reply = if channel_number chan == c then hold_relaxed hold (committed level up_bound) reply else hold
 hold_with c hold (Deny chan) reply = if channel_number chan == c then denied hold reply else hold
 hold_with c hold (Submit chan count gap size) reply = hold
 hold_with c hold (Release chan upstream) reply = if channel_number chan == c then Untold else hold

@@ -11,7 +11,7 @@ use Rattle.channel_laws.specs.Laws.{held_after}
 use Rattle.link_steps.specs.Legal.{IsLegal}
 use Rattle.link_steps.specs.Lists.{Each}
 use Rattle.link_steps.specs.Split.{Link}
-use Rattle.step_stamp.specs.Marks.{Rises}
+use Rattle.step_stamp.specs.Marks.{StampsRise}
 use Rattle.step_stamp.specs.Views.{known_of}
 use Rattle.link_ledger.specs.Journals.{history_in, journal_of}
 use Rattle.link_ledger.specs.Order.{AreInOrder}
@@ -35,16 +35,16 @@ pub record MayStep (table : TableId) (owners : List ActorNo) (links : List Link)
   pub acts : pass.view.actors ≡ actor_number pass.actor ∷ []
   pub exact : IsExact pass.actor pass.view pass.own
   pub linked : Each (λ (e : OwnEntry). link_number e.link < length links) pass.own
-  pub rises : Rises (map (own_mark pass.actor) pass.own)
+  pub rises : StampsRise (map (own_mark pass.actor) pass.own)
   pub most : Each (λ (e : OwnEntry). e.stamp ≤ pass.view.seen) pass.own
   pub knows : (l : ℕ) (link : Link) → IsLink links l link → KnowsLink owners (length links) link l pass
 
 -- it may go on after a call, and belongs to an opening of as many actors
-pub record GoesOn (table : TableId) (owners : List ActorNo) (links : List Link) (pass pass' : Token) : Type 0 where
+pub record PassGoesOn (table : TableId) (owners : List ActorNo) (links : List Link) (pass pass' : Token) : Type 0 where
   pub may_step : MayStep table owners links pass'
   pub among : pass'.view.among ≡ pass.view.among
 
--- a pass of an opening of so many actors that has made no step
+-- a pass of an opening of `actors` actors that has made no step
 pub record IsNew (table : TableId) (owners : List ActorNo) (links : List Link) (actors : ℕ) (pass : Token) : Type 0 where
   pub may_step : MayStep table owners links pass
   pub own : pass.own ≡ []

@@ -4,11 +4,11 @@ ghost use Rattle.net_units.specs.Numbers.{channel_number};
 ghost use Rattle.link_steps.specs.Lists.{Each};
 ghost use Rattle.setup_protocol.specs.Laws.{is_accepted};
 ghost use Rattle.setup_protocol.specs.State.{outcome_of};
-ghost use Rattle.setup_protocol.specs.Teardown.{count_in};
+ghost use Rattle.setup_protocol.specs.Teardown.{told_count};
 ghost use Rattle.link_ledger.specs.Owners.{IsOwner};
 ghost use Rattle.shared_network.specs.Added.{IsSamePass, IsLost};
 ghost use Rattle.shared_network.specs.Calls.{HasNone, IsHopOf, IsEstablished, OthersStay, SetsUp, TearsDown};
-ghost use Rattle.shared_network.specs.Ready.{MayStep, GoesOn};
+ghost use Rattle.shared_network.specs.Ready.{MayStep, PassGoesOn};
 
 use crate::network::Network;
 use link_ledger::{Home, Pass, StepFault};
@@ -41,7 +41,7 @@ impl<L: LinkStep + Send, H: Home> Network<L, H> {
         ensures established { IfOk result (λ verdict. is_accepted (outcome_of verdict) ≡ true → IsEstablished request.now pass.new.own) }
         ensures others { OnOk result (OthersStay request.now.chan pass.old.own pass.new.own) }
         ensures drew { OnOk result (length pass.new.view.drawn ≤ length pass.old.view.drawn + 32) }
-        ensures ready { OnOk result (GoesOn H.table H.owners H.links pass.old pass.new) }
+        ensures ready { OnOk result (PassGoesOn H.table H.owners H.links pass.old pass.new) }
         ensures lost { OnErr result (IsLost pass.new) }
         ensures same { IsSamePass pass.old pass.new }
     {
@@ -81,7 +81,7 @@ impl<L: LinkStep + Send, H: Home> Network<L, H> {
         ensures torn { IfOk result (λ count. TearsDown request.now pass.old pass.new count) }
         ensures others { OnOk result (OthersStay request.now.chan pass.old.own pass.new.own) }
         ensures drew { OnOk result (length pass.new.view.drawn ≤ length pass.old.view.drawn + 16) }
-        ensures ready { OnOk result (GoesOn H.table H.owners H.links pass.old pass.new) }
+        ensures ready { OnOk result (PassGoesOn H.table H.owners H.links pass.old pass.new) }
         ensures lost { OnErr result (IsLost pass.new) }
         ensures same { IsSamePass pass.old pass.new }
     {
@@ -105,7 +105,7 @@ impl<L: LinkStep + Send, H: Home> Network<L, H> {
 
 // The count of packets that a release was answered with.
 fn count_told(reply: &Reply) -> u64
-    ensures { result ≡ count_in reply.now }
+    ensures { result ≡ told_count reply.now }
 {
     match reply {
         Reply::Closing { count, .. } => *count,

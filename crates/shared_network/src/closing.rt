@@ -4,7 +4,7 @@ ghost use Rattle.std.specs.List.{list_all};
 ghost use Rattle.net_units.specs.Numbers.{link_number, actor_number};
 ghost use Rattle.link_steps.specs.Lists.{Each};
 ghost use Rattle.step_stamp.specs.Lists.{Has, up_to};
-ghost use Rattle.step_stamp.specs.Seats.{table_of, pass_table, pass_view};
+ghost use Rattle.step_stamp.specs.Seats.{stamps_table, pass_table, pass_view};
 ghost use Rattle.shared_network.specs.Closing.{IsClosed, HaveGivenUp};
 ghost use Rattle.shared_network.specs.Gathering.{AreAll, AreGathered, AreSettled};
 
@@ -135,7 +135,7 @@ fn gather<H: Home>(
     passes: Vec<Pass>,
     mut closed: Vec<Pass>,
 ) -> (PassSeat, Vec<Pass>)
-    requires table { table_of stamps.now ≡ H.table }
+    requires table { stamps_table stamps.now ≡ H.table }
     requires all { AreAll H.table H.owners H.links passes.items }
     requires empty { closed.items ≡ [] }
     requires room { length passes.items ≤ vec_capacity closed }
@@ -169,7 +169,7 @@ fn settle<L: LinkStep + Send, H: Home>(
     unlocked: Vec<Unlocked<L, H>>,
     mut journals: Vec<Journal>,
 ) -> Vec<Journal>
-    requires table { (table_of stamps.now ≡ H.table) × (pass_table seat ≡ H.table) }
+    requires table { (stamps_table stamps.now ≡ H.table) × (pass_table seat ≡ H.table) }
     requires acts { (a : ℕ) → a < (pass_view seat).among → Has a (pass_view seat).actors }
     requires numbers { map (λ u. u.held.number) unlocked.items ≡ up_to (length H.links) }
     requires empty { journals.items ≡ [] }

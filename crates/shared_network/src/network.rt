@@ -5,7 +5,7 @@ ghost use Rattle.net_units.specs.declared.numbers.ChanNo.{ChanNo};
 ghost use Rattle.link_steps.specs.Lists.{Each};
 ghost use Rattle.link_steps.specs.Split.{SplitFits};
 ghost use Rattle.step_stamp.specs.Lists.{up_to};
-ghost use Rattle.step_stamp.specs.Seats.{table_of, link_of};
+ghost use Rattle.step_stamp.specs.Seats.{stamps_table, seat_link};
 ghost use Rattle.step_stamp.specs.Opening.{AreLinks, ArePasses};
 ghost use Rattle.step_stamp.specs.Views.{saw};
 ghost use Rattle.setup_protocol.specs.declared.request.Request.{Request};
@@ -14,7 +14,7 @@ ghost use Rattle.shared_network.specs.Calls.{HasNone, IsEstablished};
 ghost use Rattle.link_ledger.specs.Owners.{OwnsAsk, NextBelow};
 ghost use Rattle.link_ledger.specs.Tokens.{Steps};
 ghost use Rattle.shared_network.specs.Added.{Adds, IsSamePass, IsLost};
-ghost use Rattle.shared_network.specs.Ready.{MayStep, GoesOn, IsNew};
+ghost use Rattle.shared_network.specs.Ready.{MayStep, PassGoesOn, IsNew};
 ghost use Rattle.shared_network.specs.Sight.{FitsAt, IsSend, IsUnusedLink};
 
 use link_ledger::{Home, LockedLink, Pass, StepFault};
@@ -36,14 +36,14 @@ pub struct Network<L: LinkStep, H: Home> {
 impl<L: LinkStep, H: Home> Model for Network<L, H> {
     ghost use Rattle.std.specs.Prelude.{map};
     ghost use Rattle.net_units.specs.Numbers.{link_number};
-    ghost use Rattle.step_stamp.specs.Seats.{table_of};
+    ghost use Rattle.step_stamp.specs.Seats.{stamps_table};
     ghost use Rattle.shared_network.specs.Sight.{Sight, IsNetwork};
 
     ghost Value = { Sight };
 
     ghost view = { λ n. record { links = H.links; owners = H.owners } };
 
-    ghost invariant = { λ n. IsNetwork H.table H.links (table_of n.stamps) (map (λ l. link_number l.link) n.links.items) };
+    ghost invariant = { λ n. IsNetwork H.table H.links (stamps_table n.stamps) (map (λ l. link_number l.link) n.links.items) };
 }
 
 impl<L: LinkStep + Send, H: Home> Network<L, H> {
@@ -58,7 +58,7 @@ impl<L: LinkStep + Send, H: Home> Network<L, H> {
         links: Vec<L>,
         owners: Vec<ActorNo>,
     ) -> Result<(Network<L, H>, Vec<Pass>), OutOfMemory>
-        requires table { table_of opened.0 ≡ H.table }
+        requires table { stamps_table opened.0 ≡ H.table }
         requires seats { AreLinks H.table (length opened.2.items) (length H.links) opened.1.items }
         requires passes { ArePasses H.table (length opened.2.items) (length opened.2.items) opened.2.items }
         requires most { length H.links ≤ 32 }
@@ -92,7 +92,7 @@ impl<L: LinkStep + Send, H: Home> Network<L, H> {
         requires next { NextBelow (length H.links) ask.now }
         ensures made { IfOk result (λ reply. Steps H.links (link_number link) ask.now pass.old pass.new reply) }
         ensures drew { OnOk result (length pass.new.view.drawn ≡ length pass.old.view.drawn + 1) }
-        ensures ready { OnOk result (GoesOn H.table H.owners H.links pass.old pass.new) }
+        ensures ready { OnOk result (PassGoesOn H.table H.owners H.links pass.old pass.new) }
         ensures lost { OnErr result (IsLost pass.new) }
         ensures kept { OnErr result (pass.new.own ≡ pass.old.own) }
         ensures same { IsSamePass pass.old pass.new }
@@ -126,7 +126,7 @@ impl<L: LinkStep + Send, H: Home> Network<L, H> {
         ensures established { OnOk result ((request : Request) → IsEstablished request pass.old.own → IsEstablished request pass.new.own) }
         ensures unopened { OnOk result ((chan : ChanNo) → IsOff (channel_number chan) ask.now → HasNone chan pass.old.own → HasNone chan pass.new.own) }
         ensures drew { OnOk result (length pass.new.view.drawn ≡ length pass.old.view.drawn + 1) }
-        ensures ready { OnOk result (GoesOn H.table H.owners H.links pass.old pass.new) }
+        ensures ready { OnOk result (PassGoesOn H.table H.owners H.links pass.old pass.new) }
         ensures lost { OnErr result (IsLost pass.new) }
         ensures kept { OnErr result (pass.new.own ≡ pass.old.own) }
         ensures same { IsSamePass pass.old pass.new }
@@ -140,7 +140,7 @@ impl<L: LinkStep + Send, H: Home> Network<L, H> {
         requires pass { (pass.old.has_seat ≡ true) × (pass.old.table ≡ H.table) }
         ensures least { pass.old.view.seen ≤ result }
         ensures saw { pass.new ≡ record pass.old { view = saw result pass.old.view } }
-        ensures ready { MayStep H.table H.owners H.links pass.old → GoesOn H.table H.owners H.links pass.old pass.new }
+        ensures ready { MayStep H.table H.owners H.links pass.old → PassGoesOn H.table H.owners H.links pass.old pass.new }
     {
         pass.seen(&self.stamps)
     }
@@ -153,7 +153,7 @@ fn lock_all<L: LinkStep + Send, H: Home>(
     seats: Vec<LinkSeat>,
     owners: &Vec<ActorNo>,
 ) -> Result<Vec<LockedLink<L, H>>, OutOfMemory>
-    requires numbers { map link_of seats.items ≡ up_to (length H.links) }
+    requires numbers { map seat_link seats.items ≡ up_to (length H.links) }
     requires unused { Each (IsUnusedLink H.table) seats.items }
     requires most { length H.links ≤ 32 }
     requires links { map L.link_of links.items ≡ H.links }

@@ -5,7 +5,7 @@ ghost use Rattle.setup_protocol.specs.declared.request.Request.{Request};
 ghost use Rattle.shared_network.specs.Added.{IsSamePass, IsLost};
 ghost use Rattle.shared_network.specs.Calls.{HasNone, IsEstablished};
 ghost use Rattle.shared_network.specs.Planes.{IsPlanes, MakesRound};
-ghost use Rattle.shared_network.specs.Ready.{MayStep, GoesOn};
+ghost use Rattle.shared_network.specs.Ready.{MayStep, PassGoesOn};
 
 use crate::network::Network;
 use link_ledger::{Home, Pass, StepFault};
@@ -42,7 +42,7 @@ impl<L: LinkStep + Send, H: Home> Network<L, H> {
         ensures established { OnOk result ((request : Request) → IsEstablished request pass.old.own → IsEstablished request pass.new.own) }
         ensures unopened { OnOk result ((chan : ChanNo) → HasNone chan pass.old.own → HasNone chan pass.new.own) }
         ensures drew { OnOk result (length pass.new.view.drawn ≡ length pass.old.view.drawn + 1) }
-        ensures ready { OnOk result (GoesOn H.table H.owners H.links pass.old pass.new) }
+        ensures ready { OnOk result (PassGoesOn H.table H.owners H.links pass.old pass.new) }
         ensures lost { OnErr result (IsLost pass.new) }
         ensures kept { OnErr result ((pass.new.own ≡ pass.old.own) × (plane.new ≡ plane.old)) }
         ensures same { IsSamePass pass.old pass.new }

@@ -3,13 +3,13 @@ ghost use Rattle.std.specs.Prelude.{◌≡◌, ◌<◌, ◌≤◌, [], ◌∷◌
 ghost use Rattle.net_units.specs.Numbers.{actor_number, channel_number, link_number};
 ghost use Rattle.link_steps.specs.Lists.{Each};
 ghost use Rattle.link_steps.specs.Split.{whole};
-ghost use Rattle.link_server.specs.State.{Stands};
+ghost use Rattle.link_server.specs.State.{LinkStands};
 ghost use Rattle.step_stamp.specs.Opening.{AreLinks, ArePasses};
-ghost use Rattle.step_stamp.specs.Seats.{table_of};
+ghost use Rattle.step_stamp.specs.Seats.{stamps_table};
 ghost use Rattle.link_ledger.specs.Owners.{IsOwner};
 ghost use Rattle.tick_plane.specs.Planes.{plane_start};
 ghost use Rattle.shared_network.specs.Calls.{IsHopOf};
-ghost use Rattle.shared_network.specs.Ready.{MayStep, GoesOn, IsNew};
+ghost use Rattle.shared_network.specs.Ready.{MayStep, PassGoesOn, IsNew};
 ghost use Rattle.shared_network.specs.Worked.{IsJob, IsOverLink, IsWorkedLink};
 
 use super::*;
@@ -73,7 +73,7 @@ fn two<T: Drop>(alloc: Global, first: T, second: T) -> Result<Vec<T>, Fail>
 // A link of rate 1 that has made no step.
 fn link(alloc: Global, number: u8) -> Result<LinkState, Fail>
     ensures worked { IfOk result (λ made. IsWorkedLink made.shape) }
-    ensures stands { IfOk result (λ made. Stands made []) }
+    ensures stands { IfOk result (λ made. LinkStands made []) }
 {
     let shape = LinkShape::new(link_no(number)?, 1, 4, 2, 100, bounds()?, Test::Whole, 0)?;
     Ok(LinkState::new(alloc, shape)?)
@@ -105,12 +105,12 @@ fn open_for_one<H: Home>(
     links: Vec<LinkState>,
     owners: Vec<ActorNo>,
 ) -> Result<(Network<LinkState, H>, Pass), Fail>
-    requires table { table_of opened.0 ≡ H.table }
+    requires table { stamps_table opened.0 ≡ H.table }
     requires seats { AreLinks H.table 1 (length H.links) opened.1.items }
     requires passes { ArePasses H.table 1 1 opened.2.items }
     requires most { length H.links ≤ 32 }
     requires links { map (λ link. whole link.shape) links.items ≡ H.links }
-    requires stand { Each (λ link. Stands link []) links.items }
+    requires stand { Each (λ link. LinkStands link []) links.items }
     requires owners { owners.items ≡ H.owners }
     ensures new { IfOk result (λ made. IsNew H.table H.owners H.links 1 made.1) }
     ensures actor { IfOk result (λ made. actor_number made.1.actor ≡ 0) }
@@ -163,7 +163,7 @@ fn calls<H: Home, W: Wait>(
     requires link { link_number link < length H.links }
     requires owned { IsOwner H.owners pass.old.actor request.now.chan }
     requires hops { Each (IsHopOf H.links) request.now.route }
-    ensures ready { IfOk result (λ _. GoesOn H.table H.owners H.links pass.old pass.new) }
+    ensures ready { IfOk result (λ _. PassGoesOn H.table H.owners H.links pass.old pass.new) }
     ensures same { IfOk result (λ _. pass.new.actor ≡ pass.old.actor) }
 {
     let verdict = network.setup(rt, pass, &NoGate, request)?;
@@ -196,12 +196,12 @@ fn played<H: Home, W: Wait>(
     owner: ActorNo,
     request: &Request,
 ) -> Result<(Told, Closed), Fail>
-    requires table { table_of opened.0 ≡ H.table }
+    requires table { stamps_table opened.0 ≡ H.table }
     requires seats { AreLinks H.table 1 1 opened.1.items }
     requires passes { ArePasses H.table 1 1 opened.2.items }
     requires links { H.links ≡ whole link.shape ∷ [] }
     requires worked { IsWorkedLink link.shape }
-    requires stands { Stands link [] }
+    requires stands { LinkStands link [] }
     requires owners { H.owners ≡ owner ∷ [] }
     requires owner { actor_number owner ≡ 0 }
     requires chan { channel_number request.now.chan ≡ 0 }
@@ -290,11 +290,11 @@ fn ticked<H: Home, W: Wait>(
     opened: (Stamps, Vec<LinkSeat>, Vec<PassSeat>),
     link: LinkState,
 ) -> Result<Reply, Fail>
-    requires table { table_of opened.0 ≡ H.table }
+    requires table { stamps_table opened.0 ≡ H.table }
     requires seats { AreLinks H.table 1 1 opened.1.items }
     requires passes { ArePasses H.table 1 1 opened.2.items }
     requires links { H.links ≡ whole link.shape ∷ [] }
-    requires stands { Stands link [] }
+    requires stands { LinkStands link [] }
     requires owners { H.owners ≡ [] }
 {
     let (network, pass) = open_for_one::<H>(alloc, opened, one(alloc, link)?, Vec::new(alloc))?;
@@ -399,12 +399,12 @@ fn raced<H: Home + Send + Sync, R: Threads + Wait + Sync>(
     owners: (ActorNo, ActorNo),
     requests: (Request, Request),
 ) -> Result<Vec<Option<Pass>>, Fail>
-    requires table { table_of opened.0 ≡ H.table }
+    requires table { stamps_table opened.0 ≡ H.table }
     requires seats { AreLinks H.table 2 2 opened.1.items }
     requires passes { ArePasses H.table 2 2 opened.2.items }
     requires links { H.links ≡ whole links.0.shape ∷ whole links.1.shape ∷ [] }
     requires worked { IsWorkedLink links.0.shape × IsWorkedLink links.1.shape }
-    requires stand { Stands links.0 [] × Stands links.1 [] }
+    requires stand { LinkStands links.0 [] × LinkStands links.1 [] }
     requires owners { H.owners ≡ owners.0 ∷ owners.1 ∷ [] }
     requires numbers { (actor_number owners.0 ≡ 0) × (actor_number owners.1 ≡ 1) }
     requires chans { (channel_number requests.0.chan ≡ 0) × (channel_number requests.1.chan ≡ 1) }

@@ -9,7 +9,7 @@ use Rattle.std.specs.declared.alloc.Global.{Global}
 use Rattle.std.specs.declared.collections.VecDeque.{VecDeque}
 use Rattle.std.specs.VecDeque.{deque_len, deque_capacity}
 use Rattle.static_priority.specs.Queues.{Queues, with_pushed}
-use Rattle.static_priority.specs.Room.{keys_of, HoldsEach, HasRoom}
+use Rattle.static_priority.specs.Room.{keys_of, HoldsEach, HasRoomFor}
 
 -- what these queues with this room are seen as
 abbrev pub seen_as : List (List ℕ) → ℕ → Queues
@@ -48,7 +48,7 @@ holds_more queues place room queue' within here before =
     (λ d. rw get_or-set_same here)
 
 -- a queue that has a spare place can take a key
-pub can_push : (queues : List (VecDeque ℕ Global)) (waiting room place : ℕ) (queue : VecDeque ℕ Global) → HasRoom queues waiting room
+pub can_push : (queues : List (VecDeque ℕ Global)) (waiting room place : ℕ) (queue : VecDeque ℕ Global) → HasRoomFor queues waiting room
     → place < length queues → queue ≡ get_or queues place queue → waiting + 1 ≤ room → deque_len queue < deque_capacity queue
 can_push queues waiting room place queue has within is spare =
     let there = keys_at queues place queue within is in
@@ -58,9 +58,9 @@ can_push queues waiting room place queue has within is spare =
     omega (arith, len_is queue)
 
 -- another queue at a place of a level keeps the room, where the number of waiting keys follows
-pub room_stays : (queues : List (VecDeque ℕ Global)) (waiting waiting' room place : ℕ) (queue queue' : VecDeque ℕ Global) → HasRoom queues waiting room
+pub room_stays : (queues : List (VecDeque ℕ Global)) (waiting waiting' room place : ℕ) (queue queue' : VecDeque ℕ Global) → HasRoomFor queues waiting room
     → place < length queues → place < 8 → queue ≡ get_or queues place queue → deque_capacity queue ≤ deque_capacity queue'
-    → waiting' + length queue.items ≡ waiting + length queue'.items → waiting' ≤ room → HasRoom (set queues place queue') waiting' room
+    → waiting' + length queue.items ≡ waiting + length queue'.items → waiting' ≤ room → HasRoomFor (set queues place queue') waiting' room
 room_stays queues waiting waiting' room place queue queue' has within low is grows counts within' =
     let lists : List (List ℕ) = map keys_of queues in
     let there = keys_at queues place queue within is in
@@ -89,7 +89,7 @@ empty_before (first ∷ queues) place within none k lt =
     get_or-map keys_of (first ∷ queues) k first [] (omega arith) ∙ no_keys (get_or (first ∷ queues) k first) (none k first (omega arith) lt)
 
 -- keys wait at levels that a link can have
-pub place_is_level : (queues : List (VecDeque ℕ Global)) (waiting room place : ℕ) → HasRoom queues waiting room → place < length queues
+pub place_is_level : (queues : List (VecDeque ℕ Global)) (waiting room place : ℕ) → HasRoomFor queues waiting room → place < length queues
     → HoldsAt (λ queue. 0 < deque_len queue) queues place → place < 8
 place_is_level [] waiting room place has within some = absurd (omega arith)
 place_is_level (first ∷ queues) waiting room place has within some =
@@ -114,7 +114,7 @@ pub seen_alike : (old new : List (List ℕ)) (spare spare' : ℕ) → old ≡ ne
 seen_alike old new spare spare' queues room = rw (queues, room) refl
 
 -- where a queue has a key, a key waits
-pub some_wait : (queues : List (VecDeque ℕ Global)) (waiting room place key : ℕ) (behind : List ℕ) (queue : VecDeque ℕ Global) → HasRoom queues waiting room
+pub some_wait : (queues : List (VecDeque ℕ Global)) (waiting room place key : ℕ) (behind : List ℕ) (queue : VecDeque ℕ Global) → HasRoomFor queues waiting room
     → place < length queues → queue ≡ get_or queues place queue → queue.items ≡ key ∷ behind → 1 ≤ waiting
 some_wait queues waiting room place key behind queue has within is taken =
     let there : get_or (map keys_of queues) place [] ≡ key ∷ behind = keys_at queues place queue within is ∙ taken in

@@ -9,13 +9,13 @@ use Rattle.std.specs.VecDeque.{deque_capacity}
 abbrev pub keys_of : VecDeque ℕ Global → List ℕ
 keys_of queue = queue.items
 
--- each queue can hold so many keys
+-- each queue can hold `room` keys
 abbrev pub HoldsEach : List (VecDeque ℕ Global) → ℕ → Type 0
 HoldsEach queues room = All (λ queue. room ≤ deque_capacity queue) queues
 
 -- `waiting` keys wait in the queues, which have room for `room` keys each, and a queue past the last level that
 -- a link can have is empty
-pub record HasRoom (queues : List (VecDeque ℕ Global)) (waiting room : ℕ) : Type 0 where
+pub record HasRoomFor (queues : List (VecDeque ℕ Global)) (waiting room : ℕ) : Type 0 where
   pub counted : waiting ≡ sum_by length (map keys_of queues)
   pub within : waiting ≤ room
   pub holds : HoldsEach queues room

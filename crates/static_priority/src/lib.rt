@@ -30,17 +30,17 @@ pub struct LevelQueues {
 impl Model for LevelQueues {
     ghost use Rattle.std.specs.Prelude.{◌-◌, map};
     ghost use Rattle.static_priority.specs.Queues.{Queues};
-    ghost use Rattle.static_priority.specs.Room.{keys_of, HasRoom};
+    ghost use Rattle.static_priority.specs.Room.{keys_of, HasRoomFor};
 
     ghost Value = { Queues };
 
     ghost view = { λ s. record { queues = map keys_of s.queues.items; spare = s.room - s.waiting } };
 
-    ghost invariant = { λ s. HasRoom s.queues.items s.waiting s.room };
+    ghost invariant = { λ s. HasRoomFor s.queues.items s.waiting s.room };
 }
 
 impl LevelQueues {
-    /// Empty queues for so many levels, without room for a key. An `Err` comes only for want of memory.
+    /// Empty queues for `levels` levels, without room for a key. An `Err` comes only for want of memory.
     pub fn new(alloc: Global, levels: u8) -> Result<LevelQueues, OutOfMemory>
         ensures { IfOk result (λ made. made ≡ record { queues = replicate levels []; spare = 0 }) }
     {
@@ -110,7 +110,7 @@ fn empty_queues(alloc: Global, levels: u8) -> Result<Vec<VecDeque<u32>>, OutOfMe
     Ok(queues)
 }
 
-// Makes each queue able to hold so many keys.
+// Makes each queue able to hold this number of keys.
 fn reserve_each(queues: &mut [VecDeque<u32>], room: usize) -> Result<(), OutOfMemory>
     ensures keys { map keys_of queues.new ≡ map keys_of queues.old }
     ensures grows { (least : ℕ) → HoldsEach queues.old least → HoldsEach queues.new least }

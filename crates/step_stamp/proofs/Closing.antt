@@ -15,7 +15,7 @@ use Rattle.step_stamp.specs.declared.marks.Mark.{Mark}
 use Rattle.step_stamp.specs.declared.views.Shelf.{Shelf}
 use Rattle.step_stamp.specs.declared.views.View.{View}
 use Rattle.step_stamp.specs.Lists.{Has}
-use Rattle.step_stamp.specs.Marks.{Rises, by_actor, of_actor, longer}
+use Rattle.step_stamp.specs.Marks.{StampsRise, by_actor, of_actor, longer}
 use Rattle.step_stamp.specs.Rule.{Tally, Begins, Fits, Learnt}
 use Rattle.step_stamp.specs.Seats.{Settled, Gathered}
 use Rattle.step_stamp.specs.Views.{shelf, shelf_of, known_of, first_of, settled, merged, gathered, nobody}
@@ -133,7 +133,7 @@ settled_facts l v w links some told =
     let first : first_of l now ≡ known_of l v = ap (λ (s : Shelf). s.first) on_shelf in
     record {
       begins = subst (λ (x : List Mark × List Mark). IsPrefix x.0 x.1) (λ i. (first i, knows i)) (told.begun l here);
-      rises = subst Rises knows (told.rises l here);
+      rises = subst StampsRise knows (told.rises l here);
       own = λ m has acts. told.own l m (subst (Has m) (sym knows) has) acts;
       all = λ every m has. told.all some every l m (subst (Has m) (sym knows) has);
       knows = knows;

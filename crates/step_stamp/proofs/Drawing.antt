@@ -16,7 +16,7 @@ use Rattle.step_stamp.specs.declared.views.View.{View}
 use Rattle.step_stamp.specs.Lists.{Has}
 use Rattle.step_stamp.specs.Marks.{by_actor, of_actor, drawn_for}
 use Rattle.step_stamp.specs.Placing.{hand_at}
-use Rattle.step_stamp.specs.Rule.{Tally, Fits, Kept}
+use Rattle.step_stamp.specs.Rule.{Tally, Fits, KeepsRule}
 use Rattle.step_stamp.specs.Views.{drew}
 use Rattle.step_stamp.proofs.ListFacts.{has_left, has_right, each_has, length-passed}
 use Rattle.step_stamp.proofs.MarkFacts.{numbered-append, most_drawn}
@@ -82,8 +82,8 @@ drew_fits t id a v d f acts is =
 
 -- ---- the rule after a draw
 
-draw_kept : (words : List ℕ) (views : List View) (id a : ℕ) (v : View) (d : Drawn) (h : Kept words views) → get_elem? views id ≡ some v → Has a v.actors → length v.drawn < 2 ^ 40
-    → actor_number d.mark.actor ≡ a → d.mark.stamp ≡ length h.tally.draws + 1 → Kept ((length h.tally.draws + 1) ∷ []) (set views id (drew (d ∷ []) (length h.tally.draws + 1) v))
+draw_kept : (words : List ℕ) (views : List View) (id a : ℕ) (v : View) (d : Drawn) (h : KeepsRule words views) → get_elem? views id ≡ some v → Has a v.actors → length v.drawn < 2 ^ 40
+    → actor_number d.mark.actor ≡ a → d.mark.stamp ≡ length h.tally.draws + 1 → KeepsRule ((length h.tally.draws + 1) ∷ []) (set views id (drew (d ∷ []) (length h.tally.draws + 1) v))
 draw_kept words views id a v d h at acts few is stamp =
     let t = h.tally in
     let f = h.fits id v at in
@@ -128,11 +128,11 @@ module _ {S : Type 0} where
       let top : n + 1 ≤ 65 * 2 ^ 40 = subst (λ k. k ≤ 65 * 2 ^ 40) (sym (ap (λ ws. slice_index ws 0) kept.word)) (most_drawn (2 ^ 40) kept.tally.draws kept.room) in
       let f = h.fits id me.0 at in
       let T : ℕ → Me S View → Type 0 = λ found after. (after ≡ (drew (marks (found + 1)) (found + 1) me.0, me.1)) × (me.0.seen ≤ found) × (found + 1 ≤ 65 * 2 ^ 40) in
-      let P : List ℕ → Type 0 = λ ws. (w : View) × (act : Act S) × Valid s.homes me.1 act × Kept (slice_set ws 0 ((slice_index ws 0 + 1) % 2 ^ 64)) (set s.views id w)
+      let P : List ℕ → Type 0 = λ ws. (w : View) × (act : Act S) × Valid s.homes me.1 act × KeepsRule (slice_set ws 0 ((slice_index ws 0 + 1) % 2 ^ 64)) (set s.views id w)
       × T (slice_index ws 0) (w, carried_after me.1 act) in
       let small : (n + 1) % 2 ^ 64 ≡ n + 1 = omega (arith, top) in
       let one : d ∷ [] ≡ marks (n + 1) = sym (marks_are (n + 1)) in
-      let K : Kept (((n + 1) % 2 ^ 64) ∷ []) (set s.views id (drew (marks (n + 1)) (n + 1) me.0)) =
-      subst (λ (x : ℕ × List Drawn). Kept (x.0 ∷ []) (set s.views id (drew x.1 (n + 1) me.0))) (λ i. (sym small i, one i)) kept in
+      let K : KeepsRule (((n + 1) % 2 ^ 64) ∷ []) (set s.views id (drew (marks (n + 1)) (n + 1) me.0)) =
+      subst (λ (x : ℕ × List Drawn). KeepsRule (x.0 ∷ []) (set s.views id (drew x.1 (n + 1) me.0))) (λ i. (sym small i, one i)) kept in
       let built : P (n ∷ []) = (drew (marks (n + 1)) (n + 1) me.0, keeps, tt, K, (refl, f.seen, top)) in
       subst P (sym h.word) built

@@ -12,7 +12,7 @@ use Rattle.step_stamp.specs.declared.marks.Mark.{Mark}
 use Rattle.step_stamp.specs.declared.views.Shelf.{Shelf}
 use Rattle.step_stamp.specs.declared.views.View.{View}
 use Rattle.step_stamp.specs.Lists.{Has}
-use Rattle.step_stamp.specs.Marks.{Rises, drawn_for, marks_in}
+use Rattle.step_stamp.specs.Marks.{StampsRise, drawn_for, drawn_marks}
 use Rattle.step_stamp.specs.Placing.{hand_at}
 use Rattle.step_stamp.specs.Rule.{Tally, Begins, HasList, Fits}
 use Rattle.step_stamp.specs.Seats.{EntersMark}
@@ -67,22 +67,22 @@ entered_fits : (t : Tally) (id other l : ℕ) (v w : View) (m : Mark) → Fits t
 entered_fits t id other l v w m f g links hand most =
     let own = f.has l (subst (Has l) (sym links) (inl refl)) in
     let now_here = with_mark-here l m t.log in
-    let marks : known_of l v ++ marks_in w.hand ≡ t.log l ++ m ∷ [] = ap (λ ds. known_of l v ++ marks_in ds) hand ∙ ap (λ ms. ms ++ m ∷ []) own.whole in
-    let sh = shelf l (known_of l v ++ marks_in w.hand) (known_of l v) (known_of l w) in
+    let marks : known_of l v ++ drawn_marks w.hand ≡ t.log l ++ m ∷ [] = ap (λ ds. known_of l v ++ drawn_marks ds) hand ∙ ap (λ ms. ms ++ m ∷ []) own.whole in
+    let sh = shelf l (known_of l v ++ drawn_marks w.hand) (known_of l v) (known_of l w) in
     let after : Tally = record t { log = with_mark l m t.log } in
     record {
       seen = max-le f.seen g.seen;
       among = f.among;
       knows = λ k. shelf_cases (λ s. Begins (after.log k) s) k sh v.shelves
           (λ (e : l ≡ k). subst (λ q. Begins (after.log q) sh) e
-          (record { known = subst (IsPrefix (known_of l v ++ marks_in w.hand)) (marks ∙ sym now_here) (begins_itself (known_of l v ++ marks_in w.hand)); first = (begins_still l m t.log l (shelf_of l v.shelves) (f.knows l)).known; second = (begins_still l m t.log l (shelf_of l w.shelves) (g.knows l)).known }))
+          (record { known = subst (IsPrefix (known_of l v ++ drawn_marks w.hand)) (marks ∙ sym now_here) (begins_itself (known_of l v ++ drawn_marks w.hand)); first = (begins_still l m t.log l (shelf_of l v.shelves) (f.knows l)).known; second = (begins_still l m t.log l (shelf_of l w.shelves) (g.knows l)).known }))
           (λ _. begins_still l m t.log k (shelf_of k v.shelves) (f.knows k));
       has = λ k has.
           let k_is : l ≡ k = ⊎_elim (λ (e : l ≡ k). e) (λ no. absurd no) (subst (Has k) links has) in
           let here : HasList after id l (entered l v w) =
           record {
             here = own.here;
-            whole = ap (λ (s : Shelf). s.known) (shelf_here l (known_of l v ++ marks_in w.hand) (known_of l v) (known_of l w) v.shelves) ∙ marks ∙ sym now_here;
+            whole = ap (λ (s : Shelf). s.known) (shelf_here l (known_of l v ++ drawn_marks w.hand) (known_of l v) (known_of l w) v.shelves) ∙ marks ∙ sym now_here;
             most = subst (Each (λ (x : Mark). x.stamp ≤ max v.seen w.seen)) (sym now_here)
                 (Each-append (λ (x : Mark). x.stamp ≤ max v.seen w.seen) (t.log l) (m ∷ []) (most_left v w (t.log l) own.most) (omega (arith, most, le-max_right v.seen w.seen), tt));
           } in
@@ -127,7 +127,7 @@ module _ {S : Type 0} where
         numbered = h.numbered;
         room = h.room;
         acting = h.acting;
-        rises = log_cases l m t.log (λ k ms. Rises ms) (rises-append 0 v.seen (t.log l) m (h.rises l) own.most (omega arith) above) (λ k _. h.rises k);
+        rises = log_cases l m t.log (λ k ms. StampsRise ms) (rises-append 0 v.seen (t.log l) m (h.rises l) own.most (omega arith) above) (λ k _. h.rises k);
         drawn = log_cases l m t.log (λ k ms. Each (λ (x : Mark). Has (drawn_for k x) t.draws) ms) (Each-append (λ (x : Mark). Has (drawn_for l x) t.draws) (t.log l) (m ∷ []) (h.drawn l) (in_draws, tt)) (λ k _. h.drawn k);
         placed = placed_entered t.draws t.log after.log (hand_at s.views) (hand_at (set (set s.views id both) other nobody)) other l m
             (sym (hand_set s.views id v both at refl other) ∙ hand_was (set s.views id both) other w there ∙ hand)
@@ -147,7 +147,7 @@ module _ {S : Type 0} where
 
 pub entered_facts : (l : ℕ) (k w : View) (m : Mark) → w.hand ≡ drawn_for l m ∷ [] → w.seen ≡ m.stamp → k.seen < m.stamp → EntersMark l k (entered l k w) m
 entered_facts l k w m hand saw above = record {
-  list = ap (λ (s : Shelf). s.known) (shelf_here l (known_of l k ++ marks_in w.hand) (known_of l k) (known_of l w) k.shelves) ∙ ap (λ ds. known_of l k ++ marks_in ds) hand;
+  list = ap (λ (s : Shelf). s.known) (shelf_here l (known_of l k ++ drawn_marks w.hand) (known_of l k) (known_of l w) k.shelves) ∙ ap (λ ds. known_of l k ++ drawn_marks ds) hand;
   saw = ap (max k.seen) saw ∙ max-eq_right (omega (arith, above));
   among = refl;
 }

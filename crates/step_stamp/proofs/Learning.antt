@@ -13,9 +13,9 @@ use Rattle.step_stamp.specs.declared.marks.Drawn.{Drawn}
 use Rattle.step_stamp.specs.declared.marks.Mark.{Mark}
 use Rattle.step_stamp.specs.declared.views.View.{View}
 use Rattle.step_stamp.specs.Lists.{Has}
-use Rattle.step_stamp.specs.Marks.{Rises, marks_in, by_actor, of_actor, drawn_for}
+use Rattle.step_stamp.specs.Marks.{StampsRise, drawn_marks, by_actor, of_actor, drawn_for}
 use Rattle.step_stamp.specs.Placing.{hand_at}
-use Rattle.step_stamp.specs.Rule.{Fits, Kept, Learnt}
+use Rattle.step_stamp.specs.Rule.{Fits, KeepsRule, Learnt}
 use Rattle.step_stamp.specs.Views.{known_of, first_of, second_of, saw}
 use Rattle.step_stamp.proofs.ListFacts.{has_prefix, each_has, has_passed, has_kept, passes_test, prefixes}
 use Rattle.step_stamp.proofs.MarkFacts.{numbered_rise, draws_filter, same_stamp, no_twice, most_drawn}
@@ -23,7 +23,7 @@ use Rattle.step_stamp.proofs.PlacingFacts.{hand_set, placed_same}
 use Rattle.step_stamp.proofs.ViewFacts.{Law, views_set, acts_live, acts_some}
 
 -- what the rule says of a view
-pub learnt : (words : List ℕ) (views : List View) (id : ℕ) (v : View) → Kept words views → get_elem? views id ≡ some v → Learnt v
+pub learnt : (words : List ℕ) (views : List View) (id : ℕ) (v : View) → KeepsRule words views → get_elem? views id ≡ some v → Learnt v
 learnt words views id v h at =
     let f = h.fits id v at in
     let t = h.tally in
@@ -31,7 +31,7 @@ learnt words views id v h at =
       begun = λ l has. subst (IsPrefix (first_of l v)) (sym (f.has l has).whole) (f.knows l).first;
       joined = λ l has. subst (IsPrefix (second_of l v)) (sym (f.has l has).whole) (f.knows l).second;
       in_line = λ l. prefixes (first_of l v) (second_of l v) (t.log l) (f.knows l).first (f.knows l).second;
-      rises = λ l has. subst Rises (sym (f.has l has).whole) (h.rises l);
+      rises = λ l has. subst StampsRise (sym (f.has l has).whole) (h.rises l);
       few = most_drawn (2 ^ 40) v.drawn (λ a. few_of a (of_actor a v.drawn) refl);
       once = no_twice v.drawn (λ a. rise_of a (of_actor a v.drawn) refl) (λ d e hd he. same_stamp 0 t.draws d e (numbered_rise 0 t.draws h.numbered) (in_draws d hd) (in_draws e he));
       in_turn = λ a. rise_of a (of_actor a v.drawn) refl;
@@ -70,9 +70,9 @@ learnt words views id v h at =
         let a_is : actor_number d.mark.actor ≡ a = eqb-true (actor_number d.mark.actor) a (passes_test (by_actor a) d v.drawn there) in
         sym ((h.fits id v at).acts a (subst (λ k. Has k v.actors) a_is (acts_of d (has_kept (by_actor a) d v.drawn there)))).whole ∙ is
 
-    rise_of : (a : ℕ) (ds : List Drawn) → of_actor a v.drawn ≡ ds → Rises (marks_in ds)
+    rise_of : (a : ℕ) (ds : List Drawn) → of_actor a v.drawn ≡ ds → StampsRise (drawn_marks ds)
     rise_of a [] is = tt
-    rise_of a (d ∷ ds) is = subst (λ xs. Rises (marks_in xs)) (whole_of a d ds is) (draws_filter (by_actor a) 0 h.tally.draws (numbered_rise 0 h.tally.draws h.numbered))
+    rise_of a (d ∷ ds) is = subst (λ xs. StampsRise (drawn_marks xs)) (whole_of a d ds is) (draws_filter (by_actor a) 0 h.tally.draws (numbered_rise 0 h.tally.draws h.numbered))
 
     few_of : (a : ℕ) (ds : List Drawn) → of_actor a v.drawn ≡ ds → length ds ≤ 2 ^ 40
     few_of a [] is = omega arith
@@ -86,7 +86,7 @@ module _ {S : Type 0} where
         me.0,
         keeps,
         tt,
-        subst (λ ws. Kept ws (set s.views id me.0)) (sym same) (subst (Kept s.words) (sym (set_again s.views id me.0 at)) h),
+        subst (λ ws. KeepsRule ws (set s.views id me.0)) (sym same) (subst (KeepsRule s.words) (sym (set_again s.views id me.0 at)) h),
         (refl, learnt s.words s.views id me.0 h at),
       )
 
@@ -101,7 +101,7 @@ module _ {S : Type 0} where
         saw (slice_index s.words 0) me.0,
         keeps,
         tt,
-        subst (λ ws. Kept ws (set s.views id (saw (slice_index s.words 0) me.0))) (sym same)
+        subst (λ ws. KeepsRule ws (set s.views id (saw (slice_index s.words 0) me.0))) (sym same)
             (record {
               tally = t;
               word = h.word;

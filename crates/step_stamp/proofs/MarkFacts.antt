@@ -10,7 +10,7 @@ use Rattle.link_steps.specs.Lists.{Each}
 use Rattle.step_stamp.specs.declared.marks.Drawn.{Drawn}
 use Rattle.step_stamp.specs.declared.marks.Mark.{Mark}
 use Rattle.step_stamp.specs.Lists.{Has, AppearIn}
-use Rattle.step_stamp.specs.Marks.{RisesFrom, Rises, Numbered, NoTwice, marks_in, by_actor, of_actor, for_link, marks_of, drawn_for, longer}
+use Rattle.step_stamp.specs.Marks.{RisesFrom, StampsRise, Numbered, NoTwice, drawn_marks, by_actor, of_actor, for_link, marks_of, drawn_for, longer}
 use Rattle.step_stamp.proofs.ListFacts.{has_each, has_right, has_passed, has_kept, passes_test, prefix_length, prefix_whole}
 
 -- ---- rising stamps
@@ -108,55 +108,55 @@ numbered-append n [] d numbered is = (omega arith, tt)
 numbered-append n (x ∷ ds) d numbered is = (numbered.0, numbered-append (suc n) ds d numbered.1 (omega arith))
 
 -- numbered draws rise, and so do those of an actor and those of a filter
-pub numbered_rise : (n : ℕ) (ds : List Drawn) → Numbered n ds → RisesFrom n (marks_in ds)
+pub numbered_rise : (n : ℕ) (ds : List Drawn) → Numbered n ds → RisesFrom n (drawn_marks ds)
 numbered_rise n [] numbered = tt
-numbered_rise n (d ∷ ds) numbered = let is = numbered.0 in (omega (arith, is), subst (λ k. RisesFrom k (marks_in ds)) (sym is) (numbered_rise (suc n) ds numbered.1))
+numbered_rise n (d ∷ ds) numbered = let is = numbered.0 in (omega (arith, is), subst (λ k. RisesFrom k (drawn_marks ds)) (sym is) (numbered_rise (suc n) ds numbered.1))
 
-pub draws_filter : (p : Drawn → Bool) (low : ℕ) (ds : List Drawn) → RisesFrom low (marks_in ds) → RisesFrom low (marks_in (filter p ds))
+pub draws_filter : (p : Drawn → Bool) (low : ℕ) (ds : List Drawn) → RisesFrom low (drawn_marks ds) → RisesFrom low (drawn_marks (filter p ds))
 draws_filter p low [] rises = tt
 draws_filter p low (d ∷ ds) rises =
     let rest = draws_filter p d.mark.stamp ds rises.1 in
     let first = rises.0 in
-    cond_both (p d) (d ∷ filter p ds) (filter p ds) (λ xs. RisesFrom low (marks_in xs)) (λ _. (first, rest)) (λ _. rises_lower low d.mark.stamp (marks_in (filter p ds)) (omega (arith, first)) rest)
+    cond_both (p d) (d ∷ filter p ds) (filter p ds) (λ xs. RisesFrom low (drawn_marks xs)) (λ _. (first, rest)) (λ _. rises_lower low d.mark.stamp (drawn_marks (filter p ds)) (omega (arith, first)) rest)
 
-has_mark : (d : Drawn) (ds : List Drawn) → Has d ds → Has d.mark (marks_in ds)
+has_mark : (d : Drawn) (ds : List Drawn) → Has d ds → Has d.mark (drawn_marks ds)
 has_mark d [] has = absurd has
 has_mark d (x ∷ ds) has = ⊎_elim (λ (e : x ≡ d). inl (ap (λ (y : Drawn). y.mark) e)) (λ t. inr (has_mark d ds t)) has
 
 -- two draws with one stamp are the same
-pub same_stamp : (low : ℕ) (ds : List Drawn) (d e : Drawn) → RisesFrom low (marks_in ds) → Has d ds → Has e ds → d.mark.stamp ≡ e.mark.stamp → d ≡ e
+pub same_stamp : (low : ℕ) (ds : List Drawn) (d e : Drawn) → RisesFrom low (drawn_marks ds) → Has d ds → Has e ds → d.mark.stamp ≡ e.mark.stamp → d ≡ e
 same_stamp low [] d e rise one other is = absurd one
 same_stamp low (x ∷ ds) d e rise one other is =
     ⊎_elim
     (λ (d_is : x ≡ d). ⊎_elim
     (λ (e_is : x ≡ e). sym d_is ∙ e_is)
-    (λ t. let above = rises_all x.mark.stamp (marks_in ds) e.mark rise.1 (has_mark e ds t) in let same = ap (λ (y : Drawn). y.mark.stamp) d_is in absurd (omega (arith, above, same, is)))
+    (λ t. let above = rises_all x.mark.stamp (drawn_marks ds) e.mark rise.1 (has_mark e ds t) in let same = ap (λ (y : Drawn). y.mark.stamp) d_is in absurd (omega (arith, above, same, is)))
     other)
     (λ u. ⊎_elim
-    (λ (e_is : x ≡ e). let above = rises_all x.mark.stamp (marks_in ds) d.mark rise.1 (has_mark d ds u) in let same = ap (λ (y : Drawn). y.mark.stamp) e_is in absurd (omega (arith, above, same, is)))
+    (λ (e_is : x ≡ e). let above = rises_all x.mark.stamp (drawn_marks ds) d.mark rise.1 (has_mark d ds u) in let same = ap (λ (y : Drawn). y.mark.stamp) e_is in absurd (omega (arith, above, same, is)))
     (λ t. same_stamp x.mark.stamp ds d e rise.1 u t is)
     other)
     one
 
 -- where each actor's stamps rise, no stamp stands twice
-pub no_twice : (ds : List Drawn) → ((a : ℕ) → Rises (marks_in (of_actor a ds))) → ((d e : Drawn) → Has d ds → Has e ds → d.mark.stamp ≡ e.mark.stamp → d ≡ e) → NoTwice ds
+pub no_twice : (ds : List Drawn) → ((a : ℕ) → StampsRise (drawn_marks (of_actor a ds))) → ((d e : Drawn) → Has d ds → Has e ds → d.mark.stamp ≡ e.mark.stamp → d ≡ e) → NoTwice ds
 no_twice [] rise one = tt
 no_twice (d ∷ ds) rise one =
     let a = actor_number d.mark.actor in
-    let here : Rises (marks_in (d ∷ of_actor a ds)) = subst (λ b. Rises (marks_in (cond b (d ∷ of_actor a ds) (of_actor a ds)))) (eq-eqb a a refl) (rise a) in (
+    let here : StampsRise (drawn_marks (d ∷ of_actor a ds)) = subst (λ b. StampsRise (drawn_marks (cond b (d ∷ of_actor a ds) (of_actor a ds)))) (eq-eqb a a refl) (rise a) in (
       has_each (λ (e : Drawn). e.mark.stamp ≡ d.mark.stamp → ⊥) ds
           (λ e has is.
           let same : e ≡ d = one e d (inr has) (inl refl) is in
           let among : Has e (of_actor a ds) = has_passed (by_actor a) e ds (eq-eqb (actor_number e.mark.actor) a (ap (λ (x : Drawn). actor_number x.mark.actor) same)) has in
-          let above = rises_all d.mark.stamp (marks_in (of_actor a ds)) e.mark here.1 (has_mark e (of_actor a ds) among) in
+          let above = rises_all d.mark.stamp (drawn_marks (of_actor a ds)) e.mark here.1 (has_mark e (of_actor a ds) among) in
           omega (arith, above, is)),
       no_twice ds
-          (λ b. cond_both (by_actor b d) (d ∷ of_actor b ds) (of_actor b ds) (λ l. Rises (marks_in l) → Rises (marks_in (of_actor b ds))) (λ _ r. rises_lower 0 d.mark.stamp (marks_in (of_actor b ds)) (omega arith) r.1) (λ _ r. r) (rise b))
+          (λ b. cond_both (by_actor b d) (d ∷ of_actor b ds) (of_actor b ds) (λ l. StampsRise (drawn_marks l) → StampsRise (drawn_marks (of_actor b ds))) (λ _ r. rises_lower 0 d.mark.stamp (drawn_marks (of_actor b ds)) (omega arith) r.1) (λ _ r. r) (rise b))
           (λ x y hx hy. one x y (inr hx) (inr hy)),
     )
 
 -- the marks of an actor in a link's list are those that it has drawn for the link, in their order
-pub in_their_order : (a l : ℕ) (list : List Mark) (ds : List Drawn) → Rises list → Rises (marks_in (of_actor a ds)) → ((m : Mark) → Has m list → actor_number m.actor ≡ a → Has (drawn_for l m) ds)
+pub in_their_order : (a l : ℕ) (list : List Mark) (ds : List Drawn) → StampsRise list → StampsRise (drawn_marks (of_actor a ds)) → ((m : Mark) → Has m list → actor_number m.actor ≡ a → Has (drawn_for l m) ds)
     → AppearIn (marks_of a list) (for_link l (of_actor a ds))
 in_their_order a l list ds rises drawn own =
     rising_appear 0 (marks_of a list) (for_link l (of_actor a ds)) (rises_filter (λ (m : Mark). eqb (actor_number m.actor) a) 0 list rises) (draws_filter (λ (d : Drawn). eqb d.link l) 0 (of_actor a ds) drawn)

@@ -11,7 +11,7 @@ use Rattle.step_stamp.specs.declared.marks.Mark.{Mark}
 use Rattle.step_stamp.specs.declared.views.Shelf.{Shelf}
 use Rattle.step_stamp.specs.declared.views.View.{View}
 use Rattle.step_stamp.specs.Lists.{Has}
-use Rattle.step_stamp.specs.Marks.{Rises, marks_in, longer}
+use Rattle.step_stamp.specs.Marks.{StampsRise, drawn_marks, longer}
 use Rattle.step_stamp.specs.Placing.{hand_at}
 use Rattle.step_stamp.specs.Rule.{Begins, OfOneLink, Learnt}
 use Rattle.step_stamp.specs.Seats.{Meets}
@@ -79,8 +79,8 @@ module _ {S : Type 0} where
   pub meets : (id l : ℕ) (v : View) (other : ℕ) (w : View) → v.links ≡ l ∷ [] → w.hand ≡ [] → Joins {S = S} Law id v other w (entered l v w) nobody
   meets id l v other w links empty = joins id v other w (entered l v w) refl empty
       (λ t f g.
-      let same : known_of l v ++ marks_in w.hand ≡ known_of l v = ap (λ ds. known_of l v ++ marks_in ds) empty ∙ append-nil (known_of l v) in
-      let sh = shelf l (known_of l v ++ marks_in w.hand) (known_of l v) (known_of l w) in
+      let same : known_of l v ++ drawn_marks w.hand ≡ known_of l v = ap (λ ds. known_of l v ++ drawn_marks ds) empty ∙ append-nil (known_of l v) in
+      let sh = shelf l (known_of l v ++ drawn_marks w.hand) (known_of l v) (known_of l w) in
       record {
         seen = max-le f.seen g.seen;
         among = f.among;
@@ -116,7 +116,7 @@ met_facts l v k links of_link of_pass =
     let kept : known_of l k' ≡ known_of l k = ap (λ (s : Shelf). s.known) shelf_k ∙ append-nil (known_of l k) in
     let second : second_of l k' ≡ known_of l v = ap (λ (s : Shelf). s.second) shelf_k ∙ known_shown l v in
     let begins : IsPrefix (known_of l v) (known_of l k) = subst (λ (x : List Mark × List Mark). IsPrefix x.0 x.1) (λ i. (second i, kept i)) (of_link.joined l here) in
-    let rises : Rises (known_of l k) = subst Rises kept (of_link.rises l here) in
+    let rises : StampsRise (known_of l k) = subst StampsRise kept (of_link.rises l here) in
     let knows : known_of l p' ≡ known_of l k =
     ap (λ (s : Shelf). s.known) (shelf_here l (longer (known_of l v) (known_of l (shown l k'))) (known_of l v) (known_of l (shown l k')) v.shelves)
     ∙ ap (longer (known_of l v)) (known_shown l k' ∙ kept)

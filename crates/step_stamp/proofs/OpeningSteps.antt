@@ -14,11 +14,11 @@ use Rattle.step_stamp.specs.declared.seats.LinkSeat.{LinkSeat}
 use Rattle.step_stamp.specs.declared.seats.PassSeat.{PassSeat}
 use Rattle.step_stamp.specs.declared.views.Shelf.{Shelf}
 use Rattle.step_stamp.specs.declared.views.View.{View}
-use Rattle.step_stamp.specs.Lists.{Has, below, up_to, without}
+use Rattle.step_stamp.specs.Lists.{Has, below, up_to, without_number}
 use Rattle.step_stamp.specs.Marks.{of_actor}
 use Rattle.step_stamp.specs.Opening.{IsNewLink, IsNewPass, AreLinks, ArePasses, IsFirst}
-use Rattle.step_stamp.specs.Rule.{Tally, Begins, HasList, HasActor, Fits, Kept}
-use Rattle.step_stamp.specs.Seats.{link_table, pass_table, link_view, pass_view, link_of, actor_of, list_of}
+use Rattle.step_stamp.specs.Rule.{Tally, Begins, HasList, HasActor, Fits, KeepsRule}
+use Rattle.step_stamp.specs.Seats.{link_table, pass_table, link_view, pass_view, seat_link, seat_actor, list_of}
 use Rattle.step_stamp.specs.Views.{shelf, shelf_of, known_of, first_view, new_link, less_link, new_pass, less_actor}
 use Rattle.step_stamp.proofs.ListFacts.{has_kept, has_passed, begins_nothing}
 use Rattle.step_stamp.proofs.ShelfFacts.{shelf_cases, shelf_here, no_known, no_shelf}
@@ -37,14 +37,14 @@ unfolding below
 below_small k zero has = absurd has
 below_small k (suc n) has = ⊎_elim (λ (e : n ≡ k). omega (arith, e)) (λ t. let rest = below_small k n t in omega (arith, rest)) has
 
-apart_from : (n k : ℕ) (ns : List ℕ) → Has k (without n ns) → k ≡ n → ⊥
+apart_from : (n k : ℕ) (ns : List ℕ) → Has k (without_number n ns) → k ≡ n → ⊥
 apart_from n k [] has e = has
 apart_from n k (x ∷ ns) has e =
-    cond_both (not (eqb x n)) (x ∷ without n ns) (without n ns) (λ l. Has k l → ⊥)
+    cond_both (not (eqb x n)) (x ∷ without_number n ns) (without_number n ns) (λ l. Has k l → ⊥)
     (λ on h. ⊎_elim (λ (same : x ≡ k). absurd (cc (on, ap not (eq-eqb x n (same ∙ e))))) (λ t. apart_from n k ns t e) h)
     (λ _ h. apart_from n k ns h e) has
 
-has_others : (n k : ℕ) (ns : List ℕ) → (k ≡ n → ⊥) → Has k ns → Has k (without n ns)
+has_others : (n k : ℕ) (ns : List ℕ) → (k ≡ n → ⊥) → Has k ns → Has k (without_number n ns)
 has_others n k ns other has = has_passed (λ x. not (eqb x n)) k ns (ap not (ne_eqb k n other)) has
 
 -- a number is moved for one place alone
@@ -56,7 +56,7 @@ moved_else k l new was other = cond_both (eqb k l) new was (λ n. n ≡ was) (λ
 
 -- ---- the rule at the opening
 
-pub begins : (links actors : ℕ) → 1 ≤ actors → Kept (0 ∷ []) (first_view links actors ∷ [])
+pub begins : (links actors : ℕ) → 1 ≤ actors → KeepsRule (0 ∷ []) (first_view links actors ∷ [])
 begins links actors some =
     let t : Tally = record { draws = []; log = λ l. []; seat = λ l. 0; owner = λ a. 0; actors = actors } in
     record {
@@ -221,7 +221,7 @@ pub no_passes : (t : TableId) (n : ℕ) (xs : List PassSeat) → xs ≡ [] → A
 unfolding up_to
 no_passes t n xs is = subst (ArePasses t n 0) (sym is) (record { numbers = refl; new = tt })
 
-pub links_more : (t : TableId) (n links actors m : ℕ) (xs ys : List LinkSeat) (s : LinkSeat) (v : View) → AreLinks t actors n xs → ys ≡ xs ++ s ∷ [] → link_of s ≡ n → link_table s ≡ t → link_view s ≡ new_link n v → IsFirst links actors n m v
+pub links_more : (t : TableId) (n links actors m : ℕ) (xs ys : List LinkSeat) (s : LinkSeat) (v : View) → AreLinks t actors n xs → ys ≡ xs ++ s ∷ [] → seat_link s ≡ n → link_table s ≡ t → link_view s ≡ new_link n v → IsFirst links actors n m v
     → AreLinks t actors (n + 1) ys
 unfolding up_to
 links_more t n links actors m xs ys s v are is number table view f =
@@ -230,13 +230,13 @@ links_more t n links actors m xs ys s v are is number table view f =
     ap (λ k. known_of k (link_view s)) number ∙ ap (known_of n) view ∙ ap (λ (sh : Shelf). sh.known) (shelf_here n (known_of n v) [] [] []) ∙ ap (λ ss. (shelf_of n ss).known) f.shelves ∙ no_known n in
     let new : IsNewLink t actors s = record { from_table = table; unseen = ap (λ (x : View). x.seen) view ∙ f.seen; empty = known; among = ap (λ (x : View). x.among) view ∙ f.among } in
     subst (λ (x : ℕ × List LinkSeat). AreLinks t actors x.0 x.1) (λ i. (sym one i, sym is i))
-    (record { numbers = map-append link_of xs (s ∷ []) ∙ (λ i. are.numbers i ++ number i ∷ []); new = Each-append (IsNewLink t actors) xs (s ∷ []) are.new (new, tt) })
+    (record { numbers = map-append seat_link xs (s ∷ []) ∙ (λ i. are.numbers i ++ number i ∷ []); new = Each-append (IsNewLink t actors) xs (s ∷ []) are.new (new, tt) })
 
-pub passes_more : (t : TableId) (n links actors m : ℕ) (xs ys : List PassSeat) (s : PassSeat) (v : View) → ArePasses t actors n xs → ys ≡ xs ++ s ∷ [] → actor_of s ≡ n → pass_table s ≡ t → pass_view s ≡ new_pass n v → IsFirst links actors m n v
+pub passes_more : (t : TableId) (n links actors m : ℕ) (xs ys : List PassSeat) (s : PassSeat) (v : View) → ArePasses t actors n xs → ys ≡ xs ++ s ∷ [] → seat_actor s ≡ n → pass_table s ≡ t → pass_view s ≡ new_pass n v → IsFirst links actors m n v
     → ArePasses t actors (n + 1) ys
 unfolding up_to
 passes_more t n links actors m xs ys s v are is number table view f =
     let one : n + 1 ≡ suc n = omega arith in
     let new : IsNewPass t actors s = record { from_table = table; view_is = view ∙ (λ i. record { seen = f.seen i; among = f.among i; links = []; actors = sym number i ∷ []; drawn = []; hand = []; shelves = [] }) } in
     subst (λ (x : ℕ × List PassSeat). ArePasses t actors x.0 x.1) (λ i. (sym one i, sym is i))
-    (record { numbers = map-append actor_of xs (s ∷ []) ∙ (λ i. are.numbers i ++ number i ∷ []); new = Each-append (IsNewPass t actors) xs (s ∷ []) are.new (new, tt) })
+    (record { numbers = map-append seat_actor xs (s ∷ []) ∙ (λ i. are.numbers i ++ number i ∷ []); new = Each-append (IsNewPass t actors) xs (s ∷ []) are.new (new, tt) })

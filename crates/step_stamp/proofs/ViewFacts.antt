@@ -14,7 +14,7 @@ use Rattle.step_stamp.specs.declared.marks.Mark.{Mark}
 use Rattle.step_stamp.specs.declared.views.View.{View}
 use Rattle.step_stamp.specs.Lists.{Has}
 use Rattle.step_stamp.specs.Placing.{hand_at, Placed}
-use Rattle.step_stamp.specs.Rule.{Tally, Begins, OfOneLink, Fits, Kept}
+use Rattle.step_stamp.specs.Rule.{Tally, Begins, OfOneLink, Fits, KeepsRule}
 use Rattle.step_stamp.specs.Views.{shelf, nobody, copy}
 use Rattle.step_stamp.proofs.ListFacts.{begins_nothing}
 use Rattle.step_stamp.proofs.PlacingFacts.{hand_set, hand_more, placed_same}
@@ -111,7 +111,7 @@ moves other id at is = ap (λ b. cond b id at) (eq-eqb at other is)
 
 module _ {S : Type 0} where
   abbrev pub Law : State S View → Type 0
-  Law s = Kept s.words s.views
+  Law s = KeepsRule s.words s.views
 
   -- a view is cut in two, and all lists stay
   pub splits : (id : ℕ) (v left right : View) → ((s : State S View) → get_elem? s.views id ≡ some v → (draws : List Drawn) (log : ℕ → List Mark) → Placed draws log (hand_at s.views) → Placed draws log (hand_at (set s.views id left ++ right ∷ [])))

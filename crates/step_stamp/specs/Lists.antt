@@ -22,5 +22,5 @@ up_to zero = []
 up_to (suc n) = up_to n ++ n ∷ []
 
 -- the list without a number
-abbrev pub without : ℕ → List ℕ → List ℕ
-without n ns = filter (λ k. not (k == n)) ns
+abbrev pub without_number : ℕ → List ℕ → List ℕ
+without_number n ns = filter (λ k. not (k == n)) ns

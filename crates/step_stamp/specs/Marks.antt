@@ -12,16 +12,16 @@ abbrev pub RisesFrom : ℕ → List Mark → Type 0
 RisesFrom low [] = Unit {0}
 RisesFrom low (m ∷ ms) = (low < m.stamp) × RisesFrom m.stamp ms
 
-abbrev pub Rises : List Mark → Type 0
-Rises ms = RisesFrom 0 ms
+abbrev pub StampsRise : List Mark → Type 0
+StampsRise ms = RisesFrom 0 ms
 
 -- a mark drawn for this link
 abbrev pub drawn_for : ℕ → Mark → Drawn
 drawn_for l m = record { link = l; mark = m }
 
 -- the marks of drawn ones
-abbrev pub marks_in : List Drawn → List Mark
-marks_in ds = map (λ (d : Drawn). d.mark) ds
+abbrev pub drawn_marks : List Drawn → List Mark
+drawn_marks ds = map (λ (d : Drawn). d.mark) ds
 
 -- what an actor has drawn
 abbrev pub by_actor : ℕ → Drawn → Bool
@@ -32,7 +32,7 @@ of_actor a ds = filter (by_actor a) ds
 
 -- the marks drawn for a link
 abbrev pub for_link : ℕ → List Drawn → List Mark
-for_link l ds = marks_in (filter (λ (d : Drawn). d.link == l) ds)
+for_link l ds = drawn_marks (filter (λ (d : Drawn). d.link == l) ds)
 
 -- an actor's marks in a list
 abbrev pub marks_of : ℕ → List Mark → List Mark

@@ -8,7 +8,7 @@ use Rattle.step_stamp.specs.declared.seats.PassSeat.{PassSeat}
 use Rattle.step_stamp.specs.declared.views.View.{View}
 use Rattle.step_stamp.specs.Lists.{Has, up_to}
 use Rattle.step_stamp.specs.Views.{first_view, new_pass}
-use Rattle.step_stamp.specs.Seats.{link_table, pass_table, link_view, pass_view, link_of, actor_of, list_of}
+use Rattle.step_stamp.specs.Seats.{link_table, pass_table, link_view, pass_view, seat_link, seat_actor, list_of}
 
 -- a link's seat with an empty list
 pub record IsNewLink (table : TableId) (actors : ℕ) (s : LinkSeat) : Type 0 where
@@ -20,15 +20,15 @@ pub record IsNewLink (table : TableId) (actors : ℕ) (s : LinkSeat) : Type 0 wh
 -- a pass's seat with its own actor, which has drawn nothing and knows nothing
 pub record IsNewPass (table : TableId) (actors : ℕ) (s : PassSeat) : Type 0 where
   pub from_table : pass_table s ≡ table
-  pub view_is : pass_view s ≡ new_pass (actor_of s) (first_view 0 actors)
+  pub view_is : pass_view s ≡ new_pass (seat_actor s) (first_view 0 actors)
 
 -- the seats of links 0 to n - 1, and of actors 0 to n - 1, in their order
 pub record AreLinks (table : TableId) (actors n : ℕ) (seats : List LinkSeat) : Type 0 where
-  pub numbers : map link_of seats ≡ up_to n
+  pub numbers : map seat_link seats ≡ up_to n
   pub new : Each (IsNewLink table actors) seats
 
 pub record ArePasses (table : TableId) (actors n : ℕ) (seats : List PassSeat) : Type 0 where
-  pub numbers : map actor_of seats ≡ up_to n
+  pub numbers : map seat_actor seats ≡ up_to n
   pub new : Each (IsNewPass table actors) seats
 
 -- what the first seat still has, once the first links or actors were cut from it

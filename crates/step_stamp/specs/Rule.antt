@@ -16,7 +16,7 @@ use Rattle.step_stamp.specs.declared.marks.Mark.{Mark}
 use Rattle.step_stamp.specs.declared.views.Shelf.{Shelf}
 use Rattle.step_stamp.specs.declared.views.View.{View}
 use Rattle.step_stamp.specs.Lists.{Has}
-use Rattle.step_stamp.specs.Marks.{Rises, Numbered, NoTwice, drawn_for, marks_in, of_actor}
+use Rattle.step_stamp.specs.Marks.{StampsRise, Numbered, NoTwice, drawn_for, drawn_marks, of_actor}
 use Rattle.step_stamp.specs.Placing.{hand_at, Placed}
 use Rattle.step_stamp.specs.Views.{shelf_of, known_of, first_of, second_of, nobody}
 
@@ -68,13 +68,13 @@ pub record Fits (t : Tally) (by : ℕ) (v : View) : Type 0 where
   pub lone : v.actors ≡ [] → OfOneLink v
 
 -- the rule on the word and all views
-pub record Kept (words : List ℕ) (views : List View) : Type 0 where
+pub record KeepsRule (words : List ℕ) (views : List View) : Type 0 where
   pub tally : Tally
   pub word : words ≡ length tally.draws ∷ []
   pub numbered : Numbered 0 tally.draws
   pub room : (a : ℕ) → length (of_actor a tally.draws) ≤ 2 ^ 40
   pub acting : Each (λ (d : Drawn). actor_number d.mark.actor < tally.actors) tally.draws
-  pub rises : (l : ℕ) → Rises (tally.log l)
+  pub rises : (l : ℕ) → StampsRise (tally.log l)
   pub drawn : (l : ℕ) → Each (λ (m : Mark). Has (drawn_for l m) tally.draws) (tally.log l)
   pub placed : Placed tally.draws tally.log (hand_at views)
   pub fits : (by : ℕ) (v : View) → get_elem? views by ≡ some v → Fits tally by v
@@ -88,9 +88,9 @@ pub record Learnt (v : View) : Type 0 where
   pub begun : (l : ℕ) → Has l v.links → IsPrefix (first_of l v) (known_of l v)
   pub joined : (l : ℕ) → Has l v.links → IsPrefix (second_of l v) (known_of l v)
   pub in_line : (l : ℕ) → IsPrefix (first_of l v) (second_of l v) ⊎ IsPrefix (second_of l v) (first_of l v)
-  pub rises : (l : ℕ) → Has l v.links → Rises (known_of l v)
+  pub rises : (l : ℕ) → Has l v.links → StampsRise (known_of l v)
   pub few : length v.drawn ≤ 65 * 2 ^ 40
   pub once : NoTwice v.drawn
-  pub in_turn : (a : ℕ) → Rises (marks_in (of_actor a v.drawn))
+  pub in_turn : (a : ℕ) → StampsRise (drawn_marks (of_actor a v.drawn))
   pub own : (l : ℕ) (m : Mark) → Has m (known_of l v) → Has (actor_number m.actor) v.actors → Has (drawn_for l m) v.drawn
   pub all : 1 ≤ v.among → ((a : ℕ) → a < v.among → Has a v.actors) → (l : ℕ) (m : Mark) → Has m (known_of l v) → Has (drawn_for l m) v.drawn

@@ -15,12 +15,12 @@ use Rattle.step_stamp.specs.declared.seats.Ticket.{Ticket}
 use Rattle.step_stamp.specs.declared.stamps.Stamps.{Stamps}
 use Rattle.step_stamp.specs.declared.views.View.{View}
 use Rattle.step_stamp.specs.Lists.{Has, AppearIn}
-use Rattle.step_stamp.specs.Marks.{Rises, NoTwice, drawn_for, of_actor, for_link, marks_of, longer}
+use Rattle.step_stamp.specs.Marks.{StampsRise, NoTwice, drawn_for, of_actor, for_link, marks_of, longer}
 use Rattle.step_stamp.specs.Views.{known_of}
 
 -- which stamps a seat or a ticket belongs to
-abbrev pub table_of : Stamps → TableId
-table_of s = s.table.shared.table_id
+abbrev pub stamps_table : Stamps → TableId
+stamps_table s = s.table.shared.table_id
 
 abbrev pub link_table : LinkSeat → TableId
 link_table s = s.seat.table_id
@@ -39,14 +39,14 @@ abbrev pub link_view : LinkSeat → View
 link_view s = s.seat.me.0
 
 -- the number of a pass's actor and of a link, and the list of the marks entered at the link
-abbrev pub actor_of : PassSeat → ℕ
-actor_of s = actor_number s.actor
+abbrev pub seat_actor : PassSeat → ℕ
+seat_actor s = actor_number s.actor
 
-abbrev pub link_of : LinkSeat → ℕ
-link_of s = link_number s.link
+abbrev pub seat_link : LinkSeat → ℕ
+seat_link s = link_number s.link
 
 abbrev pub list_of : LinkSeat → List Mark
-list_of s = known_of (link_of s) (link_view s)
+list_of s = known_of (seat_link s) (link_view s)
 
 -- what a pass knows of a link
 abbrev pub knows_of : PassSeat → ℕ → List Mark
@@ -55,7 +55,7 @@ knows_of s l = known_of l (pass_view s)
 -- a pass meets a link
 pub record Meets (l : ℕ) (pass link pass' link' : View) : Type 0 where
   pub begins : IsPrefix (known_of l pass) (known_of l link)
-  pub rises : Rises (known_of l link)
+  pub rises : StampsRise (known_of l link)
   pub own : (m : Mark) → Has m (known_of l link) → Has (actor_number m.actor) pass.actors → Has (drawn_for l m) pass.drawn
   pub in_turn : (a : ℕ) → Has a pass.actors → AppearIn (marks_of a (known_of l link)) (for_link l (of_actor a pass.drawn))
   pub knows : known_of l pass' ≡ known_of l link
@@ -109,7 +109,7 @@ pub record Gathered (this that now : View) : Type 0 where
 -- a link's seat joins a pass
 pub record Settled (l : ℕ) (pass link now : View) : Type 0 where
   pub begins : IsPrefix (known_of l pass) (known_of l link)
-  pub rises : Rises (known_of l link)
+  pub rises : StampsRise (known_of l link)
   pub own : (m : Mark) → Has m (known_of l link) → Has (actor_number m.actor) pass.actors → Has (drawn_for l m) pass.drawn
   pub all : ((a : ℕ) → a < pass.among → Has a pass.actors) → (m : Mark) → Has m (known_of l link) → Has (drawn_for l m) pass.drawn
   pub knows : known_of l now ≡ known_of l link

@@ -7,8 +7,8 @@ use Rattle.step_stamp.specs.declared.marks.Drawn.{Drawn}
 use Rattle.step_stamp.specs.declared.marks.Mark.{Mark}
 use Rattle.step_stamp.specs.declared.views.Shelf.{Shelf}
 use Rattle.step_stamp.specs.declared.views.View.{View}
-use Rattle.step_stamp.specs.Lists.{below, without}
-use Rattle.step_stamp.specs.Marks.{marks_in, longer}
+use Rattle.step_stamp.specs.Lists.{below, without_number}
+use Rattle.step_stamp.specs.Marks.{drawn_marks, longer}
 
 -- ---- what is known of a link
 
@@ -39,13 +39,13 @@ abbrev pub new_link : ℕ → View → View
 new_link l v = record { seen = v.seen; among = v.among; links = l ∷ []; actors = []; drawn = []; hand = []; shelves = shelf l (known_of l v) [] [] ∷ [] }
 
 abbrev pub less_link : ℕ → View → View
-less_link l v = record v { links = without l v.links }
+less_link l v = record v { links = without_number l v.links }
 
 abbrev pub new_pass : ℕ → View → View
 new_pass a v = record { seen = v.seen; among = v.among; links = []; actors = a ∷ []; drawn = []; hand = []; shelves = [] }
 
 abbrev pub less_actor : ℕ → View → View
-less_actor a v = record v { actors = without a v.actors }
+less_actor a v = record v { actors = without_number a v.actors }
 
 -- ---- copies: what is left of a seat that joined another; a copy that shows what is known of a link; one that takes the
 -- marks in hand, and what stays behind
@@ -69,7 +69,7 @@ emptied v = record v { hand = [] }
 
 -- a copy joins a link's seat, whose list takes the marks that it has in hand
 abbrev pub entered : ℕ → View → View → View
-entered l v w = record v { seen = max v.seen w.seen; shelves = shelf l (known_of l v ++ marks_in w.hand) (known_of l v) (known_of l w) ∷ v.shelves }
+entered l v w = record v { seen = max v.seen w.seen; shelves = shelf l (known_of l v ++ drawn_marks w.hand) (known_of l v) (known_of l w) ∷ v.shelves }
 
 -- a copy joins a pass, which then knows the longer list
 abbrev pub taken : ℕ → View → View → View

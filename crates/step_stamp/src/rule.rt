@@ -12,10 +12,10 @@ use std::marker::{Brand, PhantomData};
 pub struct StampRule;
 
 impl TableRule<(), View, Opening> for StampRule {
-    ghost use Rattle.step_stamp.specs.Rule.{Kept};
+    ghost use Rattle.step_stamp.specs.Rule.{KeepsRule};
     ghost use Rattle.step_stamp.specs.Views.{first_view};
 
-    ghost holds = { λ about s. Kept s.words s.views };
+    ghost holds = { λ about s. KeepsRule s.words s.views };
 
     ghost first = { λ about. first_view about.links about.actors };
 }

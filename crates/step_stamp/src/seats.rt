@@ -51,7 +51,7 @@ pub struct Ticket {
 
 impl PassSeat {
     ghost use Rattle.step_stamp.specs.Views.{saw};
-    ghost use Rattle.step_stamp.specs.Seats.{table_of, link_table, pass_table, ticket_table, pass_view, link_view, link_of, knows_of, list_of, Meets, DrawsMark, DrawsNone, Gathered, Settled};
+    ghost use Rattle.step_stamp.specs.Seats.{stamps_table, link_table, pass_table, ticket_table, pass_view, link_view, seat_link, knows_of, list_of, Meets, DrawsMark, DrawsNone, Gathered, Settled};
 
     /// The number of marks that it has drawn, stamps lost to want of memory included.
     pub fn drawn(&self) -> u64
@@ -71,9 +71,9 @@ impl PassSeat {
     /// drawn for the link, in their order. It then knows the whole list, and both have seen what either had. Want of
     /// memory leaves all as it was.
     pub fn meet(&mut self, stamps: &Stamps, link: &mut LinkSeat) -> Result<(), OutOfMemory>
-        requires pass { pass_table self.old ≡ table_of stamps.now }
-        requires link { link_table link.old ≡ table_of stamps.now }
-        ensures met { IfOk result (λ _. Meets (link_of link.old) (pass_view self.old) (link_view link.old) (pass_view self.new) (link_view link.new)) }
+        requires pass { pass_table self.old ≡ stamps_table stamps.now }
+        requires link { link_table link.old ≡ stamps_table stamps.now }
+        ensures met { IfOk result (λ _. Meets (seat_link link.old) (pass_view self.old) (link_view link.old) (pass_view self.new) (link_view link.new)) }
         ensures same { (pass_table self.new ≡ pass_table self.old) × (self.new.actor ≡ self.old.actor) × (link_table link.new ≡ link_table link.old) × (link.new.link ≡ link.old.link) }
         ensures memory { OnErr result ((self.new ≡ self.old) × (link.new ≡ link.old)) }
     {
@@ -83,10 +83,10 @@ impl PassSeat {
 
     // The same of the link chosen.
     fn met<C: Chosen>(&mut self, stamps: &Stamps, link: &mut LinkSeat)
-        requires pass { pass_table self.old ≡ table_of stamps.now }
-        requires link { link_table link.old ≡ table_of stamps.now }
-        requires link_is { link_of link.old ≡ C.number }
-        ensures met { Meets (link_of link.old) (pass_view self.old) (link_view link.old) (pass_view self.new) (link_view link.new) }
+        requires pass { pass_table self.old ≡ stamps_table stamps.now }
+        requires link { link_table link.old ≡ stamps_table stamps.now }
+        requires link_is { seat_link link.old ≡ C.number }
+        ensures met { Meets (seat_link link.old) (pass_view self.old) (link_view link.old) (pass_view self.new) (link_view link.new) }
         ensures same { (pass_table self.new ≡ pass_table self.old) × (self.new.actor ≡ self.old.actor) × (link_table link.new ≡ link_table link.old) × (link.new.link ≡ link.old.link) }
     {
         let shared = &stamps.table.shared;
@@ -107,13 +107,13 @@ impl PassSeat {
         link: &LinkSeat,
         ask: &Ask,
     ) -> Result<Ticket, OutOfMemory>
-        requires pass { pass_table self.old ≡ table_of stamps.now }
-        requires link { link_table link.now ≡ table_of stamps.now }
-        requires knows { knows_of self.old (link_of link.now) ≡ list_of link.now }
+        requires pass { pass_table self.old ≡ stamps_table stamps.now }
+        requires link { link_table link.now ≡ stamps_table stamps.now }
+        requires knows { knows_of self.old (seat_link link.now) ≡ list_of link.now }
         requires saw { (link_view link.now).seen ≤ (pass_view self.old).seen }
         requires few { length (pass_view self.old).drawn < 2 ^ 40 }
-        ensures drew { IfOk result (λ t. DrawsMark self.old.actor (link_of link.now) ask.now (pass_view self.old) (pass_view self.new) t.mark) }
-        ensures ticket { IfOk result (λ t. (t.link ≡ link.now.link) × (ticket_table t ≡ table_of stamps.now)) }
+        ensures drew { IfOk result (λ t. DrawsMark self.old.actor (seat_link link.now) ask.now (pass_view self.old) (pass_view self.new) t.mark) }
+        ensures ticket { IfOk result (λ t. (t.link ≡ link.now.link) × (ticket_table t ≡ stamps_table stamps.now)) }
         ensures same { (pass_table self.new ≡ pass_table self.old) × (self.new.actor ≡ self.old.actor) }
         ensures memory { OnErr result (DrawsNone (pass_view self.old) (pass_view self.new)) }
     {
@@ -122,13 +122,13 @@ impl PassSeat {
 
     // The same of the link and the ask chosen.
     fn drawn_at<C: Chosen>(&mut self, stamps: &Stamps, link: LinkNo, ask: &Ask) -> Ticket
-        requires pass { pass_table self.old ≡ table_of stamps.now }
+        requires pass { pass_table self.old ≡ stamps_table stamps.now }
         requires few { length (pass_view self.old).drawn < 2 ^ 40 }
         requires link_is { link_number link ≡ C.number }
         requires draws { (n : ℕ) → C.draws n ≡ drawn_for (link_number link) (record { stamp = n; actor = self.old.actor; ask = ask.now }) ∷ [] }
         ensures drew { DrawsMark self.old.actor (link_number link) ask.now (pass_view self.old) (pass_view self.new) result.mark }
         ensures link_is { result.link ≡ link }
-        ensures table { ticket_table result ≡ table_of stamps.now }
+        ensures table { ticket_table result ≡ stamps_table stamps.now }
         ensures same { (pass_table self.new ≡ pass_table self.old) × (self.new.actor ≡ self.old.actor) }
     {
         let shared = &stamps.table.shared;
@@ -148,7 +148,7 @@ impl PassSeat {
 
     /// How many stamps were drawn by all so far: at least every stamp that the pass had seen. It then counts as seen.
     pub fn seen(&mut self, stamps: &Stamps) -> u64
-        requires pass { pass_table self.old ≡ table_of stamps.now }
+        requires pass { pass_table self.old ≡ stamps_table stamps.now }
         ensures least { (pass_view self.old).seen ≤ result }
         ensures saw { pass_view self.new ≡ saw result (pass_view self.old) }
         ensures same { (pass_table self.new ≡ pass_table self.old) × (self.new.actor ≡ self.old.actor) }
@@ -160,8 +160,8 @@ impl PassSeat {
     /// own followed by the other's, its actors likewise. Of each link it then knows the longer of the two lists, which the
     /// other begins.
     pub fn gather(&mut self, stamps: &Stamps, other: PassSeat)
-        requires this { pass_table self.old ≡ table_of stamps.now }
-        requires that { pass_table other ≡ table_of stamps.now }
+        requires this { pass_table self.old ≡ stamps_table stamps.now }
+        requires that { pass_table other ≡ stamps_table stamps.now }
         ensures joined { Gathered (pass_view self.old) (pass_view other) (pass_view self.new) }
         ensures same { (pass_table self.new ≡ pass_table self.old) × (self.new.actor ≡ self.old.actor) }
     {
@@ -182,9 +182,9 @@ impl PassSeat {
     /// of its actors there are drawn for the link; where it has all actors of the opening, each mark there is one of these.
     /// It then knows the whole list.
     pub fn settle(&mut self, stamps: &Stamps, link: LinkSeat)
-        requires this { pass_table self.old ≡ table_of stamps.now }
-        requires that { link_table link ≡ table_of stamps.now }
-        ensures joined { Settled (link_of link) (pass_view self.old) (link_view link) (pass_view self.new) }
+        requires this { pass_table self.old ≡ stamps_table stamps.now }
+        requires that { link_table link ≡ stamps_table stamps.now }
+        ensures joined { Settled (seat_link link) (pass_view self.old) (link_view link) (pass_view self.new) }
         ensures same { (pass_table self.new ≡ pass_table self.old) × (self.new.actor ≡ self.old.actor) }
     {
         self.settle_at::<Brand>(stamps, link);
@@ -192,10 +192,10 @@ impl PassSeat {
 
     // The same of the link chosen.
     fn settle_at<C: Chosen>(&mut self, stamps: &Stamps, link: LinkSeat)
-        requires this { pass_table self.old ≡ table_of stamps.now }
-        requires that { link_table link ≡ table_of stamps.now }
-        requires chosen { link_of link ≡ C.number }
-        ensures joined { Settled (link_of link) (pass_view self.old) (link_view link) (pass_view self.new) }
+        requires this { pass_table self.old ≡ stamps_table stamps.now }
+        requires that { link_table link ≡ stamps_table stamps.now }
+        requires chosen { seat_link link ≡ C.number }
+        ensures joined { Settled (seat_link link) (pass_view self.old) (link_view link) (pass_view self.new) }
         ensures same { (pass_table self.new ≡ pass_table self.old) × (self.new.actor ≡ self.old.actor) }
     {
         let LinkSeat { seat, link: _ } = link;
@@ -208,7 +208,7 @@ impl PassSeat {
 }
 
 impl LinkSeat {
-    ghost use Rattle.step_stamp.specs.Seats.{table_of, link_table, ticket_table, link_view, link_of, EntersMark};
+    ghost use Rattle.step_stamp.specs.Seats.{stamps_table, link_table, ticket_table, link_view, seat_link, EntersMark};
 
     /// The number of its link.
     pub fn link(&self) -> LinkNo
@@ -220,11 +220,11 @@ impl LinkSeat {
     /// The mark of a ticket goes to the end of the link's list, and its stamp is then seen. The ticket has to be for this
     /// link (`link_is`), with a stamp above what the link has seen (`above`).
     pub fn enter(&mut self, stamps: &Stamps, ticket: Ticket)
-        requires link { link_table self.old ≡ table_of stamps.now }
-        requires ticket { ticket_table ticket ≡ table_of stamps.now }
-        requires link_is { link_number ticket.link ≡ link_of self.old }
+        requires link { link_table self.old ≡ stamps_table stamps.now }
+        requires ticket { ticket_table ticket ≡ stamps_table stamps.now }
+        requires link_is { link_number ticket.link ≡ seat_link self.old }
         requires above { (link_view self.old).seen < ticket.mark.stamp }
-        ensures entered { EntersMark (link_of self.old) (link_view self.old) (link_view self.new) ticket.mark }
+        ensures entered { EntersMark (seat_link self.old) (link_view self.old) (link_view self.new) ticket.mark }
         ensures same { (link_table self.new ≡ link_table self.old) × (self.new.link ≡ self.old.link) }
     {
         self.entered_at::<Brand>(stamps, ticket);
@@ -232,12 +232,12 @@ impl LinkSeat {
 
     // The same of the link chosen.
     fn entered_at<C: Chosen>(&mut self, stamps: &Stamps, ticket: Ticket)
-        requires link { link_table self.old ≡ table_of stamps.now }
-        requires ticket { ticket_table ticket ≡ table_of stamps.now }
-        requires link_is { link_number ticket.link ≡ link_of self.old }
+        requires link { link_table self.old ≡ stamps_table stamps.now }
+        requires ticket { ticket_table ticket ≡ stamps_table stamps.now }
+        requires link_is { link_number ticket.link ≡ seat_link self.old }
         requires above { (link_view self.old).seen < ticket.mark.stamp }
-        requires chosen { link_of self.old ≡ C.number }
-        ensures entered { EntersMark (link_of self.old) (link_view self.old) (link_view self.new) ticket.mark }
+        requires chosen { seat_link self.old ≡ C.number }
+        ensures entered { EntersMark (seat_link self.old) (link_view self.old) (link_view self.new) ticket.mark }
         ensures same { (link_table self.new ≡ link_table self.old) × (self.new.link ≡ self.old.link) }
     {
         let Ticket {

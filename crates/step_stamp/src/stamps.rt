@@ -21,7 +21,7 @@ pub struct Stamps {
 }
 
 impl Stamps {
-    ghost use Rattle.step_stamp.specs.Seats.{table_of, link_table, pass_table, pass_view, link_view};
+    ghost use Rattle.step_stamp.specs.Seats.{stamps_table, link_table, pass_table, pass_view, link_view};
     ghost use Rattle.step_stamp.specs.Opening.{AreLinks, ArePasses, IsFirst};
 
     /// The stamps of a network of 1 to 32 links and 1 to 65 actors, with a seat for each link and one for each actor, in
@@ -33,8 +33,8 @@ impl Stamps {
     ) -> Result<(Stamps, Vec<LinkSeat>, Vec<PassSeat>), OutOfMemory>
         requires links { (1 ≤ links) × (links ≤ 32) }
         requires actors { (1 ≤ actors) × (actors ≤ 65) }
-        ensures links { IfOk result (λ r. AreLinks (table_of r.0) actors links r.1.items) }
-        ensures passes { IfOk result (λ r. ArePasses (table_of r.0) actors actors r.2.items) }
+        ensures links { IfOk result (λ r. AreLinks (stamps_table r.0) actors links r.1.items) }
+        ensures passes { IfOk result (λ r. ArePasses (stamps_table r.0) actors actors r.2.items) }
     {
         let about = Opening {
             links: u64::from(links),
@@ -59,10 +59,10 @@ impl Stamps {
         links: u8,
         actors: u8,
     ) -> Result<Vec<LinkSeat>, OutOfMemory>
-        requires table { first.old.table_id ≡ table_of self.now }
+        requires table { first.old.table_id ≡ stamps_table self.now }
         requires first { IsFirst links actors 0 0 first.old.me.0 × (first.old.me.1 ≡ []) }
         requires most { links ≤ 32 }
-        ensures seats { IfOk result (λ v. AreLinks (table_of self.now) actors links v.items) }
+        ensures seats { IfOk result (λ v. AreLinks (stamps_table self.now) actors links v.items) }
         ensures first { IfOk result (λ _. IsFirst links actors links 0 first.new.me.0 × (first.new.me.1 ≡ []) × (first.new.table_id ≡ first.old.table_id)) }
     {
         let mut seats = Vec::new(alloc);
@@ -78,10 +78,10 @@ impl Stamps {
 
     // The seat of one link.
     fn link_seat<C: Chosen>(&self, first: &mut Seat<(), View>, link: LinkNo) -> LinkSeat
-        requires table { first.old.table_id ≡ table_of self.now }
+        requires table { first.old.table_id ≡ stamps_table self.now }
         requires mine { Has (link_number link) first.old.me.0.links }
         requires chosen { link_number link ≡ C.number }
-        ensures seat { (link_table result ≡ table_of self.now) × (result.link ≡ link) × (link_view result ≡ new_link (link_number link) first.old.me.0) }
+        ensures seat { (link_table result ≡ stamps_table self.now) × (result.link ≡ link) × (link_view result ≡ new_link (link_number link) first.old.me.0) }
         ensures first { (first.new.table_id ≡ first.old.table_id) × (first.new.me ≡ (less_link (link_number link) first.old.me.0, first.old.me.1)) }
     {
         LinkSeat {
@@ -98,10 +98,10 @@ impl Stamps {
         links: u8,
         actors: u8,
     ) -> Result<Vec<PassSeat>, OutOfMemory>
-        requires table { first.old.table_id ≡ table_of self.now }
+        requires table { first.old.table_id ≡ stamps_table self.now }
         requires first { IsFirst links actors links 0 first.old.me.0 × (first.old.me.1 ≡ []) }
         requires most { actors ≤ 65 }
-        ensures seats { IfOk result (λ v. ArePasses (table_of self.now) actors actors v.items) }
+        ensures seats { IfOk result (λ v. ArePasses (stamps_table self.now) actors actors v.items) }
     {
         let mut seats = Vec::new(alloc);
         for n in 0..actors {
@@ -116,13 +116,13 @@ impl Stamps {
 
     // The pass of one actor.
     fn pass_seat<C: Chosen>(&self, first: &mut Seat<(), View>, actor: ActorNo) -> PassSeat
-        requires table { first.old.table_id ≡ table_of self.now }
+        requires table { first.old.table_id ≡ stamps_table self.now }
         requires mine { Has (actor_number actor) first.old.me.0.actors }
         requires nothing { first.old.me.0.drawn ≡ [] }
         requires bare { first.old.me.0.shelves ≡ [] }
         requires among { 1 ≤ first.old.me.0.among }
         requires chosen { actor_number actor ≡ C.number }
-        ensures seat { (pass_table result ≡ table_of self.now) × (result.actor ≡ actor) × (pass_view result ≡ new_pass (actor_number actor) first.old.me.0) }
+        ensures seat { (pass_table result ≡ stamps_table self.now) × (result.actor ≡ actor) × (pass_view result ≡ new_pass (actor_number actor) first.old.me.0) }
         ensures first { (first.new.table_id ≡ first.old.table_id) × (first.new.me ≡ (less_actor (actor_number actor) first.old.me.0, first.old.me.1)) }
     {
         PassSeat {

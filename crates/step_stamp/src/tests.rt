@@ -1,7 +1,7 @@
 //! The first two steps of one link by one pass.
 ghost use Rattle.std.specs.Prelude.{IfOk};
 ghost use Rattle.step_stamp.specs.Opening.{IsNewLink, IsNewPass};
-ghost use Rattle.step_stamp.specs.Seats.{table_of};
+ghost use Rattle.step_stamp.specs.Seats.{stamps_table};
 
 use crate::{LinkSeat, PassSeat, Stamps};
 use link_steps::Ask;
@@ -11,7 +11,7 @@ use std::test::Fail;
 
 // The stamps of one link and of one actor, with the two seats.
 fn opened(alloc: Global) -> Result<(Stamps, LinkSeat, PassSeat), OutOfMemory>
-    ensures { IfOk result (λ r. IsNewLink (table_of r.0) 1 r.1 × IsNewPass (table_of r.0) 1 r.2) }
+    ensures { IfOk result (λ r. IsNewLink (stamps_table r.0) 1 r.1 × IsNewPass (stamps_table r.0) 1 r.2) }
 {
     let (stamps, mut links, mut passes) = Stamps::open(alloc, 1, 1)?;
     match (links.pop(), passes.pop()) {

@@ -2,7 +2,7 @@
 use Rattle.std.proofs.Common.{◌≡◌, ◌⊎◌, inl, inr, refl, ℕ, ◌<◌, Bool, List, [], ◌∷◌, ◌++◌, length, take, drop, Option, Some, None, Ok, Err, IfSome, subst, sym, ◌∙◌, ap, reverse}
 use Rattle.std.proofs.lemmas.List.{reverse-reverse, take-append-drop}
 use Rattle.std.specs.Io.KnownBytes.{Appends, Keeps, IsAtEnd}
-use Rattle.byte_ends.specs.Faults.{Rises}
+use Rattle.byte_ends.specs.Faults.{FaultsRise}
 use Rattle.byte_ends.specs.Writing.{WritesFront}
 use Rattle.call_script.specs.Parts.{PlanParts}
 use Rattle.call_script.specs.Plans.{IsPlan}
@@ -13,11 +13,11 @@ use Rattle.interleave_core.specs.declared.playing.PlayFault.{PlayFault}
 use Rattle.interleave_core.specs.declared.playing.PlayFault.TheVariants.{Step}
 use Rattle.interleave_core.specs.Standing.{IsGuaranteedRun}
 use Rattle.run_record.specs.declared.done.Done.{Done}
-use Rattle.tenet_app.specs.Playing.{Ends, refusal_line, DueOfPlan, Reports, Misses, IsDue, ComesTo, FrontOfDue, FrontOfPlan, ReportsRun, TellsMissing, AnswersPlan, WritesReport, IsWritten, FrontWritten, LacksMemory, TellsRefusal, IsTold, FrontTold, NotTold, Plays}
-use Rattle.scenario_reader.specs.Reading.{Reading, IsRead, IsBad, IsOver, reading}
-use Rattle.scenario_reader.specs.ReadSteps.{Tells}
+use Rattle.tenet_app.specs.Playing.{Ends, refusal_line, DueOfPlan, Reports, Misses, IsDueFor, BytesComeTo, FrontOfDue, FrontOfPlan, ReportsRun, TellsMissing, AnswersPlan, WritesReport, ReportWritten, FrontWritten, LacksMemory, TellsRefusal, RefusalTold, FrontTold, NotTold, Plays}
+use Rattle.scenario_reader.specs.Reading.{Reading, PlanRead, BadLine, TooManyBytes, reading}
+use Rattle.scenario_reader.specs.ReadSteps.{TellsReading}
 use Rattle.byte_ends.specs.Gathering.{WritesPart}
-use Rattle.channel_report.specs.Telling.{Writes}
+use Rattle.channel_report.specs.Telling.{WritesText}
 use Rattle.channel_report.specs.Report.{report_of}
 use Rattle.scenario_reader.specs.declared.reader.ReadRefusal.{ReadRefusal}
 use Rattle.scenario_reader.specs.declared.reader.ReadRefusal.TheVariants as refusal
@@ -37,7 +37,7 @@ part-of-front written written' piece text is front = record { front = take front
 
 pub of-report : (packets : Bool) (parts : PlanParts) (schedule : Schedule) (entries : List Done) (answer : Status) (written written' : Option (List ℕ)) (faults faults' : ℕ) → IsPlayed (network_of parts) schedule (reverse entries) → IsGuaranteedRun parts (reverse entries)
     → WritesReport answer (report_of parts entries packets) written written' faults faults' → AnswersPlan packets parts schedule answer written written' faults faults'
-of-report packets parts schedule entries answer written written' faults faults' played guaranteed (IsWritten is appends) =
+of-report packets parts schedule entries answer written written' faults faults' played guaranteed (ReportWritten is appends) =
     subst (λ a. AnswersPlan packets parts schedule a written written' faults faults') (sym is)
     (record { run = reverse entries; played = played; guaranteed = guaranteed; appends = subst (λ es. Appends written written' (report_of parts es packets)) (sym (reverse-reverse entries)) appends })
 of-report packets parts schedule entries answer written written' faults faults' played guaranteed (FrontWritten is rises part) =
@@ -49,7 +49,7 @@ of-report packets parts schedule entries answer written written' faults faults' 
 
 missing-answers : (packets : Bool) (parts : PlanParts) (schedule : Schedule) (line made : ℕ) (answer : Status) (written written' : Option (List ℕ)) (faults faults' : ℕ) → AsksTooMuch (network_of parts) schedule line made → TellsRefusal line cause.Step answer written written' faults faults'
     → AnswersPlan packets parts schedule answer written written' faults faults'
-missing-answers packets parts schedule line made answer written written' faults faults' missing (IsTold is appends) =
+missing-answers packets parts schedule line made answer written written' faults faults' missing (RefusalTold is appends) =
     subst (λ a. AnswersPlan packets parts schedule a written written' faults faults') (sym is) (record { step = refl; made = made; missing = missing; appends = appends })
 missing-answers packets parts schedule line made answer written written' faults faults' missing (FrontTold is rises part) =
     subst (λ a. AnswersPlan packets parts schedule a written written' faults faults') (sym is)
@@ -62,20 +62,20 @@ of-missing packets parts schedule fault line made answer written written' faults
 
 -- ---- what the bytes come to
 
-read-as : (left : Option (List ℕ)) (both : PlanParts × Schedule) → Tells (Ok both) left → ComesTo left (λ r. r ≡ IsRead both.0 both.1)
+read-as : (left : Option (List ℕ)) (both : PlanParts × Schedule) → TellsReading (Ok both) left → BytesComeTo left (λ r. r ≡ PlanRead both.0 both.1)
 read-as None both told = tt
 read-as (Some bytes) both told = told
 
-due-as : (left : Option (List ℕ)) (parts : PlanParts) (schedule : Schedule) (P : Reading → Type 0) → ComesTo left (λ r. r ≡ IsRead parts schedule) → P (IsRead parts schedule) → ComesTo left P
+due-as : (left : Option (List ℕ)) (parts : PlanParts) (schedule : Schedule) (P : Reading → Type 0) → BytesComeTo left (λ r. r ≡ PlanRead parts schedule) → P (PlanRead parts schedule) → BytesComeTo left P
 due-as None parts schedule P read due = tt
 due-as (Some bytes) parts schedule P read due = subst P (sym read) due
 
-front-as : (packets : Bool) (left : Option (List ℕ)) (parts : PlanParts) (schedule : Schedule) (written written' : Option (List ℕ)) → ComesTo left (λ r. r ≡ IsRead parts schedule) → FrontOfPlan packets parts schedule written written' → ComesTo left (FrontOfDue packets written written')
+front-as : (packets : Bool) (left : Option (List ℕ)) (parts : PlanParts) (schedule : Schedule) (written written' : Option (List ℕ)) → BytesComeTo left (λ r. r ≡ PlanRead parts schedule) → FrontOfPlan packets parts schedule written written' → BytesComeTo left (FrontOfDue packets written written')
 front-as packets left parts schedule written written' read part =
     due-as left parts schedule (FrontOfDue packets written written') read (record { answer = part.answer; text = part.text; due = part.due; front = part.front })
 
 -- a plan and its schedule were read
-pub plays-plan : (packets : Bool) (before after : Ends) (answer : Status) (both : PlanParts × Schedule) → IsPlan both.0 → Tells (Ok both) before.left → IsAtEnd after.left → AnswersPlan packets both.0 both.1 answer before.written after.written before.write_faults after.write_faults → Plays packets answer before after
+pub plays-plan : (packets : Bool) (before after : Ends) (answer : Status) (both : PlanParts × Schedule) → IsPlan both.0 → TellsReading (Ok both) before.left → IsAtEnd after.left → AnswersPlan packets both.0 both.1 answer before.written after.written before.write_faults after.write_faults → Plays packets answer before after
 plays-plan packets before after status.Done both plan told ended answers = record {
   parts = both.0;
   schedule = both.1;
@@ -93,25 +93,25 @@ plays-plan packets before after status.Words both plan told ended answers = absu
 plays-plan packets before after status.ReadFault both plan told ended answers = absurd answers
 plays-plan packets before after status.WriteFault both plan told ended answers = record { rises = answers.0; written = front-as packets before.left both.0 both.1 before.written after.written (read-as before.left both told) answers.1 }
 plays-plan packets before after (status.Refused line why) both plan told ended answers = record {
-  due = due-as before.left both.0 both.1 (IsDue packets (status.Refused line why) (refusal_line line why)) (read-as before.left both told)
+  due = due-as before.left both.0 both.1 (IsDueFor packets (status.Refused line why) (refusal_line line why)) (read-as before.left both told)
       (Misses line answers.made answers.missing (ap (status.Refused line) answers.step) (ap (refusal_line line) answers.step));
   written = subst (λ w. Appends before.written after.written (refusal_line line w)) (sym answers.step) answers.appends;
 }
 plays-plan packets before after status.TooLong both plan told ended answers = absurd answers
 
 -- a line was refused
-bad-as : (packets : Bool) (left : Option (List ℕ)) (line : ℕ) (why : Cause) (P : Reading → Type 0) → Tells (Err (refusal.Refused line why)) left → P (IsBad line why) → ComesTo left P
+bad-as : (packets : Bool) (left : Option (List ℕ)) (line : ℕ) (why : Cause) (P : Reading → Type 0) → TellsReading (Err (refusal.Refused line why)) left → P (BadLine line why) → BytesComeTo left P
 bad-as packets None line why P told due = tt
 bad-as packets (Some bytes) line why P told due = subst P (sym told) due
 
-refused-plays : (packets : Bool) (before after : Ends) (answer : Status) (line : ℕ) (why : Cause) → Tells (Err (refusal.Refused line why)) before.left → TellsRefusal line why answer before.written after.written before.write_faults after.write_faults → Plays packets answer before after
-refused-plays packets before after answer line why told (IsTold is appends) =
+refused-plays : (packets : Bool) (before after : Ends) (answer : Status) (line : ℕ) (why : Cause) → TellsReading (Err (refusal.Refused line why)) before.left → TellsRefusal line why answer before.written after.written before.write_faults after.write_faults → Plays packets answer before after
+refused-plays packets before after answer line why told (RefusalTold is appends) =
     subst (λ a. Plays packets a before after) (sym is)
-    (record { due = bad-as packets before.left line why (IsDue packets (status.Refused line why) (refusal_line line why)) told (refl, refl); written = appends })
+    (record { due = bad-as packets before.left line why (IsDueFor packets (status.Refused line why) (refusal_line line why)) told (refl, refl); written = appends })
 refused-plays packets before after answer line why told (FrontTold is rises part) =
     subst (λ a. Plays packets a before after) (sym is)
     (record { rises = rises; written = bad-as packets before.left line why (FrontOfDue packets before.written after.written) told (record { answer = status.Refused line why; text = refusal_line line why; due = (refl, refl); front = part }) })
 refused-plays packets before after answer line why told (NotTold is keeps) = subst (λ a. Plays packets a before after) (sym is) (inl keeps)
 
-pub plays-refused : (packets : Bool) (before after : Ends) (answer : Status) (why_not : ReadRefusal) (line : ℕ) (why : Cause) → why_not ≡ refusal.Refused line why → Tells (Err why_not) before.left → TellsRefusal line why answer before.written after.written before.write_faults after.write_faults → Plays packets answer before after
-plays-refused packets before after answer why_not line why is told tells = refused-plays packets before after answer line why (subst (λ r. Tells (Err r) before.left) is told) tells
+pub plays-refused : (packets : Bool) (before after : Ends) (answer : Status) (why_not : ReadRefusal) (line : ℕ) (why : Cause) → why_not ≡ refusal.Refused line why → TellsReading (Err why_not) before.left → TellsRefusal line why answer before.written after.written before.write_faults after.write_faults → Plays packets answer before after
+plays-refused packets before after answer why_not line why is told tells = refused-plays packets before after answer line why (subst (λ r. TellsReading (Err r) before.left) is told) tells

@@ -2,11 +2,11 @@
 use Rattle.std.proofs.Common.{◌≡◌, ◌⊎◌, inl, inr, refl, ℕ, List, Option, Result, Ok, Err, subst, sym, ◌∙◌, ap, reverse}
 use Rattle.std.proofs.lemmas.List.{reverse-reverse}
 use Rattle.std.specs.Io.KnownBytes.{Appends}
-use Rattle.byte_ends.specs.Faults.{Rises}
+use Rattle.byte_ends.specs.Faults.{FaultsRise}
 use Rattle.call_script.specs.Parts.{PlanParts}
 use Rattle.call_script.specs.Tasks.{network_of}
 use Rattle.channel_report.specs.Summary.{summary_of}
-use Rattle.channel_report.specs.Telling.{Writes}
+use Rattle.channel_report.specs.Telling.{WritesText}
 use Rattle.channel_report.specs.declared.fault.ReportFault.{ReportFault}
 use Rattle.channel_report.specs.declared.fault.ReportFault.TheVariants as fault
 use Rattle.interleave_core.specs.Standing.{IsGuaranteedRun}
@@ -27,7 +27,7 @@ one-due number size answer other text text_other one two =
 
 -- ---- an answer without a fault
 
-answers-due : (number size : ℕ) (answer : Status) (written written' : Option (List ℕ)) (faults faults' : ℕ) → (Rises faults faults' → ⊥) → Makes number size answer written written' faults faults' → (answer ≡ status.Memory) ⊎ DueAs number size answer
+answers-due : (number size : ℕ) (answer : Status) (written written' : Option (List ℕ)) (faults faults' : ℕ) → (FaultsRise faults faults' → ⊥) → Makes number size answer written written' faults faults' → (answer ≡ status.Memory) ⊎ DueAs number size answer
 answers-due number size status.Done written written' faults faults' none makes =
     inr (record { text = summary_of number size (made_parts number size) (reverse makes.run); due = record { run = makes.run; by_turns = makes.by_turns; done = refl; summary = refl } })
 answers-due number size status.Memory written written' faults faults' none makes = inl refl
@@ -48,7 +48,7 @@ made-summary number size entries text by_turns is =
     record { run = reverse entries; by_turns = by_turns; done = refl; summary = is ∙ ap (λ es. summary_of number size (made_parts number size) es) (sym (reverse-reverse entries)) }
 
 summarized : {X : Type 0} (number size : ℕ) (entries : List Done) (answer : Result X ReportFault) (written written' : Option (List ℕ)) (faults faults' : ℕ) → IsTurnsRun (network_of (made_parts number size)) (reverse entries) → IsGuaranteedRun (made_parts number size) (reverse entries)
-    → Writes answer written written' faults faults' (summary_of number size (made_parts number size) entries) → Summarizes number size answer written written' faults faults'
+    → WritesText answer written written' faults faults' (summary_of number size (made_parts number size) entries) → Summarizes number size answer written written' faults faults'
 summarized number size entries (Ok done) written written' faults faults' by_turns guaranteed writes = record {
   run = reverse entries;
   by_turns = by_turns;
@@ -62,7 +62,7 @@ summarized number size entries (Err fault.WriteFault) written written' faults fa
 
 -- of a plan that is the load's
 pub plan-summarized : {X : Type 0} (number size : ℕ) (parts : PlanParts) (entries : List Done) (answer : Result X ReportFault) (written written' : Option (List ℕ)) (faults faults' : ℕ) → parts ≡ made_parts number size → IsTurnsRun (network_of parts) (reverse entries) → IsGuaranteedRun parts (reverse entries)
-    → Writes answer written written' faults faults' (summary_of number size parts entries) → Summarizes number size answer written written' faults faults'
+    → WritesText answer written written' faults faults' (summary_of number size parts entries) → Summarizes number size answer written written' faults faults'
 plan-summarized number size parts entries answer written written' faults faults' is by_turns guaranteed writes =
     summarized number size entries answer written written' faults faults' (subst (λ p. IsTurnsRun (network_of p) (reverse entries)) is by_turns) (subst (λ p. IsGuaranteedRun p (reverse entries)) is guaranteed)
-    (subst (λ p. Writes answer written written' faults faults' (summary_of number size p entries)) is writes)
+    (subst (λ p. WritesText answer written written' faults faults' (summary_of number size p entries)) is writes)

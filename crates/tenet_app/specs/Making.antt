@@ -3,7 +3,7 @@
 -- written. What is said of bytes is said where the sink tells them.
 use Rattle.std.specs.Prelude.{◌≡◌, ℕ, nat_le, ◌&&◌, if◌then◌else◌, ◌⊎◌, Option, Some, None, Result, Ok, Err, List, [], ◌∷◌, reverse, codes}
 use Rattle.std.specs.Io.KnownBytes.{Appends, Keeps}
-use Rattle.byte_ends.specs.Faults.{Rises}
+use Rattle.byte_ends.specs.Faults.{FaultsRise}
 use Rattle.byte_ends.specs.Gathering.{WritesPart}
 use Rattle.call_script.specs.Tasks.{network_of}
 use Rattle.channel_report.specs.Summary.{summary_of}
@@ -14,7 +14,7 @@ use Rattle.load_maker.specs.Made.{made_parts}
 use Rattle.load_maker.specs.TurnRuns.{IsTurnsRun}
 use Rattle.run_record.specs.declared.done.Done.{Done}
 use Rattle.scenario_reader.specs.Decimal.{is_number, value_of}
-use Rattle.tenet_app.specs.Playing.{is_word}
+use Rattle.tenet_app.specs.Playing.{is_this_word}
 use Rattle.tenet_app.specs.declared.status.Status.{Status}
 use Rattle.tenet_app.specs.declared.status.Status.TheVariants as status
 
@@ -46,7 +46,7 @@ pub record FrontOfLoad (number size : ℕ) (written written' : Option (List ℕ)
 abbrev pub Makes : ℕ → ℕ → Status → Option (List ℕ) → Option (List ℕ) → ℕ → ℕ → Type 0
 Makes number size status.Done written written' faults faults' = MakesDone number size written written'
 Makes number size status.Memory written written' faults faults' = Keeps written written' ⊎ FrontOfLoad number size written written'
-Makes number size status.WriteFault written written' faults faults' = Rises faults faults' × FrontOfLoad number size written written'
+Makes number size status.WriteFault written written' faults faults' = FaultsRise faults faults' × FrontOfLoad number size written written'
 Makes number size status.Words written written' faults faults' = ⊥
 Makes number size status.ReadFault written written' faults faults' = ⊥
 Makes number size (status.Refused line told) written written' faults faults' = ⊥
@@ -67,7 +67,7 @@ pub record DueAs (number size : ℕ) (answer : Status) : Type 0 where
 
 pub record LoadsDetermine : Type 0 where
   -- where the sink doesn't fail, an answer that `make` may give is due for the number and the size, or memory was wanted
-  pub answers : (number size : ℕ) (answer : Status) (written written' : Option (List ℕ)) (faults faults' : ℕ) → (Rises faults faults' → ⊥) → Makes number size answer written written' faults faults' → (answer ≡ status.Memory) ⊎ DueAs number size answer
+  pub answers : (number size : ℕ) (answer : Status) (written written' : Option (List ℕ)) (faults faults' : ℕ) → (FaultsRise faults faults' → ⊥) → Makes number size answer written written' faults faults' → (answer ≡ status.Memory) ⊎ DueAs number size answer
   -- and no two are due
   pub one : (number size : ℕ) (answer other : Status) (text text_other : List ℕ) → DueOfLoad number size answer text → DueOfLoad number size other text_other → (answer ≡ other) × (text ≡ text_other)
 
@@ -87,5 +87,5 @@ abbrev pub make_words : List (List ℕ) → Option (ℕ × ℕ)
 make_words [] = None
 make_words (word ∷ []) = None
 make_words (first ∷ second ∷ []) = None
-make_words (word ∷ number ∷ size ∷ []) = if is_word (codes "make") word then both_of (number_from 0 2147483647 number) (number_from 1 1024 size) else None
+make_words (word ∷ number ∷ size ∷ []) = if is_this_word (codes "make") word then both_of (number_from 0 2147483647 number) (number_from 1 1024 size) else None
 make_words (first ∷ second ∷ third ∷ fourth ∷ others) = None

@@ -6,18 +6,18 @@ use Rattle.std.specs.Prelude.{◌≡◌, ℕ, ◌≤◌, Bool, true, false, ◌&
 use Rattle.std.specs.Cmp.Lexicographic.{pointwise}
 use Rattle.std.specs.Fmt.{decimal}
 use Rattle.std.specs.Io.KnownBytes.{Appends, Keeps, IsAtEnd}
-use Rattle.byte_ends.specs.Faults.{Rises}
+use Rattle.byte_ends.specs.Faults.{FaultsRise}
 use Rattle.call_script.specs.Parts.{PlanParts}
 use Rattle.call_script.specs.Plans.{IsPlan}
 use Rattle.call_script.specs.Tasks.{network_of}
 use Rattle.call_script.specs.declared.schedule.Schedule.{Schedule}
 use Rattle.byte_ends.specs.Gathering.{WritesPart}
-use Rattle.channel_report.specs.Lines.{line_of}
+use Rattle.channel_report.specs.Lines.{whole_line}
 use Rattle.channel_report.specs.Report.{report_of}
 use Rattle.interleave_core.specs.Schedules.{IsPlayed, AsksTooMuch}
 use Rattle.interleave_core.specs.Standing.{IsGuaranteedRun}
 use Rattle.run_record.specs.declared.done.Done.{Done}
-use Rattle.scenario_reader.specs.Reading.{Reading, IsRead, IsBad, IsOver, reading, LetsPass}
+use Rattle.scenario_reader.specs.Reading.{Reading, PlanRead, BadLine, TooManyBytes, reading, LetsPass}
 use Rattle.scenario_reader.specs.Words.{cause_word}
 use Rattle.scenario_reader.specs.declared.cause.Cause.{Cause}
 use Rattle.scenario_reader.specs.declared.cause.Cause.TheVariants as cause
@@ -36,7 +36,7 @@ pub record Ends : Type 0 where
 
 -- refused LINE CAUSE
 abbrev pub refusal_line : ℕ → Cause → List ℕ
-refusal_line line why = line_of (codes "refused" ∷ decimal line ∷ cause_word why ∷ [])
+refusal_line line why = whole_line (codes "refused" ∷ decimal line ∷ cause_word why ∷ [])
 
 -- a plan and a schedule come to the report of a run, with or without the table of packets, or to the line that asks for a step
 -- that isn't left
@@ -45,20 +45,20 @@ pub data DueOfPlan (packets : Bool) (parts : PlanParts) (schedule : Schedule) (a
   Misses : (line made : ℕ) → AsksTooMuch (network_of parts) schedule line made → answer ≡ status.Refused line cause.Step → text ≡ refusal_line line cause.Step → DueOfPlan packets parts schedule answer text
 
 -- the status and the text that are due for what the bytes come to
-abbrev pub IsDue : Bool → Status → List ℕ → Reading → Type 0
-IsDue packets answer text (IsRead parts schedule) = DueOfPlan packets parts schedule answer text
-IsDue packets answer text (IsBad line why) = (answer ≡ status.Refused line why) × (text ≡ refusal_line line why)
-IsDue packets answer text IsOver = (answer ≡ status.TooLong) × (text ≡ [])
+abbrev pub IsDueFor : Bool → Status → List ℕ → Reading → Type 0
+IsDueFor packets answer text (PlanRead parts schedule) = DueOfPlan packets parts schedule answer text
+IsDueFor packets answer text (BadLine line why) = (answer ≡ status.Refused line why) × (text ≡ refusal_line line why)
+IsDueFor packets answer text TooManyBytes = (answer ≡ status.TooLong) × (text ≡ [])
 
 -- the bytes that the source had, where it tells them, come to this
-abbrev pub ComesTo : Option (List ℕ) → (Reading → Type 0) → Type 0
-ComesTo left P = IfSome left (λ bytes. P (reading MOST_BYTES bytes))
+abbrev pub BytesComeTo : Option (List ℕ) → (Reading → Type 0) → Type 0
+BytesComeTo left P = IfSome left (λ bytes. P (reading MOST_BYTES bytes))
 
 -- a front of a text that is due was written
 pub record FrontOfDue (packets : Bool) (written written' : Option (List ℕ)) (r : Reading) : Type 0 where
   pub answer : Status
   pub text : List ℕ
-  pub due : IsDue packets answer text r
+  pub due : IsDueFor packets answer text r
   pub front : WritesPart written written' text
 
 -- ---- what a status says
@@ -70,7 +70,7 @@ pub record PlaysDone (packets : Bool) (before after : Ends) : Type 0 where
   pub schedule : Schedule
   pub run : List Done
   pub plan : IsPlan parts
-  pub read : ComesTo before.left (λ r. r ≡ IsRead parts schedule)
+  pub read : BytesComeTo before.left (λ r. r ≡ PlanRead parts schedule)
   pub ended : IsAtEnd after.left
   pub played : IsPlayed (network_of parts) schedule run
   pub guaranteed : IsGuaranteedRun parts run
@@ -78,28 +78,28 @@ pub record PlaysDone (packets : Bool) (before after : Ends) : Type 0 where
 
 -- that is due for the bytes, and one line that tells it was written
 pub record PlaysRefused (packets : Bool) (line : ℕ) (told : Cause) (before after : Ends) : Type 0 where
-  pub due : ComesTo before.left (IsDue packets (status.Refused line told) (refusal_line line told))
+  pub due : BytesComeTo before.left (IsDueFor packets (status.Refused line told) (refusal_line line told))
   pub written : Appends before.written after.written (refusal_line line told)
 
 -- there are too many bytes, and nothing was written
 pub record PlaysTooLong (before after : Ends) : Type 0 where
-  pub over : ComesTo before.left (λ r. r ≡ IsOver)
+  pub over : BytesComeTo before.left (λ r. r ≡ TooManyBytes)
   pub written : Keeps before.written after.written
 
 -- the source failed before a whole line that is refused or a byte too many was taken from it, and nothing was written
 pub record PlaysReadFault (before after : Ends) : Type 0 where
   pub passing : LetsPass MOST_BYTES before.left after.left
-  pub rises : Rises before.read_faults after.read_faults
+  pub rises : FaultsRise before.read_faults after.read_faults
   pub written : Keeps before.written after.written
 
 -- the sink failed, and a front of the text due was written
 pub record PlaysWriteFault (packets : Bool) (before after : Ends) : Type 0 where
-  pub rises : Rises before.write_faults after.write_faults
-  pub written : ComesTo before.left (FrontOfDue packets before.written after.written)
+  pub rises : FaultsRise before.write_faults after.write_faults
+  pub written : BytesComeTo before.left (FrontOfDue packets before.written after.written)
 
--- memory was wanted before anything was written, or behind a front of the text due
+-- memory was wanted before anything was written, or after a front of the text due
 abbrev pub PlaysMemory : Bool → Ends → Ends → Type 0
-PlaysMemory packets before after = Keeps before.written after.written ⊎ ComesTo before.left (FrontOfDue packets before.written after.written)
+PlaysMemory packets before after = Keeps before.written after.written ⊎ BytesComeTo before.left (FrontOfDue packets before.written after.written)
 
 abbrev pub Plays : Bool → Status → Ends → Ends → Type 0
 Plays packets status.Done before after = PlaysDone packets before after
@@ -137,7 +137,7 @@ pub record TellsMissing (parts : PlanParts) (schedule : Schedule) (line : ℕ) (
 abbrev pub AnswersPlan : Bool → PlanParts → Schedule → Status → Option (List ℕ) → Option (List ℕ) → ℕ → ℕ → Type 0
 AnswersPlan packets parts schedule status.Done written written' faults faults' = ReportsRun packets parts schedule written written'
 AnswersPlan packets parts schedule status.Memory written written' faults faults' = Keeps written written' ⊎ FrontOfPlan packets parts schedule written written'
-AnswersPlan packets parts schedule status.WriteFault written written' faults faults' = Rises faults faults' × FrontOfPlan packets parts schedule written written'
+AnswersPlan packets parts schedule status.WriteFault written written' faults faults' = FaultsRise faults faults' × FrontOfPlan packets parts schedule written written'
 AnswersPlan packets parts schedule (status.Refused line told) written written' faults faults' = TellsMissing parts schedule line told written written'
 AnswersPlan packets parts schedule status.Words written written' faults faults' = ⊥
 AnswersPlan packets parts schedule status.ReadFault written written' faults faults' = ⊥
@@ -145,23 +145,23 @@ AnswersPlan packets parts schedule status.TooLong written written' faults faults
 
 -- a report was written, or a front of it
 pub data WritesReport (answer : Status) (text : List ℕ) (written written' : Option (List ℕ)) (faults faults' : ℕ) : Type 0 where
-  IsWritten : answer ≡ status.Done → Appends written written' text → WritesReport answer text written written' faults faults'
-  FrontWritten : answer ≡ status.WriteFault → Rises faults faults' → WritesPart written written' text → WritesReport answer text written written' faults faults'
+  ReportWritten : answer ≡ status.Done → Appends written written' text → WritesReport answer text written written' faults faults'
+  FrontWritten : answer ≡ status.WriteFault → FaultsRise faults faults' → WritesPart written written' text → WritesReport answer text written written' faults faults'
   LacksMemory : answer ≡ status.Memory → WritesPart written written' text → WritesReport answer text written written' faults faults'
 
--- a refusal was told, or memory was wanted before, or the sink failed behind a front of its line
+-- a refusal was told, or memory was wanted before, or the sink failed after a front of its line
 pub data TellsRefusal (line : ℕ) (told : Cause) (answer : Status) (written written' : Option (List ℕ)) (faults faults' : ℕ) : Type 0 where
-  IsTold : answer ≡ status.Refused line told → Appends written written' (refusal_line line told) → TellsRefusal line told answer written written' faults faults'
-  FrontTold : answer ≡ status.WriteFault → Rises faults faults' → WritesPart written written' (refusal_line line told) → TellsRefusal line told answer written written' faults faults'
+  RefusalTold : answer ≡ status.Refused line told → Appends written written' (refusal_line line told) → TellsRefusal line told answer written written' faults faults'
+  FrontTold : answer ≡ status.WriteFault → FaultsRise faults faults' → WritesPart written written' (refusal_line line told) → TellsRefusal line told answer written written' faults faults'
   NotTold : answer ≡ status.Memory → Keeps written written' → TellsRefusal line told answer written written' faults faults'
 
 -- neither count of faults rose
 pub record MeetsNoFault (before after : Ends) : Type 0 where
-  pub read : Rises before.read_faults after.read_faults → ⊥
-  pub write : Rises before.write_faults after.write_faults → ⊥
+  pub read : FaultsRise before.read_faults after.read_faults → ⊥
+  pub write : FaultsRise before.write_faults after.write_faults → ⊥
 
 -- no count of faults falls
-pub record Counts (before after : Ends) : Type 0 where
+pub record CountsRise (before after : Ends) : Type 0 where
   pub read : before.read_faults ≤ after.read_faults
   pub write : before.write_faults ≤ after.write_faults
 
@@ -170,27 +170,27 @@ pub record Counts (before after : Ends) : Type 0 where
 -- a status and a text that are due for the bytes
 pub record DueFor (packets : Bool) (answer : Status) (bytes : List ℕ) : Type 0 where
   pub text : List ℕ
-  pub due : IsDue packets answer text (reading MOST_BYTES bytes)
+  pub due : IsDueFor packets answer text (reading MOST_BYTES bytes)
 
 pub record BytesDetermine : Type 0 where
   -- where nothing fails, an answer that `play` may give is due for the bytes, or memory was wanted
   pub answers : (packets : Bool) (before after : Ends) (answer : Status) (bytes : List ℕ) → before.left ≡ Some bytes → MeetsNoFault before after → Plays packets answer before after → (answer ≡ status.Memory) ⊎ DueFor packets answer bytes
   -- and no two are due
-  pub one : (packets : Bool) (r : Reading) (answer other : Status) (text text_other : List ℕ) → IsDue packets answer text r → IsDue packets other text_other r → (answer ≡ other) × (text ≡ text_other)
+  pub one : (packets : Bool) (r : Reading) (answer other : Status) (text text_other : List ℕ) → IsDueFor packets answer text r → IsDueFor packets other text_other r → (answer ≡ other) × (text ≡ text_other)
 
 -- ---- the words
 
 -- whether a word is this one
-abbrev pub is_word : List ℕ → List ℕ → Bool
-is_word text word = pointwise nat_eq word text
+abbrev pub is_this_word : List ℕ → List ℕ → Bool
+is_this_word text word = pointwise nat_eq word text
 
 -- one of these words is `play`, and the other `--packets`
 abbrev pub are_both : List ℕ → List ℕ → Bool
-are_both first second = is_word (codes "play") first && is_word (codes "--packets") second
+are_both first second = is_this_word (codes "play") first && is_this_word (codes "--packets") second
 
--- `play` alone, or with `--packets` before or behind it: whether the table of packets is asked for
+-- `play` alone, or with `--packets` before or after it: whether the table of packets is asked for
 abbrev pub play_words : List (List ℕ) → Option Bool
 play_words [] = None
-play_words (word ∷ []) = if is_word (codes "play") word then Some false else None
+play_words (word ∷ []) = if is_this_word (codes "play") word then Some false else None
 play_words (first ∷ second ∷ []) = if are_both first second || are_both second first then Some true else None
 play_words (first ∷ second ∷ third ∷ others) = None

@@ -48,7 +48,7 @@ fn read_words(rt: &(impl Env + AllocGlobal)) -> io::Result<Vec<String>> {
     Ok(env::args(rt)?.collect(rt.alloc())?)
 }
 
-// The words behind the first.
+// The words after the first.
 fn words_behind_first(words: &[String]) -> &[String]
     ensures { result.now ≡ drop 1 words.now }
 {
@@ -58,7 +58,7 @@ fn words_behind_first(words: &[String]) -> &[String]
     }
 }
 
-// Words that can't be read aren't accepted, unless only memory for them lacks.
+// Words that can't be read aren't accepted, unless it is memory for them that is missing.
 fn unread_words(error: &io::Error) -> Status
     ensures memory { (result ≡ Memory) ↔ (error_kind error.now ≡ OutOfMemory) }
     ensures words { (result ≡ Words) ↔ ¬ (error_kind error.now ≡ OutOfMemory) }

@@ -4,7 +4,7 @@ ghost use Rattle.call_script.specs.Tasks.{network_of};
 ghost use Rattle.interleave_core.specs.Runs.{IsRun};
 ghost use Rattle.interleave_core.specs.Schedules.{IsActorOf};
 ghost use Rattle.link_steps.specs.Lists.{Each};
-ghost use Rattle.tenet_app.specs.Playing.{AnswersPlan, Counts, Plays, TellsRefusal, WritesReport, refusal_line};
+ghost use Rattle.tenet_app.specs.Playing.{AnswersPlan, CountsRise, Plays, TellsRefusal, WritesReport, refusal_line};
 ghost use Rattle.channel_report.specs.Report.{report_of};
 
 use crate::status::Status;
@@ -27,7 +27,7 @@ pub fn play<S: Source, K: Sink>(
     ensures plays { Plays packets result
         (record { left = S.left source.old; read_faults = S.faults source.old; written = K.written sink.old; write_faults = K.faults sink.old })
         (record { left = S.left source.new; read_faults = S.faults source.new; written = K.written sink.new; write_faults = K.faults sink.new }) }
-    ensures counts { Counts
+    ensures counts { CountsRise
         (record { left = S.left source.old; read_faults = S.faults source.old; written = K.written sink.old; write_faults = K.faults sink.old })
         (record { left = S.left source.new; read_faults = S.faults source.new; written = K.written sink.new; write_faults = K.faults sink.new }) }
 {

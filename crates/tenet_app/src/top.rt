@@ -1,7 +1,7 @@
 //! The public call that the program makes.
 ghost use Rattle.std.specs.Prelude.{◌≡◌, ◌↔◌, ℕ, Bool, None, Some, map, string_bytes};
 ghost use Rattle.tenet_app.specs.Making.{Makes, make_words};
-ghost use Rattle.tenet_app.specs.Playing.{Counts, Plays, play_words};
+ghost use Rattle.tenet_app.specs.Playing.{CountsRise, Plays, play_words};
 ghost use Rattle.tenet_app.specs.declared.status.Status.TheVariants.{Words};
 
 use crate::making::make;
@@ -36,7 +36,7 @@ pub fn top<R: Threads + Wait + Sync, S: Source, K: Sink, G: Gate + Sync>(
         (record { left = S.left source.new; read_faults = S.faults source.new; written = K.written sink.new; write_faults = K.faults sink.new }) }
     ensures makes { (number size : ℕ) → make_words (map string_bytes words.now) ≡ Some (number, size) → Makes number size result.status (K.written sink.old) (K.written sink.new) (K.faults sink.old) (K.faults sink.new) }
     ensures unread { (number size : ℕ) → make_words (map string_bytes words.now) ≡ Some (number, size) → source.new ≡ source.old }
-    ensures counts { Counts
+    ensures counts { CountsRise
         (record { left = S.left source.old; read_faults = S.faults source.old; written = K.written sink.old; write_faults = K.faults sink.old })
         (record { left = S.left source.new; read_faults = S.faults source.new; written = K.written sink.new; write_faults = K.faults sink.new }) }
 {

@@ -1,7 +1,7 @@
 //! What the words after the program's name ask for.
 ghost use Rattle.std.specs.Prelude.{◌≡◌, ◌≤◌, IfSome, map, string_bytes};
 ghost use Rattle.tenet_app.specs.Making.{both_of, make_words, number_from};
-ghost use Rattle.tenet_app.specs.Playing.{are_both, is_word, play_words};
+ghost use Rattle.tenet_app.specs.Playing.{are_both, is_this_word, play_words};
 
 use scenario_reader::values::number;
 
@@ -77,7 +77,7 @@ fn number_from(word: &str, low: u64, high: u64) -> Option<u64>
 }
 
 fn is_word(word: &str, text: &str) -> bool
-    ensures { result ≡ is_word text.now word.now }
+    ensures { result ≡ is_this_word text.now word.now }
 {
     word == text
 }

@@ -3,65 +3,65 @@ use Rattle.std.proofs.Common.{◌≡◌, ◌≢◌, ℕ, zero, suc, ◌<◌, ◌
 use Rattle.std.specs.List.{AllByRecursion}
 use Rattle.tick_calendar.specs.Calendar.{Entry}
 use Rattle.tick_calendar.specs.declared.place.Place.{Place}
-use Rattle.tick_calendar.specs.Wheel.{entries_in, AreAll}
+use Rattle.tick_calendar.specs.Wheel.{entries_in, AreAllFrom}
 use Rattle.tick_calendar.proofs.Chains.{entries-here, HasNone, at-apart}
 
-pub all-left : (t : ℕ) (es fs : List Entry) → AreAll t (es ++ fs) → AreAll t es
+pub all-left : (t : ℕ) (es fs : List Entry) → AreAllFrom t (es ++ fs) → AreAllFrom t es
 all-left t [] fs all = tt
 all-left t (e ∷ es) fs all = (all.0, all-left t es fs all.1)
 
-pub all-right : (t : ℕ) (es fs : List Entry) → AreAll t (es ++ fs) → AreAll t fs
+pub all-right : (t : ℕ) (es fs : List Entry) → AreAllFrom t (es ++ fs) → AreAllFrom t fs
 all-right t [] fs all = all
 all-right t (e ∷ es) fs all = all-right t es fs all.1
 
 -- what is ahead of a tick is ahead of an earlier one
-pub all-earlier : (t u : ℕ) (es : List Entry) → u ≤ t → AreAll t es → AreAll u es
+pub all-earlier : (t u : ℕ) (es : List Entry) → u ≤ t → AreAllFrom t es → AreAllFrom u es
 all-earlier t u [] le all = tt
 all-earlier t u (e ∷ es) le all = (omega (arith, all.0), all-earlier t u es le all.1)
 
-pub all-both : (t : ℕ) (es fs : List Entry) → AreAll t es → AreAll t fs → AreAll t (es ++ fs)
+pub all-both : (t : ℕ) (es fs : List Entry) → AreAllFrom t es → AreAllFrom t fs → AreAllFrom t (es ++ fs)
 all-both t [] fs left right = right
 all-both t (e ∷ es) fs left right = (left.0, all-both t es fs left.1 right)
 
-pub all-without : (t : ℕ) (a b : List Entry) (e : Entry) → AreAll t (a ++ e ∷ b) → AreAll t (a ++ b)
+pub all-without : (t : ℕ) (a b : List Entry) (e : Entry) → AreAllFrom t (a ++ e ∷ b) → AreAllFrom t (a ++ b)
 all-without t [] b e all = all.1
 all-without t (x ∷ a) b e all = (all.0, all-without t a b e all.1)
 
-pub all-before : (t : ℕ) (a : List Place) → HasNone t a → AreAll t (entries_in a) → AllByRecursion (λ entry. t < entry.0) (entries_in a)
+pub all-before : (t : ℕ) (a : List Place) → HasNone t a → AreAllFrom t (entries_in a) → AllByRecursion (λ entry. t < entry.0) (entries_in a)
 unfolding entries_in
 all-before t [] none all = tt
 all-before t (p ∷ a) none all = by-case p.waits refl (all-before t a none.1) all where
-  by-case : (b : Bool) → p.waits ≡ b → (AreAll t (entries_in a) → AllByRecursion (λ entry. t < entry.0) (entries_in a))
-      → AreAll t (cond b ((p.tick, p.key) ∷ entries_in a) (entries_in a)) → AllByRecursion (λ entry. t < entry.0) (cond b ((p.tick, p.key) ∷ entries_in a) (entries_in a))
+  by-case : (b : Bool) → p.waits ≡ b → (AreAllFrom t (entries_in a) → AllByRecursion (λ entry. t < entry.0) (entries_in a))
+      → AreAllFrom t (cond b ((p.tick, p.key) ∷ entries_in a) (entries_in a)) → AllByRecursion (λ entry. t < entry.0) (cond b ((p.tick, p.key) ∷ entries_in a) (entries_in a))
   by-case true is more all =
       let apart : p.tick ≢ t = λ e. at-apart t p.tick p is refl none.0 e in
       (omega (arith, all.0, apart), more all.1)
   by-case false is more all = more all
 
 -- where no entry is of a tick, all are later
-pub all-after : (t : ℕ) (ps : List Place) → HasNone t ps → AreAll t (entries_in ps) → AreAll (suc t) (entries_in ps)
+pub all-after : (t : ℕ) (ps : List Place) → HasNone t ps → AreAllFrom t (entries_in ps) → AreAllFrom (suc t) (entries_in ps)
 unfolding entries_in
 all-after t [] none all = tt
 all-after t (p ∷ a) none all = by-case p.waits refl (all-after t a none.1) all where
-  by-case : (b : Bool) → p.waits ≡ b → (AreAll t (entries_in a) → AreAll (suc t) (entries_in a))
-      → AreAll t (cond b ((p.tick, p.key) ∷ entries_in a) (entries_in a)) → AreAll (suc t) (cond b ((p.tick, p.key) ∷ entries_in a) (entries_in a))
+  by-case : (b : Bool) → p.waits ≡ b → (AreAllFrom t (entries_in a) → AreAllFrom (suc t) (entries_in a))
+      → AreAllFrom t (cond b ((p.tick, p.key) ∷ entries_in a) (entries_in a)) → AreAllFrom (suc t) (cond b ((p.tick, p.key) ∷ entries_in a) (entries_in a))
   by-case true is more all =
       let apart : p.tick ≢ t = λ e. at-apart t p.tick p is refl none.0 e in
       (omega (arith, all.0, apart), more all.1)
   by-case false is more all = more all
 
-all-rest : (t : ℕ) (p : Place) (ps : List Place) → AreAll t (entries_in (p ∷ ps)) → AreAll t (entries_in ps)
+all-rest : (t : ℕ) (p : Place) (ps : List Place) → AreAllFrom t (entries_in (p ∷ ps)) → AreAllFrom t (entries_in ps)
 unfolding entries_in
 all-rest t p ps all = by-case p.waits all where
-  by-case : (b : Bool) → AreAll t (cond b ((p.tick, p.key) ∷ entries_in ps) (entries_in ps)) → AreAll t (entries_in ps)
+  by-case : (b : Bool) → AreAllFrom t (cond b ((p.tick, p.key) ∷ entries_in ps) (entries_in ps)) → AreAllFrom t (entries_in ps)
   by-case true all = all.1
   by-case false all = all
 
-all-first : (t : ℕ) (p : Place) (ps : List Place) → AreAll t (entries_in (p ∷ ps)) → p.waits ≡ true → t ≤ p.tick
-all-first t p ps all waits = (subst (AreAll t) (entries-here p ps waits) all).0
+all-first : (t : ℕ) (p : Place) (ps : List Place) → AreAllFrom t (entries_in (p ∷ ps)) → p.waits ≡ true → t ≤ p.tick
+all-first t p ps all waits = (subst (AreAllFrom t) (entries-here p ps waits) all).0
 
 -- a place that waits is ahead as its entry is
-pub ahead-at : (t : ℕ) (ps : List Place) → AreAll t (entries_in ps) → (k : ℕ) (d : Place) → k < length ps → (get_or ps k d).waits ≡ true → t ≤ (get_or ps k d).tick
+pub ahead-at : (t : ℕ) (ps : List Place) → AreAllFrom t (entries_in ps) → (k : ℕ) (d : Place) → k < length ps → (get_or ps k d).waits ≡ true → t ≤ (get_or ps k d).tick
 ahead-at t [] all k d lt waits = absurd (omega arith)
 ahead-at t (p ∷ ps) all zero d lt waits = all-first t p ps all waits
 ahead-at t (p ∷ ps) all (suc k) d lt waits = ahead-at t ps (all-rest t p ps all) k d (omega arith) waits

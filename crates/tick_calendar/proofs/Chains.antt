@@ -3,7 +3,7 @@ use Rattle.std.proofs.Common.{◌≡◌, ◌≢◌, ℕ, suc, ◌+◌, Bool, tru
 use Rattle.std.proofs.lemmas.Bool.{cases_Bool}
 use Rattle.std.proofs.lemmas.Bool.Decides.{nat_tests}
 use Rattle.tick_calendar.specs.declared.place.Place.{Place}
-use Rattle.tick_calendar.specs.Wheel.{entries_in, is_at, first_at, last_at, or_else}
+use Rattle.tick_calendar.specs.Wheel.{entries_in, waits_at, first_at, last_at, first_found}
 
 pub entries-append : (ps qs : List Place) → entries_in (ps ++ qs) ≡ entries_in ps ++ entries_in qs
 unfolding entries_in
@@ -45,27 +45,27 @@ gone-one y b gone = rw gone refl
 pub entries-gone : (a b : List Place) (y : Place) → y.waits ≡ false → entries_in (a ++ y ∷ b) ≡ entries_in a ++ entries_in b
 entries-gone a b y gone = entries-append a (y ∷ b) ∙ ap (λ es. entries_in a ++ es) (gone-one y b gone)
 
-pub first_at-past : (t i : ℕ) (ps : List Place) (n : Place) → is_at t n ≡ false → first_at t i (ps ++ n ∷ []) ≡ first_at t i ps
+pub first_at-past : (t i : ℕ) (ps : List Place) (n : Place) → waits_at t n ≡ false → first_at t i (ps ++ n ∷ []) ≡ first_at t i ps
 unfolding first_at
 first_at-past t i [] n apart = rw apart refl
-first_at-past t i (p ∷ ps) n apart = ap (λ rest. cond (is_at t p) (Some i) rest) (first_at-past t (suc i) ps n apart)
+first_at-past t i (p ∷ ps) n apart = ap (λ rest. cond (waits_at t p) (Some i) rest) (first_at-past t (suc i) ps n apart)
 
 -- places that are alike for the tick
-pub first_at-alike : (t i : ℕ) (a b : List Place) (x y : Place) → is_at t x ≡ is_at t y → first_at t i (a ++ x ∷ b) ≡ first_at t i (a ++ y ∷ b)
+pub first_at-alike : (t i : ℕ) (a b : List Place) (x y : Place) → waits_at t x ≡ waits_at t y → first_at t i (a ++ x ∷ b) ≡ first_at t i (a ++ y ∷ b)
 unfolding first_at
 first_at-alike t i [] b x y same = ap (λ at. cond at (Some i) (first_at t (suc i) b)) same
-first_at-alike t i (p ∷ a) b x y same = ap (λ rest. cond (is_at t p) (Some i) rest) (first_at-alike t (suc i) a b x y same)
+first_at-alike t i (p ∷ a) b x y same = ap (λ rest. cond (waits_at t p) (Some i) rest) (first_at-alike t (suc i) a b x y same)
 
--- what stands behind a place of the tick doesn't matter
-pub first_at-found : (t i : ℕ) (a b c : List Place) (x y : Place) → is_at t x ≡ true → is_at t y ≡ true → first_at t i (a ++ x ∷ b) ≡ first_at t i (a ++ y ∷ c)
+-- what stands after a place of the tick doesn't matter
+pub first_at-found : (t i : ℕ) (a b c : List Place) (x y : Place) → waits_at t x ≡ true → waits_at t y ≡ true → first_at t i (a ++ x ∷ b) ≡ first_at t i (a ++ y ∷ c)
 unfolding first_at
 first_at-found t i [] b c x y at_x at_y = rw (at_x, at_y) refl
-first_at-found t i (p ∷ a) b c x y at_x at_y = ap (λ rest. cond (is_at t p) (Some i) rest) (first_at-found t (suc i) a b c x y at_x at_y)
+first_at-found t i (p ∷ a) b c x y at_x at_y = ap (λ rest. cond (waits_at t p) (Some i) rest) (first_at-found t (suc i) a b c x y at_x at_y)
 
 -- nothing of the tick
 abbrev pub HasNone : ℕ → List Place → Type 0
 HasNone t [] = Unit {0}
-HasNone t (p ∷ ps) = (is_at t p ≡ false) × HasNone t ps
+HasNone t (p ∷ ps) = (waits_at t p ≡ false) × HasNone t ps
 
 pub first_at-none : (t i : ℕ) (a b : List Place) → HasNone t a → first_at t i (a ++ b) ≡ first_at t (length a + i) b
 unfolding first_at
@@ -77,7 +77,7 @@ first_at-none t i (p ∷ a) b none =
 pub none-first_at : (t i : ℕ) (a : List Place) → first_at t i a ≡ None → HasNone t a
 unfolding first_at
 none-first_at t i [] none = tt
-none-first_at t i (p ∷ a) none = elim (cases_Bool (is_at t p)) [
+none-first_at t i (p ∷ a) none = elim (cases_Bool (waits_at t p)) [
   | inl at ↦ absurd (cc (at, none))
   | inr not_at ↦ (not_at, none-first_at t (suc i) a (rw not_at at none))
 ]
@@ -87,46 +87,46 @@ unfolding first_at
 none-found t i [] none = refl
 none-found t i (p ∷ ps) none = rw none.0 (none-found t (suc i) ps none.1)
 
-pub first-one : (t i : ℕ) (n : Place) → is_at t n ≡ true → first_at t i (n ∷ []) ≡ Some i
+pub first-one : (t i : ℕ) (n : Place) → waits_at t n ≡ true → first_at t i (n ∷ []) ≡ Some i
 unfolding first_at
 first-one t i n at = rw at refl
 
-pub at-apart : (t u : ℕ) (p : Place) → p.waits ≡ true → p.tick ≡ u → is_at t p ≡ false → u ≢ t
+pub at-apart : (t u : ℕ) (p : Place) → p.waits ≡ true → p.tick ≡ u → waits_at t p ≡ false → u ≢ t
 at-apart t u p waits tick apart same = absurd (grind (arith, nat_tests))
 
-pub is_at-other : (t : ℕ) (p : Place) → p.tick ≢ t → is_at t p ≡ false
+pub is_at-other : (t : ℕ) (p : Place) → p.tick ≢ t → waits_at t p ≡ false
 is_at-other t p apart = grind (arith, nat_tests)
 
-pub first_at-here : (t i : ℕ) (p : Place) (ps : List Place) → is_at t p ≡ true → first_at t i (p ∷ ps) ≡ Some i
+pub first_at-here : (t i : ℕ) (p : Place) (ps : List Place) → waits_at t p ≡ true → first_at t i (p ∷ ps) ≡ Some i
 unfolding first_at
 first_at-here t i p ps at = rw at refl
 
-pub first_at-skip : (t i : ℕ) (p : Place) (ps : List Place) → is_at t p ≡ false → first_at t i (p ∷ ps) ≡ first_at t (suc i) ps
+pub first_at-skip : (t i : ℕ) (p : Place) (ps : List Place) → waits_at t p ≡ false → first_at t i (p ∷ ps) ≡ first_at t (suc i) ps
 unfolding first_at
 first_at-skip t i p ps apart = rw apart refl
 
-pub last_at-past : (t i : ℕ) (ps : List Place) (n : Place) → is_at t n ≡ false → last_at t i (ps ++ n ∷ []) ≡ last_at t i ps
+pub last_at-past : (t i : ℕ) (ps : List Place) (n : Place) → waits_at t n ≡ false → last_at t i (ps ++ n ∷ []) ≡ last_at t i ps
 unfolding last_at
 last_at-past t i [] n apart = rw apart refl
-last_at-past t i (p ∷ ps) n apart = ap (λ rest. or_else rest (cond (is_at t p) (Some i) None)) (last_at-past t (suc i) ps n apart)
+last_at-past t i (p ∷ ps) n apart = ap (λ rest. first_found rest (cond (waits_at t p) (Some i) None)) (last_at-past t (suc i) ps n apart)
 
-pub last_at-new : (t i : ℕ) (ps : List Place) (n : Place) → is_at t n ≡ true → last_at t i (ps ++ n ∷ []) ≡ Some (length ps + i)
+pub last_at-new : (t i : ℕ) (ps : List Place) (n : Place) → waits_at t n ≡ true → last_at t i (ps ++ n ∷ []) ≡ Some (length ps + i)
 unfolding last_at
 last_at-new t i [] n at = rw at (let e : i ≡ 0 + i = omega arith in ap Some e)
 last_at-new t i (p ∷ ps) n at =
     let e : length ps + suc i ≡ suc (length ps) + i = omega arith in
-    ap (λ rest. or_else rest (cond (is_at t p) (Some i) None)) (last_at-new t (suc i) ps n at) ∙ ap Some e
+    ap (λ rest. first_found rest (cond (waits_at t p) (Some i) None)) (last_at-new t (suc i) ps n at) ∙ ap Some e
 
-pub last_at-alike : (t i : ℕ) (a b : List Place) (x y : Place) → is_at t x ≡ is_at t y → last_at t i (a ++ x ∷ b) ≡ last_at t i (a ++ y ∷ b)
+pub last_at-alike : (t i : ℕ) (a b : List Place) (x y : Place) → waits_at t x ≡ waits_at t y → last_at t i (a ++ x ∷ b) ≡ last_at t i (a ++ y ∷ b)
 unfolding last_at
-last_at-alike t i [] b x y same = ap (λ at. or_else (last_at t (suc i) b) (cond at (Some i) None)) same
-last_at-alike t i (p ∷ a) b x y same = ap (λ rest. or_else rest (cond (is_at t p) (Some i) None)) (last_at-alike t (suc i) a b x y same)
+last_at-alike t i [] b x y same = ap (λ at. first_found (last_at t (suc i) b) (cond at (Some i) None)) same
+last_at-alike t i (p ∷ a) b x y same = ap (λ rest. first_found rest (cond (waits_at t p) (Some i) None)) (last_at-alike t (suc i) a b x y same)
 
 last_at-none : (t i : ℕ) (ps : List Place) → last_at t i ps ≡ None → HasNone t ps
 unfolding last_at
 last_at-none t i [] none = tt
-last_at-none t i (p ∷ ps) none = by-case (last_at t (suc i) ps) refl (cases_Bool (is_at t p)) (last_at-none t (suc i) ps) where
-  by-case : (rest : Option ℕ) → last_at t (suc i) ps ≡ rest → (is_at t p ≡ true) ⊎ (is_at t p ≡ false) → (last_at t (suc i) ps ≡ None → HasNone t ps) → HasNone t (p ∷ ps)
+last_at-none t i (p ∷ ps) none = by-case (last_at t (suc i) ps) refl (cases_Bool (waits_at t p)) (last_at-none t (suc i) ps) where
+  by-case : (rest : Option ℕ) → last_at t (suc i) ps ≡ rest → (waits_at t p ≡ true) ⊎ (waits_at t p ≡ false) → (last_at t (suc i) ps ≡ None → HasNone t ps) → HasNone t (p ∷ ps)
   by-case (Some q) is at more = absurd (cc (rw is at none))
   by-case None is (inl at) more = absurd (cc (rw (is, at) at none))
   by-case None is (inr apart) more = (apart, more is)
@@ -138,14 +138,14 @@ pub record IsSplitAt (t i q : ℕ) (ps : List Place) : Type 0 where
   pub behind : List Place
   pub was : ps ≡ before ++ place ∷ behind
   pub at : q ≡ length before + i
-  pub here : is_at t place ≡ true
+  pub here : waits_at t place ≡ true
   pub none : HasNone t behind
 
 pub split-last : (t i q : ℕ) (ps : List Place) → last_at t i ps ≡ Some q → IsSplitAt t i q ps
 unfolding last_at
 split-last t i q [] found = absurd (cc)
-split-last t i q (p ∷ ps) found = by-case (last_at t (suc i) ps) refl (cases_Bool (is_at t p)) (split-last t (suc i) q ps) where
-  by-case : (rest : Option ℕ) → last_at t (suc i) ps ≡ rest → (is_at t p ≡ true) ⊎ (is_at t p ≡ false) → (last_at t (suc i) ps ≡ Some q → IsSplitAt t (suc i) q ps) → IsSplitAt t i q (p ∷ ps)
+split-last t i q (p ∷ ps) found = by-case (last_at t (suc i) ps) refl (cases_Bool (waits_at t p)) (split-last t (suc i) q ps) where
+  by-case : (rest : Option ℕ) → last_at t (suc i) ps ≡ rest → (waits_at t p ≡ true) ⊎ (waits_at t p ≡ false) → (last_at t (suc i) ps ≡ Some q → IsSplitAt t (suc i) q ps) → IsSplitAt t i q (p ∷ ps)
   by-case (Some r) is at more =
       let e : r ≡ q = cc (rw is at found) in
       let rest = more (is ∙ ap Some e) in
@@ -156,14 +156,14 @@ split-last t i q (p ∷ ps) found = by-case (last_at t (suc i) ps) refl (cases_B
   by-case None is (inr apart) more = absurd (cc (rw (is, apart) at found))
 
 -- where the first place of a tick is taken, the last one stays, if there is one
-pub last_at-taken : (t i q : ℕ) (a b : List Place) (x y : Place) → HasNone t a → is_at t y ≡ false → last_at t i (a ++ y ∷ b) ≡ Some q → last_at t i (a ++ x ∷ b) ≡ Some q
+pub last_at-taken : (t i q : ℕ) (a b : List Place) (x y : Place) → HasNone t a → waits_at t y ≡ false → last_at t i (a ++ y ∷ b) ≡ Some q → last_at t i (a ++ x ∷ b) ≡ Some q
 unfolding last_at
 last_at-taken t i q [] b x y none gone found = by-case (last_at t (suc i) b) refl where
-  by-case : (rest : Option ℕ) → last_at t (suc i) b ≡ rest → or_else (last_at t (suc i) b) (cond (is_at t x) (Some i) None) ≡ Some q
+  by-case : (rest : Option ℕ) → last_at t (suc i) b ≡ rest → first_found (last_at t (suc i) b) (cond (waits_at t x) (Some i) None) ≡ Some q
   by-case (Some r) is = rw is (rw is at found)
   by-case None is = absurd (cc (rw (is, gone) at found))
 last_at-taken t i q (p ∷ a) b x y none gone found = by-case (last_at t (suc i) (a ++ y ∷ b)) refl (λ r. last_at-taken t (suc i) r a b x y none.1 gone) where
-  by-case : (rest : Option ℕ) → last_at t (suc i) (a ++ y ∷ b) ≡ rest → ((r : ℕ) → last_at t (suc i) (a ++ y ∷ b) ≡ Some r → last_at t (suc i) (a ++ x ∷ b) ≡ Some r) → or_else (last_at t (suc i) (a ++ x ∷ b)) (cond (is_at t p) (Some i) None) ≡ Some q
+  by-case : (rest : Option ℕ) → last_at t (suc i) (a ++ y ∷ b) ≡ rest → ((r : ℕ) → last_at t (suc i) (a ++ y ∷ b) ≡ Some r → last_at t (suc i) (a ++ x ∷ b) ≡ Some r) → first_found (last_at t (suc i) (a ++ x ∷ b)) (cond (waits_at t p) (Some i) None) ≡ Some q
   by-case (Some r) is more =
       let e : r ≡ q = cc (rw is at found) in
       rw (more r is) (ap Some e)
@@ -175,10 +175,10 @@ found-last t i f ps found = by-case (last_at t i ps) refl where
   by-case (Some q) is = (q, is)
   by-case None is = absurd (cc (none-found t i ps (last_at-none t i ps is), found))
 
-pub last_at-skip : (t i : ℕ) (p : Place) (ps : List Place) → is_at t p ≡ false → last_at t i (p ∷ ps) ≡ last_at t (suc i) ps
+pub last_at-skip : (t i : ℕ) (p : Place) (ps : List Place) → waits_at t p ≡ false → last_at t i (p ∷ ps) ≡ last_at t (suc i) ps
 unfolding last_at
 last_at-skip t i p ps apart = by-case (last_at t (suc i) ps) refl where
-  by-case : (rest : Option ℕ) → last_at t (suc i) ps ≡ rest → or_else (last_at t (suc i) ps) (cond (is_at t p) (Some i) None) ≡ last_at t (suc i) ps
+  by-case : (rest : Option ℕ) → last_at t (suc i) ps ≡ rest → first_found (last_at t (suc i) ps) (cond (waits_at t p) (Some i) None) ≡ last_at t (suc i) ps
   by-case None is = rw (is, apart) refl
   by-case (Some q) is = rw is refl
 
@@ -191,6 +191,6 @@ unfolding last_at
 no-last t i [] none = refl
 no-last t i (p ∷ ps) none = rw (no-last t (suc i) ps none.1, none.0) refl
 
-pub last_at-alone : (t i : ℕ) (p : Place) (ps : List Place) → is_at t p ≡ true → HasNone t ps → last_at t i (p ∷ ps) ≡ Some i
+pub last_at-alone : (t i : ℕ) (p : Place) (ps : List Place) → waits_at t p ≡ true → HasNone t ps → last_at t i (p ∷ ps) ≡ Some i
 unfolding last_at
 last_at-alone t i p ps at none = rw (no-last t (suc i) ps none, at) refl

@@ -3,7 +3,7 @@ use Rattle.std.proofs.lemmas.Bool.{true≢false}
 use Rattle.std.proofs.Common.{◌≡◌, ◌≢◌, ℕ, suc, ◌+◌, ◌<◌, ◌≤◌, true, false, nat_eq, Some, None, List, [], ◌∷◌, ◌++◌, length, refl, sym, ap, ◌∙◌, arith, inl, inr, append_assoc}
 use Rattle.std.proofs.lemmas.Bool.{cases_eq, eqb-true, and_parts}
 use Rattle.tick_calendar.specs.declared.place.Place.{Place}
-use Rattle.tick_calendar.specs.Wheel.{is_at, first_at, AreLinked}
+use Rattle.tick_calendar.specs.Wheel.{waits_at, first_at, AreLinked}
 use Rattle.tick_calendar.proofs.Chains.{first_at-past, first_at-alike, first_at-found, HasNone, first_at-none, at-apart, is_at-other}
 
 -- a place at the end, of a tick that no place of the turn has
@@ -16,7 +16,7 @@ linked-past end t i (p ∷ ps) n linked none tick next = (
 )
 
 -- a place behind the last one of its tick, which names it
-pub linked-behind : (end t i : ℕ) (a b : List Place) (x y n : Place) → AreLinked end i (a ++ x ∷ b) → is_at t x ≡ true → is_at t y ≡ true → HasNone t b → is_at t n ≡ true → n.next ≡ None
+pub linked-behind : (end t i : ℕ) (a b : List Place) (x y n : Place) → AreLinked end i (a ++ x ∷ b) → waits_at t x ≡ true → waits_at t y ≡ true → HasNone t b → waits_at t n ≡ true → n.next ≡ None
     → y.next ≡ Some (suc (length b + (length a + i))) → AreLinked end i (a ++ y ∷ (b ++ n ∷ []))
 unfolding AreLinked first_at
 linked-behind end t i [] b x y n linked at_x at_y none at_n next names =
@@ -42,7 +42,7 @@ linked-behind end t i (p ∷ a) b x y n linked at_x at_y none at_n next names =
     ((λ waits low. linked.0 waits low ∙ same), linked-behind end t (suc i) a b x y n linked.1 at_x at_y none at_n next (names ∙ ap Some step))
 
 -- the first place of a tick leaves its place behind
-pub linked-taken : (end t i : ℕ) (a b : List Place) (x y : Place) → AreLinked end i (a ++ x ∷ b) → HasNone t a → is_at t x ≡ true → y.waits ≡ false → AreLinked end i (a ++ y ∷ b)
+pub linked-taken : (end t i : ℕ) (a b : List Place) (x y : Place) → AreLinked end i (a ++ x ∷ b) → HasNone t a → waits_at t x ≡ true → y.waits ≡ false → AreLinked end i (a ++ y ∷ b)
 unfolding AreLinked
 linked-taken end t i [] b x y linked none at_x gone = ((λ waits _. absurd (true≢false (sym waits ∙ gone))), linked.1)
 linked-taken end t i (p ∷ a) b x y linked none at_x gone =
@@ -54,7 +54,7 @@ linked-taken end t i (p ∷ a) b x y linked none at_x gone =
     )
 
 -- the first one then is the one that it named
-pub first_at-taken : (end t i : ℕ) (a b : List Place) (x y : Place) → AreLinked end i (a ++ x ∷ b) → HasNone t a → is_at t x ≡ true → y.waits ≡ false → t < end → first_at t i (a ++ y ∷ b) ≡ x.next
+pub first_at-taken : (end t i : ℕ) (a b : List Place) (x y : Place) → AreLinked end i (a ++ x ∷ b) → HasNone t a → waits_at t x ≡ true → y.waits ≡ false → t < end → first_at t i (a ++ y ∷ b) ≡ x.next
 unfolding AreLinked first_at
 first_at-taken end t i [] b x y linked none at_x gone low =
     let parts = and_parts x.waits (nat_eq x.tick t) at_x in

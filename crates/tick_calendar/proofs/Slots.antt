@@ -1,10 +1,10 @@
--- Where a slot has no entry its tick lies behind; and the least tick of the entries.
+-- Where a slot has no entry its tick lies after; and the least tick of the entries.
 use Rattle.std.proofs.lemmas.Bool.{true≢false}
 use Rattle.std.proofs.Common.{◌≡◌, ℕ, suc, ◌+◌, ◌<◌, ◌≤◌, true, false, Option, Some, None, List, [], ◌∷◌, ◌++◌, get_or, refl, sym, ap, ◌∙◌, subst, arith, inl, inr, min}
 use Rattle.std.proofs.lemmas.Bool.{cases_lt}
 use Rattle.tick_calendar.specs.Calendar.{Entry}
 use Rattle.tick_calendar.specs.declared.place.Place.{Place}
-use Rattle.tick_calendar.specs.Wheel.{entries_in, IsWheel, AreAll, IsLeastBy}
+use Rattle.tick_calendar.specs.Wheel.{entries_in, IsWheel, AreAllFrom, IsLeastBy}
 use Rattle.std.specs.Option.{is_some}
 use Rattle.tick_calendar.proofs.Chains.{entries-append, entries-nil, entries-here, entries-skip, none-first_at}
 use Rattle.tick_calendar.proofs.Ahead.{all-left, all-right, all-earlier, all-both, all-after}
@@ -13,34 +13,34 @@ pub none-of : (r : Option ℕ) → is_some r ≡ false → r ≡ None
 none-of None none = refl
 none-of (Some x) none = absurd (true≢false none)
 
--- an empty slot lies behind
+-- an empty slot lies after
 pub slot-empty : (places : List Place) (firsts : List (Option ℕ)) (lasts : List ℕ) (base slot : ℕ) → IsWheel places firsts lasts base → slot < 1024 → get_or firsts slot None ≡ None
-    → AreAll (base + slot) (entries_in places) → AreAll (suc (base + slot)) (entries_in places)
+    → AreAllFrom (base + slot) (entries_in places) → AreAllFrom (suc (base + slot)) (entries_in places)
 slot-empty places firsts lasts base slot wheel low empty all =
     all-after (base + slot) places (none-first_at (base + slot) 0 places (sym (wheel.firsts_at slot low) ∙ empty)) all
 
 -- the slots have no entry up to this tick's
 pub none-in-turn : (places : List Place) (firsts : List (Option ℕ)) (lasts : List ℕ) (base slot last now : ℕ) → IsWheel places firsts lasts base → slot < 1024 → get_or firsts slot None ≡ None
-    → slot ≤ last → (slot < last → is_some (get_or firsts slot None) ≡ true) → base + last ≡ now → AreAll (base + slot) (entries_in places) → AreAll (suc now) (entries_in places)
+    → slot ≤ last → (slot < last → is_some (get_or firsts slot None) ≡ true) → base + last ≡ now → AreAllFrom (base + slot) (entries_in places) → AreAllFrom (suc now) (entries_in places)
 none-in-turn places firsts lasts base slot last now wheel low empty within found come ahead =
     let done : slot ≡ last = elim (cases_lt slot last) [
       | inl below ↦ absurd (true≢false (sym (found below) ∙ ap is_some empty))
       | inr le ↦ omega (arith, within, le)
     ] in
     let tick : suc (base + slot) ≡ suc now = omega (arith, done, come) in
-    subst (λ t. AreAll t (entries_in places)) tick (slot-empty places firsts lasts base slot wheel low empty ahead)
+    subst (λ t. AreAllFrom t (entries_in places)) tick (slot-empty places firsts lasts base slot wheel low empty ahead)
 
 -- nor has the first slot of a new turn
 pub none-after-turn : (places : List Place) (es : List Entry) (firsts : List (Option ℕ)) (lasts : List ℕ) (base now least : ℕ) → IsWheel places firsts lasts base → base ≡ least → entries_in places ≡ es
-    → IsLeastBy es now least → get_or firsts 0 None ≡ None → AreAll (suc now) (entries_in places)
+    → IsLeastBy es now least → get_or firsts 0 None ≡ None → AreAllFrom (suc now) (entries_in places)
 none-after-turn places es firsts lasts base now least wheel begins same is empty =
     let first : least ≡ base + 0 = omega (arith, begins) in
-    let ahead : AreAll (base + 0) (entries_in places) = subst (λ t. AreAll t (entries_in places)) first (subst (AreAll least) (sym same) is.all) in
+    let ahead : AreAllFrom (base + 0) (entries_in places) = subst (λ t. AreAllFrom t (entries_in places)) first (subst (AreAllFrom least) (sym same) is.all) in
     let after = slot-empty places firsts lasts base 0 wheel (omega arith) empty ahead in
     let next : suc (base + 0) ≡ suc least = omega (arith, begins) in
-    let past : AreAll (suc least) (entries_in places) = subst (λ t. AreAll t (entries_in places)) next after in
-    let come : least ≡ now = is.reached (subst (AreAll (suc least)) same past) in
-    subst (λ t. AreAll (suc t) (entries_in places)) come past
+    let past : AreAllFrom (suc least) (entries_in places) = subst (λ t. AreAllFrom t (entries_in places)) next after in
+    let come : least ≡ now = is.reached (subst (AreAllFrom (suc least)) same past) in
+    subst (λ t. AreAllFrom (suc t) (entries_in places)) come past
 
 pub least-none : (now : ℕ) → IsLeastBy (entries_in []) now now
 unfolding entries_in
@@ -63,7 +63,7 @@ lower es e now least is = record {
     | inl below ↦ absurd (let one = (all-right (suc (min least e.0)) es (e ∷ []) all).0 in omega arith)
     | inr le ↦
         let same : min least e.0 ≡ least = omega arith in
-        same ∙ is.reached (all-left (suc least) es (e ∷ []) (subst (λ m. AreAll (suc m) (es ++ e ∷ [])) same all))
+        same ∙ is.reached (all-left (suc least) es (e ∷ []) (subst (λ m. AreAllFrom (suc m) (es ++ e ∷ [])) same all))
   ];
 }
 

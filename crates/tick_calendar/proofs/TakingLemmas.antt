@@ -6,10 +6,10 @@ use Rattle.std.proofs.lemmas.Option.{same_Some}
 use Rattle.std.proofs.lemmas.List.Elements.{All-append, All-cons, All-from_recursion}
 use Rattle.std.specs.List.{AllByRecursion, remove, All}
 use Rattle.std.proofs.lemmas.List.Edits.{remove-append_right}
-use Rattle.tick_calendar.specs.Calendar.{Entry, due_place, due_key, left_at, key_at, without, TakesDue}
+use Rattle.tick_calendar.specs.Calendar.{Entry, due_place, due_key, left_after, key_at, without_place, TakesDue}
 use Rattle.tick_calendar.proofs.DueLemmas.{due_place-least, due_place-ahead, due_place-Some}
 use Rattle.tick_calendar.specs.declared.place.Place.{Place}
-use Rattle.tick_calendar.specs.Wheel.{entries_in, IsWheel, RemovesFirst, AreAll, IsFrom, IsKept}
+use Rattle.tick_calendar.specs.Wheel.{entries_in, IsWheel, RemovesFirst, AreAllFrom, IsFrom, IsKeptWheel}
 use Rattle.tick_calendar.proofs.Chains.{entries-append, entries-here, none-first_at}
 use Rattle.tick_calendar.proofs.Ahead.{all-left, all-right, all-both, all-without, all-before}
 
@@ -28,42 +28,42 @@ removed-at before behind e =
     let zero_left : length before - length before ≡ 0 = omega arith in
     remove-append_right before (e ∷ behind) (length before) (length before) refl (omega arith) ∙ ap (λ k. before ++ remove (e ∷ behind) k) zero_left
 
-taken-is-due : (t now key : ℕ) (old new : List Place) → RemovesFirst t old new key → AreAll t (entries_in old) → t ≤ now → (due_key (entries_in old) now ≡ Some key) × (left_at (entries_in old) now ≡ entries_in new)
+taken-is-due : (t now key : ℕ) (old new : List Place) → RemovesFirst t old new key → AreAllFrom t (entries_in old) → t ≤ now → (due_key (entries_in old) now ≡ Some key) × (left_after (entries_in old) now ≡ entries_in new)
 taken-is-due t now key old new removes all due =
     let tick : removes.place.tick ≡ t = eqb-true removes.place.tick t (and_parts removes.place.waits (nat_eq removes.place.tick t) removes.at).1 in
     let e : Entry = (removes.place.tick, removes.place.key) in
     let whole : entries_in old ≡ entries_in removes.before ++ e ∷ entries_in removes.behind = ap entries_in removes.was ∙ entries-append removes.before (removes.place ∷ removes.behind) ∙ ap (λ es. entries_in removes.before ++ es) (entries-here removes.place removes.behind (and_parts removes.place.waits (nat_eq removes.place.tick t) removes.at).0) in
-    let all' = subst (AreAll t) whole all in
+    let all' = subst (AreAllFrom t) whole all in
     let later = all-before t removes.before (none-first_at t 0 removes.before removes.none) (all-left t (entries_in removes.before) (e ∷ entries_in removes.behind) all') in
     let least = (all-right t (entries_in removes.before) (e ∷ entries_in removes.behind) all').1 in
     let place : due_place (entries_in removes.before ++ e ∷ entries_in removes.behind) now ≡ Some (length (entries_in removes.before)) =
     due_place-first (entries_in removes.before) (entries_in removes.behind) e now (subst (λ u. AllByRecursion (λ (entry : Entry). u < entry.0) (entries_in removes.before)) (sym tick) later) (subst (λ u. AllByRecursion (λ (entry : Entry). u ≤ entry.0) (entries_in removes.behind)) (sym tick) least) (omega (arith, tick, due)) in (
       ap (λ es. due_key es now) whole ∙ ap (key_at (entries_in removes.before ++ e ∷ entries_in removes.behind)) place ∙ ap (λ (x : Entry). Some x.1) (get_or_at (entries_in removes.before) e (entries_in removes.behind) (0, 0) (length (entries_in removes.before)) refl) ∙ ap Some (sym removes.key_is),
-      ap (λ es. left_at es now) whole ∙ ap (without (entries_in removes.before ++ e ∷ entries_in removes.behind)) place ∙ removed-at (entries_in removes.before) (entries_in removes.behind) e ∙ sym removes.left,
+      ap (λ es. left_after es now) whole ∙ ap (without_place (entries_in removes.before ++ e ∷ entries_in removes.behind)) place ∙ removed-at (entries_in removes.before) (entries_in removes.behind) e ∙ sym removes.left,
     )
 
 -- every tick is still ahead
-pub all-later : (now : ℕ) (es : List Entry) → AreAll (suc now) es → All (λ entry. now < entry.0) es
+pub all-later : (now : ℕ) (es : List Entry) → AreAllFrom (suc now) es → All (λ entry. now < entry.0) es
 all-later now es all = λ k d lt. let later : suc now ≤ (get_or es k d).0 = All-from_recursion (IsFrom (suc now)) es all k d lt in omega (arith, later)
 
-none-due : (now : ℕ) (es : List Entry) → AreAll (suc now) es → due_place es now ≡ None
+none-due : (now : ℕ) (es : List Entry) → AreAllFrom (suc now) es → due_place es now ≡ None
 none-due now es all = due_place-ahead es now (all-later now es all)
 
-pub due-none : (now : ℕ) (es : List Entry) → AreAll (suc now) es → due_key es now ≡ None
+pub due-none : (now : ℕ) (es : List Entry) → AreAllFrom (suc now) es → due_key es now ≡ None
 due-none now es all = ap (key_at es) (none-due now es all)
 
 -- where none is due, all is left
-pub left-all : (now : ℕ) (es : List Entry) → AreAll (suc now) es → left_at es now ≡ es
-left-all now es all = ap (without es) (none-due now es all)
+pub left-all : (now : ℕ) (es : List Entry) → AreAllFrom (suc now) es → left_after es now ≡ es
+left-all now es all = ap (without_place es) (none-due now es all)
 
 -- a key that is taken isn't where all ticks are ahead
 pub taken-not_ahead : (es : List Entry) (now key : ℕ) → due_key es now ≡ Some key → All (λ entry. now < entry.0) es → ⊥
 taken-not_ahead es now key is ahead = let none : due_key es now ≡ None = ap (key_at es) (due_place-ahead es now ahead) in absurd (cc)
 
 -- the due key and what is left make a taking
-pub takes-due : (es left : List Entry) (now key : ℕ) → due_key es now ≡ Some key → left_at es now ≡ left → TakesDue es left now key
+pub takes-due : (es left : List Entry) (now key : ℕ) → due_key es now ≡ Some key → left_after es now ≡ left → TakesDue es left now key
 takes-due es left now key is same = by-case (due_place es now) refl is same where
-  by-case : (place : Option ℕ) → due_place es now ≡ place → key_at es place ≡ Some key → without es place ≡ left → TakesDue es left now key
+  by-case : (place : Option ℕ) → due_place es now ≡ place → key_at es place ≡ Some key → without_place es place ≡ left → TakesDue es left now key
   by-case None at is same = absurd (cc (is))
   by-case (Some i) at is same =
       subst (λ l. TakesDue es l now key) same (subst (λ k. TakesDue es (remove es i) now k) (same_Some _ _ is) (due_place-Some es now i at).1)
@@ -77,22 +77,22 @@ removes-one t key old new removes =
     omega (arith, ap length whole, ap length removes.left, length-append (entries_in removes.before) ((removes.place.tick, removes.place.key) ∷ entries_in removes.behind), length-append (entries_in removes.before) (entries_in removes.behind))
 
 -- what is left is still ahead
-removes-ahead : (t u key : ℕ) (old new : List Place) → RemovesFirst t old new key → AreAll u (entries_in old) → AreAll u (entries_in new)
+removes-ahead : (t u key : ℕ) (old new : List Place) → RemovesFirst t old new key → AreAllFrom u (entries_in old) → AreAllFrom u (entries_in new)
 removes-ahead t u key old new removes all =
     let waits = (and_parts removes.place.waits (nat_eq removes.place.tick t) removes.at).0 in
     let whole : entries_in old ≡ entries_in removes.before ++ (removes.place.tick, removes.place.key) ∷ entries_in removes.behind =
     ap entries_in removes.was ∙ entries-append removes.before (removes.place ∷ removes.behind) ∙ ap (λ es. entries_in removes.before ++ es) (entries-here removes.place removes.behind waits) in
-    subst (AreAll u) (sym removes.left) (all-without u (entries_in removes.before) (entries_in removes.behind) (removes.place.tick, removes.place.key) (subst (AreAll u) whole all))
+    subst (AreAllFrom u) (sym removes.left) (all-without u (entries_in removes.before) (entries_in removes.behind) (removes.place.tick, removes.place.key) (subst (AreAllFrom u) whole all))
 
 -- what a taking from the wheel is to the calendar
-pub removes-due : (t now key : ℕ) (es : List Entry) (old new : List Place) → RemovesFirst t old new key → entries_in old ≡ es → AreAll t (entries_in old) → t ≤ now → (due_key es now ≡ Some key) × (left_at es now ≡ entries_in new)
+pub removes-due : (t now key : ℕ) (es : List Entry) (old new : List Place) → RemovesFirst t old new key → entries_in old ≡ es → AreAllFrom t (entries_in old) → t ≤ now → (due_key es now ≡ Some key) × (left_after es now ≡ entries_in new)
 removes-due t now key es old new removes same all due =
-    subst (λ l. (due_key l now ≡ Some key) × (left_at l now ≡ entries_in new)) same (taken-is-due t now key old new removes all due)
+    subst (λ l. (due_key l now ≡ Some key) × (left_after l now ≡ entries_in new)) same (taken-is-due t now key old new removes all due)
 
 -- what a calendar keeps after a put
 pub put-kept : (ps : List Place) (es : List Entry) (firsts : List (Option ℕ)) (lasts : List ℕ) (base slot waiting room clock capacity tick key : ℕ) → IsWheel ps firsts lasts base → slot < 1024
-    → entries_in ps ≡ es ++ (tick, key) ∷ [] → length es ≡ waiting → waiting + 1 ≤ room → room ≤ capacity → base + slot ≤ clock → clock ≤ tick → AreAll (base + slot) es
-    → IsKept ps firsts lasts base slot (waiting + 1) room clock capacity
+    → entries_in ps ≡ es ++ (tick, key) ∷ [] → length es ≡ waiting → waiting + 1 ≤ room → room ≤ capacity → base + slot ≤ clock → clock ≤ tick → AreAllFrom (base + slot) es
+    → IsKeptWheel ps firsts lasts base slot (waiting + 1) room clock capacity
 put-kept ps es firsts lasts base slot waiting room clock capacity tick key wheel low more counted within roomy begun coming ahead = record {
   wheel = wheel;
   counted = omega (arith, ap length more, length-append es ((tick, key) ∷ []), counted);
@@ -100,13 +100,13 @@ put-kept ps es firsts lasts base slot waiting room clock capacity tick key wheel
   roomy = roomy;
   slot_most = low;
   begun = begun;
-  ahead = subst (AreAll (base + slot)) (sym more) (all-both (base + slot) es ((tick, key) ∷ []) ahead (omega (arith, begun, coming), tt));
+  ahead = subst (AreAllFrom (base + slot)) (sym more) (all-both (base + slot) es ((tick, key) ∷ []) ahead (omega (arith, begun, coming), tt));
 }
 
 -- and after a taking
 pub take-kept : (ps left : List Place) (firsts : List (Option ℕ)) (lasts : List ℕ) (base slot waiting room now capacity key : ℕ) → IsWheel left firsts lasts base → slot < 1024
-    → RemovesFirst (base + slot) ps left key → length (entries_in ps) ≡ waiting → waiting ≤ room → room ≤ capacity → base + slot ≤ now → AreAll (base + slot) (entries_in ps)
-    → IsKept left firsts lasts base slot (waiting - 1) room now capacity
+    → RemovesFirst (base + slot) ps left key → length (entries_in ps) ≡ waiting → waiting ≤ room → room ≤ capacity → base + slot ≤ now → AreAllFrom (base + slot) (entries_in ps)
+    → IsKeptWheel left firsts lasts base slot (waiting - 1) room now capacity
 take-kept ps left firsts lasts base slot waiting room now capacity key wheel low removes counted within roomy begun ahead = record {
   wheel = wheel;
   counted = omega (arith, removes-one (base + slot) key ps left removes, counted);

@@ -7,7 +7,7 @@ use Rattle.std.proofs.lemmas.Option.{same_Some}
 use Rattle.std.proofs.lemmas.List.Elements.{All-from_recursion}
 use Rattle.std.specs.List.{AllByRecursion, filter, All}
 use Rattle.tick_calendar.specs.declared.place.Place.{Place}
-use Rattle.tick_calendar.specs.Wheel.{entries_in, is_at, first_at, last_at, AreLinked, IsWheel, IsWheelFrom}
+use Rattle.tick_calendar.specs.Wheel.{entries_in, waits_at, first_at, last_at, AreLinked, IsWheel, IsWheelFrom}
 use Rattle.std.proofs.Math.Seq.{drop-cons}
 use Rattle.std.specs.Option.{is_some}
 use Rattle.tick_calendar.proofs.Chains.{entries-nil, entries-here, entries-alike, none-first_at, is_at-other, first_at-here, first_at-skip, found-last, last_at-skip, last_at-rest, last_at-alone}
@@ -16,7 +16,7 @@ use Rattle.tick_calendar.proofs.Links.{linked-cons}
 -- a place past the turn is in no chain
 turn-beyond : (i : ℕ) (p : Place) (ps : List Place) (firsts : List (Option ℕ)) (lasts : List ℕ) (base : ℕ) → IsWheelFrom (suc i) ps firsts lasts base → base + 1024 ≤ p.tick → IsWheelFrom i (p ∷ ps) firsts lasts base
 turn-beyond i p ps firsts lasts base wheel beyond =
-    let other : (s : ℕ) → s < 1024 → is_at (base + s) p ≡ false = λ s low. is_at-other (base + s) p (λ e. absurd (omega (arith, e, low, beyond))) in
+    let other : (s : ℕ) → s < 1024 → waits_at (base + s) p ≡ false = λ s low. is_at-other (base + s) p (λ e. absurd (omega (arith, e, low, beyond))) in
     record {
       slots = wheel.slots;
       ends = wheel.ends;
@@ -26,12 +26,12 @@ turn-beyond i p ps firsts lasts base wheel beyond =
     }
 
 -- one of the turn goes before the chain of its tick, and is the last of it where there was none
-turn-links : (i slot : ℕ) (p : Place) (ps : List Place) (firsts : List (Option ℕ)) (lasts lasts' : List ℕ) (base : ℕ) → IsWheelFrom (suc i) ps firsts lasts base → slot < 1024 → is_at (base + slot) p ≡ true → p.next ≡ get_or firsts slot None
+turn-links : (i slot : ℕ) (p : Place) (ps : List Place) (firsts : List (Option ℕ)) (lasts lasts' : List ℕ) (base : ℕ) → IsWheelFrom (suc i) ps firsts lasts base → slot < 1024 → waits_at (base + slot) p ≡ true → p.next ≡ get_or firsts slot None
     → length lasts' ≡ 1024 → ((s : ℕ) → s ≢ slot → get_or lasts' s 0 ≡ get_or lasts s 0) → (get_or firsts slot None ≡ None → get_or lasts' slot 0 ≡ i) → ((f : ℕ) → get_or firsts slot None ≡ Some f → get_or lasts' slot 0 ≡ get_or lasts slot 0)
     → IsWheelFrom i (p ∷ ps) (set firsts slot (Some i)) lasts' base
 turn-links i slot p ps firsts lasts lasts' base wheel low at next ends others fresh stays =
     let tick : p.tick ≡ base + slot = eqb-true p.tick (base + slot) (and_parts p.waits (nat_eq p.tick (base + slot)) at).1 in
-    let other : (s : ℕ) → s ≢ slot → is_at (base + s) p ≡ false = λ s apart. is_at-other (base + s) p (λ e. apart (omega (arith, e, tick))) in
+    let other : (s : ℕ) → s ≢ slot → waits_at (base + s) p ≡ false = λ s apart. is_at-other (base + s) p (λ e. apart (omega (arith, e, tick))) in
     record {
       slots = length-set firsts slot (Some i) ∙ wheel.slots;
       ends = ends;
@@ -82,7 +82,7 @@ from-written ps i y within = let step : i + 1 ≡ suc i = omega arith in drop-se
 pub link-before : (ps : List Place) (firsts : List (Option ℕ)) (lasts : List ℕ) (base i slot : ℕ) (y : Place) → IsWheelFrom (suc i) (drop (suc i) ps) firsts lasts base → i < length ps → slot < 1024
     → y.waits ≡ true → y.tick ≡ base + slot → y.next ≡ get_or firsts slot None → is_some (get_or firsts slot None) ≡ true → IsWheelFrom i (drop i (set ps i y)) (set firsts slot (Some i)) lasts base
 link-before ps firsts lasts base i slot y wheel within low waits tick next some =
-    let at : is_at (base + slot) y ≡ true = rw waits (eq-eqb y.tick (base + slot) tick) in
+    let at : waits_at (base + slot) y ≡ true = rw waits (eq-eqb y.tick (base + slot) tick) in
     subst (λ l. IsWheelFrom i l (set firsts slot (Some i)) lasts base) (sym (from-written ps i y within))
     (turn-links i slot y (drop (suc i) ps) firsts lasts lasts base wheel low at next wheel.ends (λ s apart. refl)
     (λ none. absurd (true≢false (sym some ∙ ap is_some none))) (λ f is. refl))
@@ -91,7 +91,7 @@ link-before ps firsts lasts base i slot y wheel within low waits tick next some 
 pub link-alone : (ps : List Place) (firsts : List (Option ℕ)) (lasts : List ℕ) (base i slot : ℕ) (y : Place) → IsWheelFrom (suc i) (drop (suc i) ps) firsts lasts base → i < length ps → slot < 1024
     → y.waits ≡ true → y.tick ≡ base + slot → y.next ≡ get_or firsts slot None → is_some (get_or firsts slot None) ≡ false → IsWheelFrom i (drop i (set ps i y)) (set firsts slot (Some i)) (set lasts slot i) base
 link-alone ps firsts lasts base i slot y wheel within low waits tick next none =
-    let at : is_at (base + slot) y ≡ true = rw waits (eq-eqb y.tick (base + slot) tick) in
+    let at : waits_at (base + slot) y ≡ true = rw waits (eq-eqb y.tick (base + slot) tick) in
     subst (λ l. IsWheelFrom i l (set firsts slot (Some i)) (set lasts slot i) base) (sym (from-written ps i y within))
     (turn-links i slot y (drop (suc i) ps) firsts lasts (set lasts slot i) base wheel low at next (length-set lasts slot i ∙ wheel.ends)
     (λ s apart. get_or-set_other lasts slot s i 0 apart) (λ _. get_or-set_same lasts slot i 0 (omega (arith, wheel.ends, low)))

@@ -4,14 +4,14 @@ use Rattle.std.proofs.lemmas.Bool.{cases_Bool, cases_eq, eqb-true, and_parts}
 use Rattle.std.proofs.lemmas.List.{get_or_at, set_at, length-append, length-set, get_or-set_same, get_or-set_other}
 use Rattle.std.proofs.lemmas.Option.{same_Some}
 use Rattle.tick_calendar.specs.declared.place.Place.{Place}
-use Rattle.tick_calendar.specs.Wheel.{entries_in, is_at, first_at, last_at, IsWheel, RemovesFirst}
+use Rattle.tick_calendar.specs.Wheel.{entries_in, waits_at, first_at, last_at, IsWheel, RemovesFirst}
 use Rattle.tick_calendar.proofs.Chains.{entries-alike, entries-put, entries-gone, first_at-past, first_at-alike, first_at-found, HasNone, first_at-none, none-first_at, none-found, first-one, is_at-other, last_at-past, last_at-new, last_at-alike, split-last, last_at-taken, found-last}
 use Rattle.tick_calendar.proofs.Links.{linked-past, linked-behind, linked-taken, first_at-taken, linked-beyond}
 
 -- what isn't of a tick of the turn changes no chain
 pub wheel-beyond : (places : List Place) (firsts : List (Option ℕ)) (lasts : List ℕ) (base : ℕ) (n : Place) → IsWheel places firsts lasts base → base + 1024 ≤ n.tick → n.next ≡ None → IsWheel (places ++ n ∷ []) firsts lasts base
 wheel-beyond places firsts lasts base n wheel beyond next =
-    let other : (slot : ℕ) → slot < 1024 → is_at (base + slot) n ≡ false = λ slot low. is_at-other (base + slot) n (λ e. absurd (omega (arith, e, low, beyond))) in
+    let other : (slot : ℕ) → slot < 1024 → waits_at (base + slot) n ≡ false = λ slot low. is_at-other (base + slot) n (λ e. absurd (omega (arith, e, low, beyond))) in
     record {
       slots = wheel.slots;
       ends = wheel.ends;
@@ -21,12 +21,12 @@ wheel-beyond places firsts lasts base n wheel beyond next =
     }
 
 -- the first of its tick
-pub wheel-first : (places : List Place) (firsts : List (Option ℕ)) (lasts : List ℕ) (base slot : ℕ) (n : Place) → IsWheel places firsts lasts base → slot < 1024 → get_or firsts slot None ≡ None → is_at (base + slot) n ≡ true → n.next ≡ None
+pub wheel-first : (places : List Place) (firsts : List (Option ℕ)) (lasts : List ℕ) (base slot : ℕ) (n : Place) → IsWheel places firsts lasts base → slot < 1024 → get_or firsts slot None ≡ None → waits_at (base + slot) n ≡ true → n.next ≡ None
     → IsWheel (places ++ n ∷ []) (set firsts slot (Some (length places))) (set lasts slot (length places)) base
 wheel-first places firsts lasts base slot n wheel low empty at next =
     let none : HasNone (base + slot) places = none-first_at (base + slot) 0 places (sym (wheel.firsts_at slot low) ∙ empty) in
     let tick : n.tick ≡ base + slot = eqb-true n.tick (base + slot) (and_parts n.waits (nat_eq n.tick (base + slot)) at).1 in
-    let other : (s : ℕ) → s ≢ slot → is_at (base + s) n ≡ false = λ s apart. is_at-other (base + s) n (λ e. apart (omega (arith, e, tick))) in
+    let other : (s : ℕ) → s ≢ slot → waits_at (base + s) n ≡ false = λ s apart. is_at-other (base + s) n (λ e. apart (omega (arith, e, tick))) in
     let zero_end : length places + 0 ≡ length places = omega arith in
     record {
       slots = length-set firsts slot (Some (length places)) ∙ wheel.slots;
@@ -45,12 +45,12 @@ wheel-first places firsts lasts base slot n wheel low empty at next =
     }
 
 -- the first of a tick is taken
-wheel-taken : (a b : List Place) (x y : Place) (firsts : List (Option ℕ)) (lasts : List ℕ) (base slot : ℕ) → IsWheel (a ++ x ∷ b) firsts lasts base → slot < 1024 → HasNone (base + slot) a → is_at (base + slot) x ≡ true → y.waits ≡ false
+wheel-taken : (a b : List Place) (x y : Place) (firsts : List (Option ℕ)) (lasts : List ℕ) (base slot : ℕ) → IsWheel (a ++ x ∷ b) firsts lasts base → slot < 1024 → HasNone (base + slot) a → waits_at (base + slot) x ≡ true → y.waits ≡ false
     → IsWheel (a ++ y ∷ b) (set firsts slot x.next) lasts base
 wheel-taken a b x y firsts lasts base slot wheel low none at gone =
     let tick : x.tick ≡ base + slot = eqb-true x.tick (base + slot) (and_parts x.waits (nat_eq x.tick (base + slot)) at).1 in
-    let gone_at : (t : ℕ) → is_at t y ≡ false = λ t. rw gone refl in
-    let other : (s : ℕ) → s ≢ slot → is_at (base + s) x ≡ is_at (base + s) y = λ s apart. is_at-other (base + s) x (λ e. apart (omega (arith, e, tick))) ∙ sym (gone_at (base + s)) in
+    let gone_at : (t : ℕ) → waits_at t y ≡ false = λ t. rw gone refl in
+    let other : (s : ℕ) → s ≢ slot → waits_at (base + s) x ≡ waits_at (base + s) y = λ s apart. is_at-other (base + s) x (λ e. apart (omega (arith, e, tick))) ∙ sym (gone_at (base + s)) in
     record {
       slots = length-set firsts slot x.next ∙ wheel.slots;
       ends = wheel.ends;
@@ -66,14 +66,14 @@ wheel-taken a b x y firsts lasts base slot wheel low none at gone =
     }
 
 wheel-behind : (a b : List Place) (x y n : Place) (firsts : List (Option ℕ)) (lasts : List ℕ) (base slot : ℕ) → IsWheel (a ++ x ∷ b) firsts lasts base → slot < 1024
-    → is_at (base + slot) x ≡ true → HasNone (base + slot) b → is_at (base + slot) n ≡ true → n.next ≡ None → y.tick ≡ x.tick → y.waits ≡ x.waits → y.next ≡ Some (length (a ++ x ∷ b))
+    → waits_at (base + slot) x ≡ true → HasNone (base + slot) b → waits_at (base + slot) n ≡ true → n.next ≡ None → y.tick ≡ x.tick → y.waits ≡ x.waits → y.next ≡ Some (length (a ++ x ∷ b))
     → IsWheel (a ++ y ∷ (b ++ n ∷ [])) firsts (set lasts slot (length (a ++ x ∷ b))) base
 wheel-behind a b x y n firsts lasts base slot wheel low at none at_n next tick waits names =
     let tick_x : x.tick ≡ base + slot = eqb-true x.tick (base + slot) (and_parts x.waits (nat_eq x.tick (base + slot)) at).1 in
     let tick_n : n.tick ≡ base + slot = eqb-true n.tick (base + slot) (and_parts n.waits (nat_eq n.tick (base + slot)) at_n).1 in
-    let alike : (t : ℕ) → is_at t x ≡ is_at t y = λ t. rw (tick, waits) refl in
-    let at_y : is_at (base + slot) y ≡ true = sym (alike (base + slot)) ∙ at in
-    let other : (s : ℕ) → s ≢ slot → is_at (base + s) n ≡ false = λ s apart. is_at-other (base + s) n (λ e. apart (omega (arith, e, tick_n))) in
+    let alike : (t : ℕ) → waits_at t x ≡ waits_at t y = λ t. rw (tick, waits) refl in
+    let at_y : waits_at (base + slot) y ≡ true = sym (alike (base + slot)) ∙ at in
+    let other : (s : ℕ) → s ≢ slot → waits_at (base + s) n ≡ false = λ s apart. is_at-other (base + s) n (λ e. apart (omega (arith, e, tick_n))) in
     let long : length (a ++ y ∷ b) + 0 ≡ length (a ++ x ∷ b) = omega (arith, length-append a (y ∷ b), length-append a (x ∷ b)) in
     let ends : length (a ++ x ∷ b) ≡ suc (length b + (length a + 0)) = omega (arith, length-append a (x ∷ b)) in
     record {
@@ -101,13 +101,13 @@ pub record IsSplitFirst (t i q : ℕ) (ps : List Place) : Type 0 where
   pub behind : List Place
   pub was : ps ≡ before ++ place ∷ behind
   pub at : q ≡ length before + i
-  pub here : is_at t place ≡ true
+  pub here : waits_at t place ≡ true
   pub none : HasNone t before
 
 split-first : (t i q : ℕ) (ps : List Place) → first_at t i ps ≡ Some q → IsSplitFirst t i q ps
 unfolding first_at
 split-first t i q [] found = absurd (cc)
-split-first t i q (p ∷ ps) found = elim (cases_Bool (is_at t p)) [
+split-first t i q (p ∷ ps) found = elim (cases_Bool (waits_at t p)) [
   | inl at ↦ (let e : i ≡ q = cc (rw at at found) in record { before = []; place = p; behind = ps; was = refl; at = omega (arith, e); here = at; none = tt })
   | inr apart ↦ (
       let rest = split-first t (suc i) q ps (rw apart at found) in
@@ -115,7 +115,7 @@ split-first t i q (p ∷ ps) found = elim (cases_Bool (is_at t p)) [
 ]
 
 pub append-behind : (places : List Place) (firsts : List (Option ℕ)) (lasts : List ℕ) (base slot first last : ℕ) (x y n : Place) → IsWheel places firsts lasts base → slot < 1024 → get_or firsts slot None ≡ Some first → last ≡ get_or lasts slot 0
-    → is_at (base + slot) n ≡ true → n.next ≡ None → x ≡ get_or (places ++ n ∷ []) last x → y.tick ≡ x.tick → y.key ≡ x.key → y.waits ≡ x.waits → y.next ≡ Some (length places)
+    → waits_at (base + slot) n ≡ true → n.next ≡ None → x ≡ get_or (places ++ n ∷ []) last x → y.tick ≡ x.tick → y.key ≡ x.key → y.waits ≡ x.waits → y.next ≡ Some (length places)
     → IsWheel (set (places ++ n ∷ []) last y) firsts (set lasts slot (length places)) base × (entries_in (set (places ++ n ∷ []) last y) ≡ entries_in places ++ (n.tick, n.key) ∷ [])
 append-behind places firsts lasts base slot first last x y n wheel low is_first is_last at next read tick key waits names =
     let q = found-last (base + slot) 0 first places (sym (wheel.firsts_at slot low) ∙ is_first) in

@@ -12,35 +12,35 @@ entries_in [] = []
 entries_in (p ∷ ps) = if p.waits then (p.tick, p.key) ∷ entries_in ps else entries_in ps
 
 -- whether a place has an entry for tick t
-abbrev pub is_at : ℕ → Place → Bool
-is_at t p = p.waits && nat_eq p.tick t
+abbrev pub waits_at : ℕ → Place → Bool
+waits_at t p = p.waits && nat_eq p.tick t
 
 -- the first place for tick t, where the places are counted from i
 unfoldable pub first_at : ℕ → ℕ → List Place → Option ℕ
 first_at t i [] = None
-first_at t i (p ∷ ps) = if is_at t p then Some i else first_at t (suc i) ps
+first_at t i (p ∷ ps) = if waits_at t p then Some i else first_at t (suc i) ps
 
 -- a place whose tick is below the end of the turn names the next place of its tick
-abbrev pub IsLinked : ℕ → ℕ → Place → List Place → Type 0
-IsLinked end i p behind = p.waits ≡ true → p.tick < end → p.next ≡ first_at p.tick (suc i) behind
+abbrev pub IsChained : ℕ → ℕ → Place → List Place → Type 0
+IsChained end i p behind = p.waits ≡ true → p.tick < end → p.next ≡ first_at p.tick (suc i) behind
 
 unfoldable pub AreLinked : ℕ → ℕ → List Place → Type 0
 AreLinked end i [] = Unit {0}
-AreLinked end i (p ∷ ps) = IsLinked end i p ps × AreLinked end (suc i) ps
+AreLinked end i (p ∷ ps) = IsChained end i p ps × AreLinked end (suc i) ps
 
 -- an entry isn't due before tick t
 abbrev pub IsFrom : ℕ → Entry → Type 0
 IsFrom t entry = t ≤ entry.0
 
 -- the first of two answers that there is
-abbrev pub or_else : Option ℕ → Option ℕ → Option ℕ
-or_else None other = other
-or_else (Some q) other = Some q
+abbrev pub first_found : Option ℕ → Option ℕ → Option ℕ
+first_found None other = other
+first_found (Some q) other = Some q
 
 -- the last place for tick t
 unfoldable pub last_at : ℕ → ℕ → List Place → Option ℕ
 last_at t i [] = None
-last_at t i (p ∷ ps) = or_else (last_at t (suc i) ps) (if is_at t p then Some i else None)
+last_at t i (p ∷ ps) = first_found (last_at t (suc i) ps) (if waits_at t p then Some i else None)
 
 -- the slots of the wheel: one for each of the 1,024 ticks from `base` on, with the first and the last place of the tick
 pub record IsWheel (places : List Place) (firsts : List (Option ℕ)) (lasts : List ℕ) (base : ℕ) : Type 0 where
@@ -51,8 +51,8 @@ pub record IsWheel (places : List Place) (firsts : List (Option ℕ)) (lasts : L
   pub linked : AreLinked (base + 1024) 0 places
 
 -- no entry is due before tick t
-abbrev pub AreAll : ℕ → List Entry → Type 0
-AreAll t entries = AllByRecursion (IsFrom t) entries
+abbrev pub AreAllFrom : ℕ → List Entry → Type 0
+AreAllFrom t entries = AllByRecursion (IsFrom t) entries
 
 -- the first entry of tick t is gone, and it had this key
 pub record RemovesFirst (t : ℕ) (old new : List Place) (key : ℕ) : Type 0 where
@@ -60,20 +60,20 @@ pub record RemovesFirst (t : ℕ) (old new : List Place) (key : ℕ) : Type 0 wh
   pub place : Place
   pub behind : List Place
   pub was : old ≡ before ++ place ∷ behind
-  pub at : is_at t place ≡ true
+  pub at : waits_at t place ≡ true
   pub none : first_at t 0 before ≡ None
   pub key_is : key ≡ place.key
   pub left : entries_in new ≡ entries_in before ++ entries_in behind
 
 -- what a calendar keeps
-pub record IsKept (places : List Place) (firsts : List (Option ℕ)) (lasts : List ℕ) (base slot waiting room clock capacity : ℕ) : Type 0 where
+pub record IsKeptWheel (places : List Place) (firsts : List (Option ℕ)) (lasts : List ℕ) (base slot waiting room clock capacity : ℕ) : Type 0 where
   pub wheel : IsWheel places firsts lasts base
   pub counted : length (entries_in places) ≡ waiting
   pub within : waiting ≤ room
   pub roomy : room ≤ capacity
   pub slot_most : slot < 1024
   pub begun : base + slot ≤ clock
-  pub ahead : AreAll (base + slot) (entries_in places)
+  pub ahead : AreAllFrom (base + slot) (entries_in places)
 
 -- the same of the places from i on, where those before them aren't in a chain yet: a turn puts them in, from the last on
 pub record IsWheelFrom (i : ℕ) (places : List Place) (firsts : List (Option ℕ)) (lasts : List ℕ) (base : ℕ) : Type 0 where
@@ -86,5 +86,5 @@ pub record IsWheelFrom (i : ℕ) (places : List Place) (firsts : List (Option �
 -- the least tick of an entry, or `now` where that is less
 pub record IsLeastBy (entries : List Entry) (now least : ℕ) : Type 0 where
   pub most : least ≤ now
-  pub all : AreAll least entries
-  pub reached : AreAll (suc least) entries → least ≡ now
+  pub all : AreAllFrom least entries
+  pub reached : AreAllFrom (suc least) entries → least ≡ now

@@ -2,7 +2,7 @@
 #![tactic(auto)]
 
 ghost use Rattle.std.specs.Prelude.{◌≡◌, ◌+◌, ◌-◌, ◌<◌, ◌≤◌, ◌↔◌, ◌++◌, ◌∷◌, [], IsOk, OnOk, OnErr, IfOk, IsNone, IfSome, is_some, if◌then◌else◌, All};
-ghost use Rattle.tick_calendar.specs.Calendar.{Schedule, TakesDue, due_key, left_at};
+ghost use Rattle.tick_calendar.specs.Calendar.{Schedule, TakesDue, due_key, left_after};
 
 mod place;
 mod wheel;
@@ -31,13 +31,13 @@ pub struct Calendar {
 impl Model for Calendar {
     ghost use Rattle.std.specs.Prelude.{◌-◌, vec_capacity};
     ghost use Rattle.tick_calendar.specs.Calendar.{Schedule};
-    ghost use Rattle.tick_calendar.specs.Wheel.{entries_in, IsKept};
+    ghost use Rattle.tick_calendar.specs.Wheel.{entries_in, IsKeptWheel};
 
     ghost Value = { Schedule };
 
     ghost view = { λ c. record { entries = entries_in c.wheel.places.items; spare = c.room - c.waiting; clock = c.clock } };
 
-    ghost invariant = { λ c. IsKept c.wheel.places.items c.wheel.firsts.items c.wheel.lasts.items c.wheel.base c.wheel.slot c.waiting c.room c.clock (vec_capacity c.wheel.places) };
+    ghost invariant = { λ c. IsKeptWheel c.wheel.places.items c.wheel.firsts.items c.wheel.lasts.items c.wheel.base c.wheel.slot c.waiting c.room c.clock (vec_capacity c.wheel.places) };
 }
 
 impl Calendar {
@@ -90,7 +90,7 @@ impl Calendar {
         requires { self.old.clock ≤ now }
 
         ensures key { result ≡ due_key self.old.entries now }
-        ensures left { self.new.entries ≡ left_at self.old.entries now }
+        ensures left { self.new.entries ≡ left_after self.old.entries now }
         ensures spare { self.new.spare ≡ self.old.spare + (if is_some result then 1 else 0) }
         ensures clock { self.new.clock ≡ now }
 

@@ -1,7 +1,7 @@
 //! The wheel of a calendar: its entries in the order of their puts, with chains of those that are due soon.
 ghost use Rattle.std.specs.Prelude.{◌≡◌, ◌+◌, ◌-◌, ◌^◌, ◌<◌, ◌≤◌, ◌++◌, ◌∷◌, [], suc, true, Some, None, is_some, IfOk, OnOk, IfNone, IfSome, All, length, get_or, drop};
 ghost use Rattle.std.specs.Vec.{vec_capacity};
-ghost use Rattle.tick_calendar.specs.Wheel.{entries_in, IsWheel, IsWheelFrom, AreAll, IsLeastBy};
+ghost use Rattle.tick_calendar.specs.Wheel.{entries_in, IsWheel, IsWheelFrom, AreAllFrom, IsLeastBy};
 
 use crate::place::Place;
 use net_units::OutOfMemory;
@@ -57,7 +57,7 @@ impl Wheel {
     pub(crate) fn clear_if_full(&mut self)
         requires wheel { IsWheel self.old.places.items self.old.firsts.items self.old.lasts.items self.old.base }
         requires slot { self.old.slot < 1024 }
-        requires ahead { AreAll (self.old.base + self.old.slot) (entries_in self.old.places.items) }
+        requires ahead { AreAllFrom (self.old.base + self.old.slot) (entries_in self.old.places.items) }
         requires fits { self.old.base + self.old.slot < 2 ^ 64 }
         requires room { length (entries_in self.old.places.items) < vec_capacity self.old.places }
         ensures wheel { IsWheel self.new.places.items self.new.firsts.items self.new.lasts.items self.new.base }
@@ -73,7 +73,7 @@ impl Wheel {
         self.turn(self.base + self.slot as u64);
     }
 
-    // Puts an entry behind the others. It takes no memory.
+    // Puts an entry after the others. It takes no memory.
     pub(crate) fn append(&mut self, tick: u64, key: u32)
         requires wheel { IsWheel self.old.places.items self.old.firsts.items self.old.lasts.items self.old.base }
         requires ahead { self.old.base ≤ tick }
@@ -128,14 +128,14 @@ impl Wheel {
         requires wheel { IsWheel self.old.places.items self.old.firsts.items self.old.lasts.items self.old.base }
         requires slot { self.old.slot < 1024 }
         requires begun { self.old.base + self.old.slot ≤ now }
-        requires ahead { AreAll (self.old.base + self.old.slot) (entries_in self.old.places.items) }
+        requires ahead { AreAllFrom (self.old.base + self.old.slot) (entries_in self.old.places.items) }
         ensures wheel { IsWheel self.new.places.items self.new.firsts.items self.new.lasts.items self.new.base }
         ensures slot { self.new.slot < 1024 }
         ensures begun { self.new.base + self.new.slot ≤ now }
-        ensures ahead { AreAll (self.new.base + self.new.slot) (entries_in self.new.places.items) }
+        ensures ahead { AreAllFrom (self.new.base + self.new.slot) (entries_in self.new.places.items) }
         ensures entries { entries_in self.new.places.items ≡ entries_in self.old.places.items }
         ensures capacity { vec_capacity self.new.places ≡ vec_capacity self.old.places }
-        ensures none { result ≡ None → AreAll (suc now) (entries_in self.new.places.items) }
+        ensures none { result ≡ None → AreAllFrom (suc now) (entries_in self.new.places.items) }
         ensures found { result ≡ get_or self.new.firsts.items self.new.slot None }
     {
         self.slot = self.next_slot((now - self.base).min(1_023) as usize);
@@ -153,9 +153,9 @@ impl Wheel {
         requires wheel { IsWheel self.now.places.items self.now.firsts.items self.now.lasts.items self.now.base }
         requires last { last < 1024 }
         requires slot { self.now.slot ≤ last }
-        requires ahead { AreAll (self.now.base + self.now.slot) (entries_in self.now.places.items) }
+        requires ahead { AreAllFrom (self.now.base + self.now.slot) (entries_in self.now.places.items) }
         ensures within { result ≤ last }
-        ensures ahead { AreAll (self.now.base + result) (entries_in self.now.places.items) }
+        ensures ahead { AreAllFrom (self.now.base + result) (entries_in self.now.places.items) }
         ensures found { result < last → is_some (get_or self.now.firsts.items result None) ≡ true }
     {
         for slot in self.slot..last {
@@ -169,7 +169,7 @@ impl Wheel {
     // Begins a turn: the slots are those of the ticks from `base` on. The places that keys have left are gone.
     fn turn(&mut self, base: u64)
         requires wheel { IsWheel self.old.places.items self.old.firsts.items self.old.lasts.items self.old.base }
-        requires ahead { AreAll base (entries_in self.old.places.items) }
+        requires ahead { AreAllFrom base (entries_in self.old.places.items) }
         ensures wheel { IsWheel self.new.places.items self.new.firsts.items self.new.lasts.items self.new.base }
         ensures entries { entries_in self.new.places.items ≡ entries_in self.old.places.items }
         ensures capacity { vec_capacity self.new.places ≡ vec_capacity self.old.places }
@@ -188,7 +188,7 @@ impl Wheel {
         }
     }
 
-    // Puts the place at an index before the chain of its tick, where that tick is one of the turn. Those behind it are in
+    // Puts the place at an index before the chain of its tick, where that tick is one of the turn. Those after it are in
     // their chains.
     fn link(&mut self, index: usize)
         requires wheel { IsWheelFrom (suc index) (drop (suc index) self.old.places.items) self.old.firsts.items self.old.lasts.items self.old.base }

@@ -6,6 +6,7 @@ use Rattle.std.specs.Prelude.{ℕ, suc, min, Bool, true, false, nat_eq, nat_lt, 
 use Rattle.std.proofs.Common.{lit<}
 use Rattle.std.proofs.Math.Nat.{min-le_left, lt_of_le_of_lt}
 use Rattle.net_units.specs.declared.numbers.LinkNo.{LinkNo}
+use Rattle.net_units.specs.Numbers.{link_at}
 use Rattle.link_steps.specs.declared.asks.Ask.{Ask}
 use Rattle.link_steps.specs.declared.asks.Ask.TheVariants.{Arrive, Tick}
 use Rattle.link_steps.specs.declared.replies.Refusal.{Refusal}
@@ -26,10 +27,6 @@ abbrev pub plane_start : Plane
 plane_start = record { round = 0; ticked = 0; flights = [] }
 
 -- ---- what is asked next
-
--- the link of this number, for a number below 32
-abbrev pub link_at : ℕ → LinkNo
-link_at n = record { number = min 31 n; small = lt_of_le_of_lt (min-le_left 31 n) (lit< tt) }
 
 abbrev pub is_due : ℕ → Flight → Bool
 is_due round flight = nat_eq flight.round round
@@ -76,7 +73,7 @@ plane_with links plane None reply = tick_made links plane (flight_in reply)
 abbrev pub plane_after : ℕ → Reply → Plane → Plane
 plane_after links reply plane = plane_with links plane (next_due plane) reply
 
--- where the plane of so many links stands after its replies, newest first
+-- where the plane of `links` links stands after its replies, newest first
 unfoldable pub plane_of : ℕ → List Reply → Plane
 plane_of links [] = plane_start
 plane_of links (reply ∷ before) = plane_after links reply (plane_of links before)

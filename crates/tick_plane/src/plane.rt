@@ -1,7 +1,8 @@
 //! The rounds of arrivals and ticks.
 ghost use Rattle.std.specs.Prelude.{◌≡◌, ◌+◌, ◌-◌, ◌^◌, ◌<◌, ◌≤◌, ◌↔◌, ◌++◌, None, Some, IsTrue, IsOk, IsNone, OnOk, OnErr, IfOk, IfErr, IfNone, IfSome, length, find, remove, option_map, position, slice_get};
+ghost use Rattle.net_units.specs.Numbers.{link_at};
 ghost use Rattle.link_steps.specs.Lists.{without_first};
-ghost use Rattle.tick_plane.specs.Planes.{flight_of, is_due, link_at, next_due, tick_made, plane_ask, plane_after, plane_expects, plane_start};
+ghost use Rattle.tick_plane.specs.Planes.{flight_of, is_due, next_due, tick_made, plane_ask, plane_after, plane_expects, plane_start};
 
 use crate::flight::Flight;
 use link_steps::{Ask, Refusal, Reply, Sent, Unexpected};
@@ -29,9 +30,9 @@ pub struct Plane {
 
 impl Model for Plane {
     ghost use Rattle.std.specs.Prelude.{◌-◌, vec_len, vec_capacity};
-    ghost use Rattle.tick_plane.specs.Kept.{Kept};
+    ghost use Rattle.tick_plane.specs.Kept.{KeptPlane};
 
-    ghost Value = { Kept };
+    ghost Value = { KeptPlane };
 
     ghost view = { λ p. record { links = p.links; rounds = p.rounds; at = record { round = p.round; ticked = p.ticked; flights = p.flights.items }; spare = vec_capacity p.flights - vec_len p.flights } };
 }

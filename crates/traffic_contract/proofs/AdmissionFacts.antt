@@ -6,10 +6,10 @@ use Rattle.std.proofs.lemmas.Bool.Decides.{Decides-like}
 use Rattle.std.proofs.lemmas.List.Elements.{All-head, All-tail}
 use Rattle.std.specs.List.{All, filter}
 use Rattle.net_units.specs.LevelBounds.{bound_at}
-use Rattle.traffic_contract.specs.Contract.{Terms}
+use Rattle.traffic_contract.specs.Contract.{Traffic}
 use Rattle.traffic_contract.specs.declared.admission.Test.{Test}
 use Rattle.traffic_contract.specs.declared.admission.Test.TheVariants.{Whole, Least}
-use Rattle.traffic_contract.specs.Admission.{Server, Row, total, work_in, work_up_to, load, level_sum, Counts, PassesAt, HasWindow, Passes, fits_in, some_upto, some_counts, passes_at, passes_up_to, passes, with_row, HasRoom, admits, first_level, best_level, IsBest, IsRefused}
+use Rattle.traffic_contract.specs.Admission.{Server, Admitted, total, work_in, work_up_to, load, level_sum, WindowCounts, PassesAt, HasWindow, Passes, fits_in, some_upto, some_counts, passes_at, passes_up_to, passes, with_row, HasRoom, admits, first_level, best_level, IsBest, IsRefused}
 
 -- ---- sums over lists
 
@@ -42,30 +42,30 @@ total-le f g (x ∷ xs) less =
 
 -- ---- what a row adds to the levels
 
-pub work_up_to-within : (rate m w : ℕ) (row : Row) → row.level ≤ m → work_up_to rate m w row ≡ work_in rate row.terms w
+pub work_up_to-within : (rate m w : ℕ) (row : Admitted) → row.level ≤ m → work_up_to rate m w row ≡ work_in rate row.contract w
 unfolding work_up_to
 work_up_to-within rate m w row h = rw (le-leb row.level m h) refl
 
-pub work_up_to-above : (rate m w : ℕ) (row : Row) → m < row.level → work_up_to rate m w row ≡ 0
+pub work_up_to-above : (rate m w : ℕ) (row : Admitted) → m < row.level → work_up_to rate m w row ≡ 0
 unfolding work_up_to
 work_up_to-above rate m w row h = rw (lt-leb row.level m h) refl
 
 -- a row of the same contract at a level that is no smaller adds no more
-pub work_up_to-le : (rate m w : ℕ) (row other : Row) → other.terms ≡ row.terms → row.level ≤ other.level → work_up_to rate m w other ≤ work_up_to rate m w row
+pub work_up_to-le : (rate m w : ℕ) (row other : Admitted) → other.contract ≡ row.contract → row.level ≤ other.level → work_up_to rate m w other ≤ work_up_to rate m w row
 work_up_to-le rate m w row other same larger =
     ⊎_elim (λ (above : m < other.level). (let e = work_up_to-above rate m w other above in omega (arith, e)))
     (λ (within : other.level ≤ m).
     let e = work_up_to-within rate m w other within in
     let f = work_up_to-within rate m w row (omega arith) in
-    let g : work_in rate other.terms w ≡ work_in rate row.terms w = ap (λ terms. work_in rate terms w) same in
+    let g : work_in rate other.contract w ≡ work_in rate row.contract w = ap (λ contract. work_in rate contract w) same in
     omega (arith, e, f, g))
     (cases_lt m other.level)
 
 -- the load with a new row is the load before and what the row adds
-pub load-with_row : (server : Server) (rows : List Row) (terms : Terms) (level m w : ℕ) → load server (with_row rows terms level) m w ≡ load server rows m w + work_up_to server.rate m w (record { terms = terms; level = level })
+pub load-with_row : (server : Server) (rows : List Admitted) (contract : Traffic) (level m w : ℕ) → load server (with_row rows contract level) m w ≡ load server rows m w + work_up_to server.rate m w (record { contract = contract; level = level })
 unfolding load
-load-with_row server rows terms level m w =
-    let e = total-push (work_up_to server.rate m w) rows (record { terms = terms; level = level }) in omega (arith, e)
+load-with_row server rows contract level m w =
+    let e = total-push (work_up_to server.rate m w) rows (record { contract = contract; level = level }) in omega (arith, e)
 
 -- ---- the test
 
@@ -79,23 +79,23 @@ Decides-some_upto test (suc n) =
       λ found. ⊎_elim (λ (last : found.0 ≡ suc n). or_left (test (suc n)) (some_upto test n) (subst (λ w. test w ≡ true) last found.3)) (λ (other : found.0 ≡ suc n → ⊥). or_right (test (suc n)) (some_upto test n) (below.1 (found.0, found.1, omega (arith, other, found.2), found.3))) (cases_eq found.0 (suc n)),
     )
 
-Decides-some_counts : (kind : Test) (test : ℕ → Bool) (d : ℕ) → Decides (some_counts kind test d) ((w : ℕ) × Counts kind d w × (test w ≡ true))
+Decides-some_counts : (kind : Test) (test : ℕ → Bool) (d : ℕ) → Decides (some_counts kind test d) ((w : ℕ) × WindowCounts kind d w × (test w ≡ true))
 Decides-some_counts Whole test d = (λ e. (d, refl, e), λ found. subst (λ w. test w ≡ true) found.1 found.2)
 Decides-some_counts Least test d =
     Decides-like _ (λ found. (found.0, (found.1, found.2), found.3)) (λ found. (found.0, found.1.0, found.1.1, found.2)) (Decides-some_upto test d)
 
 -- whether a level passes
-pub Decides-passes_at : (server : Server) (rows : List Row) (m : ℕ) → Decides (passes_at server rows m) (HasWindow server rows m)
+pub Decides-passes_at : (server : Server) (rows : List Admitted) (m : ℕ) → Decides (passes_at server rows m) (HasWindow server rows m)
 Decides-passes_at server rows m =
     Decides-like _ (λ found. record { window = found.0; counts = found.1; fits = leb-true (load server rows m found.0) found.0 found.2 }) (λ passed. (passed.window, passed.counts, le-leb (load server rows m passed.window) passed.window passed.fits))
     (Decides-some_counts server.test (fits_in server rows m) (bound_at server.bounds m))
 
 -- a window of a level that passes
-pub window-of : (server : Server) (rows : List Row) (m : ℕ) → PassesAt server rows m → HasWindow server rows m
+pub window-of : (server : Server) (rows : List Admitted) (m : ℕ) → PassesAt server rows m → HasWindow server rows m
 window-of server rows m = (Decides-passes_at server rows m).0
 
 -- a level passes whose load is no larger than one that passes
-pub PassesAt-le : (server : Server) (rows others : List Row) (m : ℕ) → ((w : ℕ) → load server others m w ≤ load server rows m w) → PassesAt server rows m → PassesAt server others m
+pub PassesAt-le : (server : Server) (rows others : List Admitted) (m : ℕ) → ((w : ℕ) → load server others m w ≤ load server rows m w) → PassesAt server rows m → PassesAt server others m
 PassesAt-le server rows others m less passed =
     let found = window-of server rows m passed in
     (Decides-passes_at server others m).1 (record {
@@ -105,26 +105,26 @@ PassesAt-le server rows others m less passed =
     })
 
 -- a window that counts is at most the bound, and at least a tick where the bound is
-pub counts-within : (test : Test) (d w : ℕ) → 1 ≤ d → Counts test d w → (1 ≤ w) × (w ≤ d)
+pub counts-within : (test : Test) (d w : ℕ) → 1 ≤ d → WindowCounts test d w → (1 ≤ w) × (w ≤ d)
 counts-within Whole d w some counts = (omega (arith, counts), omega (arith, counts))
 counts-within Least d w some counts = counts
 
 -- the whole bound counts under every test
-pub counts-whole : (test : Test) (d : ℕ) → 1 ≤ d → Counts test d d
+pub counts-whole : (test : Test) (d : ℕ) → 1 ≤ d → WindowCounts test d d
 counts-whole Whole d some = refl
 counts-whole Least d some = (some, omega arith)
 
 -- so a level passes whose load in its whole bound fits
-pub PassesAt-whole : (server : Server) (rows : List Row) (m : ℕ) → 1 ≤ bound_at server.bounds m → level_sum server rows m ≤ bound_at server.bounds m → PassesAt server rows m
+pub PassesAt-whole : (server : Server) (rows : List Admitted) (m : ℕ) → 1 ≤ bound_at server.bounds m → level_sum server rows m ≤ bound_at server.bounds m → PassesAt server rows m
 PassesAt-whole server rows m some fits =
     (Decides-passes_at server rows m).1 (record { window = bound_at server.bounds m; counts = counts-whole server.test (bound_at server.bounds m) some; fits = fits })
 
 -- rows pass whose loads are no larger than those of rows that pass
-pub Passes-le : (server : Server) (rows others : List Row) → ((m w : ℕ) → load server others m w ≤ load server rows m w) → Passes server rows → Passes server others
+pub Passes-le : (server : Server) (rows others : List Admitted) → ((m w : ℕ) → load server others m w ≤ load server rows m w) → Passes server rows → Passes server others
 Passes-le server rows others less passed = record { each = λ m from upto. PassesAt-le server rows others m (less m) (passed.each m from upto) }
 
 -- rows that pass still pass when one moves to a larger level
-pub Passes-raised : (server : Server) (rows : List Row) (row raised : Row) (later : List Row) → raised.terms ≡ row.terms → row.level ≤ raised.level → Passes server (rows ++ row ∷ later) → Passes server (rows ++ raised ∷ later)
+pub Passes-raised : (server : Server) (rows : List Admitted) (row raised : Admitted) (later : List Admitted) → raised.contract ≡ row.contract → row.level ≤ raised.level → Passes server (rows ++ row ∷ later) → Passes server (rows ++ raised ∷ later)
 unfolding load
 Passes-raised server rows row raised later same larger =
     Passes-le server (rows ++ row ∷ later) (rows ++ raised ∷ later) (λ m w.
@@ -134,7 +134,7 @@ Passes-raised server rows row raised later same larger =
     omega (arith, e, f, g))
 
 -- f gives the row of an item: the rows that pass still do when items are taken out
-pub Passes-kept : {X : Type 0} (server : Server) (f : X → Row) (test : X → Bool) (xs : List X) → Passes server (map f xs) → Passes server (map f (filter test xs))
+pub Passes-kept : {X : Type 0} (server : Server) (f : X → Admitted) (test : X → Bool) (xs : List X) → Passes server (map f xs) → Passes server (map f (filter test xs))
 unfolding load
 Passes-kept server f test xs =
     Passes-le server (map f xs) (map f (filter test xs)) (λ m w.
@@ -144,7 +144,7 @@ Passes-kept server f test xs =
     omega (arith, e, h, less))
 
 -- and so do those of items that changed to no smaller levels
-pub Passes-changed : {X : Type 0} (server : Server) (f : X → Row) (change : X → X) (xs : List X) → All (λ x. ((f (change x)).terms ≡ (f x).terms) × ((f x).level ≤ (f (change x)).level)) xs → Passes server (map f xs) → Passes server (map f (map change xs))
+pub Passes-changed : {X : Type 0} (server : Server) (f : X → Admitted) (change : X → X) (xs : List X) → All (λ x. ((f (change x)).contract ≡ (f x).contract) × ((f x).level ≤ (f (change x)).level)) xs → Passes server (map f xs) → Passes server (map f (map change xs))
 unfolding load
 Passes-changed server f change xs raised =
     Passes-le server (map f xs) (map f (map change xs)) (λ m w.
@@ -155,9 +155,9 @@ Passes-changed server f change xs raised =
     omega (arith, e, h, i, less))
 
 -- a row that passes at a level passes at every larger level
-pub Passes-larger : (server : Server) (rows : List Row) (terms : Terms) (m larger : ℕ) → m ≤ larger → Passes server (with_row rows terms m) → Passes server (with_row rows terms larger)
-Passes-larger server rows terms m larger h =
-    Passes-raised server rows (record { terms = terms; level = m }) (record { terms = terms; level = larger }) [] refl h
+pub Passes-larger : (server : Server) (rows : List Admitted) (contract : Traffic) (m larger : ℕ) → m ≤ larger → Passes server (with_row rows contract m) → Passes server (with_row rows contract larger)
+Passes-larger server rows contract m larger h =
+    Passes-raised server rows (record { contract = contract; level = m }) (record { contract = contract; level = larger }) [] refl h
 
 -- the empty list of rows passes where the blocking, of a tick or more, fits every bound
 pub Passes-nil : (server : Server) → 1 ≤ server.blocking → ((m : ℕ) → 1 ≤ m → m ≤ length server.bounds → server.blocking ≤ bound_at server.bounds m) → Passes server []
@@ -165,7 +165,7 @@ unfolding load
 Passes-nil server some fits = record { each = λ m from upto. PassesAt-whole server [] m (omega (arith, some, fits m from upto)) (omega (arith, fits m from upto)) }
 
 -- whether rows pass up to a level
-Decides-passes_up_to : (server : Server) (rows : List Row) (n : ℕ) → Decides (passes_up_to server rows n) ((m : ℕ) → 1 ≤ m → m ≤ n → PassesAt server rows m)
+Decides-passes_up_to : (server : Server) (rows : List Admitted) (n : ℕ) → Decides (passes_up_to server rows n) ((m : ℕ) → 1 ≤ m → m ≤ n → PassesAt server rows m)
 unfolding passes_up_to
 Decides-passes_up_to server rows zero = (λ _ m from upto. absurd (omega arith), λ _. refl)
 Decides-passes_up_to server rows (suc n) =
@@ -177,14 +177,14 @@ Decides-passes_up_to server rows (suc n) =
     )
 
 -- the test says whether the rows pass
-pub Decides-passes : (server : Server) (rows : List Row) → Decides (passes server rows) (Passes server rows)
+pub Decides-passes : (server : Server) (rows : List Admitted) → Decides (passes server rows) (Passes server rows)
 unfolding passes
 Decides-passes server rows =
     Decides-like _ (λ all. record { each = all }) (λ passed. passed.each) (Decides-passes_up_to server rows (length server.bounds))
 
-pub Decides-admits : (server : Server) (rows : List Row) (terms : Terms) (m : ℕ) → Decides (admits server rows terms m) (Passes server (with_row rows terms m))
+pub Decides-admits : (server : Server) (rows : List Admitted) (contract : Traffic) (m : ℕ) → Decides (admits server rows contract m) (Passes server (with_row rows contract m))
 unfolding admits
-Decides-admits server rows terms m = Decides-passes server (with_row rows terms m)
+Decides-admits server rows contract m = Decides-passes server (with_row rows contract m)
 
 -- ---- the best level
 
@@ -224,55 +224,55 @@ first_level-is test m (suc count) found e =
     (cases_Bool (test m))
 
 -- the best level that the definition computes is the least that passes
-pub best_level-is : (server : Server) (rows : List Row) (terms : Terms) (m : ℕ) → best_level server rows terms ≡ Some m → IsBest server rows terms m
+pub best_level-is : (server : Server) (rows : List Admitted) (contract : Traffic) (m : ℕ) → best_level server rows contract ≡ Some m → IsBest server rows contract m
 unfolding best_level
-best_level-is server rows terms m e =
-    let found = first_level-is (admits server rows terms) 1 (length server.bounds) m e in
+best_level-is server rows contract m e =
+    let found = first_level-is (admits server rows contract) 1 (length server.bounds) m e in
     record {
       from = found.0;
       upto = omega (arith, found.1);
-      passes = (Decides-admits server rows terms m).0 found.2;
-      least = λ lower from upto passed. ⊎_elim (λ (below : lower < m). absurd (true≢false (sym ((Decides-admits server rows terms lower).1 passed) ∙ found.3 lower from below))) (λ (above : m ≤ lower). above) (cases_lt lower m);
+      passes = (Decides-admits server rows contract m).0 found.2;
+      least = λ lower from upto passed. ⊎_elim (λ (below : lower < m). absurd (true≢false (sym ((Decides-admits server rows contract lower).1 passed) ∙ found.3 lower from below))) (λ (above : m ≤ lower). above) (cases_lt lower m);
     }
 
-pub best_level-found : (server : Server) (rows : List Row) (terms : Terms) (m : ℕ) → IsBest server rows terms m → best_level server rows terms ≡ Some m
+pub best_level-found : (server : Server) (rows : List Admitted) (contract : Traffic) (m : ℕ) → IsBest server rows contract m → best_level server rows contract ≡ Some m
 unfolding best_level
-best_level-found server rows terms m best =
-    first_level-found (admits server rows terms) 1 (length server.bounds) m best.from (omega (arith, best.upto)) ((Decides-admits server rows terms m).1 best.passes)
-    (λ k from below. false_from_ne_true _ (λ passed. absurd (omega (arith, best.least k from (omega (arith, best.upto)) ((Decides-admits server rows terms k).0 passed)))))
+best_level-found server rows contract m best =
+    first_level-found (admits server rows contract) 1 (length server.bounds) m best.from (omega (arith, best.upto)) ((Decides-admits server rows contract m).1 best.passes)
+    (λ k from below. false_from_ne_true _ (λ passed. absurd (omega (arith, best.least k from (omega (arith, best.upto)) ((Decides-admits server rows contract k).0 passed)))))
 
 -- there is none exactly where no level passes
-pub best_level-none : (server : Server) (rows : List Row) (terms : Terms) → IsRefused server rows terms → best_level server rows terms ≡ None
+pub best_level-none : (server : Server) (rows : List Admitted) (contract : Traffic) → IsRefused server rows contract → best_level server rows contract ≡ None
 unfolding best_level
-best_level-none server rows terms refused =
-    first_level-none (admits server rows terms) 1 (length server.bounds) (λ k from upto. false_from_ne_true _ (λ passed. refused.each k from (omega arith) ((Decides-admits server rows terms k).0 passed)))
+best_level-none server rows contract refused =
+    first_level-none (admits server rows contract) 1 (length server.bounds) (λ k from upto. false_from_ne_true _ (λ passed. refused.each k from (omega arith) ((Decides-admits server rows contract k).0 passed)))
 
 -- ---- room for a new row at each level
 
 -- a new row adds nothing below its level
-pub load-below : (server : Server) (rows : List Row) (terms : Terms) (m k w : ℕ) → k < m → load server (with_row rows terms m) k w ≡ load server rows k w
-load-below server rows terms m k w below =
-    let e = load-with_row server rows terms m k w in
-    let f = work_up_to-above server.rate k w (record { terms = terms; level = m }) below in
+pub load-below : (server : Server) (rows : List Admitted) (contract : Traffic) (m k w : ℕ) → k < m → load server (with_row rows contract m) k w ≡ load server rows k w
+load-below server rows contract m k w below =
+    let e = load-with_row server rows contract m k w in
+    let f = work_up_to-above server.rate k w (record { contract = contract; level = m }) below in
     omega (arith, e, f)
 
 -- and its work at each level from its own on
-pub load-from : (server : Server) (rows : List Row) (terms : Terms) (m k w : ℕ) → m ≤ k → load server (with_row rows terms m) k w ≡ load server rows k w + work_in server.rate terms w
-load-from server rows terms m k w within =
-    let e = load-with_row server rows terms m k w in
-    let f = work_up_to-within server.rate k w (record { terms = terms; level = m }) within in
+pub load-from : (server : Server) (rows : List Admitted) (contract : Traffic) (m k w : ℕ) → m ≤ k → load server (with_row rows contract m) k w ≡ load server rows k w + work_in server.rate contract w
+load-from server rows contract m k w within =
+    let e = load-with_row server rows contract m k w in
+    let f = work_up_to-within server.rate k w (record { contract = contract; level = m }) within in
     omega (arith, e, f)
 
 -- rows that pass still pass with a new one at m where every level from m on has room for it
-pub Passes-with_row : (server : Server) (rows : List Row) (terms : Terms) (m : ℕ) → Passes server rows → ((k : ℕ) → m ≤ k → k ≤ length server.bounds → HasRoom server rows terms k) → Passes server (with_row rows terms m)
-Passes-with_row server rows terms m passed room = record {
+pub Passes-with_row : (server : Server) (rows : List Admitted) (contract : Traffic) (m : ℕ) → Passes server rows → ((k : ℕ) → m ≤ k → k ≤ length server.bounds → HasRoom server rows contract k) → Passes server (with_row rows contract m)
+Passes-with_row server rows contract m passed room = record {
   each = λ k from upto.
-      ⊎_elim (λ (below : k < m). PassesAt-le server rows (with_row rows terms m) k (λ w. (let e = load-below server rows terms m k w below in omega (arith, e))) (passed.each k from upto))
-      (λ (above : m ≤ k). PassesAt-le server (with_row rows terms k) (with_row rows terms m) k (λ w. (let e = load-from server rows terms m k w above in let f = load-from server rows terms k k w (omega arith) in omega (arith, e, f))) (room k above upto))
+      ⊎_elim (λ (below : k < m). PassesAt-le server rows (with_row rows contract m) k (λ w. (let e = load-below server rows contract m k w below in omega (arith, e))) (passed.each k from upto))
+      (λ (above : m ≤ k). PassesAt-le server (with_row rows contract k) (with_row rows contract m) k (λ w. (let e = load-from server rows contract m k w above in let f = load-from server rows contract k k w (omega arith) in omega (arith, e, f))) (room k above upto))
       (cases_lt k m);
 }
 
 -- where a level has no room, the new row passes at none of the levels up to it
-pub room-from-Passes : (server : Server) (rows : List Row) (terms : Terms) (m k : ℕ) → 1 ≤ k → m ≤ k → k ≤ length server.bounds → Passes server (with_row rows terms m) → HasRoom server rows terms k
-room-from-Passes server rows terms m k from within upto passed =
-    PassesAt-le server (with_row rows terms m) (with_row rows terms k) k (λ w. (let e = load-from server rows terms m k w within in let f = load-from server rows terms k k w (omega arith) in omega (arith, e, f))) (passed.each k from upto)
+pub room-from-Passes : (server : Server) (rows : List Admitted) (contract : Traffic) (m k : ℕ) → 1 ≤ k → m ≤ k → k ≤ length server.bounds → Passes server (with_row rows contract m) → HasRoom server rows contract k
+room-from-Passes server rows contract m k from within upto passed =
+    PassesAt-le server (with_row rows contract m) (with_row rows contract k) k (λ w. (let e = load-from server rows contract m k w within in let f = load-from server rows contract k k w (omega arith) in omega (arith, e, f))) (passed.each k from upto)

@@ -4,7 +4,7 @@ use Rattle.std.proofs.Common.{◌≡◌, ℕ, zero, suc, ◌+◌, ◌-◌, ◌�
 use Rattle.std.proofs.lemmas.Bool.{leb-true, cases_eq, cases_Bool, true≢false, and_parts, and_from}
 use Rattle.std.proofs.lemmas.List.{get_or-drop, take-take, drop-take, reverse-reverse}
 use Rattle.std.specs.Prelude.{reverse}
-use Rattle.traffic_contract.specs.Contract.{Terms, IsContract, burst_of}
+use Rattle.traffic_contract.specs.Contract.{Traffic, IsContract, burst_of}
 use Rattle.traffic_contract.specs.Keeping.{Keeps, starts_before, may_follow, keeps_newest_first}
 use Rattle.traffic_contract.specs.Eligible.{IsEligible, first_from, newest, eligible}
 use Rattle.traffic_contract.proofs.ContractFacts.{burst-least}
@@ -52,7 +52,7 @@ newest-le t least [] e = omega arith
 newest-le t least (u ∷ past) e = omega (arith, leb-true (u + least) t e)
 
 -- no tick of a list that keeps a contract is newer than its newest
-pub get_or-le-newest : (c : Terms) (past : List ℕ) (k : ℕ) → keeps_newest_first c past ≡ true → get_or past k 0 ≤ newest past
+pub get_or-le-newest : (c : Traffic) (past : List ℕ) (k : ℕ) → keeps_newest_first c past ≡ true → get_or past k 0 ≤ newest past
 unfolding keeps_newest_first may_follow
 get_or-le-newest c [] k e = omega arith
 get_or-le-newest c (t ∷ past) zero e = omega arith
@@ -63,7 +63,7 @@ get_or-le-newest c (t ∷ past) (suc k) e =
     omega (arith, before, after)
 
 -- a tick an interval after the newest may always follow
-pub may_follow-late : (c : Terms) (past : List ℕ) (t : ℕ) → c.xmin ≤ c.interval → keeps_newest_first c past ≡ true → newest past + c.interval ≤ t → may_follow c past t ≡ true
+pub may_follow-late : (c : Traffic) (past : List ℕ) (t : ℕ) → c.xmin ≤ c.interval → keeps_newest_first c past ≡ true → newest past + c.interval ≤ t → may_follow c past t ≡ true
 unfolding may_follow
 may_follow-late c past t wide kept late =
     let e = newest-get_or past in
@@ -74,7 +74,7 @@ may_follow-late c past t wide kept late =
     ((starts_before-tells t c.interval (drop (burst_of c - 1) past)).1 (λ h. omega (arith, f, g)))
 
 -- the eligible tick is the least tick from `low` on with which the list keeps the contract
-pub eligible-is : (c : Terms) (past : List ℕ) (low : ℕ) → IsContract c → 1 ≤ burst_of c → Keeps c (reverse past) → IsEligible c (reverse past) low (eligible c past low)
+pub eligible-is : (c : Traffic) (past : List ℕ) (low : ℕ) → IsContract c → 1 ≤ burst_of c → Keeps c (reverse past) → IsEligible c (reverse past) low (eligible c past low)
 unfolding eligible
 eligible-is c past low valid some kept =
     let test_of : Decides (keeps_newest_first c past) (Keeps c (reverse past)) = Decides-keeps_newest_first c past some in
@@ -104,30 +104,30 @@ take-cons-take zero e past = refl
 take-cons-take (suc n) e past = ap (λ ticks. e ∷ ticks) (take-take n (suc n) past (omega arith))
 
 -- a burst of the newest ticks says whether t may follow, and which tick is eligible
-may_follow-of_burst : (c : Terms) (n : ℕ) (past : List ℕ) (t : ℕ) → burst_of c ≡ suc n → may_follow c (take (suc n) past) t ≡ may_follow c past t
+may_follow-of_burst : (c : Traffic) (n : ℕ) (past : List ℕ) (t : ℕ) → burst_of c ≡ suc n → may_follow c (take (suc n) past) t ≡ may_follow c past t
 unfolding may_follow
 may_follow-of_burst c n past t e =
     let m : burst_of c - 1 ≡ n = omega arith in
     let d : drop n (take (suc n) past) ≡ take 1 (drop n past) = (let k : suc n ≡ n + 1 = omega arith in rw k (drop-take n 1 past)) in
     rw (m, d, starts_before-take t c.xmin n past, starts_before-take t c.interval 0 (drop n past)) refl
 
-pub may_follow-take : (c : Terms) (past : List ℕ) (t : ℕ) → 1 ≤ burst_of c → may_follow c (take (burst_of c) past) t ≡ may_follow c past t
+pub may_follow-take : (c : Traffic) (past : List ℕ) (t : ℕ) → 1 ≤ burst_of c → may_follow c (take (burst_of c) past) t ≡ may_follow c past t
 may_follow-take c past t some =
     let e : burst_of c ≡ suc (burst_of c - 1) = omega arith in
     subst (λ k. may_follow c (take k past) t ≡ may_follow c past t) (sym e) (may_follow-of_burst c (burst_of c - 1) past t e)
 
-pub eligible-take : (c : Terms) (past : List ℕ) (low : ℕ) → 1 ≤ burst_of c → eligible c (take (burst_of c) past) low ≡ eligible c past low
+pub eligible-take : (c : Traffic) (past : List ℕ) (low : ℕ) → 1 ≤ burst_of c → eligible c (take (burst_of c) past) low ≡ eligible c past low
 unfolding eligible
 eligible-take c past low some =
     rw (newest-take (burst_of c) past some) (first_from-same (may_follow c (take (burst_of c) past)) (may_follow c past) low (newest past + c.interval - low) (λ t. may_follow-take c past t some))
 
 -- the same of ticks in order of time
-pub eligible-exists : (c : Terms) (past : List ℕ) (low : ℕ) → IsContract c → Keeps c past → IsEligible c past low (eligible c (reverse past) low)
+pub eligible-exists : (c : Traffic) (past : List ℕ) (low : ℕ) → IsContract c → Keeps c past → IsEligible c past low (eligible c (reverse past) low)
 eligible-exists c past low valid kept =
     let again = reverse-reverse past in
     subst (λ ticks. IsEligible c ticks low (eligible c (reverse past) low)) again
     (eligible-is c (reverse past) low valid (burst-least c valid) (subst (Keeps c) (sym again) kept))
 
 -- two eligible ticks of one packet are the same
-pub eligible-unique : (c : Terms) (past : List ℕ) (low e f : ℕ) → IsEligible c past low e → IsEligible c past low f → e ≡ f
+pub eligible-unique : (c : Traffic) (past : List ℕ) (low e f : ℕ) → IsEligible c past low e → IsEligible c past low f → e ≡ f
 eligible-unique c past low e f first second = omega (arith, first.least f second.reached second.holds, second.least e first.reached first.holds)

@@ -5,7 +5,7 @@ use Rattle.std.proofs.lemmas.Bool.{leb-true, le-leb, false_from_ne_true}
 use Rattle.std.proofs.lemmas.Bool.Decides.{Decides-like, Decides-and}
 use Rattle.std.proofs.lemmas.List.{get_or-drop, get_or-take, length-take}
 use Rattle.std.proofs.Math.Seq.{take-append_seam, drop-append_seam}
-use Rattle.traffic_contract.specs.Contract.{Terms, burst_of}
+use Rattle.traffic_contract.specs.Contract.{Traffic, burst_of}
 use Rattle.traffic_contract.specs.Keeping.{Spaced, Keeps, starts_after, are_spaced, keeps}
 
 -- ---- parts of a list that keeps a contract keep it
@@ -30,22 +30,22 @@ Spaced-take gap least n ticks spaced = record {
 }
 
 -- a list that keeps a contract keeps it without its first entries
-pub Keeps-drop : (c : Terms) (n : ℕ) (ticks : List ℕ) → Keeps c ticks → Keeps c (drop n ticks)
+pub Keeps-drop : (c : Traffic) (n : ℕ) (ticks : List ℕ) → Keeps c ticks → Keeps c (drop n ticks)
 Keeps-drop c n ticks kept = record { neighbours = Spaced-drop 1 c.xmin n ticks kept.neighbours; bursts = Spaced-drop (burst_of c) c.interval n ticks kept.bursts }
 
 -- and without its last ones
-pub Keeps-take : (c : Terms) (n : ℕ) (ticks : List ℕ) → Keeps c ticks → Keeps c (take n ticks)
+pub Keeps-take : (c : Traffic) (n : ℕ) (ticks : List ℕ) → Keeps c ticks → Keeps c (take n ticks)
 Keeps-take c n ticks kept = record { neighbours = Spaced-take 1 c.xmin n ticks kept.neighbours; bursts = Spaced-take (burst_of c) c.interval n ticks kept.bursts }
 
 -- so its later part keeps the contract
-pub Keeps-suffix : (c : Terms) (earlier later : List ℕ) → Keeps c (earlier ++ later) → Keeps c later
+pub Keeps-suffix : (c : Traffic) (earlier later : List ℕ) → Keeps c (earlier ++ later) → Keeps c later
 Keeps-suffix c earlier later kept = subst (Keeps c) (drop-append_seam earlier later) (Keeps-drop c (length earlier) (earlier ++ later) kept)
 
 -- and so does its earlier part
-pub Keeps-prefix : (c : Terms) (earlier later : List ℕ) → Keeps c (earlier ++ later) → Keeps c earlier
+pub Keeps-prefix : (c : Traffic) (earlier later : List ℕ) → Keeps c (earlier ++ later) → Keeps c earlier
 Keeps-prefix c earlier later kept = subst (Keeps c) (take-append_seam earlier later) (Keeps-take c (length earlier) (earlier ++ later) kept)
 
--- the entries behind the first are spaced
+-- the entries after the first are spaced
 pub Spaced-rest : (gap least t : ℕ) (ticks : List ℕ) → Spaced gap least (t ∷ ticks) → Spaced gap least ticks
 Spaced-rest gap least t ticks spaced = Spaced-drop gap least 1 (t ∷ ticks) spaced
 
@@ -85,7 +85,7 @@ Decides-are_spaced gap least (t ∷ ticks) =
     (Decides-and _ _ (first_on gap least t (t ∷ ticks)) (Decides-are_spaced gap least ticks))
 
 -- the test of a list in order of time says whether it keeps the contract
-pub Decides-keeps : (c : Terms) (ticks : List ℕ) → Decides (keeps c ticks) (Keeps c ticks)
+pub Decides-keeps : (c : Traffic) (ticks : List ℕ) → Decides (keeps c ticks) (Keeps c ticks)
 unfolding keeps
 Decides-keeps c ticks =
     Decides-like _ (λ both. record { neighbours = both.0; bursts = both.1 }) (λ kept. (kept.neighbours, kept.bursts))

@@ -7,14 +7,14 @@ use Rattle.std.proofs.lemmas.List.Elements.{All-head, All-tail}
 use Rattle.std.specs.List.{All}
 use Rattle.std.specs.Prelude.{nat_le}
 use Rattle.net_units.specs.Quotient.{ceil_quotient}
-use Rattle.traffic_contract.specs.Contract.{Terms, IsContract, burst_of, most_in}
-use Rattle.traffic_contract.specs.Admission.{Server, Row, total, work_in, work_up_to, load}
+use Rattle.traffic_contract.specs.Contract.{Traffic, IsContract, burst_of, most_in}
+use Rattle.traffic_contract.specs.Admission.{Server, Admitted, total, work_in, work_up_to, load}
 use Rattle.traffic_contract.proofs.ContractFacts.{burst-least}
 use Rattle.traffic_contract.proofs.LongerWindows.{most_in-mono}
 
 -- a row has a contract
-abbrev pub HasContract : Row → Type 0
-HasContract row = IsContract row.terms
+abbrev pub HasContract : Admitted → Type 0
+HasContract row = IsContract row.contract
 
 -- a packet of a unit or more takes a tick or more
 pub ceil_quotient-some : (a rate : ℕ) → 1 ≤ rate → 1 ≤ a → 1 ≤ ceil_quotient a rate
@@ -42,7 +42,7 @@ ceil-most a rate some =
     (cases_lt a (ceil_quotient a rate))
 
 -- a window of a tick or more lets a packet in
-most_in-some : (c : Terms) (w : ℕ) → IsContract c → 1 ≤ w → 1 ≤ most_in c w
+most_in-some : (c : Traffic) (w : ℕ) → IsContract c → 1 ≤ w → 1 ≤ most_in c w
 unfolding most_in
 most_in-some c w valid some =
     let first : most_in c 1 ≤ most_in c w = most_in-mono c 1 w valid some in
@@ -56,7 +56,7 @@ most_in-some c w valid some =
     (cases_lt c.interval 2)
 
 -- a window of w ticks lets in at most w packets and a burst
-most_in-most : (c : Terms) (w : ℕ) → IsContract c → most_in c w ≤ w + 256
+most_in-most : (c : Traffic) (w : ℕ) → IsContract c → most_in c w ≤ w + 256
 unfolding most_in
 most_in-most c w valid =
     let burst : burst_of c ≤ c.interval = (let e = div-mul-le_self c.interval c.xave in let f : burst_of c * 1 ≤ burst_of c * c.xave = mul-le-mul_left (burst_of c) (omega (arith, valid.xmin_least, valid.xave_least)) in omega (arith, e, f)) in
@@ -65,11 +65,11 @@ most_in-most c w valid =
 
 -- ---- the work of a contract
 
-pub work_in-mono : (rate : ℕ) (c : Terms) (v w : ℕ) → IsContract c → v ≤ w → work_in rate c v ≤ work_in rate c w
+pub work_in-mono : (rate : ℕ) (c : Traffic) (v w : ℕ) → IsContract c → v ≤ w → work_in rate c v ≤ work_in rate c w
 unfolding work_in
 work_in-mono rate c v w valid more = mul-le-mul_right (ceil_quotient c.smax rate) (most_in-mono c v w valid more)
 
-work_in-some : (rate : ℕ) (c : Terms) (w : ℕ) → 1 ≤ rate → IsContract c → 1 ≤ w → 1 ≤ work_in rate c w
+work_in-some : (rate : ℕ) (c : Traffic) (w : ℕ) → 1 ≤ rate → IsContract c → 1 ≤ w → 1 ≤ work_in rate c w
 unfolding work_in
 work_in-some rate c w some valid least =
     let ticks = ceil_quotient-some c.smax rate some valid.smax_least in
@@ -77,7 +77,7 @@ work_in-some rate c w some valid least =
     omega (arith, e, ticks)
 
 -- 1,048,832 packets of 65,536 ticks
-work_in-most : (rate : ℕ) (c : Terms) (w : ℕ) → 1 ≤ rate → IsContract c → w ≤ 1048576 → work_in rate c w ≤ 68736253952
+work_in-most : (rate : ℕ) (c : Traffic) (w : ℕ) → 1 ≤ rate → IsContract c → w ≤ 1048576 → work_in rate c w ≤ 68736253952
 unfolding work_in
 work_in-most rate c w some valid most =
     let packets = most_in-most c w valid in
@@ -88,25 +88,25 @@ work_in-most rate c w some valid most =
 -- ---- the load of rows
 
 -- a longer window has no less load
-total-mono : (rate m v w : ℕ) (rows : List Row) → All HasContract rows → v ≤ w → total (work_up_to rate m v) rows ≤ total (work_up_to rate m w) rows
+total-mono : (rate m v w : ℕ) (rows : List Admitted) → All HasContract rows → v ≤ w → total (work_up_to rate m v) rows ≤ total (work_up_to rate m w) rows
 unfolding work_up_to
 total-mono rate m v w [] contracts more = omega arith
 total-mono rate m v w (row ∷ rows) contracts more =
-    let first = work_in-mono rate row.terms v w (All-head HasContract row rows contracts) more in
+    let first = work_in-mono rate row.contract v w (All-head HasContract row rows contracts) more in
     let rest = total-mono rate m v w rows (All-tail HasContract row rows contracts) more in
-    elim (nat_le row.level m) as (λ b. cond b (work_in rate row.terms v) 0 + total (work_up_to rate m v) rows ≤ cond b (work_in rate row.terms w) 0 + total (work_up_to rate m w) rows) [ true ↦ omega (arith, first, rest) | false ↦ omega (arith, rest) ]
+    elim (nat_le row.level m) as (λ b. cond b (work_in rate row.contract v) 0 + total (work_up_to rate m v) rows ≤ cond b (work_in rate row.contract w) 0 + total (work_up_to rate m w) rows) [ true ↦ omega (arith, first, rest) | false ↦ omega (arith, rest) ]
 
-pub load-mono : (server : Server) (rows : List Row) (m v w : ℕ) → All HasContract rows → v ≤ w → load server rows m v ≤ load server rows m w
+pub load-mono : (server : Server) (rows : List Admitted) (m v w : ℕ) → All HasContract rows → v ≤ w → load server rows m v ≤ load server rows m w
 unfolding load
 load-mono server rows m v w contracts more = (let e = total-mono server.rate m v w rows contracts more in omega (arith, e))
 
 -- rows that bring little into one window bring no more than so much into any of a bound
-pub total-most : (rate m v w : ℕ) (rows : List Row) → 1 ≤ rate → All HasContract rows → 1 ≤ v → w ≤ 1048576 → total (work_up_to rate m w) rows ≤ total (work_up_to rate m v) rows * 68736253952
+pub total-most : (rate m v w : ℕ) (rows : List Admitted) → 1 ≤ rate → All HasContract rows → 1 ≤ v → w ≤ 1048576 → total (work_up_to rate m w) rows ≤ total (work_up_to rate m v) rows * 68736253952
 unfolding work_up_to
 total-most rate m v w [] some contracts least most = omega arith
 total-most rate m v w (row ∷ rows) some contracts least most =
     let valid = All-head HasContract row rows contracts in
-    let large = work_in-most rate row.terms w some valid most in
-    let small = work_in-some rate row.terms v some valid least in
+    let large = work_in-most rate row.contract w some valid most in
+    let small = work_in-some rate row.contract v some valid least in
     let rest = total-most rate m v w rows some (All-tail HasContract row rows contracts) least most in
-    elim (nat_le row.level m) as (λ b. cond b (work_in rate row.terms w) 0 + total (work_up_to rate m w) rows ≤ (cond b (work_in rate row.terms v) 0 + total (work_up_to rate m v) rows) * 68736253952) [ true ↦ omega (arith, large, small, rest) | false ↦ omega (arith, rest) ]
+    elim (nat_le row.level m) as (λ b. cond b (work_in rate row.contract w) 0 + total (work_up_to rate m w) rows ≤ (cond b (work_in rate row.contract v) 0 + total (work_up_to rate m v) rows) * 68736253952) [ true ↦ omega (arith, large, small, rest) | false ↦ omega (arith, rest) ]

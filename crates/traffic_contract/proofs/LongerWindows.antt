@@ -4,7 +4,7 @@ use Rattle.std.proofs.Math.Nat.{div-mul-le_self, mul-le-mul_right}
 use Rattle.std.proofs.lemmas.Bool.{cases_lt}
 use Rattle.std.proofs.lemmas.Nat.{le-div, div-add-mod'}
 use Rattle.net_units.specs.Quotient.{ceil_quotient}
-use Rattle.traffic_contract.specs.Contract.{Terms, IsContract, burst_of, most_in}
+use Rattle.traffic_contract.specs.Contract.{Traffic, IsContract, burst_of, most_in}
 
 -- ---- quotients
 
@@ -30,7 +30,7 @@ ceil_quotient-mono v w n some more =
 -- ---- packets in a window
 
 -- a longer window has no fewer packets
-pub most_in-mono : (c : Terms) (v w : ℕ) → IsContract c → v ≤ w → most_in c v ≤ most_in c w
+pub most_in-mono : (c : Traffic) (v w : ℕ) → IsContract c → v ≤ w → most_in c v ≤ most_in c w
 unfolding most_in
 most_in-mono c v w valid more =
     let some : 1 ≤ c.interval = omega (arith, valid.xmin_least, valid.xave_least, valid.interval_least) in

@@ -4,7 +4,7 @@ use Rattle.std.proofs.lemmas.Bool.{leb-true, le-leb, cases_lt, and_parts, and_fr
 use Rattle.std.proofs.lemmas.Bool.Decides.{Decides-like, Decides-and, same_from_decides}
 use Rattle.std.proofs.lemmas.List.{get_or-drop, get_or_append_left, get_or_push, get_or-reverse, length_push, length-reverse, reverse-append, reverse-reverse}
 use Rattle.std.specs.Prelude.{reverse}
-use Rattle.traffic_contract.specs.Contract.{Terms, IsContract, burst_of}
+use Rattle.traffic_contract.specs.Contract.{Traffic, IsContract, burst_of}
 use Rattle.traffic_contract.specs.Keeping.{Spaced, Keeps, keeps, starts_before, may_follow, keeps_newest_first}
 use Rattle.traffic_contract.proofs.ContractFacts.{burst-least}
 use Rattle.traffic_contract.proofs.KeepingFacts.{Decides-keeps, Keeps-prefix}
@@ -54,7 +54,7 @@ follows_at gap least t past some =
     (starts_before-tells t least (drop (gap - 1) past))
 
 -- a list that keeps a contract and the tick t after it keep it together exactly where t may follow
-pub Decides-may_follow : (c : Terms) (past : List ℕ) (t : ℕ) → 1 ≤ burst_of c → Keeps c (reverse past) → Decides (may_follow c past t) (Keeps c (reverse past ++ t ∷ []))
+pub Decides-may_follow : (c : Traffic) (past : List ℕ) (t : ℕ) → 1 ≤ burst_of c → Keeps c (reverse past) → Decides (may_follow c past t) (Keeps c (reverse past ++ t ∷ []))
 unfolding may_follow
 Decides-may_follow c past t some kept =
     Decides-like _
@@ -66,14 +66,14 @@ Decides-may_follow c past t some kept =
     (Decides-and _ _ (follows_at 1 c.xmin t past (omega arith)) (follows_at (burst_of c) c.interval t past some))
 
 -- the empty list keeps every contract
-Keeps-nil : (c : Terms) → Keeps c []
+Keeps-nil : (c : Traffic) → Keeps c []
 Keeps-nil c = record { neighbours = record { apart = λ i h. absurd (omega arith) }; bursts = record { apart = λ i h. absurd (omega arith) } }
 
 reverse-cons : (t : ℕ) (past : List ℕ) → reverse (t ∷ past) ≡ reverse past ++ t ∷ []
 reverse-cons t past = reverse-append (t ∷ []) past
 
 -- the test of a list, newest first, says whether it keeps the contract in order of time
-pub Decides-keeps_newest_first : (c : Terms) (past : List ℕ) → 1 ≤ burst_of c → Decides (keeps_newest_first c past) (Keeps c (reverse past))
+pub Decides-keeps_newest_first : (c : Traffic) (past : List ℕ) → 1 ≤ burst_of c → Decides (keeps_newest_first c past) (Keeps c (reverse past))
 unfolding keeps_newest_first
 Decides-keeps_newest_first c [] some = (λ _. Keeps-nil c, λ _. refl)
 Decides-keeps_newest_first c (t ∷ past) some =
@@ -86,9 +86,9 @@ Decides-keeps_newest_first c (t ∷ past) some =
     )
 
 -- the two tests agree
-pub keeps-reverse : (c : Terms) (past : List ℕ) → 1 ≤ burst_of c → keeps c (reverse past) ≡ keeps_newest_first c past
+pub keeps-reverse : (c : Traffic) (past : List ℕ) → 1 ≤ burst_of c → keeps c (reverse past) ≡ keeps_newest_first c past
 keeps-reverse c past some = same_from_decides _ _ (Decides-keeps c (reverse past)) (Decides-keeps_newest_first c past some)
 
 -- and the same of a list in order of time
-pub keeps-newest_first : (c : Terms) (ticks : List ℕ) → IsContract c → keeps c ticks ≡ keeps_newest_first c (reverse ticks)
+pub keeps-newest_first : (c : Traffic) (ticks : List ℕ) → IsContract c → keeps c ticks ≡ keeps_newest_first c (reverse ticks)
 keeps-newest_first c ticks valid = ap (keeps c) (sym (reverse-reverse ticks)) ∙ keeps-reverse c (reverse ticks) (burst-least c valid)

@@ -8,14 +8,14 @@ use Rattle.std.proofs.Math.Nat.{add-div_right, add-mod_right, lt_of_mul-lt-mul_r
 use Rattle.std.proofs.lemmas.List.{get_or-drop}
 use Rattle.std.specs.List.{filter}
 use Rattle.net_units.specs.Quotient.{ceil_quotient}
-use Rattle.traffic_contract.specs.Contract.{Terms, IsContract, burst_of, most_in}
+use Rattle.traffic_contract.specs.Contract.{Traffic, IsContract, burst_of, most_in}
 use Rattle.traffic_contract.specs.Keeping.{Spaced, Keeps}
 use Rattle.traffic_contract.specs.Window.{is_in_window, count_in}
 use Rattle.traffic_contract.proofs.KeepingFacts.{Keeps-drop, Keeps-take, Spaced-rest}
 
 -- ---- a list whose entries all fall into a window
 
--- an entry is at least so many least gaps after the first as it stands places behind it
+-- an entry is at least so many least gaps after the first as it stands places after it
 gaps_before : (least : ℕ) (ticks : List ℕ) (i : ℕ) → Spaced 1 least ticks → i < length ticks → get_or ticks 0 0 + i * least ≤ get_or ticks i 0
 gaps_before least ticks zero spaced h = omega arith
 gaps_before least ticks (suc i) spaced h =
@@ -43,7 +43,7 @@ fits_gaps least ticks from w some spaced inside =
     (cases_lt (length ticks) 1)
 
 -- no more than a burst in an interval
-fits_burst : (c : Terms) (ticks : List ℕ) (from w : ℕ) → Keeps c ticks → w ≤ c.interval → AllIn from w ticks → length ticks ≤ burst_of c
+fits_burst : (c : Traffic) (ticks : List ℕ) (from w : ℕ) → Keeps c ticks → w ≤ c.interval → AllIn from w ticks → length ticks ≤ burst_of c
 fits_burst c ticks from w kept short inside =
     ⊎_elim (λ (more : burst_of c < length ticks).
     let apart = kept.bursts.apart 0 (omega arith) in
@@ -55,19 +55,19 @@ fits_burst c ticks from w kept short inside =
     (cases_lt (burst_of c) (length ticks))
 
 -- the bound of a window shorter than the interval, and of one that is an interval longer
-most_in-short : (c : Terms) (w : ℕ) → w / c.interval ≡ 0 → most_in c w ≡ min (burst_of c) (ceil_quotient w c.xmin)
+most_in-short : (c : Traffic) (w : ℕ) → w / c.interval ≡ 0 → most_in c w ≡ min (burst_of c) (ceil_quotient w c.xmin)
 unfolding most_in
 most_in-short c w none =
     let whole : w % c.interval ≡ w = (let e = div-add-mod' w c.interval in let f = rw none at e in omega arith) in
     rw (none, whole) (omega arith)
 
-most_in-longer : (c : Terms) (w : ℕ) → 1 ≤ c.interval → most_in c (w + c.interval) ≡ burst_of c + most_in c w
+most_in-longer : (c : Traffic) (w : ℕ) → 1 ≤ c.interval → most_in c (w + c.interval) ≡ burst_of c + most_in c w
 unfolding most_in
 most_in-longer c w some =
     rw (add-div_right w some, add-mod_right w c.interval) (omega arith)
 
--- what stands a burst behind the first falls into the window that begins an interval later
-AllIn-later : (c : Terms) (ticks : List ℕ) (from w : ℕ) → Keeps c ticks → AllIn from (w + c.interval) ticks → AllIn (from + c.interval) w (drop (burst_of c) ticks)
+-- what stands a burst after the first falls into the window that begins an interval later
+AllIn-later : (c : Traffic) (ticks : List ℕ) (from w : ℕ) → Keeps c ticks → AllIn from (w + c.interval) ticks → AllIn (from + c.interval) w (drop (burst_of c) ticks)
 AllIn-later c ticks from w kept inside =
     let at : (i : ℕ) → get_or (drop (burst_of c) ticks) i 0 ≡ get_or ticks (i + burst_of c) 0 = λ i. get_or-drop (burst_of c) ticks i 0 ∙ ap (λ k. get_or ticks k 0) (omega arith) in
     record {
@@ -80,7 +80,7 @@ AllIn-later c ticks from w kept inside =
     }
 
 -- a list that keeps the contract and falls into a window is no longer than the bound
-length-le-most_in : (c : Terms) (q : ℕ) (ticks : List ℕ) (from w : ℕ) → IsContract c → Keeps c ticks → AllIn from w ticks → w / c.interval ≡ q → length ticks ≤ most_in c w
+length-le-most_in : (c : Traffic) (q : ℕ) (ticks : List ℕ) (from w : ℕ) → IsContract c → Keeps c ticks → AllIn from w ticks → w / c.interval ≡ q → length ticks ≤ most_in c w
 length-le-most_in c zero ticks from w valid kept inside none =
     let whole : w % c.interval ≡ w = (let e = div-add-mod' w c.interval in let f = rw none at e in omega arith) in
     let short : w < c.interval = omega (arith, whole, valid.xmin_least, valid.xave_least, valid.interval_least) in
@@ -124,7 +124,7 @@ filter-front least from w (t ∷ ticks) spaced late =
     all_past from w t ticks past after (suc i) h = omega (arith, after i (omega arith))
 
 -- the entries in a window keep the contract
-Keeps-window : (c : Terms) (from w : ℕ) (ticks : List ℕ) → Keeps c ticks → Keeps c (filter (is_in_window from w) ticks)
+Keeps-window : (c : Traffic) (from w : ℕ) (ticks : List ℕ) → Keeps c ticks → Keeps c (filter (is_in_window from w) ticks)
 Keeps-window c from w [] kept = kept
 Keeps-window c from w (t ∷ ticks) kept =
     ⊎_elim (λ (early : t < from).
@@ -140,7 +140,7 @@ Keeps-window c from w (t ∷ ticks) kept =
     all_late from t ticks late after (suc i) h = omega (arith, after i (omega arith))
 
 -- a list that keeps a contract has no more entries in any window than the contract's bound
-pub count_in-le : (c : Terms) (ticks : List ℕ) (from w : ℕ) → IsContract c → Keeps c ticks → count_in ticks from w ≤ most_in c w
+pub count_in-le : (c : Traffic) (ticks : List ℕ) (from w : ℕ) → IsContract c → Keeps c ticks → count_in ticks from w ≤ most_in c w
 unfolding count_in
 count_in-le c ticks from w valid kept =
     let inside = filter_passes (is_in_window from w) ticks in

@@ -2,15 +2,15 @@
 -- any 20, of 2 units each. The link sends a unit a tick, has levels of 10, 20 and 40 ticks, and is blocked for
 -- up to 4 ticks.
 use Rattle.std.proofs.Common.{◌≡◌, true, false, List, [], ◌∷◌, Some, None, refl}
-use Rattle.traffic_contract.specs.Contract.{Terms, terms_of, burst_of, most_in}
+use Rattle.traffic_contract.specs.Contract.{Traffic, terms_of, burst_of, most_in}
 use Rattle.traffic_contract.specs.Refusal.{first_bad}
 use Rattle.traffic_contract.specs.Keeping.{are_spaced, keeps, may_follow, keeps_newest_first}
 use Rattle.traffic_contract.specs.Eligible.{first_from, eligible}
-use Rattle.traffic_contract.specs.Admission.{Server, Row, work_in, work_up_to, load, level_sum, some_upto, passes_up_to, passes, admits, first_level, best_level, refused_sum}
+use Rattle.traffic_contract.specs.Admission.{Server, Admitted, work_in, work_up_to, load, level_sum, some_upto, passes_up_to, passes, admits, first_level, best_level, refused_sum}
 use Rattle.traffic_contract.specs.declared.admission.Test.TheVariants.{Whole, Least}
 use Rattle.traffic_contract.specs.declared.contract.ContractField.TheVariants.{Xave, Interval}
 
-abbrev paced : Terms
+abbrev paced : Traffic
 paced = terms_of 5 10 20 2
 
 paced-burst : burst_of paced ≡ 2
@@ -119,13 +119,13 @@ fourth-needs-no-wait = refl
 abbrev link : Server
 link = record { bounds = 10 ∷ 20 ∷ 40 ∷ []; rate = 1; blocking = 4; test = Whole }
 
-abbrev at_level_1 : Row
-at_level_1 = record { terms = paced; level = 1 }
+abbrev at_level_1 : Admitted
+at_level_1 = record { contract = paced; level = 1 }
 
-abbrev at_level_2 : Row
-at_level_2 = record { terms = paced; level = 2 }
+abbrev at_level_2 : Admitted
+at_level_2 = record { contract = paced; level = 2 }
 
-abbrev one_and_three : List Row
+abbrev one_and_three : List Admitted
 one_and_three = at_level_1 ∷ at_level_2 ∷ at_level_2 ∷ at_level_2 ∷ []
 
 first-goes-to-level-1 : best_level link [] paced ≡ Some 1
@@ -168,7 +168,7 @@ whole_link = record { bounds = 23 ∷ []; rate = 1; blocking = 4; test = Whole }
 abbrev least_link : Server
 least_link = record { bounds = 23 ∷ []; rate = 1; blocking = 4; test = Least }
 
-abbrev three_rows : List Row
+abbrev three_rows : List Admitted
 three_rows = at_level_1 ∷ at_level_1 ∷ at_level_1 ∷ []
 
 -- in 23 ticks four rows come to 28, and in 20 ticks to 20

@@ -3,8 +3,10 @@
 -- keep the contract. `low` is the tick at which the packet arrived, or under delay-jitter control the later
 -- tick at which it is due (rate-jitter and delay-jitter regulators: Zhang & Ferrari 1993; the exact tick is
 -- this project's).
-use Rattle.std.specs.Prelude.{ℕ, zero, suc, ◌+◌, ◌-◌, ◌≤◌, Bool, if◌then◌else◌, List, [], ◌∷◌, ◌++◌}
-use Rattle.traffic_contract.specs.Contract.{Terms}
+use Rattle.std.specs.Prelude.{ℕ, zero, suc, ◌+◌, ◌-◌, ◌≤◌, Bool, if◌then◌else◌, List, [], ◌∷◌, ◌++◌, max, take}
+use Rattle.net_units.specs.declared.Kind.{Kind}
+use Rattle.net_units.specs.declared.Kind.TheVariants.{Rate, Jitter}
+use Rattle.traffic_contract.specs.Contract.{Traffic, burst_of}
 use Rattle.traffic_contract.specs.Keeping.{Keeps, may_follow}
 
 -- e is the least tick from `low` on of which P holds
@@ -14,7 +16,7 @@ pub record IsLeastFrom (low : ℕ) (P : ℕ → Type 0) (e : ℕ) : Type 0 where
   pub least : (t : ℕ) → low ≤ t → P t → e ≤ t
 
 -- e is the eligible tick of a packet that may go from `low` on, after the eligible ticks `past`, in order of time
-abbrev pub IsEligible : Terms → List ℕ → ℕ → ℕ → Type 0
+abbrev pub IsEligible : Traffic → List ℕ → ℕ → ℕ → Type 0
 IsEligible c past low e = IsLeastFrom low (λ t. Keeps c (past ++ t ∷ [])) e
 
 -- the first of `count` ticks from `low` on that passes the test, or the one after them
@@ -29,5 +31,15 @@ newest (t ∷ past) = t
 
 -- the eligible tick after the eligible ticks `past`, newest first: the first tick from `low` on that may follow
 -- them. It comes at most an interval after the newest
-unfoldable pub eligible : Terms → List ℕ → ℕ → ℕ
+unfoldable pub eligible : Traffic → List ℕ → ℕ → ℕ
 eligible c past low = first_from (may_follow c past) low (newest past + c.interval - low)
+
+-- the tick from which a packet may go that arrives at `at` and is due at `due`: under delay-jitter control it waits until
+-- it is due
+abbrev pub earliest_tick : Kind → ℕ → ℕ → ℕ
+earliest_tick Rate at due = at
+earliest_tick Jitter at due = max at due
+
+-- the newest of these ticks, newest first, as many as a burst: no older one holds a packet back
+abbrev pub newest_burst : Traffic → List ℕ → List ℕ
+newest_burst contract ticks = take (burst_of contract) ticks

@@ -1,8 +1,10 @@
 //! The contract of a channel.
 ghost use Rattle.std.specs.Prelude.{◌≡◌, ◌↔◌, ◌+◌, ◌^◌, ◌<◌, ◌≤◌, ℕ, List, reverse, IsTrue, IfOk, MatchResult};
+ghost use Rattle.net_units.specs.Limits.{most_burst};
 ghost use Rattle.traffic_contract.specs.Keeping.{are_spaced};
 
 use net_units::ceil_div;
+use net_units::limits::{MOST_BURST, MOST_GAP, MOST_INTERVAL, MOST_SIZE};
 use std::marker::Model;
 
 /// A number of a contract.
@@ -39,9 +41,9 @@ pub struct Contract {
 }
 
 impl Model for Contract {
-    ghost use Rattle.traffic_contract.specs.Contract.{Terms, IsContract, terms_of};
+    ghost use Rattle.traffic_contract.specs.Contract.{Traffic, IsContract, terms_of};
 
-    ghost Value = { Terms };
+    ghost Value = { Traffic };
 
     ghost view = { λ c. terms_of c.xmin c.xave c.interval c.smax };
 
@@ -51,7 +53,7 @@ impl Model for Contract {
 }
 
 impl Contract {
-    ghost use Rattle.traffic_contract.specs.Contract.{Terms, IsContract, burst_of, most_in, terms_of};
+    ghost use Rattle.traffic_contract.specs.Contract.{Traffic, IsContract, burst_of, most_in, terms_of};
     ghost use Rattle.traffic_contract.specs.Refusal.{first_bad};
     ghost use Rattle.traffic_contract.specs.Keeping.{Keeps, keeps, keeps_newest_first};
     ghost use Rattle.traffic_contract.specs.Window.{count_in};
@@ -66,22 +68,22 @@ impl Contract {
         ensures value { IfOk result (λ contract. contract ≡ terms_of xmin xave interval smax) }
         ensures valid { IfOk result IsContract }
     {
-        if xmin < 1 || xmin > 1_048_576 {
+        if xmin < 1 || xmin > MOST_GAP {
             return Err(BadContract {
                 field: ContractField::Xmin,
             });
         }
-        if xave < xmin || xave > 1_048_576 {
+        if xave < xmin || xave > MOST_GAP {
             return Err(BadContract {
                 field: ContractField::Xave,
             });
         }
-        if interval < xave || interval > 16_777_216 || interval / xave > 256 {
+        if interval < xave || interval > MOST_INTERVAL || interval / xave > MOST_BURST {
             return Err(BadContract {
                 field: ContractField::Interval,
             });
         }
-        if smax < 1 || smax > 65_536 {
+        if smax < 1 || smax > MOST_SIZE {
             return Err(BadContract {
                 field: ContractField::Smax,
             });
@@ -99,7 +101,7 @@ impl Contract {
         requires { w < 2 ^ 40 }
         ensures value { result ≡ most_in self.now w }
         ensures every_window { (ticks : List ℕ) (from : ℕ) → Keeps self.now ticks → count_in ticks from w ≤ result }
-        ensures most { result ≤ w + 256 }
+        ensures most { result ≤ w + most_burst }
     {
         let interval = u64::from(self.interval);
         let burst = u64::from(self.burst());
@@ -121,7 +123,7 @@ impl Contract {
     pub fn burst(&self) -> u32
         ensures value { result ≡ burst_of self.now }
         ensures least { 1 ≤ result }
-        ensures most { result ≤ 256 }
+        ensures most { result ≤ most_burst }
         ensures valid { IsContract self.now }
     {
         self.interval / self.xave

@@ -2,19 +2,20 @@
 ghost use Rattle.std.specs.Prelude.{◌≡◌, ◌+◌, ◌≤◌, None, Some, IsTrue, nat_le, if◌then◌else◌};
 ghost use Rattle.std.specs.List.{list_all, slice_get};
 ghost use Rattle.net_units.specs.Numbers.{link_number};
+ghost use Rattle.net_units.specs.Limits.{most_packets};
 ghost use Rattle.traffic_contract.specs.Admission.{total};
 ghost use Rattle.call_script.specs.Rules.{all_ops, pour_is_there, op_in_range, load_of, load_in, takes_best_effort, pour_is_taken};
 
 use crate::entries::{CallerEntry, LinkEntry, RequestEntry};
-use crate::limits::MOST_PACKETS;
 use crate::operations::Op;
 use crate::rules::routes::has_link;
 use net_units::LinkNo;
+use net_units::limits::MOST_PACKETS;
 
 // Whether all packets, once for each hop, are within the limit.
 pub(crate) fn is_small(requests: &[RequestEntry], callers: &[CallerEntry]) -> bool
     requires { IsTrue (all_ops op_in_range callers.now) }
-    ensures { result ≡ nat_le (load_in requests.now callers.now) 262144 }
+    ensures { result ≡ nat_le (load_in requests.now callers.now) most_packets }
 {
     let mut load = 0;
     for caller in callers {
@@ -28,9 +29,9 @@ pub(crate) fn is_small(requests: &[RequestEntry], callers: &[CallerEntry]) -> bo
 
 // The load with that of these operations, where it is within the limit.
 fn load_with(before: u64, requests: &[RequestEntry], ops: &[Op]) -> Option<u64>
-    requires within { before ≤ 262144 }
+    requires within { before ≤ most_packets }
     requires range { IsTrue (list_all op_in_range ops.now) }
-    ensures { result ≡ (if nat_le (before + total (load_of requests.now) ops.now) 262144 then Some (before + total (load_of requests.now) ops.now) else None) }
+    ensures { result ≡ (if nat_le (before + total (load_of requests.now) ops.now) most_packets then Some (before + total (load_of requests.now) ops.now) else None) }
 {
     let mut load = before;
     for op in ops {

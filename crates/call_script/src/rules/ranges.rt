@@ -6,8 +6,8 @@ ghost use Rattle.call_script.specs.Plans.{HasTerms};
 ghost use Rattle.call_script.specs.Rules.{all_ops, request_in_range, packets_in_range, op_in_range};
 
 use crate::entries::{CallerEntry, RequestEntry};
-use crate::limits::{MOST_DELAY, MOST_GAP, MOST_PACKETS, MOST_SIZE};
 use crate::operations::Op;
+use net_units::limits::{MOST_DELAY, MOST_GAP, MOST_PACKETS, MOST_SIZE};
 use setup_protocol::Control;
 
 pub(crate) fn requests_in_range(requests: &[RequestEntry]) -> bool
@@ -76,7 +76,7 @@ fn packets_in_range(count: u64, gap: u64, size: u32) -> bool
     1 <= count
         && count <= MOST_PACKETS
         && 1 <= gap
-        && gap <= MOST_GAP
+        && gap <= u64::from(MOST_GAP)
         && 1 <= size
         && size <= MOST_SIZE
 }

@@ -30,7 +30,7 @@ fn a_request_is_accepted_or_still_pending(rt: HostRuntime) -> Result<(), Fail> {
     let alloc = rt.alloc();
     let carried = "made 2147483647 1 accepted 1 denied 0 delivered 3 steps 33\n";
     sums_up(&rt, alloc, 3, 30, carried)?;
-    // the third packet departs in the tick behind this run
+    // the third packet departs in the tick after this run
     let early = "made 2147483647 1 accepted 1 denied 0 delivered 2 steps 24\n";
     sums_up(&rt, alloc, 3, 21, early)?;
     let pending = "made 2147483647 1 accepted 0 denied 0 delivered 0 steps 1\n";

@@ -3,7 +3,7 @@ use super::{offer, open, pour, relax, reserve, submit, tick, voice, voice_packet
 use link_steps::{Refusal, Reply};
 use std::test::Fail;
 
-// The first waits while a packet of a level is served, and there is no place for those behind it.
+// The first waits while a packet of a level is served, and there is no place for those after it.
 #[test]
 fn one_best_effort_packet_waits_and_two_are_lost(rt: HostRuntime) -> Result<(), Fail> {
     let mut link = open(rt.alloc(), 100)?;

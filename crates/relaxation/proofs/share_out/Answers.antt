@@ -1,4 +1,4 @@
--- Each turn gives a hop its share, before the hops behind it.
+-- Each turn gives a hop its share, before the hops after it.
 use Rattle.std.proofs.Common.{◌≡◌, ◌-◌, ◌/◌, ◌≤◌, ◌∷◌, length, map, take, drop, get_or, subst, sym, refl, ◌∙◌, ap, arith}
 use Rattle.std.proofs.Math.Nat.{div-le_self}
 use Rattle.std.proofs.lemmas.List.{length-set}

@@ -4,7 +4,7 @@ use Rattle.relaxation.specs.Allotment.{allotment, limit_before}
 use Rattle.relaxation.specs.Laws.{HaveBounds}
 use Rattle.relaxation.proofs.share_out.Given as goal
 
--- the hops behind the place have their levels, and so much is left for those before them
+-- the hops after the place have their levels, and so much is left for those before them
 abbrev pub invariant-loop-place : goal.invariant-loop-place
 invariant-loop-place l = record {
   in_route : l.place ≤ length l.it.levels;

@@ -7,7 +7,7 @@ use std::test::Fail;
 
 const TABLE: &[&str] = &["play", "--packets"];
 
-// The lines behind the header and the links A and B, and the report.
+// The lines after the header and the links A and B, and the report.
 #[derive(Clone, Copy)]
 struct Case {
     lines: &'static str,

@@ -1,7 +1,7 @@
--- The next entry is the next step of its actor, and the actors stand behind it.
+-- The next entry is the next step of its actor, and the actors stand after it.
 use Rattle.std.proofs.Common.{◌≡◌, ◌<◌, ◌+◌, ◌∷◌, length, get_or, reverse, take, sym, subst, arith}
 use Rattle.call_script.specs.Tasks.{network_of}
-use Rattle.interleave_core.specs.Standing.{ActorsStand, IsDue}
+use Rattle.interleave_core.specs.Standing.{ActorsStand, IsDueStep}
 use Rattle.interleave_core.proofs.RunFronts.{front-run, front-more, front-next}
 use Rattle.interleave_core.proofs.actors.replay.Goals as goal
 
@@ -25,7 +25,7 @@ loop-done-preserved c =
     let entries = c.args.run.now.entries in
     let inside : c.loop-done.done-index < length entries = rw (← c.entries-done-items.ensures) c.loop-done-test.true in
     let at : c.done-item.result ≡ get_or entries c.loop-done.done-index c.done-item.result = rw (← c.entries-done-items.ensures) c.done-item.is in
-    let due : IsDue c.args.plan.now c.ready.new.self (reverse (take c.loop-done.done-index entries)) c.done-item.result = record {
+    let due : IsDueStep c.args.plan.now c.ready.new.self (reverse (take c.loop-done.done-index entries)) c.done-item.result = record {
       plan = c.loop-done.invariant.plan;
       run = front-run (network_of c.args.plan.now) entries c.loop-done.done-index c.requires;
       next = front-next (network_of c.args.plan.now) entries c.loop-done.done-index c.done-item.result inside at c.requires;

@@ -1,7 +1,7 @@
 -- What the step says of its link, said of the list of the links.
 use Rattle.std.proofs.Common.{◌≡◌, List, ◌∷◌, sym, subst}
 use Rattle.std.proofs.lemmas.Option.{get_or_from_slice_get}
-use Rattle.link_server.specs.State.{Stands as LinkStands}
+use Rattle.link_server.specs.State.{LinkStands}
 use Rattle.link_server.specs.declared.link_state.LinkState.{LinkState}
 use Rattle.link_steps.specs.Replies.{reply_to}
 use Rattle.link_steps.specs.Split.{whole}

@@ -2,11 +2,11 @@
 use Rattle.std.proofs.Common.{◌≡◌, ◌<◌, ◌^◌, length, map, not, get_or, sym, ap, ◌∙◌, subst, arith}
 use Rattle.std.proofs.lemmas.List.Edits.{length-remove}
 use Rattle.net_units.specs.Numbers.{channel_number}
-use Rattle.rcsp_admission.specs.Sums.{Holds, without, IsDistinct}
+use Rattle.rcsp_admission.specs.Sums.{Holds, without_key, IsDistinct}
 use Rattle.traffic_contract.specs.Eligible.{newest as newest_of}
 use Rattle.std.specs.List.{remove}
 use Rattle.link_steps.specs.Hold.{hold_ended}
-use Rattle.link_server.specs.Rows.{terms_in, row_in, summed, IsWithin}
+use Rattle.link_server.specs.Rows.{reservation_in, row_in, summed, IsWithinLevels}
 use Rattle.link_server.specs.Sources.{IsReady}
 use Rattle.link_server.proofs.QuietFacts.{quiet-stay}
 use Rattle.link_server.proofs.PlaceFacts.{all-without}
@@ -41,7 +41,7 @@ remove-requires c =
 pub loop-place-preserved-then-has_ended : goal.loop-place-preserved-then-has_ended
 loop-place-preserved-then-has_ended c =
     let inside : c.loop-place.place < length c.loop-place.rows.items = omega (arith, c.loop-place-test.true, c.len.ensures) in
-    let ended = c.has_ended.ensures ∙ ap (λ row. hold_ended c.args.bounds.now (terms_in row) row.taken row.last c.args.clock) c.index.ensures in
+    let ended = c.has_ended.ensures ∙ ap (λ row. hold_ended c.args.bounds.now (reservation_in row) row.taken row.last c.args.clock) c.index.ensures in
     let stays = stays-is c.args.bounds.now c.args.clock (get_or c.loop-place.rows.items c.loop-place.place c.index.result.now) c.has_ended.result ended ∙ ap not c.if-has_ended.true in
     let distinct = subst IsDistinct c.loop-place.invariant.same c.loop-place.invariant.admitted.distinct in
     let place = place-distinct c.loop-place.rows.items c.loop-place.place c.index-then-has_ended.result.now distinct inside in
@@ -54,13 +54,13 @@ loop-place-preserved-then-has_ended c =
           ∙ staying-without c.args.bounds.now c.args.clock c.loop-place.place c.loop-place.rows.items c.index.result.now inside stays
           ∙ c.loop-place.invariant.stay;
       ready = rw c.remove-then-has_ended.ensures.items (each-without (IsReady c.args.clock) c.loop-place.rows.items c.loop-place.place c.loop-place.invariant.ready);
-      within = rw c.remove-then-has_ended.ensures.items (all-without (IsWithin _) c.loop-place.rows.items c.loop-place.place c.loop-place.invariant.within);
+      within = rw c.remove-then-has_ended.ensures.items (all-without (IsWithinLevels _) c.loop-place.rows.items c.loop-place.place c.loop-place.invariant.within);
       admitted = c.remove.ensures.admitted;
       server = c.remove.ensures.server ∙ c.loop-place.invariant.server;
       same =
           c.remove.ensures.rows
-          ∙ ap (λ rows. without rows c.get.result) c.loop-place.invariant.same
-          ∙ ap (λ key. without (map summed c.loop-place.rows.items) key) (c.get.ensures.value ∙ ap (λ row. channel_number row.chan) c.index-then-has_ended.ensures)
+          ∙ ap (λ rows. without_key rows c.get.result) c.loop-place.invariant.same
+          ∙ ap (λ key. without_key (map summed c.loop-place.rows.items) key) (c.get.ensures.value ∙ ap (λ row. channel_number row.chan) c.index-then-has_ended.ensures)
           ∙ summed-without (get_or c.loop-place.rows.items c.loop-place.place c.index-then-has_ended.result.now).chan c.loop-place.rows.items c.loop-place.place distinct place
           ∙ ap (map summed) (sym c.remove-then-has_ended.ensures.items);
       few = let few = c.loop-place.invariant.few in omega (arith, fewer, len, few);

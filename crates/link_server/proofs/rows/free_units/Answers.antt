@@ -3,7 +3,7 @@ use Rattle.std.proofs.Common.{◌-◌, map, ap, ◌∙◌, arith}
 use Rattle.std.proofs.lemmas.List.{take_all}
 use Rattle.traffic_contract.specs.Admission.{total}
 use Rattle.link_steps.specs.Buffer.{kept_units, free_units}
-use Rattle.link_server.specs.Rows.{terms_in}
+use Rattle.link_server.specs.Rows.{reservation_in}
 use Rattle.link_server.proofs.AnswerFacts.{units-more}
 use Rattle.link_server.proofs.rows.free_units.Goals as goal
 
@@ -14,4 +14,4 @@ loop-row-preserved c =
 
 pub returns : goal.returns
 unfolding free_units
-returns c = c.loop-row.invariant ∙ ap (λ rows. c.args.shape.now.buffer - total (kept_units c.args.shape.now.bounds) (map terms_in rows)) (take_all c.loop-row.row-index c.args.rows.now c.loop-row-test.false)
+returns c = c.loop-row.invariant ∙ ap (λ rows. c.args.shape.now.buffer - total (kept_units c.args.shape.now.bounds) (map reservation_in rows)) (take_all c.loop-row.row-index c.args.rows.now c.loop-row-test.false)

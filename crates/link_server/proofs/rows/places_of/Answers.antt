@@ -3,7 +3,7 @@ use Rattle.std.proofs.Common.{map, ap, ◌∙◌, arith}
 use Rattle.std.proofs.lemmas.List.{take_all}
 use Rattle.traffic_contract.specs.Admission.{total}
 use Rattle.link_steps.specs.Buffer.{slots_of}
-use Rattle.link_server.specs.Rows.{terms_in, row_in}
+use Rattle.link_server.specs.Rows.{reservation_in, row_in}
 use Rattle.link_server.specs.Sound.{all_places_of}
 use Rattle.link_server.proofs.RoomFacts.{places-more}
 use Rattle.link_server.proofs.rows.places_of.Goals as goal
@@ -11,7 +11,7 @@ use Rattle.link_server.proofs.rows.places_of.Goals as goal
 pub loop-row-preserved : goal.loop-row-preserved
 loop-row-preserved c =
     let more = places-more c.args.bounds.now c.args.rows.now c.loop-row.row-index c.row-item.result c.loop-row-test.true in
-    let slots = c.slots.ensures.value ∙ ap (λ row. slots_of c.args.bounds.now (terms_in row)) c.row-item.is in
+    let slots = c.slots.ensures.value ∙ ap (λ row. slots_of c.args.bounds.now (reservation_in row)) c.row-item.is in
     let value = c.loop-row.invariant.value in
     let small = c.loop-row.invariant.small in
     let few = c.slots.ensures.small in

@@ -2,8 +2,8 @@
 -- the account.
 use Rattle.std.proofs.Common.{◌≡◌, ◌+◌, take, true, refl, sym, ap, ◌∙◌, arith}
 use Rattle.std.proofs.lemmas.List.{append-nil}
-use Rattle.link_steps.specs.Sources.{lost_by, taken_by}
-use Rattle.link_steps.specs.Sources.SourceStep.{Rests, Brings, Loses}
+use Rattle.link_steps.specs.Sources.{dropped_by, taken_by}
+use Rattle.link_steps.specs.Sources.SourceStep.{Rests, Brings, Drops}
 use Rattle.link_server.specs.Packets.{here_in}
 use Rattle.link_server.specs.Rows.{row_in}
 use Rattle.link_server.specs.Sources.{step_in}
@@ -15,7 +15,7 @@ rests : (c : goal.In_default) → step_in c.args.bounds.now (take c.args.before 
 rests c = step-rests c.args.bounds.now (take c.args.before (here_in c.args.packets.now.here.items)) c.args.clock (row_in c.args.row.now) c.in_default.ensures.size
 
 pub returns-in_default-clause-lost : goal.returns-in_default-clause-lost
-returns-in_default-clause-lost c = ap lost_by (sym (rests c))
+returns-in_default-clause-lost c = ap dropped_by (sym (rests c))
 
 pub returns-in_default-clause-row : goal.returns-in_default-clause-row
 returns-in_default-clause-row c = rw (rests c) (c.next_planned.ensures.row)
@@ -26,14 +26,14 @@ returns-in_default-clause-here c = rw (rests c) (sym (append-nil (here_in c.args
 pub returns-in_default-clause-taken : goal.returns-in_default-clause-taken
 returns-in_default-clause-taken c = rw (rests c) (omega arith)
 
-loses : (c : goal.Then-not-has_slot) → step_in c.args.bounds.now (take c.args.before (here_in c.args.packets.now.here.items)) c.args.clock c.args.row.now ≡ Loses
+loses : (c : goal.Then-not-has_slot) → step_in c.args.bounds.now (take c.args.before (here_in c.args.packets.now.here.items)) c.args.clock c.args.row.now ≡ Drops
 loses c =
     step-loses c.args.bounds.now (take c.args.before (here_in c.args.packets.now.here.items)) c.args.clock c.in-Some.size (row_in c.args.row.now) c.in-Some.ensures.size
     (sym (slot-same c.args.bounds.now c.args.clock c.args.before c.deref.result.now c.args.packets.now.here.items c.next_planned.new.self c.args.row.now c.deref.ensures.value c.next_planned.ensures.row)
     ∙ sym c.has_slot.ensures ∙ c.if-not-has_slot.true)
 
 pub returns-then-not-has_slot-clause-lost : goal.returns-then-not-has_slot-clause-lost
-returns-then-not-has_slot-clause-lost c = ap lost_by (sym (loses c))
+returns-then-not-has_slot-clause-lost c = ap dropped_by (sym (loses c))
 
 pub returns-then-not-has_slot-clause-row : goal.returns-then-not-has_slot-clause-row
 returns-then-not-has_slot-clause-row c = rw (loses c) (c.next_planned.ensures.row)
@@ -61,7 +61,7 @@ push-requires-clause-room c =
     omega (arith, one, c.requires.room)
 
 pub returns-clause-lost : goal.returns-clause-lost
-returns-clause-lost c = ap lost_by (sym (brings (goal.at.returns-clause-lost c).After-has_slot c.if-not-has_slot.false))
+returns-clause-lost c = ap dropped_by (sym (brings (goal.at.returns-clause-lost c).After-has_slot c.if-not-has_slot.false))
 
 pub returns-clause-row : goal.returns-clause-row
 returns-clause-row c =

@@ -5,9 +5,9 @@ use Rattle.std.specs.Prelude.{if◌then◌else◌}
 use Rattle.std.proofs.lemmas.List.{append-nil, length-map, length-append, take_all}
 use Rattle.std.proofs.lemmas.List.Elements.{All-set}
 use Rattle.link_steps.specs.Kept.{kept_packet, kept_after_step}
-use Rattle.link_steps.specs.Sources.{taken_by, lost_by}
+use Rattle.link_steps.specs.Sources.{taken_by, dropped_by}
 use Rattle.link_server.specs.Packets.{arrival_in, here_in}
-use Rattle.link_server.specs.Rows.{row_in, summed, IsWithin}
+use Rattle.link_server.specs.Rows.{row_in, summed, IsWithinLevels}
 use Rattle.link_server.specs.Sources.{step_in, brought_by}
 use Rattle.link_server.proofs.SourceRows.{StandsStepped, none-stepped, one-stepped, all-stepped, ready-now, packets-now, lost-more, lost-same, front-same, front-within, terms-stepped}
 use Rattle.link_server.proofs.QuietFacts.{quiet-lost, quiet-rows, quiet-packets}
@@ -101,8 +101,8 @@ loop-row-preserved c =
     subst (λ h. here_in c.take_source_packet.new.packets.here.items ≡ here_in c.loop-row.packets.here.items ++ kept_packet (step_in c.args.bounds.now h c.args.clock row) c.args.clock (suc c.loop-row.packets.taken) (row_in row)) front c.take_source_packet.ensures.here in
     let taken : c.take_source_packet.new.packets.taken ≡ c.loop-row.packets.taken + taken_by (step_in c.args.bounds.now was c.args.clock row) =
     subst (λ h. c.take_source_packet.new.packets.taken ≡ c.loop-row.packets.taken + taken_by (step_in c.args.bounds.now h c.args.clock row)) front c.take_source_packet.ensures.taken in
-    let counted = subst (λ h. (if c.take_source_packet.result then 1 else 0) ≡ lost_by (step_in c.args.bounds.now h c.args.clock row)) front c.take_source_packet.ensures.lost in
-    let lost : c.if-take_source_packet.lost ≡ c.loop-row.lost + lost_by (step_in c.args.bounds.now was c.args.clock row) = elim c.if-take_source_packet.branch [
+    let counted = subst (λ h. (if c.take_source_packet.result then 1 else 0) ≡ dropped_by (step_in c.args.bounds.now h c.args.clock row)) front c.take_source_packet.ensures.lost in
+    let lost : c.if-take_source_packet.lost ≡ c.loop-row.lost + dropped_by (step_in c.args.bounds.now was c.args.clock row) = elim c.if-take_source_packet.branch [
       | then-take_source_packet w ↦ lost-more c.take_source_packet.result c.loop-row.lost _ _ counted w.if-take_source_packet.true w.lost-is
       | else-take_source_packet w ↦ lost-same c.take_source_packet.result c.loop-row.lost _ _ counted w.if-take_source_packet.false w.lost-is
     ] in
@@ -122,7 +122,7 @@ loop-row-preserved c =
           (summed-same c.take_source_packet.new.row row terms)
           ∙ c.loop-row.invariant.summed;
       levels =
-          All-set (IsWithin _) c.loop-row.rows c.loop-row.row-index c.take_source_packet.new.row
+          All-set (IsWithinLevels _) c.loop-row.rows c.loop-row.row-index c.take_source_packet.new.row
           (within-same _ c.take_source_packet.new.row row terms (c.loop-row.invariant.levels c.loop-row.row-index c.row-item.result here))
           c.loop-row.invariant.levels;
     }

@@ -4,7 +4,7 @@ use Rattle.link_server.specs.Rows.{summed, AreWithin}
 use Rattle.link_server.proofs.SourceRows.{HaveStepped}
 use Rattle.link_server.proofs.sources.take_source_packets.Given as goal
 
--- the rows up to the index have made their step, and those behind make theirs after the packets that were taken so far
+-- the rows up to the index have made their step, and those after make theirs after the packets that were taken so far
 abbrev pub invariant-loop-row : goal.invariant-loop-row
 invariant-loop-row l = record {
   stepped : HaveStepped l.bounds (here_in l.fn.packets.here.items) l.clock l.fn.packets.taken l.fn.rows l.row-index l.rows (here_in l.packets.here.items) l.packets.taken l.lost;

@@ -2,7 +2,7 @@ use Rattle.std.proofs.Common.{[], All, IsPermutation, IsSortedBy, reverse, sym, 
 use Rattle.link_steps.specs.Lists.{Each}
 use Rattle.call_script.specs.Tasks.{network_of}
 use Rattle.interleave_core.specs.Runs.{IsRun}
-use Rattle.interleave_core.specs.Schedules.{Follows, IsActorOf, turns_of}
+use Rattle.interleave_core.specs.Schedules.{FollowsTurns, IsActorOf, turns_of}
 use Rattle.race_run.specs.Merging.{AreThere, is_before, places_of, sources_from}
 use Rattle.race_run.specs.Turns.{AreMaximalRuns, actors_of}
 use Rattle.race_run.proofs.MergeFacts.{merge-weaves, whole-sorted, places-all-inside}
@@ -34,7 +34,7 @@ returns-clause-played c =
     let weave = returns-clause-weave c in
     let is = subst (IsRun (network_of c.args.plan.now)) (sym weave) (whole-run (network_of c.args.plan.now) c.args.closed.now.passes.items c.args.closed.now.journals.items c.requires.whole) in
     let runs = subst (λ es. AreMaximalRuns (actors_of es) c.in_ok-items.items.items) c.entries.ensures c.in_ok-items.ensures in
-    subst (λ items. Follows (network_of c.args.plan.now) [] (turns_of items) (reverse c.in_ok-run.run'.entries)) (sym c.new.ensures) (run-follows (network_of c.args.plan.now) c.in_ok-run.run'.entries c.in_ok-items.items.items runs is)
+    subst (λ items. FollowsTurns (network_of c.args.plan.now) [] (turns_of items) (reverse c.in_ok-run.run'.entries)) (sym c.new.ensures) (run-follows (network_of c.args.plan.now) c.in_ok-run.run'.entries c.in_ok-items.items.items runs is)
 
 pub returns-clause-over : goal.returns-clause-over
 returns-clause-over c actor =

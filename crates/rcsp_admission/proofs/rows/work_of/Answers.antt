@@ -3,7 +3,7 @@ use Rattle.std.proofs.Common.{arith}
 use Rattle.net_units.specs.Numbers.{level_number}
 use Rattle.traffic_contract.specs.Admission.{work_up_to}
 use Rattle.traffic_contract.proofs.AdmissionFacts.{work_up_to-within, work_up_to-above}
-use Rattle.rcsp_admission.specs.Sums.{row_of}
+use Rattle.rcsp_admission.specs.Sums.{admitted_row}
 use Rattle.rcsp_admission.specs.Kept.{held_of}
 use Rattle.rcsp_admission.proofs.RowFacts.{total-take_more, total-take-le}
 use Rattle.rcsp_admission.proofs.rows.work_of.Goals as goal
@@ -19,9 +19,9 @@ loop-row-preserved c =
     let step = total-take_more (work_up_to c.args.rate (level_number c.args.level) c.args.window) c.args.rows.now c.loop-row.row-index c.row-item.result c.loop-row-test.true c.row-item.is in
     elim c.if-get.branch [
       | then-get w ↦
-          let e = work_up_to-within c.args.rate (level_number c.args.level) c.args.window (row_of (held_of c.row-item.result)) (omega arith) in
+          let e = work_up_to-within c.args.rate (level_number c.args.level) c.args.window (admitted_row (held_of c.row-item.result)) (omega arith) in
           omega (arith, step, e, c.loop-row.invariant, w.work-sum.ensures.value)
       | else-get w ↦
-          let e = work_up_to-above c.args.rate (level_number c.args.level) c.args.window (row_of (held_of c.row-item.result)) (omega arith) in
+          let e = work_up_to-above c.args.rate (level_number c.args.level) c.args.window (admitted_row (held_of c.row-item.result)) (omega arith) in
           omega (arith, step, e, c.loop-row.invariant)
     ]

@@ -5,7 +5,7 @@ use Rattle.net_units.specs.Numbers.{link_number}
 use Rattle.link_steps.specs.Lists.{Each}
 use Rattle.link_steps.proofs.ListFacts.{Each-append}
 use Rattle.step_stamp.specs.Lists.{up_to}
-use Rattle.step_stamp.specs.Seats.{pass_view, link_view, link_of}
+use Rattle.step_stamp.specs.Seats.{pass_view, link_view, seat_link}
 use Rattle.link_ledger.specs.declared.entries.Journal.{Journal}
 use Rattle.shared_network.specs.Closing.{number_of}
 use Rattle.shared_network.specs.Gathering.{IsSettled}
@@ -26,9 +26,9 @@ loop-link-preserved g c =
     let pushed = c.push_reserved.ensures.items in
     let capacity = c.push_reserved.ensures.capacity in
     let more : length c.push_reserved.new.self.items ≡ length journals + 1 = ap length pushed ∙ length-append journals (journal ∷ []) in
-    let same : number_of journal ≡ link_of c.into_journal-journal.result.1 = ap link_number told.link in
+    let same : number_of journal ≡ seat_link c.into_journal-journal.result.1 = ap link_number told.link in
     let next =
-    settled-next g.H.Home.links (pass_view c.args.seat) (pass_view c.loop-link.seat) (pass_view c.settle.new.self) (link_view c.into_journal-journal.result.1) (link_of c.into_journal-journal.result.1) (length journals) journal told.journal.0 so.stays c.requires.acts (sym same ∙ told.number ∙ number) same c.settle.ensures.joined told.marks told.journal.1 told.journal.2 in
+    settled-next g.H.Home.links (pass_view c.args.seat) (pass_view c.loop-link.seat) (pass_view c.settle.new.self) (link_view c.into_journal-journal.result.1) (seat_link c.into_journal-journal.result.1) (length journals) journal told.journal.0 so.stays c.requires.acts (sym same ∙ told.number ∙ number) same c.settle.ensures.joined told.marks told.journal.1 told.journal.2 in
     record {
       numbers = ap (λ js. map number_of js ++ rest) pushed ∙ ap (λ ns. ns ++ rest) (map-append number_of journals (journal ∷ [])) ∙ append_assoc (map number_of journals) (number_of journal ∷ []) rest ∙ ap (λ k. map number_of journals ++ k ∷ rest) told.number ∙ before;
       settled = subst (Each (IsSettled g.H.Home.links (pass_view c.args.seat))) (sym pushed) (Each-append (IsSettled g.H.Home.links (pass_view c.args.seat)) journals (journal ∷ []) so.settled (next.0, tt));

@@ -5,7 +5,7 @@ use Rattle.net_units.specs.Numbers.{actor_number}
 use Rattle.link_steps.specs.Lists.{Each}
 use Rattle.link_steps.proofs.ListFacts.{Each-append}
 use Rattle.step_stamp.specs.Opening.{IsNewPass}
-use Rattle.step_stamp.specs.Seats.{actor_of}
+use Rattle.step_stamp.specs.Seats.{seat_actor}
 use Rattle.shared_network.specs.Ready.{IsNew}
 use Rattle.shared_network.proofs.OpeningFacts.{pass-new, new-knows}
 use Rattle.shared_network.proofs.network.passes_of.Goals as goal
@@ -21,13 +21,13 @@ loop-seat-preserved g c =
     let left = subst (Each (IsNewPass g.H.Home.table n)) c.in-Some.ensures.steps.0 c.loop-seat.invariant.left in
     let made = c.new.ensures in
     let pushed = c.in_ok-push.ensures.items in
-    let rest : List ℕ = map actor_of (into_iter_items c.next.new.self) in
+    let rest : List ℕ = map seat_actor (into_iter_items c.next.new.self) in
     record {
       actors = ap (λ ps. map (λ pass. actor_number pass.actor) ps ++ rest) pushed
           ∙ ap (λ ns. ns ++ rest) (map-append (λ pass. actor_number pass.actor) c.loop-seat.passes.items (c.new.result ∷ []))
           ∙ append_assoc (map (λ pass. actor_number pass.actor) c.loop-seat.passes.items) (actor_number c.new.result.actor ∷ []) rest
           ∙ ap (λ a. map (λ pass. actor_number pass.actor) c.loop-seat.passes.items ++ actor_number a ∷ rest) made.actor
-          ∙ ap (λ ss. map (λ pass. actor_number pass.actor) c.loop-seat.passes.items ++ map actor_of ss) (sym c.in-Some.ensures.steps.0)
+          ∙ ap (λ ss. map (λ pass. actor_number pass.actor) c.loop-seat.passes.items ++ map seat_actor ss) (sym c.in-Some.ensures.steps.0)
           ∙ c.loop-seat.invariant.actors;
       made = subst (Each (IsNew g.H.Home.table g.H.Home.owners g.H.Home.links n)) (sym pushed)
           (Each-append (IsNew g.H.Home.table g.H.Home.owners g.H.Home.links n) c.loop-seat.passes.items (c.new.result ∷ []) c.loop-seat.invariant.made

@@ -4,14 +4,14 @@ use Rattle.net_units.specs.Numbers.{actor_number}
 use Rattle.link_steps.specs.Lists.{Each}
 use Rattle.step_stamp.specs.Lists.{up_to}
 use Rattle.step_stamp.specs.Opening.{IsNewPass}
-use Rattle.step_stamp.specs.Seats.{actor_of}
+use Rattle.step_stamp.specs.Seats.{seat_actor}
 use Rattle.shared_network.specs.Ready.{IsNew}
 use Rattle.shared_network.proofs.network.passes_of.Given as goal
 
 -- the passes made, and the seats left
 abbrev pub invariant-loop-seat : goal.invariant-loop-seat
 invariant-loop-seat g l = record {
-  actors : map (λ pass. actor_number pass.actor) l.passes.items ++ map actor_of (into_iter_items l.seat-iterator) ≡ up_to (length l.fn.seats.items);
+  actors : map (λ pass. actor_number pass.actor) l.passes.items ++ map seat_actor (into_iter_items l.seat-iterator) ≡ up_to (length l.fn.seats.items);
   made : Each (IsNew g.H.Home.table g.H.Home.owners g.H.Home.links (length l.fn.seats.items)) l.passes.items;
   left : Each (IsNewPass g.H.Home.table (length l.fn.seats.items)) (into_iter_items l.seat-iterator);
 }

@@ -1,6 +1,6 @@
 -- An empty wheel is an empty calendar.
 use Rattle.std.proofs.Common.{◌≡◌, ◌+◌, [], ap, ◌∙◌, length, subst, sym, arith}
-use Rattle.tick_calendar.specs.Wheel.{entries_in, AreAll}
+use Rattle.tick_calendar.specs.Wheel.{entries_in, AreAllFrom}
 use Rattle.tick_calendar.proofs.Chains.{entries-nil}
 use Rattle.tick_calendar.proofs.Calendar.new.Goals as goal
 
@@ -14,7 +14,7 @@ invariant_of-result c =
       roomy = omega arith;
       slot_most = omega (arith, c.in_ok-new.ensures.slot);
       begun = omega (arith, c.in_ok-new.ensures.slot, c.in_ok-new.ensures.base);
-      ahead = subst (AreAll (c.in_ok-new.field-0.base + c.in_ok-new.field-0.slot)) (sym none) tt;
+      ahead = subst (AreAllFrom (c.in_ok-new.field-0.base + c.in_ok-new.field-0.slot)) (sym none) tt;
     }
 
 pub returns : goal.returns

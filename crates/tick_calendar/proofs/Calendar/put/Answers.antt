@@ -1,7 +1,7 @@
 -- One entry more, at the end.
 use Rattle.std.proofs.Common.{◌≡◌, ◌+◌, ◌-◌, ◌++◌, ◌∷◌, [], List, ap, ◌∙◌, subst, arith}
 use Rattle.tick_calendar.specs.Calendar.{Schedule, Entry}
-use Rattle.tick_calendar.specs.Wheel.{entries_in, AreAll}
+use Rattle.tick_calendar.specs.Wheel.{entries_in, AreAllFrom}
 use Rattle.tick_calendar.proofs.TakingLemmas.{put-kept}
 use Rattle.tick_calendar.proofs.Calendar.put.Goals as goal
 
@@ -49,7 +49,7 @@ invariant_of-self c =
     c.self.inside.waiting c.self.inside.room c.self.inside.clock _ c.args.tick c.args.key c.append.ensures.wheel (omega (arith, c.append.ensures.slot, c.clear_if_full.ensures.slot))
     (c.append.ensures.entries ∙ ap (λ es. es ++ (c.args.tick, c.args.key) ∷ []) c.clear_if_full.ensures.entries) c.self.invariant.counted (omega (arith, c.requires.room, spare))
     (omega (arith, c.self.invariant.roomy, c.append.ensures.capacity, c.clear_if_full.ensures.capacity)) (omega (arith, begun, c.self.invariant.begun)) (omega (arith, c.requires.ahead, clock))
-    (subst (λ t. AreAll t (entries_in c.self.inside.wheel.places.items)) begun c.self.invariant.ahead)
+    (subst (λ t. AreAllFrom t (entries_in c.self.inside.wheel.places.items)) begun c.self.invariant.ahead)
 
 pub returns : goal.returns
 returns c =

@@ -1,7 +1,7 @@
 -- The wheel's first due entry is the calendar's.
 use Rattle.std.proofs.Common.{◌≡◌, ◌+◌, suc, length, refl, ap, sym, ◌∙◌, subst, arith}
 use Rattle.tick_calendar.specs.Calendar.{Schedule}
-use Rattle.tick_calendar.specs.Wheel.{entries_in, AreAll, RemovesFirst}
+use Rattle.tick_calendar.specs.Wheel.{entries_in, AreAllFrom, RemovesFirst}
 use Rattle.tick_calendar.proofs.TakingLemmas.{all-later, due-none, left-all, taken-not_ahead, takes-due, removes-one, removes-due, take-kept}
 use Rattle.tick_calendar.proofs.Calendar.take_due.Goals as goal
 
@@ -33,13 +33,13 @@ invariant_of-self c = record {
 pub returns-in_err-first-clause-key : goal.returns-in_err-first-clause-key
 returns-in_err-first-clause-key c =
     let seen = ap (λ (s : Schedule). s.entries) c.self.view_is in
-    let ahead : AreAll (suc c.args.now) c.args.self.now.entries = subst (AreAll (suc c.args.now)) (c.first_due.ensures.entries ∙ seen) (c.first_due.ensures.none c.in_err-first.was) in
+    let ahead : AreAllFrom (suc c.args.now) c.args.self.now.entries = subst (AreAllFrom (suc c.args.now)) (c.first_due.ensures.entries ∙ seen) (c.first_due.ensures.none c.in_err-first.was) in
     c.from_residual.ensures ∙ sym (due-none c.args.now c.args.self.now.entries ahead)
 
 pub returns-in_err-first-clause-left : goal.returns-in_err-first-clause-left
 returns-in_err-first-clause-left c =
     let seen = ap (λ (s : Schedule). s.entries) c.self.view_is in
-    let ahead : AreAll (suc c.args.now) c.args.self.now.entries = subst (AreAll (suc c.args.now)) (c.first_due.ensures.entries ∙ seen) (c.first_due.ensures.none c.in_err-first.was) in
+    let ahead : AreAllFrom (suc c.args.now) c.args.self.now.entries = subst (AreAllFrom (suc c.args.now)) (c.first_due.ensures.entries ∙ seen) (c.first_due.ensures.none c.in_err-first.was) in
     c.first_due.ensures.entries ∙ seen ∙ sym (left-all c.args.now c.args.self.now.entries ahead)
 
 pub returns-in_err-first-clause-spare : goal.returns-in_err-first-clause-spare
@@ -50,7 +50,7 @@ returns-in_err-first-clause-spare c =
 pub returns-in_err-first-clause-none : goal.returns-in_err-first-clause-none
 returns-in_err-first-clause-none c =
     let seen = ap (λ (s : Schedule). s.entries) c.self.view_is in
-    let ahead : AreAll (suc c.args.now) c.args.self.now.entries = subst (AreAll (suc c.args.now)) (c.first_due.ensures.entries ∙ seen) (c.first_due.ensures.none c.in_err-first.was) in
+    let ahead : AreAllFrom (suc c.args.now) c.args.self.now.entries = subst (AreAllFrom (suc c.args.now)) (c.first_due.ensures.entries ∙ seen) (c.first_due.ensures.none c.in_err-first.was) in
     (λ _. all-later c.args.now c.args.self.now.entries ahead, λ _. rw c.from_residual.ensures refl)
 
 pub returns-in_err-first-clause-taken : goal.returns-in_err-first-clause-taken
@@ -77,7 +77,7 @@ invariant_of-self-2 c =
     (subst (λ t. RemovesFirst t c.first_due.new.self.places.items c.take-key.new.self.places.items c.take-key.result) begun c.take-key.ensures.entries)
     (ap length c.first_due.ensures.entries ∙ c.self.invariant.counted) c.self.invariant.within
     (omega (arith, c.self.invariant.roomy, c.first_due.ensures.capacity, c.take-key.ensures.capacity)) (omega (arith, begun, c.first_due.ensures.begun))
-    (subst (λ t. AreAll t (entries_in c.first_due.new.self.places.items)) begun c.first_due.ensures.ahead)
+    (subst (λ t. AreAllFrom t (entries_in c.first_due.new.self.places.items)) begun c.first_due.ensures.ahead)
 
 pub returns-clause-key : goal.returns-clause-key
 returns-clause-key c =

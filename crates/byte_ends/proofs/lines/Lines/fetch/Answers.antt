@@ -1,7 +1,7 @@
 use Rattle.std.proofs.Common.{◌≡◌, false, [], length, ap, ◌∙◌, arith}
 use Rattle.std.proofs.lemmas.List.{drop_all}
 use Rattle.std.proofs.KnownBytes.{Keeps-refl}
-use Rattle.byte_ends.specs.Cutting.{Cutting, IsOpen}
+use Rattle.byte_ends.specs.Cutting.{Cutting, WantsMore}
 use Rattle.byte_ends.specs.Held.{cutting_of, front_of}
 use Rattle.byte_ends.proofs.Fetching.{gathered, IsHeld-fetched, GivesNone-kept}
 use Rattle.byte_ends.proofs.lines.Lines.fetch.Goals as goal
@@ -11,7 +11,7 @@ use Rattle.byte_ends.proofs.lines.Lines.fetch.Goals.{After-reserve}
 abbrev before : (g : _) (c : After-reserve g) → Cutting
 before g c = let a = c.self.inside in cutting_of a.most a.taken a.number a.ended a.whole a.line.items a.block
 
-undecided : (g : _) (c : After-reserve g) → IsOpen (before g c)
+undecided : (g : _) (c : After-reserve g) → WantsMore (before g c)
 undecided g c = rw (← c.self.view_is) at c.requires
 
 -- the line has all that was pending

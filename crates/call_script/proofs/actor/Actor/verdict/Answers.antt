@@ -4,7 +4,7 @@ use Rattle.std.proofs.lemmas.List.{take_all}
 use Rattle.net_units.specs.Numbers.{channel_number}
 use Rattle.setup_protocol.specs.State.{outcome_of}
 use Rattle.call_script.specs.Scripts.{Standing, outcome_in}
-use Rattle.call_script.specs.Work.{opened_in}
+use Rattle.call_script.specs.Work.{opened_among}
 use Rattle.call_script.proofs.ActorFacts.{turn-none, turn-same, turn-other, stands-in}
 use Rattle.call_script.proofs.actor.Actor.verdict.Goals as goal
 use Rattle.call_script.proofs.actor.Actor.verdict.Goals.{then-get, else-get}
@@ -30,5 +30,5 @@ pub returns-clause-verdict : goal.returns-clause-verdict
 returns-clause-verdict c = λ parts replies stands.
     let items = c.args.self.now.known.items in
     let whole : take c.loop-known.known-index items ≡ items = take_all c.loop-known.known-index items (subst (λ xs. length xs ≤ c.loop-known.known-index) c.deref-known-items.ensures.value c.loop-known-test.false) in
-    c.loop-known.invariant ∙ ap (λ ks. outcome_in c.args.chan (opened_in ks)) whole ∙ ap (outcome_in c.args.chan) (sym stands.at.outcomes)
+    c.loop-known.invariant ∙ ap (λ ks. outcome_in c.args.chan (opened_among ks)) whole ∙ ap (outcome_in c.args.chan) (sym stands.at.outcomes)
     ∙ ap (λ (at : Standing). outcome_in c.args.chan at.outcomes) (sym (stands-in parts c.args.self.now replies stands))

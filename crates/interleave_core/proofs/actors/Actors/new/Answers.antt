@@ -1,6 +1,6 @@
 -- The numbers of a plan's links and rounds are those of a plane.
 use Rattle.std.proofs.Common.{ap, ◌∙◌, length, arith}
-use Rattle.tick_plane.specs.Kept.{Kept}
+use Rattle.tick_plane.specs.Kept.{KeptPlane}
 use Rattle.interleave_core.proofs.ActorFacts.{plane-made}
 use Rattle.interleave_core.proofs.StepFacts.{has-few}
 use Rattle.interleave_core.proofs.actors.Actors.new.Goals as goal
@@ -26,7 +26,7 @@ returns-clause-stand c =
     record {
       callers = c.in_ok-callers.ensures;
       plane = plane-made c.args.plan.now c.in_ok-plane.plane
-          (ap (λ (p : Kept). p.links) is ∙ ap length c.links.ensures.value)
-          (ap (λ (p : Kept). p.rounds) is ∙ omega (arith, c.rounds.ensures.value, c.tail.ensures.value))
-          (ap (λ (p : Kept). p.at) is);
+          (ap (λ (p : KeptPlane). p.links) is ∙ ap length c.links.ensures.value)
+          (ap (λ (p : KeptPlane). p.rounds) is ∙ omega (arith, c.rounds.ensures.value, c.tail.ensures.value))
+          (ap (λ (p : KeptPlane). p.at) is);
     }

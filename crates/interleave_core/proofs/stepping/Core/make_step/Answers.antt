@@ -6,7 +6,7 @@ use Rattle.std.specs.Vec.{with_items}
 use Rattle.net_units.specs.Numbers.{actor_number}
 use Rattle.call_script.proofs.FitFacts.{plan-fits}
 use Rattle.call_script.specs.Tasks.{network_of}
-use Rattle.interleave_core.specs.Standing.{LinksStand, IsDue, run_in}
+use Rattle.interleave_core.specs.Standing.{LinksStand, IsDueStep, run_in}
 use Rattle.interleave_core.proofs.LinkFacts.{clock-small, links-with}
 use Rattle.interleave_core.proofs.RunOf.{step-is}
 use Rattle.interleave_core.proofs.StepFacts.{callers-few, asked-within, fits-at, next-by, links-stepped, asking, run-more, recorded, stands-by}
@@ -48,7 +48,7 @@ take-requires c =
     let asks = asking c.args.plan.now c.args.self.now c.deref_mut.result.now c.args.actor c.in-Some.to.0 c.in-Some.to.1 c.next_ask.result c.get.result c.from.result c.requires c.deref_mut.ensures.value (c.next_ask.ensures (run_in c.args.self.now) c.requires.actors) c.in-Some.is c.from.ensures c.get.ensures.value in
     let done : Done = record { actor = c.args.actor; link = c.in-Some.to.0; ask = c.in-Some.to.1; reply = c.in_ok-reply.reply } in
     let next = next-by c.args.plan.now c.deref_mut.result.now (run_in c.args.self.now) c.args.actor c.in-Some.to.0 c.in-Some.to.1 c.in_ok-reply.reply c.from.result asks.plan asks.run asks.stand asks.asked asks.is c.in_ok-reply.ensures.legal in
-    let due : IsDue c.args.plan.now c.ready.new.self (run_in c.args.self.now) done = record { plan = asks.plan; run = asks.run; next = next; stand = c.ready.ensures.stand c.args.plan.now (run_in c.args.self.now) c.requires.actors; room = c.in_ok-ready.ensures.room } in
+    let due : IsDueStep c.args.plan.now c.ready.new.self (run_in c.args.self.now) done = record { plan = asks.plan; run = asks.run; next = next; stand = c.ready.ensures.stand c.args.plan.now (run_in c.args.self.now) c.requires.actors; room = c.in_ok-ready.ensures.room } in
     ((run_in c.args.self.now), due)
 
 pub returns-clause-stands : goal.returns-clause-stands
@@ -56,7 +56,7 @@ returns-clause-stands c =
     let asks = asking c.args.plan.now c.args.self.now c.deref_mut.result.now c.args.actor c.in-Some.to.0 c.in-Some.to.1 c.next_ask.result c.get.result c.from.result c.requires c.deref_mut.ensures.value (c.next_ask.ensures (run_in c.args.self.now) c.requires.actors) c.in-Some.is c.from.ensures c.get.ensures.value in
     let done : Done = record { actor = c.args.actor; link = c.in-Some.to.0; ask = c.in-Some.to.1; reply = c.in_ok-reply.reply } in
     let next = next-by c.args.plan.now c.deref_mut.result.now (run_in c.args.self.now) c.args.actor c.in-Some.to.0 c.in-Some.to.1 c.in_ok-reply.reply c.from.result asks.plan asks.run asks.stand asks.asked asks.is c.in_ok-reply.ensures.legal in
-    let due : IsDue c.args.plan.now c.ready.new.self (run_in c.args.self.now) done = record { plan = asks.plan; run = asks.run; next = next; stand = c.ready.ensures.stand c.args.plan.now (run_in c.args.self.now) c.requires.actors; room = c.in_ok-ready.ensures.room } in
+    let due : IsDueStep c.args.plan.now c.ready.new.self (run_in c.args.self.now) done = record { plan = asks.plan; run = asks.run; next = next; stand = c.ready.ensures.stand c.args.plan.now (run_in c.args.self.now) c.requires.actors; room = c.in_ok-ready.ensures.room } in
     let long : length c.step_link.new.links ≡ c.args.self.now.links.len = omega (arith, c.step_link.ensures.length, ap length c.deref_mut.ensures.value, c.args.self.now.links.ok.0) in
     stands-by c.args.plan.now (record { links = with_items c.args.self.now.links c.step_link.new.links; actors = c.take.new.self; steps = c.push.new.self }) (done ∷ (run_in c.args.self.now)) (recorded c.args.self.now.steps c.reserve.new.self c.push.new.self done c.reserve.new.self.spare (c.reserve.new.self.spare - 1) c.reserve.ensures.kept c.push.ensures) asks.plan
     (run-more c.args.plan.now (run_in c.args.self.now) done asks.run next)

@@ -10,7 +10,7 @@ use Rattle.step_stamp.specs.declared.seats.PassSeat.{PassSeat}
 use Rattle.step_stamp.specs.declared.views.View.{View}
 use Rattle.step_stamp.proofs.ListFacts.{has_first}
 use Rattle.link_ledger.specs.Own.{IsExact, Owns, Acted, own_entry, own_at}
-use Rattle.link_ledger.specs.Tokens.{Token, token_of, KeepsSeat, Keeps, ActedAt, Steps}
+use Rattle.link_ledger.specs.Tokens.{Token, token_of, KeepsSeat, KeepsToken, ActedAt, Steps}
 use Rattle.link_ledger.specs.declared.entries.OwnEntry.{OwnEntry}
 use Rattle.link_ledger.proofs.OwnFacts.{exact-after, entries-after, owns-after}
 use Rattle.link_ledger.proofs.locked.LockedLink.step.Goals as goal
@@ -21,7 +21,7 @@ invariant_of-pass-in-Ok g c =
     let own : List OwnEntry = c.pass.inside.own.items in
     let seat : PassSeat = c.in-Some.seat in
     let seat_is : c.pass.inside.seat ≡ Some seat = sym c.take.ensures.value ∙ c.in-Some.is in
-    let keeps : KeepsSeat a seat own c.pass.inside.spent = subst (λ o. Keeps a o own c.pass.inside.spent) seat_is c.pass.invariant in
+    let keeps : KeepsSeat a seat own c.pass.inside.spent = subst (λ o. KeepsToken a o own c.pass.inside.spent) seat_is c.pass.invariant in
     let v : View = pass_view seat in
     let v' : View = pass_view c.locked-made.new.seat in
     let e : OwnEntry = c.in-Ok.entry in
@@ -40,7 +40,7 @@ returns-in-Ok-clause-made g c =
     let own : List OwnEntry = c.pass.inside.own.items in
     let seat : PassSeat = c.in-Some.seat in
     let seat_is : c.pass.inside.seat ≡ Some seat = sym c.take.ensures.value ∙ c.in-Some.is in
-    let keeps : KeepsSeat a seat own c.pass.inside.spent = subst (λ o. Keeps a o own c.pass.inside.spent) seat_is c.pass.invariant in
+    let keeps : KeepsSeat a seat own c.pass.inside.spent = subst (λ o. KeepsToken a o own c.pass.inside.spent) seat_is c.pass.invariant in
     let v : View = pass_view seat in
     let v' : View = pass_view c.locked-made.new.seat in
     let e : OwnEntry = c.in-Ok.entry in

@@ -1,7 +1,7 @@
 use Rattle.std.proofs.Common.{◌≡◌, map, length, sym, subst}
 use Rattle.link_steps.specs.Journals.{IsLegalJournal}
 use Rattle.link_steps.proofs.JournalFacts.{journals-are-histories}
-use Rattle.step_stamp.specs.Seats.{link_of, list_of, link_view, link_table}
+use Rattle.step_stamp.specs.Seats.{seat_link, list_of, link_view, link_table}
 use Rattle.link_ledger.specs.Journals.{done_in}
 use Rattle.link_ledger.specs.Order.{HeldLink, IsOrdered}
 use Rattle.link_ledger.specs.Tokens.{IsLink}
@@ -12,7 +12,7 @@ returns-clause-journal g c =
     let held : HeldLink = c.args.self.held in
     let parts = c.into_parts-entries.ensures in
     let order = parts.order in
-    let same : held ≡ record { number = link_of c.into_parts-entries.result.1; rules = held.rules; entries = c.into_parts-entries.result.0.items; list = list_of c.into_parts-entries.result.1; seen = (link_view c.into_parts-entries.result.1).seen; table = link_table c.into_parts-entries.result.1 } =
+    let same : held ≡ record { number = seat_link c.into_parts-entries.result.1; rules = held.rules; entries = c.into_parts-entries.result.0.items; list = list_of c.into_parts-entries.result.1; seen = (link_view c.into_parts-entries.result.1).seen; table = link_table c.into_parts-entries.result.1 } =
     λ i. record { number = sym parts.seat.1 i; rules = held.rules; entries = sym parts.entries i; list = sym parts.seat.2 i; seen = sym parts.seat.3 i; table = sym parts.seat.0 i } in (
       held.rules,
       subst (λ n. IsLink g.H.Home.links n held.rules) (sym parts.seat.1) parts.rules,

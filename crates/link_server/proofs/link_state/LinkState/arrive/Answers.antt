@@ -1,4 +1,4 @@
--- The row of the packet's channel is found, and judges it; the packet is then put behind those here.
+-- The row of the packet's channel is found, and judges it; the packet is then put after those here.
 use Rattle.std.proofs.Common.{◌≡◌, ◌+◌, ◌<◌, ◌^◌, suc, get_or, set, sym, ap, ◌∙◌, subst, arith}
 use Rattle.std.proofs.Math.Seq.{map-set_same}
 use Rattle.std.proofs.lemmas.List.Elements.{All-set}
@@ -13,7 +13,7 @@ use Rattle.link_steps.specs.Sources.{arrival_at}
 use Rattle.traffic_contract.specs.Eligible.{newest}
 use Rattle.link_server.specs.Account.{account}
 use Rattle.link_server.specs.Packets.{here_in}
-use Rattle.link_server.specs.Rows.{terms_in, row_in, summed, IsAbsent, IsPlaceOf, IsWithin}
+use Rattle.link_server.specs.Rows.{reservation_in, row_in, summed, IsAbsent, IsPlaceOf, IsWithinLevels}
 use Rattle.link_server.specs.Sound.{IsSound}
 use Rattle.link_server.specs.Sources.{IsReady}
 use Rattle.link_server.specs.State.{kept_in}
@@ -49,7 +49,7 @@ pub returns-in-Some-stray-clause-reply : goal.returns-in-Some-stray-clause-reply
 returns-in-Some-stray-clause-reply c =
     arrive-stray c.args.self.now.shape c.args.self.now.clock c.args.self.now.packets c.args.packet.now c.args.self.now.rows.items c.in-Some.place c.index.result.now _
     (placed (goal.at.returns-in-Some-stray-clause-reply c).In-Some)
-    (c.in-Some-stray.ensures ∙ ap (λ row. stray c.args.packet.now (terms_in row) row.taken) c.index.ensures)
+    (c.in-Some-stray.ensures ∙ ap (λ row. stray c.args.packet.now (reservation_in row) row.taken) c.index.ensures)
 
 pub returns-in-Some-stray-clause-kept : goal.returns-in-Some-stray-clause-kept
 returns-in-Some-stray-clause-kept c = arrive-same c.args.self.now.shape _ c.args.packet.now _
@@ -58,9 +58,9 @@ pub returns-in-Some-full-clause-reply : goal.returns-in-Some-full-clause-reply
 returns-in-Some-full-clause-reply c =
     let place = placed (goal.at.returns-in-Some-full-clause-reply c).In-Some in
     arrive-full c.args.self.now.shape c.args.self.now.clock c.args.self.now.packets c.args.packet.now c.args.self.now.rows.items c.in-Some.place c.index.result.now _ place
-    (c.in_default-stray.ensures ∙ ap (λ row. stray c.args.packet.now (terms_in row) row.taken) c.index.ensures)
+    (c.in_default-stray.ensures ∙ ap (λ row. stray c.args.packet.now (reservation_in row) row.taken) c.index.ensures)
     (c.in-Some-full.ensures
-    ∙ ap (λ items. full (held_packets c.index-2.result.now.lead (here_in items)) (slots_of c.args.self.now.shape.bounds (terms_in c.index-2.result.now))) c.deref-2.ensures.value
+    ∙ ap (λ items. full (held_packets c.index-2.result.now.lead (here_in items)) (slots_of c.args.self.now.shape.bounds (reservation_in c.index-2.result.now))) c.deref-2.ensures.value
     ∙ ap (λ row. slots-rule c.args.self.now.shape c.args.self.now.packets.here.items row) (at-place c.args.self.now.rows.items c.in-Some.place c.index-2.result.now c.index.result.now c.index-2.ensures place.inside))
 
 pub returns-in-Some-full-clause-kept : goal.returns-in-Some-full-clause-kept
@@ -82,12 +82,12 @@ take-taken-requires-clause-few c =
 replied : (c : After-take-taken) → IsPlaceOf c.args.packet.now.chan c.args.self.now.rows.items c.in-Some.place → Taken c.args.self.now.clock c.take-taken.result.eligible ≡ kept_reply (whole c.args.self.now.shape) (kept_in c.args.self.now) (Arrive c.args.packet.now)
 replied c place =
     arrive-taken c.args.self.now.shape c.args.self.now.clock c.args.self.now.packets c.args.packet.now c.args.self.now.rows.items c.in-Some.place c.index.result.now c.take-taken.result.eligible place
-    (c.in_default-stray.ensures ∙ ap (λ row. stray c.args.packet.now (terms_in row) row.taken) c.index.ensures)
+    (c.in_default-stray.ensures ∙ ap (λ row. stray c.args.packet.now (reservation_in row) row.taken) c.index.ensures)
     (c.in_default-full.ensures
-    ∙ ap (λ items. full (held_packets c.index-2.result.now.lead (here_in items)) (slots_of c.args.self.now.shape.bounds (terms_in c.index-2.result.now))) c.deref-2.ensures.value
+    ∙ ap (λ items. full (held_packets c.index-2.result.now.lead (here_in items)) (slots_of c.args.self.now.shape.bounds (reservation_in c.index-2.result.now))) c.deref-2.ensures.value
     ∙ ap (λ row. slots-rule c.args.self.now.shape c.args.self.now.packets.here.items row) (at-place c.args.self.now.rows.items c.in-Some.place c.index-2.result.now c.index.result.now c.index-2.ensures place.inside))
     (ap (λ p. p.eligible) c.take-taken.ensures.packet
-    ∙ ap (λ row. eligible_next (terms_in row) (row_in row).recent c.args.self.now.clock c.args.packet.now.due) (at-place c.args.self.now.rows.items c.in-Some.place c.index_mut.result.now c.index.result.now c.index_mut.ensures.value place.inside))
+    ∙ ap (λ row. eligible_next (reservation_in row) (row_in row).recent c.args.self.now.clock c.args.packet.now.due) (at-place c.args.self.now.rows.items c.in-Some.place c.index_mut.result.now c.index.result.now c.index_mut.ensures.value place.inside))
 
 sound : (c : After-take-taken) → IsPlaceOf c.args.packet.now.chan c.args.self.now.rows.items c.in-Some.place → IsSound c.args.self.now.shape c.args.self.now.room (kept_after c.args.self.now.shape (kept_in c.args.self.now) (Arrive c.args.packet.now) (Taken c.args.self.now.clock c.take-taken.result.eligible))
 sound c place =
@@ -106,18 +106,18 @@ kept : (c : After-push) → IsPlaceOf c.args.packet.now.chan c.args.self.now.row
     → account c.args.self.now.clock c.push.new.self (set c.args.self.now.rows.items c.in-Some.place c.take-taken.new.self) ≡ kept_after c.args.self.now.shape (kept_in c.args.self.now) (Arrive c.args.packet.now) (Taken c.args.self.now.clock c.take-taken.result.eligible)
 kept c place =
     let was = get_or c.args.self.now.rows.items c.in-Some.place c.index_mut.result.now in
-    let none = c.in_default-stray.ensures ∙ ap (λ row. stray c.args.packet.now (terms_in row) row.taken) (at-place c.args.self.now.rows.items c.in-Some.place c.index.result.now c.index_mut.result.now c.index.ensures place.inside) in
+    let none = c.in_default-stray.ensures ∙ ap (λ row. stray c.args.packet.now (reservation_in row) row.taken) (at-place c.args.self.now.rows.items c.in-Some.place c.index.result.now c.index_mut.result.now c.index.ensures place.inside) in
     arrive-kept c.args.self.now.shape c.args.self.now.clock c.take-taken.result.eligible c.args.self.now.packets c.push.new.self c.args.packet.now c.args.self.now.rows.items c.in-Some.place c.index_mut.result.now c.take-taken.new.self c.take-taken.result place
-    (next-number c.args.packet.now (terms_in was) was.taken none)
-    (c.take-taken.ensures.row ∙ ap (λ row. kept_with (c.args.self.now.packets.taken + 1) (eligible_next (terms_in row) (row_in row).recent c.args.self.now.clock c.args.packet.now.due) (row_in row)) c.index_mut.ensures.value)
-    (c.take-taken.ensures.packet ∙ ap (λ row. arrival_at (terms_in row) row.lead (c.args.self.now.packets.taken + 1) (suc row.taken) c.args.packet.now.size c.args.self.now.clock (eligible_next (terms_in row) (row_in row).recent c.args.self.now.clock c.args.packet.now.due)) c.index_mut.ensures.value)
+    (next-number c.args.packet.now (reservation_in was) was.taken none)
+    (c.take-taken.ensures.row ∙ ap (λ row. kept_with (c.args.self.now.packets.taken + 1) (eligible_next (reservation_in row) (row_in row).recent c.args.self.now.clock c.args.packet.now.due) (row_in row)) c.index_mut.ensures.value)
+    (c.take-taken.ensures.packet ∙ ap (λ row. arrival_at (reservation_in row) row.lead (c.args.self.now.packets.taken + 1) (suc row.taken) c.args.packet.now.size c.args.self.now.clock (eligible_next (reservation_in row) (row_in row).recent c.args.self.now.clock c.args.packet.now.due)) c.index_mut.ensures.value)
     c.push.ensures.taken c.push.ensures.here c.push.ensures.on c.push.ensures.best
 
 pub invariant_of-self-3 : goal.invariant_of-self-3
 invariant_of-self-3 c =
     let place = placed (goal.at.invariant_of-self-3 c).In-Some in
     let after = sound (goal.at.invariant_of-self-3 c).After-take-taken place in
-    let same = c.take-taken.ensures.row ∙ ap (λ row. kept_with (c.args.self.now.packets.taken + 1) (eligible_next (terms_in row) (row_in row).recent c.args.self.now.clock c.args.packet.now.due) (row_in row)) c.index_mut.ensures.value in
+    let same = c.take-taken.ensures.row ∙ ap (λ row. kept_with (c.args.self.now.packets.taken + 1) (eligible_next (reservation_in row) (row_in row).recent c.args.self.now.clock c.args.packet.now.due) (row_in row)) c.index_mut.ensures.value in
     let roomy = c.args.self.now.roomy in
     record {
       admitted = c.args.self.now.admitted;
@@ -127,7 +127,7 @@ invariant_of-self-3 c =
           ∙ sym (map-set_same summed c.args.self.now.rows.items c.in-Some.place c.take-taken.new.self c.index_mut.result.now
           (summed-same c.take-taken.new.self (get_or c.args.self.now.rows.items c.in-Some.place c.index_mut.result.now) (ap (λ row. row.terms) same)));
       within =
-          All-set (IsWithin _) c.args.self.now.rows.items c.in-Some.place c.take-taken.new.self
+          All-set (IsWithinLevels _) c.args.self.now.rows.items c.in-Some.place c.take-taken.new.self
           (within-same _ c.take-taken.new.self (get_or c.args.self.now.rows.items c.in-Some.place c.index_mut.result.now) (ap (λ row. row.terms) same) (c.args.self.now.within c.in-Some.place c.index_mut.result.now place.inside))
           c.args.self.now.within;
       sound = subst (IsSound c.args.self.now.shape c.args.self.now.room) (sym (kept (goal.at.invariant_of-self-3 c).After-push place)) after;

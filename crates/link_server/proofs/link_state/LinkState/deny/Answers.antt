@@ -1,10 +1,10 @@
 -- The row of the channel is found, judged by its phase, and taken out of the rows and of the sums.
 use Rattle.std.proofs.Common.{◌≡◌, map, sym, ap, ◌∙◌, subst}
 use Rattle.net_units.specs.Numbers.{channel_number}
-use Rattle.rcsp_admission.specs.Sums.{Holds, without, IsDistinct}
+use Rattle.rcsp_admission.specs.Sums.{Holds, without_key, IsDistinct}
 use Rattle.link_steps.specs.declared.replies.Phase.TheVariants.{Tentative}
 use Rattle.link_steps.specs.Refusals.{not_in_phase}
-use Rattle.link_server.specs.Rows.{terms_in, summed, IsAbsent, IsPlaceOf, IsWithin}
+use Rattle.link_server.specs.Rows.{reservation_in, summed, IsAbsent, IsPlaceOf, IsWithinLevels}
 use Rattle.link_server.specs.Account.{account}
 use Rattle.link_server.specs.Sound.{IsSound}
 use Rattle.link_server.specs.Quiet.{IsQuiet}
@@ -33,7 +33,7 @@ pub returns-in-Some-not_tentative-clause-reply : goal.returns-in-Some-not_tentat
 returns-in-Some-not_tentative-clause-reply c =
     deny-refused c.args.self.now.shape c.args.self.now.clock c.args.self.now.packets c.args.chan c.args.self.now.rows.items c.in-Some.place c.index.result.now _
     (subst (λ rows. IsPlaceOf c.args.chan rows c.in-Some.place) c.deref.ensures.value c.in-Some.ensures.some)
-    (c.in-Some-not_tentative.ensures ∙ ap (λ row. not_in_phase Tentative (terms_in row)) c.index.ensures)
+    (c.in-Some-not_tentative.ensures ∙ ap (λ row. not_in_phase Tentative (reservation_in row)) c.index.ensures)
 
 pub returns-in-Some-not_tentative-clause-kept : goal.returns-in-Some-not_tentative-clause-kept
 returns-in-Some-not_tentative-clause-kept c = deny-same c.args.self.now.shape _ c.args.chan _
@@ -49,7 +49,7 @@ denied : (c : After-remove-2) → Denied ≡ kept_reply (whole c.args.self.now.s
 denied c =
     deny-denied c.args.self.now.shape c.args.self.now.clock c.args.self.now.packets c.args.chan c.args.self.now.rows.items c.in-Some.place c.index.result.now
     (subst (λ rows. IsPlaceOf c.args.chan rows c.in-Some.place) c.deref.ensures.value c.in-Some.ensures.some)
-    (c.in_default-not_tentative.ensures ∙ ap (λ row. not_in_phase Tentative (terms_in row)) c.index.ensures)
+    (c.in_default-not_tentative.ensures ∙ ap (λ row. not_in_phase Tentative (reservation_in row)) c.index.ensures)
 
 pub invariant_of-self : goal.invariant_of-self
 invariant_of-self c =
@@ -63,11 +63,11 @@ invariant_of-self c =
       same_server = c.remove.ensures.server ∙ c.args.self.now.same_server;
       same_rows =
           c.remove.ensures.rows
-          ∙ ap (λ rows. without rows c.get.result) c.args.self.now.same_rows
-          ∙ ap (λ key. without (map summed c.args.self.now.rows.items) key) c.get.ensures.value
+          ∙ ap (λ rows. without_key rows c.get.result) c.args.self.now.same_rows
+          ∙ ap (λ key. without_key (map summed c.args.self.now.rows.items) key) c.get.ensures.value
           ∙ summed-without c.args.chan c.args.self.now.rows.items c.in-Some.place distinct place
           ∙ ap (map summed) (sym c.remove-2.ensures.items);
-      within = rw c.remove-2.ensures.items (all-without (IsWithin _) c.args.self.now.rows.items c.in-Some.place c.args.self.now.within);
+      within = rw c.remove-2.ensures.items (all-without (IsWithinLevels _) c.args.self.now.rows.items c.in-Some.place c.args.self.now.within);
       sound = subst (IsSound c.args.self.now.shape c.args.self.now.room) (sym kept) (sound-deny c.args.self.now.shape c.args.self.now.room (kept_in c.args.self.now) c.args.chan Denied c.args.self.now.sound);
       quiet = rw c.remove-2.ensures.items (each-without (IsQuiet c.args.self.now.shape.bounds c.args.self.now.due) c.args.self.now.rows.items c.in-Some.place c.args.self.now.quiet);
       roomy = c.args.self.now.roomy;

@@ -5,7 +5,7 @@ use Rattle.link_steps.specs.declared.replies.Reply.TheVariants.{Offer}
 use Rattle.link_steps.specs.Kept.{kept_terms, kept_after}
 use Rattle.link_steps.proofs.ReplyFacts.{may-reach}
 use Rattle.link_server.specs.Account.{account}
-use Rattle.link_server.specs.Held.{held_by}
+use Rattle.link_server.specs.Held.{reservations_held}
 use Rattle.link_server.specs.Rows.{row_in, summed, AreWithin}
 use Rattle.link_server.specs.Sound.{IsSound}
 use Rattle.link_server.specs.Quiet.{IsQuiet, AreQuiet}
@@ -25,16 +25,16 @@ use Rattle.link_server.proofs.link_state.LinkState.hold.Goals as goal
 use Rattle.link_server.proofs.link_state.LinkState.hold.Goals.{After-add}
 
 -- the link may make the offer yet, once it has the memory
-still-may : (old new : LinkState) (wanted : Wanted) (offer : Offered) → new.shape ≡ old.shape → kept_in new ≡ kept_in old → MayHold old.shape (held_by old) wanted offer → MayHold new.shape (held_by new) wanted offer
+still-may : (old new : LinkState) (wanted : Wanted) (offer : Offered) → new.shape ≡ old.shape → kept_in new ≡ kept_in old → MayHold old.shape (reservations_held old) wanted offer → MayHold new.shape (reservations_held new) wanted offer
 still-may old new wanted offer shape kept may =
-    subst (λ s. MayHold s (held_by new) wanted offer) (sym shape) (subst (λ k. MayHold old.shape (map kept_terms k.rows) wanted offer) (sym kept) may)
+    subst (λ s. MayHold s (reservations_held new) wanted offer) (sym shape) (subst (λ k. MayHold old.shape (map kept_terms k.rows) wanted offer) (sym kept) may)
 
 pub make_room-requires : goal.make_room-requires
 make_room-requires c =
     record {
       within =
           within-reserved _ c.in_ok-row.row (held_terms c.args.wanted.now c.args.offer.now) c.in_ok-row.ensures c.requires.may.level_most
-          (may-reach c.args.self.now.shape (held_by c.args.self.now) c.args.wanted.now.chan c.args.wanted.now.contract c.args.wanted.now.delay c.args.wanted.now.up_reach c.args.offer.now.level c.args.offer.now.reach c.requires.may);
+          (may-reach c.args.self.now.shape (reservations_held c.args.self.now) c.args.wanted.now.chan c.args.wanted.now.contract c.args.wanted.now.delay c.args.wanted.now.up_reach c.args.offer.now.level c.args.offer.now.reach c.requires.may);
     }
 
 pub add-requires-clause-new : goal.add-requires-clause-new
@@ -69,7 +69,7 @@ invariant_of-self c =
           c.add.ensures.rows
           ∙ summed-pushed c.make_room.new.self.rows.items c.in_ok-row.row c.args.wanted.now c.args.offer.now c.get.result c.make_room.new.self.sums.rows c.in_ok-row.ensures c.get.ensures.value c.make_room.new.self.same_rows
           ∙ ap (map summed) (sym c.push_reserved.ensures.items);
-      within = subst (AreWithin _) (sym c.push_reserved.ensures.items) (within-pushed _ c.make_room.new.self.rows.items c.in_ok-row.row c.make_room.new.self.within (within-reserved _ c.in_ok-row.row (held_terms c.args.wanted.now c.args.offer.now) c.in_ok-row.ensures may.level_most (may-reach c.make_room.new.self.shape (held_by c.make_room.new.self) c.args.wanted.now.chan c.args.wanted.now.contract c.args.wanted.now.delay c.args.wanted.now.up_reach c.args.offer.now.level c.args.offer.now.reach may)));
+      within = subst (AreWithin _) (sym c.push_reserved.ensures.items) (within-pushed _ c.make_room.new.self.rows.items c.in_ok-row.row c.make_room.new.self.within (within-reserved _ c.in_ok-row.row (held_terms c.args.wanted.now c.args.offer.now) c.in_ok-row.ensures may.level_most (may-reach c.make_room.new.self.shape (reservations_held c.make_room.new.self) c.args.wanted.now.chan c.args.wanted.now.contract c.args.wanted.now.delay c.args.wanted.now.up_reach c.args.offer.now.level c.args.offer.now.reach may)));
       sound = subst (IsSound c.make_room.new.self.shape c.make_room.new.self.room) (sym (kept (goal.at.invariant_of-self c).After-add)) held;
       quiet = subst (λ rows. AreQuiet c.make_room.new.self.shape.bounds c.make_room.new.self.due (map row_in rows)) (sym c.push_reserved.ensures.items)
           (quiet-pushed c.make_room.new.self.shape.bounds c.make_room.new.self.due c.make_room.new.self.rows.items c.in_ok-row.row c.make_room.new.self.quiet

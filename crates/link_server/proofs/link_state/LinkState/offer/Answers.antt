@@ -2,16 +2,15 @@
 use Rattle.std.proofs.Common.{◌≡◌, map, get_or, sym, ap, ◌∙◌, subst, arith}
 use Rattle.std.proofs.lemmas.Bool.{le-leb, lt-leb}
 use Rattle.net_units.specs.Numbers.{level_number}
-use Rattle.net_units.specs.LevelBounds.{last_bound}
+use Rattle.net_units.specs.LevelBounds.{last_bound, reach_of}
 use Rattle.traffic_contract.specs.Admission.{best_level, refused_sum}
 use Rattle.link_steps.specs.declared.replies.Refusal.TheVariants.{Twice, NoLevel}
 use Rattle.link_steps.specs.declared.replies.Reply.TheVariants.{Offer, Refused}
 use Rattle.link_steps.specs.Buffer.{need_of, free_units}
 use Rattle.link_steps.specs.Kept.{kept_terms, kept_reply}
 use Rattle.link_steps.specs.Levels.{level_of}
-use Rattle.link_steps.specs.Replies.{reach_of}
 use Rattle.link_steps.proofs.LevelFacts.{level_of-level}
-use Rattle.link_server.specs.Rows.{terms_in, row_in, IsAbsent, IsPlaceOf}
+use Rattle.link_server.specs.Rows.{reservation_in, row_in, IsAbsent, IsPlaceOf}
 use Rattle.link_server.specs.State.{kept_in}
 use Rattle.link_server.proofs.PlaceFacts.{terms-kept, terms-found, terms-absent}
 use Rattle.link_server.proofs.SumsFacts.{same-admission}
@@ -31,7 +30,7 @@ returns-in-Some-clause-reply c =
     let place = subst (λ rows. IsPlaceOf c.args.wanted.now.chan rows c.in-Some.place) c.deref.ensures.value c.in-Some.ensures.some in
     let found = terms-found c.args.wanted.now.chan c.args.self.now.rows.items c.in-Some.place c.index.result.now place in
     ap (λ row. Refused (Twice row.phase)) c.index.ensures
-    ∙ reserve-twice c.args.self.now.shape (map kept_terms (map row_in c.args.self.now.rows.items)) c.args.wanted.now.chan c.args.wanted.now.contract c.args.wanted.now.delay c.args.wanted.now.up_reach (terms_in (get_or c.args.self.now.rows.items c.in-Some.place c.index.result.now)) wide found
+    ∙ reserve-twice c.args.self.now.shape (map kept_terms (map row_in c.args.self.now.rows.items)) c.args.wanted.now.chan c.args.wanted.now.contract c.args.wanted.now.delay c.args.wanted.now.up_reach (reservation_in (get_or c.args.self.now.rows.items c.in-Some.place c.index.result.now)) wide found
 
 pub returns-in-Err-clause-reply : goal.returns-in-Err-clause-reply
 unfolding kept_reply
@@ -54,7 +53,7 @@ returns-then-need-free-clause-reply c =
     let need : c.need_of-need.result ≡ need_of c.args.self.now.shape.bounds c.args.wanted.now.contract c.args.wanted.now.up_reach (reach_of c.args.self.now.shape.bounds c.args.wanted.now.delay (level_number c.in-Ok.level)) =
     c.need_of-need.ensures ∙ ap (need_of c.args.self.now.shape.bounds c.args.wanted.now.contract c.args.wanted.now.up_reach) c.reach_of-reach.ensures.value in
     let free : c.free_units-free.result ≡ free_units c.args.self.now.shape (map kept_terms (map row_in c.args.self.now.rows.items)) =
-    c.free_units-free.ensures ∙ ap (λ rows. free_units c.args.self.now.shape (map terms_in rows)) c.deref-in-Ok.ensures.value ∙ ap (free_units c.args.self.now.shape) (sym (terms-kept c.args.self.now.rows.items)) in
+    c.free_units-free.ensures ∙ ap (λ rows. free_units c.args.self.now.shape (map reservation_in rows)) c.deref-in-Ok.ensures.value ∙ ap (free_units c.args.self.now.shape) (sym (terms-kept c.args.self.now.rows.items)) in
     rw (need, free) (reserve-no_buffer c.args.self.now.shape (map kept_terms (map row_in c.args.self.now.rows.items)) c.args.wanted.now.chan c.args.wanted.now.contract c.args.wanted.now.delay c.args.wanted.now.up_reach (level_number c.in-Ok.level) wide absent best (lt-leb _ _ (omega (arith, need, free, c.if-need-free.true))))
 
 pub returns-else-need-free-clause-reply : goal.returns-else-need-free-clause-reply
@@ -66,7 +65,7 @@ returns-else-need-free-clause-reply c =
     let need : c.need_of-need.result ≡ need_of c.args.self.now.shape.bounds c.args.wanted.now.contract c.args.wanted.now.up_reach (reach_of c.args.self.now.shape.bounds c.args.wanted.now.delay (level_number c.in-Ok.level)) =
     c.need_of-need.ensures ∙ ap (need_of c.args.self.now.shape.bounds c.args.wanted.now.contract c.args.wanted.now.up_reach) c.reach_of-reach.ensures.value in
     let free : c.free_units-free.result ≡ free_units c.args.self.now.shape (map kept_terms (map row_in c.args.self.now.rows.items)) =
-    c.free_units-free.ensures ∙ ap (λ rows. free_units c.args.self.now.shape (map terms_in rows)) c.deref-in-Ok.ensures.value ∙ ap (free_units c.args.self.now.shape) (sym (terms-kept c.args.self.now.rows.items)) in
+    c.free_units-free.ensures ∙ ap (λ rows. free_units c.args.self.now.shape (map reservation_in rows)) c.deref-in-Ok.ensures.value ∙ ap (free_units c.args.self.now.shape) (sym (terms-kept c.args.self.now.rows.items)) in
     ap (λ level. Offer level c.reach_of-reach.result) (sym (level_of-level c.in-Ok.level))
     ∙ ap (Offer (level_of (level_number c.in-Ok.level))) (sym (level_of-level c.reach_of-reach.result) ∙ ap level_of c.reach_of-reach.ensures.value)
     ∙ reserve-offer c.args.self.now.shape (map kept_terms (map row_in c.args.self.now.rows.items)) c.args.wanted.now.chan c.args.wanted.now.contract c.args.wanted.now.delay c.args.wanted.now.up_reach (level_number c.in-Ok.level) wide absent best (le-leb _ _ (omega (arith, need, free, c.if-need-free.false)))

@@ -7,7 +7,7 @@ use Rattle.link_steps.specs.declared.replies.Phase.TheVariants.{Tentative}
 use Rattle.link_steps.specs.Refusals.{not_in_phase, unfit}
 use Rattle.link_steps.specs.Kept.{kept_relaxed}
 use Rattle.link_steps.proofs.RefusalFacts.{unfit-none}
-use Rattle.link_server.specs.Rows.{terms_in, row_in, summed, IsAbsent, IsPlaceOf, IsWithin}
+use Rattle.link_server.specs.Rows.{reservation_in, row_in, summed, IsAbsent, IsPlaceOf, IsWithinLevels}
 use Rattle.link_server.specs.Sound.{IsSound}
 use Rattle.link_server.specs.Quiet.{IsQuiet}
 use Rattle.link_server.specs.State.{kept_in}
@@ -33,7 +33,7 @@ pub returns-in-Some-not_tentative-clause-reply : goal.returns-in-Some-not_tentat
 returns-in-Some-not_tentative-clause-reply c =
     relax-phase c.args.self.now.shape c.args.self.now.clock c.args.self.now.packets c.args.chan c.args.level c.args.up_bound c.args.self.now.rows.items c.in-Some.place c.index.result.now _
     (subst (λ rows. IsPlaceOf c.args.chan rows c.in-Some.place) c.deref.ensures.value c.in-Some.ensures.some)
-    (c.in-Some-not_tentative.ensures ∙ ap (λ row. not_in_phase Tentative (terms_in row)) c.index.ensures)
+    (c.in-Some-not_tentative.ensures ∙ ap (λ row. not_in_phase Tentative (reservation_in row)) c.index.ensures)
 
 pub returns-in-Some-not_tentative-clause-kept : goal.returns-in-Some-not_tentative-clause-kept
 returns-in-Some-not_tentative-clause-kept c = relax-same c.args.self.now.shape _ c.args.chan c.args.level c.args.up_bound _
@@ -42,8 +42,8 @@ pub returns-in-Some-unfit-clause-reply : goal.returns-in-Some-unfit-clause-reply
 returns-in-Some-unfit-clause-reply c =
     relax-unfit c.args.self.now.shape c.args.self.now.clock c.args.self.now.packets c.args.chan c.args.level c.args.up_bound c.args.self.now.rows.items c.in-Some.place c.index.result.now _
     (subst (λ rows. IsPlaceOf c.args.chan rows c.in-Some.place) c.deref.ensures.value c.in-Some.ensures.some)
-    (c.in_default-not_tentative.ensures ∙ ap (λ row. not_in_phase Tentative (terms_in row)) c.index.ensures)
-    (c.in-Some-unfit.ensures ∙ ap (λ row. unfit (terms_in row) c.args.level c.args.up_bound) (at-place c.args.self.now.rows.items c.in-Some.place c.index-2.result.now c.index.result.now c.index-2.ensures ((subst (λ rows. IsPlaceOf c.args.chan rows c.in-Some.place) c.deref.ensures.value c.in-Some.ensures.some).inside)))
+    (c.in_default-not_tentative.ensures ∙ ap (λ row. not_in_phase Tentative (reservation_in row)) c.index.ensures)
+    (c.in-Some-unfit.ensures ∙ ap (λ row. unfit (reservation_in row) c.args.level c.args.up_bound) (at-place c.args.self.now.rows.items c.in-Some.place c.index-2.result.now c.index.result.now c.index-2.ensures ((subst (λ rows. IsPlaceOf c.args.chan rows c.in-Some.place) c.deref.ensures.value c.in-Some.ensures.some).inside)))
 
 pub returns-in-Some-unfit-clause-kept : goal.returns-in-Some-unfit-clause-kept
 returns-in-Some-unfit-clause-kept c = relax-same c.args.self.now.shape _ c.args.chan c.args.level c.args.up_bound _
@@ -51,8 +51,8 @@ returns-in-Some-unfit-clause-kept c = relax-same c.args.self.now.shape _ c.args.
 pub move_to-requires-clause-held : goal.move_to-requires-clause-held
 move_to-requires-clause-held c =
     let place = subst (λ rows. IsPlaceOf c.args.chan rows c.in-Some.place) c.deref.ensures.value c.in-Some.ensures.some in
-    let fits = c.in_default-unfit.ensures ∙ ap (λ row. unfit (terms_in row) c.args.level c.args.up_bound) c.index-2.ensures in
-    let up = (unfit-none (terms_in (get_or c.args.self.now.rows.items c.in-Some.place c.index-2.result.now)) c.args.level c.args.up_bound (sym fits)).0 in
+    let fits = c.in_default-unfit.ensures ∙ ap (λ row. unfit (reservation_in row) c.args.level c.args.up_bound) c.index-2.ensures in
+    let up = (unfit-none (reservation_in (get_or c.args.self.now.rows.items c.in-Some.place c.index-2.result.now)) c.args.level c.args.up_bound (sym fits)).0 in
     let held = place-holds-upto c.args.chan (level_number c.args.level) c.args.self.now.rows.items c.in-Some.place c.index-2.result.now place up in
     subst (λ rows. HoldsUpTo rows c.get.result (level_number c.args.level)) (sym c.args.self.now.same_rows)
     (subst (λ key. HoldsUpTo (map summed c.args.self.now.rows.items) key (level_number c.args.level)) (sym c.get.ensures.value) held)
@@ -65,8 +65,8 @@ invariant_of-self c =
     let reply =
     relax-relaxed c.args.self.now.shape c.args.self.now.clock c.args.self.now.packets c.args.chan c.args.level c.args.up_bound c.args.self.now.rows.items c.in-Some.place c.index.result.now
     (subst (λ rows. IsPlaceOf c.args.chan rows c.in-Some.place) c.deref.ensures.value c.in-Some.ensures.some)
-    (c.in_default-not_tentative.ensures ∙ ap (λ row. not_in_phase Tentative (terms_in row)) c.index.ensures)
-    (c.in_default-unfit.ensures ∙ ap (λ row. unfit (terms_in row) c.args.level c.args.up_bound) (at-place c.args.self.now.rows.items c.in-Some.place c.index-2.result.now c.index.result.now c.index-2.ensures ((subst (λ rows. IsPlaceOf c.args.chan rows c.in-Some.place) c.deref.ensures.value c.in-Some.ensures.some).inside))) in
+    (c.in_default-not_tentative.ensures ∙ ap (λ row. not_in_phase Tentative (reservation_in row)) c.index.ensures)
+    (c.in_default-unfit.ensures ∙ ap (λ row. unfit (reservation_in row) c.args.level c.args.up_bound) (at-place c.args.self.now.rows.items c.in-Some.place c.index-2.result.now c.index.result.now c.index-2.ensures ((subst (λ rows. IsPlaceOf c.args.chan rows c.in-Some.place) c.deref.ensures.value c.in-Some.ensures.some).inside))) in
     let kept =
     relax-kept c.args.self.now.shape c.args.self.now.clock c.args.self.now.packets c.args.chan c.args.level c.args.up_bound c.args.self.now.clock c.args.self.now.rows.items c.in-Some.place c.commit.new.self c.index_mut.result.now
     (subst (λ rows. IsPlaceOf c.args.chan rows c.in-Some.place) c.deref.ensures.value c.in-Some.ensures.some)
@@ -81,7 +81,7 @@ invariant_of-self c =
           ∙ summed-moved c.args.chan (level_number c.args.level) c.args.self.now.rows.items c.in-Some.place c.commit.new.self c.index_mut.result.now distinct place
           (summed-committed c.commit.new.self (get_or c.args.self.now.rows.items c.in-Some.place c.index_mut.result.now) c.args.level c.args.up_bound same);
       within =
-          All-set (IsWithin _) c.args.self.now.rows.items c.in-Some.place c.commit.new.self
+          All-set (IsWithinLevels _) c.args.self.now.rows.items c.in-Some.place c.commit.new.self
           (within-committed _ c.commit.new.self (get_or c.args.self.now.rows.items c.in-Some.place c.index_mut.result.now) c.args.level c.args.up_bound same c.requires.fits.level_most (c.args.self.now.within c.in-Some.place c.index_mut.result.now place.inside))
           c.args.self.now.within;
       sound = subst (IsSound c.args.self.now.shape c.args.self.now.room) (sym kept) (sound-relax c.args.self.now.shape c.args.self.now.room (kept_in c.args.self.now) c.args.chan c.args.level c.args.up_bound (Relaxed c.args.self.now.clock) c.requires.fits c.args.self.now.sound reply);
@@ -100,8 +100,8 @@ pub returns-clause-reply : goal.returns-clause-reply
 returns-clause-reply c =
     relax-relaxed c.args.self.now.shape c.args.self.now.clock c.args.self.now.packets c.args.chan c.args.level c.args.up_bound c.args.self.now.rows.items c.in-Some.place c.index.result.now
     (subst (λ rows. IsPlaceOf c.args.chan rows c.in-Some.place) c.deref.ensures.value c.in-Some.ensures.some)
-    (c.in_default-not_tentative.ensures ∙ ap (λ row. not_in_phase Tentative (terms_in row)) c.index.ensures)
-    (c.in_default-unfit.ensures ∙ ap (λ row. unfit (terms_in row) c.args.level c.args.up_bound) (at-place c.args.self.now.rows.items c.in-Some.place c.index-2.result.now c.index.result.now c.index-2.ensures ((subst (λ rows. IsPlaceOf c.args.chan rows c.in-Some.place) c.deref.ensures.value c.in-Some.ensures.some).inside)))
+    (c.in_default-not_tentative.ensures ∙ ap (λ row. not_in_phase Tentative (reservation_in row)) c.index.ensures)
+    (c.in_default-unfit.ensures ∙ ap (λ row. unfit (reservation_in row) c.args.level c.args.up_bound) (at-place c.args.self.now.rows.items c.in-Some.place c.index-2.result.now c.index.result.now c.index-2.ensures ((subst (λ rows. IsPlaceOf c.args.chan rows c.in-Some.place) c.deref.ensures.value c.in-Some.ensures.some).inside)))
 
 pub returns-clause-kept : goal.returns-clause-kept
 returns-clause-kept c =

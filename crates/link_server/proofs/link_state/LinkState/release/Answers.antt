@@ -12,7 +12,7 @@ use Rattle.link_steps.specs.Replies.{count_at_release, cancelled_at_release}
 use Rattle.link_steps.specs.Scan.{names_first_hop}
 use Rattle.link_server.specs.Account.{account}
 use Rattle.link_server.specs.Planned.{left_in}
-use Rattle.link_server.specs.Rows.{terms_in, row_in, is_row_at_hop, summed, HasNone, IsPlace, IsWithin}
+use Rattle.link_server.specs.Rows.{reservation_in, row_in, is_served_at_hop, summed, NoRowPasses, IsFirstPlace, IsWithinLevels}
 use Rattle.link_server.specs.Sound.{IsSound}
 use Rattle.link_server.specs.State.{kept_in}
 use Rattle.link_server.proofs.CloseFacts.{names-is, release-absent, release-phase, release-closes, release-same, release-kept, summed-closed, within-closed}
@@ -26,35 +26,35 @@ use Rattle.link_server.proofs.link_state.LinkState.release.Goals.{In-Some, After
 pub returns-in_default-clause-reply : goal.returns-in_default-clause-reply
 returns-in_default-clause-reply c =
     release-absent c.args.self.now.shape c.args.self.now.clock c.args.self.now.packets c.args.chan c.args.upstream c.args.self.now.rows.items
-    (subst (λ first. HasNone (is_row_at_hop c.args.chan first) c.args.self.now.rows.items) (names-is c.args.upstream c.is_none.result c.is_none.ensures)
-    (subst (HasNone (is_row_at_hop c.args.chan c.is_none.result)) c.deref.ensures.value c.in_default.ensures.none))
+    (subst (λ first. NoRowPasses (is_served_at_hop c.args.chan first) c.args.self.now.rows.items) (names-is c.args.upstream c.is_none.result c.is_none.ensures)
+    (subst (NoRowPasses (is_served_at_hop c.args.chan c.is_none.result)) c.deref.ensures.value c.in_default.ensures.none))
 
 pub returns-in_default-clause-kept : goal.returns-in_default-clause-kept
 returns-in_default-clause-kept c = release-same c.args.self.now.shape _ c.args.chan c.args.upstream _
 
 -- the row stands at the place
-placed : (c : In-Some) → IsPlace (is_row_at_hop c.args.chan (names_first_hop c.args.upstream)) c.args.self.now.rows.items c.in-Some.place
+placed : (c : In-Some) → IsFirstPlace (is_served_at_hop c.args.chan (names_first_hop c.args.upstream)) c.args.self.now.rows.items c.in-Some.place
 placed c =
-    subst (λ first. IsPlace (is_row_at_hop c.args.chan first) c.args.self.now.rows.items c.in-Some.place) (names-is c.args.upstream c.is_none.result c.is_none.ensures)
-    (subst (λ rows. IsPlace (is_row_at_hop c.args.chan c.is_none.result) rows c.in-Some.place) c.deref.ensures.value c.in-Some.ensures.some)
+    subst (λ first. IsFirstPlace (is_served_at_hop c.args.chan first) c.args.self.now.rows.items c.in-Some.place) (names-is c.args.upstream c.is_none.result c.is_none.ensures)
+    (subst (λ rows. IsFirstPlace (is_served_at_hop c.args.chan c.is_none.result) rows c.in-Some.place) c.deref.ensures.value c.in-Some.ensures.some)
 
 pub returns-in-Some-not_committed-clause-reply : goal.returns-in-Some-not_committed-clause-reply
 returns-in-Some-not_committed-clause-reply c =
     release-phase c.args.self.now.shape c.args.self.now.clock c.args.self.now.packets c.args.chan c.args.upstream c.args.self.now.rows.items c.in-Some.place c.index.result.now _
     (placed (goal.at.returns-in-Some-not_committed-clause-reply c).In-Some)
-    (c.in-Some-not_committed.ensures ∙ ap (λ row. not_in_phase Committed (terms_in row)) c.index.ensures)
+    (c.in-Some-not_committed.ensures ∙ ap (λ row. not_in_phase Committed (reservation_in row)) c.index.ensures)
 
 pub returns-in-Some-not_committed-clause-kept : goal.returns-in-Some-not_committed-clause-kept
 returns-in-Some-not_committed-clause-kept c = release-same c.args.self.now.shape _ c.args.chan c.args.upstream _
 
 -- the reply is the account's, and so is what is kept
 abbrev IsPlaced : After-close → Type 0
-IsPlaced c = IsPlace (is_row_at_hop c.args.chan (names_first_hop c.args.upstream)) c.args.self.now.rows.items c.in-Some.place
+IsPlaced c = IsFirstPlace (is_served_at_hop c.args.chan (names_first_hop c.args.upstream)) c.args.self.now.rows.items c.in-Some.place
 
 replied : (c : After-close) → IsPlaced c → Closing c.count_at_release-count.result c.cancelled_at_release-cancelled.result ≡ kept_reply (whole c.args.self.now.shape) (kept_in c.args.self.now) (Release c.args.chan c.args.upstream)
 replied c place =
     release-closes c.args.self.now.shape c.args.self.now.clock c.args.self.now.packets c.args.chan c.args.upstream c.args.self.now.rows.items c.in-Some.place c.index.result.now c.count_at_release-count.result c.cancelled_at_release-cancelled.result place
-    (c.in_default-not_committed.ensures ∙ ap (λ row. not_in_phase Committed (terms_in row)) c.index.ensures)
+    (c.in_default-not_committed.ensures ∙ ap (λ row. not_in_phase Committed (reservation_in row)) c.index.ensures)
     (c.count_at_release-count.ensures ∙ ap (λ row. count_at_release c.args.upstream row.taken) (at-place c.args.self.now.rows.items c.in-Some.place c.index-2.result.now c.index.result.now c.index-2.ensures place.inside))
     (c.cancelled_at_release-cancelled.ensures ∙ ap (λ row. cancelled_at_release c.args.upstream (length (left_in row.planned))) (at-place c.args.self.now.rows.items c.in-Some.place c.index-3.result.now c.index.result.now c.index-3.ensures place.inside))
 
@@ -76,7 +76,7 @@ invariant_of-self c =
           ∙ sym (map-set_same summed c.args.self.now.rows.items c.in-Some.place c.close.new.self c.index_mut.result.now
           (summed-closed c.close.new.self (get_or c.args.self.now.rows.items c.in-Some.place c.index_mut.result.now) c.count_at_release-count.result same));
       within =
-          All-set (IsWithin _) c.args.self.now.rows.items c.in-Some.place c.close.new.self
+          All-set (IsWithinLevels _) c.args.self.now.rows.items c.in-Some.place c.close.new.self
           (within-closed _ c.close.new.self (get_or c.args.self.now.rows.items c.in-Some.place c.index_mut.result.now) c.count_at_release-count.result same (c.args.self.now.within c.in-Some.place c.index_mut.result.now place.inside))
           c.args.self.now.within;
       sound = subst (IsSound c.args.self.now.shape c.args.self.now.room) (sym (kept close place)) (sound-release c.args.self.now.shape c.args.self.now.room (kept_in c.args.self.now) c.args.chan c.args.upstream (Closing c.count_at_release-count.result c.cancelled_at_release-cancelled.result) c.args.self.now.sound (replied close place));

@@ -1,13 +1,13 @@
 -- The offer goes on with what is kept, and so with every history that the link stands for.
 use Rattle.std.proofs.Common.{◌≡◌, sym, ap, ◌∙◌, subst}
 use Rattle.net_units.specs.Numbers.{level_number}
+use Rattle.net_units.specs.LevelBounds.{reach_of}
 use Rattle.link_steps.specs.Admissible.{MayOffer}
-use Rattle.link_steps.specs.Replies.{reach_of}
 use Rattle.link_steps.specs.Levels.{level_of}
 use Rattle.link_steps.specs.declared.replies.Reply.TheVariants.{Offer}
 use Rattle.link_steps.proofs.HopHolds.{hop-guarantee}
 use Rattle.link_steps.proofs.LevelFacts.{level_of-level}
-use Rattle.link_server.specs.Held.{held_by, reach_at, MayReserve}
+use Rattle.link_server.specs.Held.{reservations_held, reach_at, MayReserve}
 use Rattle.link_server.specs.State.{kept_in}
 use Rattle.link_server.proofs.ChosenFacts.{offer-admissible, offer-legal}
 use Rattle.link_server.proofs.StepFacts.{rows-have, step-entered}
@@ -19,8 +19,8 @@ pub hold-requires-clause-may : goal.hold-requires-clause-may
 hold-requires-clause-may c =
     let far : c.reach_of-reach.result ≡ level_of (reach_of c.args.self.now.shape.bounds c.in-Reserve.delay (level_number c.args.level)) =
     sym (level_of-level c.reach_of-reach.result) ∙ ap level_of c.reach_of-reach.ensures.value in
-    subst (λ reach. MayOffer c.args.self.now.shape (held_by c.args.self.now) c.in-Reserve.chan c.in-Reserve.contract c.in-Reserve.delay c.in-Reserve.up_reach c.args.level reach) (sym far)
-    (subst (λ ask. MayReserve c.args.self.now.shape (held_by c.args.self.now) ask c.args.level) c.in-Reserve.is c.requires.may)
+    subst (λ reach. MayOffer c.args.self.now.shape (reservations_held c.args.self.now) c.in-Reserve.chan c.in-Reserve.contract c.in-Reserve.delay c.in-Reserve.up_reach c.args.level reach) (sym far)
+    (subst (λ ask. MayReserve c.args.self.now.shape (reservations_held c.args.self.now) ask c.args.level) c.in-Reserve.is c.requires.may)
 
 -- the reach is that of the ask at the level
 reach : (c : After-hold) → c.reach_of-reach.result ≡ reach_at c.args.self.now.shape c.args.ask.now c.args.level

@@ -4,7 +4,7 @@ use Rattle.std.proofs.lemmas.List.{length-map, length-append}
 use Rattle.std.specs.Prelude.{find}
 use Rattle.link_steps.specs.Rows.{is_for, left_at}
 use Rattle.link_steps.specs.Sources.{source_step}
-use Rattle.link_server.specs.Planned.{left_in, IsAhead}
+use Rattle.link_server.specs.Planned.{left_in, IsPlannedAhead}
 use Rattle.link_server.specs.Sources.{brought_by}
 use Rattle.link_server.proofs.PourFacts.{best-step-is, waiting-is}
 use Rattle.link_server.proofs.SoundSources.{from_best}
@@ -60,7 +60,7 @@ take_source_packets-full-requires-clause-numbers c =
 
 pub take_best-best_lost-requires-clause-ahead : goal.take_best-best_lost-requires-clause-ahead
 take_best-best_lost-requires-clause-ahead c =
-    subst (λ p. IsAhead c.args.self.now.clock p) (sym c.take_source_packets-full.ensures.best) (ahead-from c.args.self.now.clock c.args.self.now.clock (left_in c.args.self.now.packets.best) (omega arith) c.args.self.now.sound.best_ahead)
+    subst (λ p. IsPlannedAhead c.args.self.now.clock p) (sym c.take_source_packets-full.ensures.best) (ahead-from c.args.self.now.clock c.args.self.now.clock (left_in c.args.self.now.packets.best) (omega arith) c.args.self.now.sound.best_ahead)
 
 pub take_best-best_lost-requires-clause-room : goal.take_best-best_lost-requires-clause-room
 take_best-best_lost-requires-clause-room c = λ free.

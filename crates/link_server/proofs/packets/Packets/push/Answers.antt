@@ -1,11 +1,11 @@
--- The packet comes behind those here, and its rank is put in line.
+-- The packet comes after those here, and its rank is put in line.
 use Rattle.std.proofs.Common.{◌≡◌, ◌+◌, ◌++◌, ◌∷◌, [], length, refl, sym, ap, ◌∙◌, subst, arith}
 use Rattle.std.proofs.lemmas.List.{map_push, length-append}
 use Rattle.std.proofs.lemmas.List.Sorted.{length_permutation}
 use Rattle.link_server.specs.InLine.{AreIn}
 use Rattle.link_server.specs.Line.{ranks_in}
 use Rattle.link_server.specs.Packets.{arrival_in, here_in, on_in}
-use Rattle.link_server.specs.Sound.{AreNumbered}
+use Rattle.link_server.specs.Sound.{AreNumberedWithin}
 use Rattle.link_server.proofs.NextFacts.{ranks-pushed, own-rank}
 use Rattle.link_server.proofs.SoundPackets.{numbered-append}
 use Rattle.link_server.proofs.packets.Packets.push.Goals as goal
@@ -26,7 +26,7 @@ invariant_of-self c =
     let more = length_permutation _ (ranks_in c.push.new.self) c.push.ensures.ranks in
     let longer = ap length c.push_reserved.ensures.items ∙ length-append c.args.self.now.here.items (c.args.packet ∷ []) in
     record {
-      numbered = subst (λ ps. AreNumbered 0 ps (c.args.self.now.taken + 1)) (sym one)
+      numbered = subst (λ ps. AreNumberedWithin 0 ps (c.args.self.now.taken + 1)) (sym one)
           (numbered-append 0 c.args.self.now.taken (c.args.self.now.taken + 1) (here_in c.args.self.now.here.items) (arrival_in c.args.packet ∷ []) c.args.self.now.numbered
           (omega (arith, c.requires.next), omega (arith, c.requires.next)));
       ranked = subst (AreIn (ranks_in c.push.new.self) (on_in c.args.self.now.on)) (sym one)

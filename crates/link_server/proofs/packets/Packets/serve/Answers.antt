@@ -4,7 +4,7 @@ use Rattle.link_steps.specs.Kept.{is_other}
 use Rattle.link_server.specs.InLine.{AreIn, count_on}
 use Rattle.link_server.specs.Line.{ranks_in}
 use Rattle.link_server.specs.Packets.{start_in, here_in, on_in}
-use Rattle.link_server.specs.Sound.{AreNumbered}
+use Rattle.link_server.specs.Sound.{AreNumberedWithin}
 use Rattle.link_server.proofs.NextFacts.{ranks-departed}
 use Rattle.link_server.proofs.ServingFacts.{running-goes-on, departs-now, best-departs-now}
 use Rattle.link_server.proofs.SoundPackets.{numbered-filter}
@@ -37,7 +37,7 @@ invariant_of-self c =
     let fits = o.fits in
     let holds = o.holds in
     record {
-      numbered = subst (λ ps. AreNumbered 0 ps o.taken) (sym c.take_out.ensures.others) (numbered-filter (is_other (start_in c.in-Some.running)) 0 (here_in o.here.items) o.taken o.numbered);
+      numbered = subst (λ ps. AreNumberedWithin 0 ps o.taken) (sym c.take_out.ensures.others) (numbered-filter (is_other (start_in c.in-Some.running)) 0 (here_in o.here.items) o.taken o.numbered);
       ranked = subst (AreIn (ranks_in o.line) None) (sym c.take_out.ensures.others) (ranks-departed (ranks_in o.line) (start_in c.in-Some.running) (here_in o.here.items) (subst (λ start. AreIn (ranks_in o.line) start (here_in o.here.items)) on o.ranked));
       few = omega (arith, few, c.take_out.ensures.one);
       fits = omega (arith, fits, c.take_out.ensures.fewer);

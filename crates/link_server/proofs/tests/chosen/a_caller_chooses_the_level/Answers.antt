@@ -6,23 +6,23 @@ use Rattle.net_units.specs.Quotient.{ceil_quotient}
 use Rattle.net_units.specs.declared.numbers.ChanNo.{ChanNo}
 use Rattle.net_units.specs.declared.numbers.Level.{Level}
 use Rattle.net_units.specs.declared.numbers.LinkNo.{LinkNo}
+use Rattle.net_units.specs.LevelBounds.{reach_of}
 use Rattle.traffic_contract.specs.Admission.{admits, passes, passes_up_to, load, work_up_to, work_in}
-use Rattle.traffic_contract.specs.Contract.{Terms, terms_of, most_in}
+use Rattle.traffic_contract.specs.Contract.{Traffic, terms_of, most_in}
 use Rattle.traffic_contract.specs.declared.admission.Test.TheVariants.{Whole}
 use Rattle.link_steps.specs.declared.shape.LinkShape.{LinkShape}
 use Rattle.link_steps.specs.Admissible.{MayOffer}
 use Rattle.link_steps.specs.Buffer.{need_of, free_units}
 use Rattle.link_steps.specs.Kept.{Kept, StandsFor, kept_terms}
 use Rattle.link_steps.specs.Levels.{level_of}
-use Rattle.link_steps.specs.Replies.{reach_of}
 use Rattle.link_steps.specs.Scan.{scan_of}
 use Rattle.link_steps.specs.Shape.{server_of, IsShapeOf}
-use Rattle.link_server.specs.Held.{held_by}
+use Rattle.link_server.specs.Held.{reservations_held}
 use Rattle.link_server.specs.State.{kept_in}
 use Rattle.link_server.proofs.ChosenFacts.{terms-stand}
 use Rattle.link_server.proofs.tests.chosen.a_caller_chooses_the_level.Goals as goal
 
-abbrev voice : Terms
+abbrev voice : Traffic
 voice = terms_of 5 10 20 2
 
 abbrev bounds : List ℕ
@@ -69,5 +69,5 @@ reserve_at-requires-clause-may g c =
     let second = made c.new-2.result c.in_ok-level.level 2 c.new-2.ensures.value c.in_ok-level.ensures.ok_part in
     let alone = may-first c.in_ok-link.link.shape.link c.in_ok-link.link.shape c.in_ok-chan.chan c.in_ok-level.level c.in_ok-link.ensures.shape second in
     let far : Level = level_of (reach_of c.in_ok-link.link.shape.bounds 50 (level_number c.in_ok-level.level)) in
-    subst (λ terms. MayOffer c.in_ok-link.link.shape (held_by c.in_ok-link.link) c.in_ok-chan.chan terms 50 0 c.in_ok-level.level far) (sym c.in_ok-contract.ensures.value)
+    subst (λ terms. MayOffer c.in_ok-link.link.shape (reservations_held c.in_ok-link.link) c.in_ok-chan.chan terms 50 0 c.in_ok-level.level far) (sym c.in_ok-contract.ensures.value)
     (subst (λ held. MayOffer c.in_ok-link.link.shape held c.in_ok-chan.chan voice 50 0 c.in_ok-level.level far) (sym (none-held c.in_ok-link.link.shape (kept_in c.in_ok-link.link) c.in_ok-link.ensures.stands)) alone)

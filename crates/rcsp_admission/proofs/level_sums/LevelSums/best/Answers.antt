@@ -7,16 +7,16 @@ use Rattle.net_units.specs.LevelBounds.{bound_at}
 use Rattle.traffic_contract.specs.Admission.{refused_sum, IsRefused}
 use Rattle.traffic_contract.proofs.AdmissionFacts.{Passes-larger, best_level-none}
 use Rattle.rcsp_admission.specs.Room.{load_with}
-use Rattle.rcsp_admission.specs.Sums.{AreAdmitted, rows_of}
+use Rattle.rcsp_admission.specs.Sums.{AreAdmitted, admitted_rows}
 use Rattle.rcsp_admission.proofs.RoomFacts.{IsBest-above_full, best_level-above_full, IsRefused-last_full, refused_sum-over}
 use Rattle.rcsp_admission.proofs.level_sums.LevelSums.best.Goals as goal
 
 -- the last level has no room
-refused : (c : goal.After-from) → IsRefused c.args.self.now.server (rows_of c.args.self.now.rows) c.args.contract.now
+refused : (c : goal.After-from) → IsRefused c.args.self.now.server (admitted_rows c.args.self.now.rows) c.args.contract.now
 refused c =
     let admitted = subst AreAdmitted c.self.view_is c.self.invariant.admitted in
     let all : c.last_full-full.result ≡ length c.args.self.now.server.bounds = c.if-full-levels.true ∙ c.len-levels.ensures.value ∙ ap (λ s. length s.server.bounds) c.self.view_is in
-    IsRefused-last_full c.args.self.now.server (rows_of c.args.self.now.rows) c.args.contract.now (bounds_parts _ admitted.server.bounds).least (rw all at c.last_full-full.ensures)
+    IsRefused-last_full c.args.self.now.server (admitted_rows c.args.self.now.rows) c.args.contract.now (bounds_parts _ admitted.server.bounds).least (rw all at c.last_full-full.ensures)
 
 pub returns-then-full-levels-clause-level : goal.returns-then-full-levels-clause-level
 returns-then-full-levels-clause-level c = best_level-none _ _ _ (refused c)
@@ -25,10 +25,10 @@ pub returns-then-full-levels-clause-none : goal.returns-then-full-levels-clause-
 returns-then-full-levels-clause-none c = refused c
 
 -- what the last level comes to with the row
-summed : (c : goal.After-from) → c.whole_load_with.result ≡ refused_sum c.args.self.now.server (rows_of c.args.self.now.rows) c.args.contract.now
+summed : (c : goal.After-from) → c.whole_load_with.result ≡ refused_sum c.args.self.now.server (admitted_rows c.args.self.now.rows) c.args.contract.now
 summed c =
     let last : level_number c.level_at-last.result ≡ length c.args.self.now.server.bounds = c.level_at-last.ensures ∙ c.len-levels.ensures.value ∙ ap (λ s. length s.server.bounds) c.self.view_is in
-    c.whole_load_with.ensures ∙ ap (λ m. load_with c.args.self.now.server (rows_of c.args.self.now.rows) c.args.contract.now m (bound_at c.args.self.now.server.bounds m)) last
+    c.whole_load_with.ensures ∙ ap (λ m. load_with c.args.self.now.server (admitted_rows c.args.self.now.rows) c.args.contract.now m (bound_at c.args.self.now.server.bounds m)) last
 
 pub returns-then-full-levels-clause-sum : goal.returns-then-full-levels-clause-sum
 returns-then-full-levels-clause-sum c = summed c
@@ -38,7 +38,7 @@ returns-then-full-levels-clause-over c =
     let admitted = subst AreAdmitted c.self.view_is c.self.invariant.admitted in
     let all : c.last_full-full.result ≡ length c.args.self.now.server.bounds = c.if-full-levels.true ∙ c.len-levels.ensures.value ∙ ap (λ s. length s.server.bounds) c.self.view_is in
     let some = (bounds_parts _ admitted.server.bounds).least in
-    let over = refused_sum-over c.args.self.now.server (rows_of c.args.self.now.rows) c.args.contract.now some (bound_least c.args.self.now.server.bounds (length c.args.self.now.server.bounds) admitted.server.bounds some (omega arith)) (rw all at c.last_full-full.ensures) in
+    let over = refused_sum-over c.args.self.now.server (admitted_rows c.args.self.now.rows) c.args.contract.now some (bound_least c.args.self.now.server.bounds (length c.args.self.now.server.bounds) admitted.server.bounds some (omega arith)) (rw all at c.last_full-full.ensures) in
     let last : level_number c.level_at-last.result ≡ length c.args.self.now.server.bounds = c.level_at-last.ensures ∙ c.len-levels.ensures.value ∙ ap (λ s. length s.server.bounds) c.self.view_is in
     let whole : c.from.result ≡ bound_at c.args.self.now.server.bounds (length c.args.self.now.server.bounds) = c.from.ensures ∙ c.at.ensures.value ∙ ap (λ s. bound_at s.server.bounds (level_number c.level_at-last.result)) c.self.view_is ∙ ap (bound_at c.args.self.now.server.bounds) last in
     omega (arith, over, whole, summed c)
@@ -54,13 +54,13 @@ below_last c =
 pub returns-clause-level : goal.returns-clause-level
 returns-clause-level c =
     let admitted = subst AreAdmitted c.self.view_is c.self.invariant.admitted in
-    best_level-above_full c.args.self.now.server (rows_of c.args.self.now.rows) c.args.contract.now c.last_full-full.result admitted.passes c.last_full-full.ensures (below_last c) ∙ ap Some (sym c.level_at.ensures)
+    best_level-above_full c.args.self.now.server (admitted_rows c.args.self.now.rows) c.args.contract.now c.last_full-full.result admitted.passes c.last_full-full.ensures (below_last c) ∙ ap Some (sym c.level_at.ensures)
 
 pub returns-clause-least : goal.returns-clause-least
 returns-clause-least c =
     let admitted = subst AreAdmitted c.self.view_is c.self.invariant.admitted in
-    rw c.level_at.ensures (IsBest-above_full c.args.self.now.server (rows_of c.args.self.now.rows) c.args.contract.now c.last_full-full.result admitted.passes c.last_full-full.ensures (below_last c))
+    rw c.level_at.ensures (IsBest-above_full c.args.self.now.server (admitted_rows c.args.self.now.rows) c.args.contract.now c.last_full-full.result admitted.passes c.last_full-full.ensures (below_last c))
 
 pub returns-clause-larger : goal.returns-clause-larger
 returns-clause-larger c =
-    λ m above. Passes-larger c.args.self.now.server (rows_of c.args.self.now.rows) c.args.contract.now (level_number c.level_at.result) m above (returns-clause-least c).passes
+    λ m above. Passes-larger c.args.self.now.server (admitted_rows c.args.self.now.rows) c.args.contract.now (level_number c.level_at.result) m above (returns-clause-least c).passes

@@ -4,7 +4,7 @@ use Rattle.net_units.specs.Numbers.{level_number}
 use Rattle.traffic_contract.specs.Admission.{total, work_up_to, load}
 use Rattle.rcsp_admission.specs.Fields.{sums_of}
 use Rattle.rcsp_admission.specs.Kept.{kept_rows}
-use Rattle.rcsp_admission.specs.Sums.{rows_of}
+use Rattle.rcsp_admission.specs.Sums.{admitted_rows}
 use Rattle.rcsp_admission.proofs.SumsFacts.{work-small}
 use Rattle.rcsp_admission.proofs.level_sums.LevelSums.load.Goals as goal
 
@@ -34,7 +34,7 @@ returns-clause-value c =
     let level = level_number c.args.level in
     let same : total (work_up_to c.self.inside.rate level c.args.window) (kept_rows c.deref.result.now) ≡ total (work_up_to c.self.inside.rate level c.args.window) (kept_rows c.self.inside.rows.items) = cc in
     let inside : c.from.result + c.work_of.result ≡ c.self.inside.blocking + total (work_up_to c.self.inside.rate level c.args.window) (kept_rows c.self.inside.rows.items) = omega (arith, same, c.from.ensures, c.work_of.ensures) in
-    inside ∙ ap (λ s. load s.server (rows_of s.rows) level c.args.window) c.self.view_is
+    inside ∙ ap (λ s. load s.server (admitted_rows s.rows) level c.args.window) c.self.view_is
 
 pub returns-clause-small : goal.returns-clause-small
 returns-clause-small c = omega (arith, small c, c.from.ensures)

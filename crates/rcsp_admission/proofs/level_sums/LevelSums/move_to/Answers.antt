@@ -6,7 +6,7 @@ use Rattle.net_units.specs.Numbers.{level_number}
 use Rattle.traffic_contract.specs.Admission.{total}
 use Rattle.rcsp_admission.specs.Fields.{sums_of}
 use Rattle.rcsp_admission.specs.Kept.{held_of, kept_rows}
-use Rattle.rcsp_admission.specs.Sums.{AreAdmitted, Holds, row_of, rows_of, has_key, moved}
+use Rattle.rcsp_admission.specs.Sums.{AreAdmitted, Holds, admitted_row, admitted_rows, has_key, moved}
 use Rattle.rcsp_admission.proofs.KeyFacts.{held-at, total-moved}
 use Rattle.rcsp_admission.proofs.LoadsFacts.{load-small, part-of-load, loads-moved}
 use Rattle.rcsp_admission.proofs.SumsFacts.{AreAdmitted-moved}
@@ -36,7 +36,7 @@ invariant_of-self c =
           AreAdmitted-moved c.args.self.now _ c.args.key (level_number c.args.level) (subst AreAdmitted c.self.view_is c.self.invariant.admitted) c.requires.held (ap (λ s. s.server) c.self.view_is)
           (rows ∙ ap (λ s. moved s.rows c.args.key level) c.self.view_is);
       loads = loads-moved c.self.inside.rate c.self.inside.bounds (kept_rows c.self.inside.rows.items) _ _ _ c.self.inside.loads c.take_row.new.loads c.add_row.new.loads c.self.invariant.loads c.take_row.ensures c.add_row.ensures
-          (λ f. ap (λ held. total f (rows_of held) + f (row_of (held_of c.row_of_key-before.result))) rows ∙ total-moved f (map held_of c.self.inside.rows.items) c.args.key level (held_of c.row_of_key-before.result) c.self.invariant.admitted.distinct found);
+          (λ f. ap (λ held. total f (admitted_rows held) + f (admitted_row (held_of c.row_of_key-before.result))) rows ∙ total-moved f (map held_of c.self.inside.rows.items) c.args.key level (held_of c.row_of_key-before.result) c.self.invariant.admitted.distinct found);
     }
 
 pub returns-clause-admitted : goal.returns-clause-admitted

@@ -5,7 +5,7 @@ use Rattle.traffic_contract.specs.Admission.{total, load, level_sum}
 use Rattle.rcsp_admission.specs.Fields.{sums_of}
 use Rattle.rcsp_admission.specs.Kept.{kept_rows}
 use Rattle.rcsp_admission.specs.Loads.{level_work}
-use Rattle.rcsp_admission.specs.Sums.{AreAdmitted, rows_of}
+use Rattle.rcsp_admission.specs.Sums.{AreAdmitted, admitted_rows}
 use Rattle.rcsp_admission.proofs.LoadsFacts.{load-at, load-small}
 use Rattle.rcsp_admission.proofs.level_sums.LevelSums.whole_load.Goals as goal
 
@@ -29,7 +29,7 @@ returns-clause-value c =
     let loaded = load-at c.self.inside.rate c.self.inside.bounds (kept_rows c.self.inside.rows.items) c.self.inside.loads (level_number c.args.level) c.self.invariant.loads (omega (arith, number, c.get.ensures.least)) (within c) in
     let same : get_or c.self.inside.loads (c.from-2.result - 1) 0 ≡ get_or c.self.inside.loads (level_number c.args.level - 1) 0 = ap (λ n. get_or c.self.inside.loads (n - 1) 0) number in
     let inside : c.from.result + get_or c.self.inside.loads (c.from-2.result - 1) 0 ≡ c.self.inside.blocking + total (level_work c.self.inside.rate c.self.inside.bounds (level_number c.args.level)) (kept_rows c.self.inside.rows.items) = omega (arith, loaded, same, c.from.ensures) in
-    inside ∙ ap (λ s. level_sum s.server (rows_of s.rows) level) c.self.view_is
+    inside ∙ ap (λ s. level_sum s.server (admitted_rows s.rows) level) c.self.view_is
 
 pub returns-clause-small : goal.returns-clause-small
 returns-clause-small c = (let few = small c in omega (arith, few, c.from.ensures))

@@ -1,15 +1,15 @@
 -- The regulator stands for the ticks that it keeps, and so its answer is right for all that it stands for.
 use Rattle.std.proofs.Common.{◌≡◌, List, ℕ, ◌∷◌, refl, sym, ◌∙◌, ap, subst}
 use Rattle.std.specs.Prelude.{reverse}
-use Rattle.traffic_contract.specs.Eligible.{IsEligible, eligible}
-use Rattle.regulator_core.specs.Kept.{Kept, StandsFor, kept_of, kept_with, earliest_tick}
+use Rattle.traffic_contract.specs.Eligible.{IsEligible, eligible, earliest_tick}
+use Rattle.regulator_core.specs.Kept.{KeptTicks, RegulatorStandsFor, kept_ticks, regulator_with}
 use Rattle.regulator_core.proofs.AnswerFacts.{eligible-le}
 use Rattle.regulator_core.proofs.StandingFacts.{eligible-stands, IsEligible-stands, StandsFor-answered, StandsFor-own}
 use Rattle.regulator_core.proofs.regulator.Regulator.admit.Goals as goal
 
 -- what the regulator keeps before the call
-abbrev before : goal.After-push_front → Kept
-before c = kept_of c.self.inside.contract c.self.inside.kind c.self.inside.recent.items
+abbrev before : goal.After-push_front → KeptTicks
+before c = kept_ticks c.self.inside.contract c.self.inside.kind c.self.inside.recent.items
 
 abbrev low : goal.After-push_front → ℕ
 low c = earliest_tick c.self.inside.kind c.args.at c.args.due
@@ -20,17 +20,17 @@ answer-is c =
     c.least_eligible-eligible.ensures.value ∙ ap (eligible c.self.inside.contract c.self.inside.recent.items) c.earliest.ensures
 
 -- and as the least tick for a list that it stands for
-answer-eligible : (c : goal.After-push_front) (past : List ℕ) → StandsFor (before c) past → IsEligible c.self.inside.contract (reverse past) (low c) c.least_eligible-eligible.result
+answer-eligible : (c : goal.After-push_front) (past : List ℕ) → RegulatorStandsFor (before c) past → IsEligible c.self.inside.contract (reverse past) (low c) c.least_eligible-eligible.result
 answer-eligible c past stands =
     subst (IsEligible c.self.inside.contract (reverse past) (low c)) (sym (answer-is c)) (IsEligible-stands (before c) past (low c) c.least_eligible-eligible.ensures.valid stands)
 
 -- what it keeps afterwards
-after-is : (c : goal.After-push_front) → kept_of c.self.inside.contract c.self.inside.kind c.push_front.new.self.items ≡ kept_with (before c) c.least_eligible-eligible.result
+after-is : (c : goal.After-push_front) → kept_ticks c.self.inside.contract c.self.inside.kind c.push_front.new.self.items ≡ regulator_with (before c) c.least_eligible-eligible.result
 after-is c = rw (c.push_front.ensures.items, c.self.invariant.0) refl
 
-after-stands : (c : goal.After-push_front) (past : List ℕ) → StandsFor (before c) past → StandsFor (kept_of c.self.inside.contract c.self.inside.kind c.push_front.new.self.items) (c.least_eligible-eligible.result ∷ past)
+after-stands : (c : goal.After-push_front) (past : List ℕ) → RegulatorStandsFor (before c) past → RegulatorStandsFor (kept_ticks c.self.inside.contract c.self.inside.kind c.push_front.new.self.items) (c.least_eligible-eligible.result ∷ past)
 after-stands c past stands =
-    subst (λ kept. StandsFor kept (c.least_eligible-eligible.result ∷ past)) (sym (after-is c))
+    subst (λ kept. RegulatorStandsFor kept (c.least_eligible-eligible.result ∷ past)) (sym (after-is c))
     (StandsFor-answered (before c) past (low c) c.least_eligible-eligible.result stands (answer-eligible c past stands))
 
 pub returns-clause-every_value : goal.returns-clause-every_value

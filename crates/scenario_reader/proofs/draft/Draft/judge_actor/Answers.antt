@@ -1,5 +1,5 @@
 use Rattle.std.proofs.Common.{ap, sym, ◌∙◌, arith, Some, option_map}
-use Rattle.scenario_reader.specs.Entries.{actor_at}
+use Rattle.net_units.specs.Numbers.{actor_at}
 use Rattle.scenario_reader.proofs.ShapeFacts.{actor_is}
 use Rattle.scenario_reader.proofs.draft.Draft.judge_actor.Goals as goal
 

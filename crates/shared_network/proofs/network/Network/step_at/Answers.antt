@@ -5,7 +5,7 @@ use Rattle.net_units.specs.Numbers.{link_number}
 use Rattle.step_stamp.specs.Views.{known_of}
 use Rattle.link_ledger.specs.Order.{AreInOrder}
 use Rattle.link_ledger.specs.Tokens.{Steps}
-use Rattle.shared_network.specs.Ready.{GoesOn}
+use Rattle.shared_network.specs.Ready.{PassGoesOn}
 use Rattle.shared_network.specs.Sight.{FitsAt}
 use Rattle.shared_network.proofs.LinkNumbers.{numbered-length, numbered-at, fits-shape, both-ok, ok-then}
 use Rattle.shared_network.proofs.StepFacts.{drew-one, goes-on}
@@ -38,7 +38,7 @@ pub returns-clause-ready : goal.returns-clause-ready
 returns-clause-ready g c =
     both-ok (λ reply. Steps g.H.Home.links (link_number c.index.result.now.link) c.args.ask.now c.args.pass.now c.step.new.pass reply)
     (λ reply. AreInOrder g.H.Home.owners (length g.H.Home.links) (known_of (link_number c.index.result.now.link) c.step.new.pass.view))
-    (GoesOn g.H.Home.table g.H.Home.owners g.H.Home.links c.args.pass.now c.step.new.pass) c.step.result
+    (PassGoesOn g.H.Home.table g.H.Home.owners g.H.Home.links c.args.pass.now c.step.new.pass) c.step.result
     (λ reply steps order. goes-on g.H.Home.table g.H.Home.owners g.H.Home.links (link_number c.index.result.now.link) c.args.ask.now c.args.pass.now c.step.new.pass reply c.self.invariant.splits c.requires.pass steps order c.step.ensures.same.0 c.step.ensures.same.2) c.step.ensures.made c.step.ensures.order
 
 pub returns-clause-drew : goal.returns-clause-drew

@@ -1,4 +1,4 @@
--- The entry is put at the end, and behind the last of its tick where there is one.
+-- The entry is put at the end, and after the last of its tick where there is one.
 use Rattle.std.proofs.Common.{◌≡◌, ◌+◌, ◌-◌, ◌<◌, Some, None, true, get_or, ap, sym, refl, ◌∙◌, arith, ℕ, Option, false, not, length}
 use Rattle.std.specs.Option.{is_some}
 use Rattle.std.proofs.lemmas.List.{get_or_read}

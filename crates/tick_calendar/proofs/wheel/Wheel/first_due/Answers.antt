@@ -3,7 +3,7 @@ use Rattle.std.proofs.Common.{◌≡◌, ◌+◌, ◌<◌, None, get_or, length,
 use Rattle.std.proofs.lemmas.Bool.{true≢false}
 use Rattle.std.proofs.lemmas.List.{get_or_read}
 use Rattle.std.specs.Option.{is_some}
-use Rattle.tick_calendar.specs.Wheel.{entries_in, AreAll, IsLeastBy}
+use Rattle.tick_calendar.specs.Wheel.{entries_in, AreAllFrom, IsLeastBy}
 use Rattle.tick_calendar.proofs.Slots.{none-in-turn, none-after-turn}
 use Rattle.tick_calendar.proofs.wheel.Wheel.first_due.Goals.{then-is_some-via-then-is_some, then-is_some-via-else-is_some+then-now-self-lt1024}
 use Rattle.tick_calendar.proofs.wheel.Wheel.first_due.Goals as goal
@@ -62,7 +62,7 @@ pub turn-requires-clause-wheel : goal.turn-requires-clause-wheel
 turn-requires-clause-wheel c = c.requires.wheel
 
 pub turn-requires-clause-ahead : goal.turn-requires-clause-ahead
-turn-requires-clause-ahead c = subst (λ l. AreAll c.least_tick-base.result (entries_in l)) c.deref.ensures.value c.least_tick-base.ensures.all
+turn-requires-clause-ahead c = subst (λ l. AreAllFrom c.least_tick-base.result (entries_in l)) c.deref.ensures.value c.least_tick-base.ensures.all
 
 pub index-requires-2 : goal.index-requires-2
 index-requires-2 c = omega (arith, c.turn.ensures.wheel.slots, c.turn.new.self.firsts.ok)
@@ -79,8 +79,8 @@ returns-clause-begun c = omega (arith, c.turn.ensures.slot, c.turn.ensures.base,
 pub returns-clause-ahead : goal.returns-clause-ahead
 returns-clause-ahead c =
     let first : c.least_tick-base.result ≡ c.turn.new.self.base + c.turn.new.self.slot = omega (arith, c.turn.ensures.slot, c.turn.ensures.base) in
-    subst (λ t. AreAll t (entries_in c.turn.new.self.places.items)) first
-    (subst (AreAll c.least_tick-base.result) (sym c.turn.ensures.entries) (subst (λ l. AreAll c.least_tick-base.result (entries_in l)) c.deref.ensures.value c.least_tick-base.ensures.all))
+    subst (λ t. AreAllFrom t (entries_in c.turn.new.self.places.items)) first
+    (subst (AreAllFrom c.least_tick-base.result) (sym c.turn.ensures.entries) (subst (λ l. AreAllFrom c.least_tick-base.result (entries_in l)) c.deref.ensures.value c.least_tick-base.ensures.all))
 
 pub returns-clause-none : goal.returns-clause-none
 returns-clause-none c = λ none.

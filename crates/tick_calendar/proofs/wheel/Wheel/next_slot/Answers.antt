@@ -1,7 +1,7 @@
--- An empty slot lies behind, and the slot that is answered isn't empty.
+-- An empty slot lies after, and the slot that is answered isn't empty.
 use Rattle.std.proofs.Common.{◌≡◌, ◌+◌, ◌<◌, suc, true, None, get_or, length, sym, ◌∙◌, subst, arith}
 use Rattle.std.proofs.lemmas.List.{get_or_read}
-use Rattle.tick_calendar.specs.Wheel.{entries_in, AreAll}
+use Rattle.tick_calendar.specs.Wheel.{entries_in, AreAllFrom}
 use Rattle.tick_calendar.proofs.TurnLemmas.{some-read}
 use Rattle.tick_calendar.proofs.Slots.{slot-empty, none-of}
 use Rattle.tick_calendar.proofs.wheel.Wheel.next_slot.Goals as goal
@@ -30,7 +30,7 @@ loop-slot-preserved c =
     let empty : get_or c.args.self.now.firsts.items c.loop-slot.slot None ≡ None =
     sym (get_or_read c.args.self.now.firsts.items c.loop-slot.slot c.index.result.now in_slots c.index.ensures None) ∙ none-of c.index.result.now (sym c.is_some.ensures ∙ c.if-is_some.false) in
     let next : suc (c.args.self.now.base + c.loop-slot.slot) ≡ c.args.self.now.base + (c.loop-slot.slot + 1) = omega arith in
-    subst (λ t. AreAll t (entries_in c.args.self.now.places.items)) next
+    subst (λ t. AreAllFrom t (entries_in c.args.self.now.places.items)) next
     (slot-empty c.args.self.now.places.items c.args.self.now.firsts.items c.args.self.now.lasts.items c.args.self.now.base c.loop-slot.slot c.requires.wheel low empty c.loop-slot.invariant)
 
 pub returns-clause-within : goal.returns-clause-within
@@ -39,7 +39,7 @@ returns-clause-within c = omega arith
 pub returns-clause-ahead : goal.returns-clause-ahead
 returns-clause-ahead c =
     let done : c.loop-slot.slot ≡ c.args.last = omega (arith, c.loop-slot.auto.slot-end) in
-    subst (λ s. AreAll (c.args.self.now.base + s) (entries_in c.args.self.now.places.items)) done c.loop-slot.invariant
+    subst (λ s. AreAllFrom (c.args.self.now.base + s) (entries_in c.args.self.now.places.items)) done c.loop-slot.invariant
 
 pub returns-clause-found : goal.returns-clause-found
 returns-clause-found c = λ below. absurd (omega arith)

@@ -4,7 +4,7 @@ use Rattle.std.proofs.lemmas.Fn.{filter_same}
 use Rattle.std.proofs.lemmas.List.{drop_all}
 use Rattle.std.specs.List.{filter, All}
 use Rattle.std.specs.Vec.{vec_len}
-use Rattle.tick_calendar.specs.Wheel.{entries_in, IsWheelFrom, AreAll}
+use Rattle.tick_calendar.specs.Wheel.{entries_in, IsWheelFrom, AreAllFrom}
 use Rattle.tick_calendar.proofs.Ahead.{ahead-at}
 use Rattle.tick_calendar.proofs.TurnLemmas.{entries-kept, kept-wait, length-full, turn-begins, turn-ends}
 use Rattle.tick_calendar.proofs.wheel.Wheel.turn.Goals as goal
@@ -22,7 +22,7 @@ loop-index-init c =
           (omega (arith, c.requires.wheel.slots, c.args.self.now.firsts.ok)) (omega (arith, c.fill.ensures.len, c.requires.wheel.slots, c.args.self.now.firsts.ok, c.fill.new.self.ok)) c.requires.wheel.ends);
       within = omega (arith, c.len-index.ensures, c.retain.new.self.ok);
       waits = waits;
-      ahead = λ k d lt. ahead-at c.args.base c.retain.new.self.items (subst (AreAll c.args.base) (sym same) c.requires.ahead) k d lt (waits k d lt);
+      ahead = λ k d lt. ahead-at c.args.base c.retain.new.self.items (subst (AreAllFrom c.args.base) (sym same) c.requires.ahead) k d lt (waits k d lt);
       entries = same;
       capacity = c.retain.ensures.capacity;
       base = refl;
