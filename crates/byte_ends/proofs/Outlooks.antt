@@ -25,8 +25,8 @@ whole_lines-line (suc n) most [] rest no_feed e =
 whole_lines-line zero most (b ∷ line) rest no_feed e = absurd (omega arith)
 whole_lines-line (suc n) most (b ∷ line) rest no_feed e =
     let test : (b == feed) ≡ false = not_feed b (All-head (λ c. c ≢ feed) b line no_feed) in
-    let behind = whole_lines-line n most line rest (All-tail (λ c. c ≢ feed) b line no_feed) (omega arith) in
-    rw test (ap (with_front b) behind)
+    let after = whole_lines-line n most line rest (All-tail (λ c. c ≢ feed) b line no_feed) (omega arith) in
+    rw test (ap (with_front b) after)
 
 -- what comes after the first whole line
 pub ending_from-line : (open_line : Bool) (n most : ℕ) (line rest : List ℕ) → HasNoFeed line → n ≡ length line + 1 + most

@@ -65,8 +65,8 @@ pending_below_block p m t left left' block undecided moves one_block gives =
           sym (get_or_append_left p.pending moves.bytes 0 (length t.line) before) ∙ ap (λ l. get_or l (length t.line) 0) (moves.joined ∙ gives.joined)
           ∙ get_or_at t.line feed t.pending 0 (length t.line) refl in
           absurd (undecided.no_line (length t.line) 0 before at)
-      | inr behind ↦
-          omega (arith, behind, one_block, moves.counted, ap length moves.joined, length-append p.pending moves.bytes, ap length gives.joined, length-append t.line (feed ∷ t.pending))
+      | inr after ↦
+          omega (arith, after, one_block, moves.counted, ap length moves.joined, length-append p.pending moves.bytes, ap length gives.joined, length-append t.line (feed ∷ t.pending))
     ]
 
 -- too long again

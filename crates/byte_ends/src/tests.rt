@@ -81,7 +81,7 @@ fn the_call_after_a_fault_goes_on(rt: HostRuntime) -> Result<(), Fail> {
 }
 
 #[test]
-fn a_byte_too_many_is_refused_behind_the_whole_lines(rt: HostRuntime) -> Result<(), Fail> {
+fn a_byte_too_many_is_refused_after_the_whole_lines(rt: HostRuntime) -> Result<(), Fail> {
     let mut source = SureSource::new(Vec::from_slice(rt.alloc(), b"ab\ncd\nef\n")?, 100);
     let mut lines = Lines::new(rt.alloc(), 5)?;
     gives(&rt, &mut lines, &mut source, b"ab", 1);

@@ -99,8 +99,8 @@ added-openings n at op caller [] same =
     ∙ ap (λ (first : List Opening). first ++ opened_by n op) (sym (append-nil (openings_in n caller.ops)))
     ∙ ap (λ (k : ℕ). (openings_in n caller.ops ++ []) ++ opened_by k op) here
 added-openings n at op caller (next ∷ callers) same =
-    let behind : at ≡ suc n + length callers = omega (arith, same) in
-    ap (λ (rest : List Opening). openings_in n caller.ops ++ rest) (added-openings (suc n) at op next callers behind)
+    let after : at ≡ suc n + length callers = omega (arith, same) in
+    ap (λ (rest : List Opening). openings_in n caller.ops ++ rest) (added-openings (suc n) at op next callers after)
     ∙ sym (append_assoc (openings_in n caller.ops) (openings_of (suc n) (next ∷ callers)) (opened_by at op))
 
 -- what opens nothing changes nothing

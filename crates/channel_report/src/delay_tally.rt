@@ -113,13 +113,13 @@ fn delay_from(first: &Option<HopRow>, row: &HopRow, prop: u32) -> Option<u128>
     ensures none { IfNone result (delay_from prop row.now first.now ≡ []) }
 {
     match first {
-        Some(first) => delay_behind(first, row, prop),
+        Some(first) => delay_after(first, row, prop),
         None => None,
     }
 }
 
 // The same, where there is such a row.
-fn delay_behind(first: &HopRow, row: &HopRow, prop: u32) -> Option<u128>
+fn delay_after(first: &HopRow, row: &HopRow, prop: u32) -> Option<u128>
     ensures some { IfSome result (λ delay. delay_from prop row.now (Some first.now) ≡ delay ∷ []) }
     ensures none { IfNone result (delay_from prop row.now (Some first.now) ≡ []) }
 {

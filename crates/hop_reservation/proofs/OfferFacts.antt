@@ -61,7 +61,7 @@ AreLevels-push [] levels hop new found are is = absurd (let clash : None ≡ Som
 AreLevels-push (first ∷ hops) [] hop new found are is = (let same : hop ≡ first = cc in (subst (λ h. IsLevelOf h new) same is, tt))
 AreLevels-push (first ∷ hops) (level ∷ levels) hop new found are is = (are.0, AreLevels-push hops levels hop new found are.1 is)
 
--- the hop at the place behind the levels is the first without one
+-- the hop at the place after the levels is the first without one
 pub found-next : (hops : List Hop) (levels : List ℕ) (n : ℕ) (hop : Hop) → n ≡ length levels → slice_get hops (n + 1 - 1) ≡ Some hop → slice_get hops (length levels) ≡ Some hop
 found-next hops levels n hop count found = (let e : n + 1 - 1 ≡ length levels = omega (arith, count) in subst (λ i. slice_get hops i ≡ Some hop) e found)
 

@@ -108,7 +108,7 @@ pub filled-is : (first : Hop) (hops : List Hop) → slice_get hops 0 ≡ Some fi
 filled-is first [] found = absurd (let clash : None ≡ Some first = found in cc)
 filled-is first (hop ∷ hops) found =
     let same : first ≡ hop = cc in
-    rw same (ap (λ behind. (hop ∷ hops) ++ behind) (drop-replicate (length (hop ∷ hops)) 16 hop))
+    rw same (ap (λ after. (hop ∷ hops) ++ after) (drop-replicate (length (hop ∷ hops)) 16 hop))
 
 -- the hops of a filled array are its first ones
 pub take-filled : (hops : List Hop) → take (length hops) (filled hops) ≡ hops

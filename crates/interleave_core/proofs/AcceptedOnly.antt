@@ -96,7 +96,7 @@ relaxed-settles request replies levels zero same all = record { levels = _; dela
 relaxed-settles request replies levels (suc n) same all = absurd (omega (arith, all))
 
 settles-done : (request : Request) (replies : List Reply) → View request replies → IsDone (progress_of request replies) → Settles' request replies
-settles-done request replies (OnWay fewer behind is) done = absurd (subst IsDone is done)
+settles-done request replies (OnWay fewer after is) done = absurd (subst IsDone is done)
 settles-done request replies (Back left deny upto is) done = absurd (undone left (subst IsDone is done)) where
   undone : (n : ℕ) → IsDone (undoing n deny) → ⊥
   undone zero none = none

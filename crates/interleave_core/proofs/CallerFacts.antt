@@ -19,7 +19,7 @@ use Rattle.link_steps.specs.Split.{Link}
 use Rattle.link_steps.specs.Legal.{AskFits}
 use Rattle.link_steps.specs.Lists.{Each}
 use Rattle.relaxation.specs.declared.EndDenial.{EndDenial}
-use Rattle.setup_protocol.specs.Setup.{Progress, Reserving, Undoing, Relaxing, Settled, is_offer, level_in, offers_in, behind_offers, reach_after, undoing, relaxing, on_the_way, behind_test, at_destination, asked, asked_of, reserve_of, next_ask, progress_of}
+use Rattle.setup_protocol.specs.Setup.{Progress, Reserving, Undoing, Relaxing, Settled, is_offer, level_in, offers_in, after_offers, reach_after, undoing, relaxing, on_the_way, after_test, at_destination, asked, asked_of, reserve_of, next_ask, progress_of}
 use Rattle.setup_protocol.specs.Teardown.{first_count}
 use Rattle.setup_protocol.specs.declared.request.Request.{Request}
 use Rattle.setup_protocol.specs.declared.verdict.Deny.{Deny as Denial}
@@ -138,17 +138,17 @@ relaxing-asks request (suc left) levels to ask same is = go (slice_get request.r
   go None level bound none = cc
   go (Some hop) level bound some = (let e : ask ≡ Relax request.chan level bound = sym (ap (λ pair. pair.1) (same_Some (hop.link, Relax request.chan level bound) (to, ask) some)) in subst IsReserve e is)
 
-pub tested-asks : (request : Request) (offers : List ℕ) (count : ℕ) (denial : Option EndDenial) (to : LinkNo) (ask : Ask) → asked request (behind_test request offers count denial) ≡ Some (to, ask) → IsReserve ask → ⊥
+pub tested-asks : (request : Request) (offers : List ℕ) (count : ℕ) (denial : Option EndDenial) (to : LinkNo) (ask : Ask) → asked request (after_test request offers count denial) ≡ Some (to, ask) → IsReserve ask → ⊥
 tested-asks request offers count (Some denial) to ask same is = undone-asks request _ _ to ask same is
 tested-asks request offers count None to ask same is = relaxing-asks request _ _ to ask same is
 
 -- an offer after another reply isn't at the front
-offers-behind : (replies : List Reply) (first reply : Reply) (rest : List Reply) → behind_offers replies ≡ first ∷ rest → offers_in (replies ++ reply ∷ []) ≡ offers_in replies
-unfolding offers_in behind_offers
-offers-behind [] first reply rest behind = cc
-offers-behind (r ∷ replies) first reply rest behind =
+offers-after : (replies : List Reply) (first reply : Reply) (rest : List Reply) → after_offers replies ≡ first ∷ rest → offers_in (replies ++ reply ∷ []) ≡ offers_in replies
+unfolding offers_in after_offers
+offers-after [] first reply rest after = cc
+offers-after (r ∷ replies) first reply rest after =
     elim (cases_Bool (is_offer r)) [
-      | inl offer ↦ rw offer (ap (λ levels. level_in r ∷ levels) (offers-behind replies first reply rest (rw offer at behind)))
+      | inl offer ↦ rw offer (ap (λ levels. level_in r ∷ levels) (offers-after replies first reply rest (rw offer at after)))
       | inr plain ↦ rw plain refl
     ]
 
@@ -171,18 +171,18 @@ reserve-asks None to ask own same = cc
 reserve-asks (Some hop) to ask own same = (hop, refl, sym (ap (λ pair. pair.0) (same_Some (hop.link, own hop) (to, ask) same)))
 
 -- one offer more where no reply but offers came
-one-offer : (links : List Link) (request : Request) (replies : List Reply) (reply : Reply) (to : LinkNo) (ask : Ask) (link : Link) (h : List Entry) → RequestFits links request → AreLevels request.route (offers_in replies) → next_ask request replies ≡ Some (to, ask) → slice_get links (link_number to) ≡ Some link → MayReplyTo link.shape h ask reply → is_offer reply ≡ true → behind_offers replies ≡ []
+one-offer : (links : List Link) (request : Request) (replies : List Reply) (reply : Reply) (to : LinkNo) (ask : Ask) (link : Link) (h : List Entry) → RequestFits links request → AreLevels request.route (offers_in replies) → next_ask request replies ≡ Some (to, ask) → slice_get links (link_number to) ≡ Some link → MayReplyTo link.shape h ask reply → is_offer reply ≡ true → after_offers replies ≡ []
     → AreLevels request.route (offers_in replies ++ level_in reply ∷ [])
-one-offer links request replies reply to ask link h fits are same found answered offer behind =
+one-offer links request replies reply to ask link h fits are same found answered offer after =
     elim (cases_lt (length (offers_in replies)) (length request.route)) [
       | inl fewer ↦
-          (let e : progress_of request replies ≡ Reserving (offers_in replies) (reach_after 0 request.route replies) = progress-on_the_way request replies fewer ∙ ap (on_the_way (offers_in replies) (reach_after 0 request.route replies)) behind in
+          (let e : progress_of request replies ≡ Reserving (offers_in replies) (reach_after 0 request.route replies) = progress-on_the_way request replies fewer ∙ ap (on_the_way (offers_in replies) (reach_after 0 request.route replies)) after in
           let own : asked_of (slice_get request.route (length (offers_in replies))) (λ hop. reserve_of request (offers_in replies) (reach_after 0 request.route replies)) ≡ Some (to, ask) = subst (λ p. asked request p ≡ Some (to, ask)) e same in
           let at = reserve-asks (slice_get request.route (length (offers_in replies))) to ask _ own in
           let hop = Each-at (IsHopOf links) request.route (length (offers_in replies)) at.0 fits.hops at.1 in
           AreLevels-push request.route (offers_in replies) at.0 (level_in reply) at.1 are (offered-level links at.0 to link h ask reply hop at.2 found answered offer).0)
       | inr whole ↦
-          (let tested : asked request (at_destination request (offers_in replies) (length (behind_offers replies))) ≡ Some (to, ask) = subst (λ p. asked request p ≡ Some (to, ask)) (progress-tested request replies whole) same in
+          (let tested : asked request (at_destination request (offers_in replies) (length (after_offers replies))) ≡ Some (to, ask) = subst (λ p. asked request p ≡ Some (to, ask)) (progress-tested request replies whole) same in
           absurd (tested-asks request (offers_in replies) _ _ to ask tested (is-reserve reply answered offer)))
     ] where
       is-reserve : (r : Reply) → MayReplyTo link.shape h ask r → is_offer r ≡ true → IsReserve ask
@@ -199,12 +199,12 @@ pub offers-go-on : (links : List Link) (request : Request) (replies : List Reply
     → AreLevels request.route (offers_in (replies ++ reply ∷ []))
 offers-go-on links request replies reply to ask link h fits are same found answered =
     elim (cases_Bool (is_offer reply)) [
-      | inl offer ↦ by-rest (behind_offers replies) refl offer
+      | inl offer ↦ by-rest (after_offers replies) refl offer
       | inr plain ↦ subst (AreLevels request.route) (sym (offers-other replies reply plain)) are
     ] where
-      by-rest : (rest : List Reply) → behind_offers replies ≡ rest → is_offer reply ≡ true → AreLevels request.route (offers_in (replies ++ reply ∷ []))
-      by-rest [] behind offer = subst (AreLevels request.route) (sym (offers-more replies reply behind offer)) (one-offer links request replies reply to ask link h fits are same found answered offer behind)
-      by-rest (first ∷ rest) behind offer = subst (AreLevels request.route) (sym (offers-behind replies first reply rest behind)) are
+      by-rest : (rest : List Reply) → after_offers replies ≡ rest → is_offer reply ≡ true → AreLevels request.route (offers_in (replies ++ reply ∷ []))
+      by-rest [] after offer = subst (AreLevels request.route) (sym (offers-more replies reply after offer)) (one-offer links request replies reply to ask link h fits are same found answered offer after)
+      by-rest (first ∷ rest) after offer = subst (AreLevels request.route) (sym (offers-after replies first reply rest after)) are
 
 -- no replies to the task that begins
 none-yet : (tasks : List Task) → OffersFit tasks []

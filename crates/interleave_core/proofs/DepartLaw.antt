@@ -105,7 +105,7 @@ hop-departed network request levels run first i at k fits sound asked is have ta
     let path = path-law network request levels run fits sound asked is have first i at in
     let own = length-map (packets_at network request i at run) tick_of_packet in
     let within = within-list (packets_at network request i at run) j p found in
-    let behind = path.behind j (omega (arith, within, own)) in
+    let after = path.after j (omega (arith, within, own)) in
     let fewer = path.fewer in
     let rising = first-rises network request first run j k fits is (asked run is) upto (omega (arith, fewer, own, taken)) in
     let tick = tick-at (packets_at network request i at run) j p found in
@@ -117,7 +117,7 @@ hop-departed network request levels run first i at k fits sound asked is have ta
     let legal = part-admissible network run (link_number at.hop.link) at.link fits is at.linked in
     let few = channel-few at.link.shape (channel_number request.chan) p (Each-among (HasNumber at.link.shape.bounds) p _ (packets-have_numbers at.link.shape (part_of (link_number at.hop.link) run) legal) there.0) there.1 in
     (Each-among (HasLeftInTime at.link.shape (clock_of (part_of (link_number at.hop.link) run)) (starts_of at.link.shape (part_of (link_number at.hop.link) run))) p _ (guaranteed at.link.shape (part_of (link_number at.hop.link) run) legal).in_time there.0).gone few
-    (omega (arith, behind, rising, tick, bound, more, due))
+    (omega (arith, after, rising, tick, bound, more, due))
 
 pub hop-gone : (network : Network) (request : Request) (levels : List ℕ) (run : List Done) (first : HopAt network request 0) (i : ℕ) (at : HopAt network request i) (k : ℕ) → NetworkFits network → RequestFits network.links request → ((past : List Done) → IsRun network past → ChannelAsked request past) → IsRun network run → HaveLevelsAt network request levels run
     → k < count_at network request i at run → get_or (hop_ticks network request 0 first run) k 0 + delay_before request levels (suc i) ≤ clock_of (part_of (link_number at.hop.link) run) + at.link.shape.prop
@@ -201,7 +201,7 @@ next-taken network request owner levels run first i near far k fits sound full i
           let tick : get_or (hop_ticks network request i near run) k 0 ≡ from.taken.eligible = ap (λ x. get_or (hop_ticks network request i near run) x 0) (sym index) ∙ place.tick in
           let count = length-map (packets_at network request i near run) tick_of_packet in
           let inside = place.within in
-          let behind = (path-law network request levels run fits sound names is have first i near).behind k (omega (arith, inside, index, count)) in
+          let after = (path-law network request levels run fits sound names is have first i near).after k (omega (arith, inside, index, count)) in
           let level = Each-among (λ q. q.level ≡ get_or levels i 0) from.taken _ (have.at i near) own in
           let bound : bound_at from.link.shape.bounds from.taken.level ≡ bound_at near.link.shape.bounds (get_or levels i 0) = ap (λ l. bound_at l.shape.bounds from.taken.level) link ∙ ap (bound_at near.link.shape.bounds) level in
           let prop : from.link.shape.prop ≡ near.link.shape.prop = ap (λ l. l.shape.prop) link in
@@ -209,7 +209,7 @@ next-taken network request owner levels run first i near far k fits sound full i
           let arrives = from.in_time in
           let planned = from.due in
           let now = not-arrived network run way.flight (link_number far.hop.link) fits is way.among (slice_get_within network.links (link_number far.hop.link) far.link far.linked) in
-          omega (arith, behind, tick, bound, prop, more, arrives, planned, now, due)
+          omega (arith, after, tick, bound, prop, more, arrives, planned, now, due)
 
 -- the clocks of two links differ by at most one
 pub clocks-near : (network : Network) (run : List Done) (m n : ℕ) → NetworkFits network → IsRun network run → m < length network.links → n < length network.links → clock_of (part_of m run) ≤ suc (clock_of (part_of n run))

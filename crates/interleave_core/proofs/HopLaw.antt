@@ -55,7 +55,7 @@ use Rattle.interleave_core.proofs.Routes.{index-apart}
 use Rattle.channel_laws.proofs.Places.{place-of, row-keeps}
 use Rattle.link_steps.proofs.PacketRows.{Among-passes}
 use Rattle.interleave_core.proofs.FlightFacts.{part-grows, run-flights}
-use Rattle.interleave_core.proofs.HopStep.{IsTimed, eligible-behind, timed-none, timed-later, timed-append, timed-more}
+use Rattle.interleave_core.proofs.HopStep.{IsTimed, eligible-after, timed-none, timed-later, timed-append, timed-more}
 use Rattle.interleave_core.proofs.RunLegal.{RunStands, clock_at, plane-next, caller-next, part-on, part-off, run-stands, part-admissible}
 use Rattle.interleave_core.specs.Flights.{FlightsStand}
 
@@ -121,20 +121,20 @@ arrive-comes network past done packet fits run next is =
 
 pub record TwoHops (network : Network) (request : Request) (i : ℕ) : Type 0 where
   pub hop : Hop
-  pub behind : Hop
+  pub after : Hop
   pub stands : slice_get request.route i ≡ Some hop
-  pub follows : slice_get request.route (suc i) ≡ Some behind
+  pub follows : slice_get request.route (suc i) ≡ Some after
   pub near : Link
   pub far : Link
   pub linked : slice_get network.links (link_number hop.link) ≡ Some near
-  pub far_linked : slice_get network.links (link_number behind.link) ≡ Some far
+  pub far_linked : slice_get network.links (link_number after.link) ≡ Some far
 
 -- the ticks of the channel at both
 abbrev pub near_ticks : (network : Network) (request : Request) (i : ℕ) → TwoHops network request i → List Done → List ℕ
 near_ticks network request i two run = ticks_at (channel_number request.chan) (packets_on two.near (link_number two.hop.link) run)
 
 abbrev pub far_ticks : (network : Network) (request : Request) (i : ℕ) → TwoHops network request i → List Done → List ℕ
-far_ticks network request i two run = ticks_at (channel_number request.chan) (packets_on two.far (link_number two.behind.link) run)
+far_ticks network request i two run = ticks_at (channel_number request.chan) (packets_on two.far (link_number two.after.link) run)
 
 waits-most : (kind : Kind) (first : Bool) (t due : ℕ) → t ≤ due → waits_until kind first t due ≤ due
 waits-most Jitter false t due early = omega (arith, early)
@@ -164,7 +164,7 @@ pub record FromNear (network : Network) (request : Request) (i : ℕ) (two : Two
   pub due : packet.due ≡ taken.eligible + bound_at two.near.shape.bounds taken.level + two.near.shape.prop
   pub passed : taken.eligible + two.near.shape.prop < round
 
-pub from-near : (network : Network) (request : Request) (i : ℕ) (two : TwoHops network request i) (past : List Done) (done : Done) (packet : Packet) → NetworkFits network → RequestFits network.links request → IsRun network past → ChannelAsked request past → (comes : ArriveComes network past done packet) → (chan : channel_number packet.chan ≡ channel_number request.chan) → link_number done.link ≡ link_number two.behind.link
+pub from-near : (network : Network) (request : Request) (i : ℕ) (two : TwoHops network request i) (past : List Done) (done : Done) (packet : Packet) → NetworkFits network → RequestFits network.links request → IsRun network past → ChannelAsked request past → (comes : ArriveComes network past done packet) → (chan : channel_number packet.chan ≡ channel_number request.chan) → link_number done.link ≡ link_number two.after.link
     → FromNear network request i two past packet comes.flight.round
 from-near network request i two past done packet fits sound run asked comes chan at =
     let from = comes.from in
@@ -173,9 +173,9 @@ from-near network request i two past done packet fits sound run asked comes chan
     let row = packet-offered network request past from.n from.link from.taken fits run asked sound from.linked mine from.among in
     let packets : Among from.taken (channel_packets (channel_number request.chan) (packets_on from.link from.n past)) = Among-passes (is_of_channel (channel_number request.chan)) from.taken (packets_on from.link from.n past) mine from.among in
     let next : from.taken.next ≡ option_map hop_link (slice_get request.route (suc row.route.index)) = Each-among (λ p. p.next ≡ (terms_at request row.route.index).next) from.taken _ row.row.tells.nexts packets in
-    let behind = next-link (slice_get request.route (suc row.route.index)) comes.flight.to (sym next ∙ from.next) in
-    let number : link_of behind.0 ≡ link_of two.behind = ap link_number (behind.2 ∙ comes.to) ∙ at in
-    let index : suc row.route.index ≡ suc i = index-apart request.route (suc row.route.index) (suc i) behind.0 two.behind sound.route behind.1 two.follows number in
+    let rest = next-link (slice_get request.route (suc row.route.index)) comes.flight.to (sym next ∙ from.next) in
+    let number : link_of rest.0 ≡ link_of two.after = ap link_number (rest.2 ∙ comes.to) ∙ at in
+    let index : suc row.route.index ≡ suc i = index-apart request.route (suc row.route.index) (suc i) rest.0 two.after sound.route rest.1 two.follows number in
     let same : row.route.index ≡ i = omega (arith, index) in
     let hop : row.route.hop ≡ two.hop = same_Some row.route.hop two.hop (sym row.route.stands ∙ ap (slice_get request.route) same ∙ two.stands) in
     let n : from.n ≡ link_number two.hop.link = sym row.route.number ∙ ap link_of hop in
@@ -197,35 +197,35 @@ pub eligible-same : (c : Traffic) (a b : List ℕ) (low e : ℕ) → a ≡ b →
 eligible-same c a b low e same is = subst (λ ticks. IsEligible c ticks low e) same is
 
 -- the row that is found at the far hop
-pub far-row-at : (network : Network) (request : Request) (i : ℕ) (two : TwoHops network request i) (past : List Done) (packet : Packet) (row : Row) → NetworkFits network → RequestFits network.links request → IsRun network past → ChannelAsked request past → find (is_row_of packet.chan) (scan_of two.far.shape (part_of (link_number two.behind.link) past)).rows ≡ Some row → channel_number packet.chan ≡ channel_number request.chan
-    → RowTells (terms_at request (suc i)) (channel_number request.chan) row (channel_packets (channel_number request.chan) (packets_on two.far (link_number two.behind.link) past))
+pub far-row-at : (network : Network) (request : Request) (i : ℕ) (two : TwoHops network request i) (past : List Done) (packet : Packet) (row : Row) → NetworkFits network → RequestFits network.links request → IsRun network past → ChannelAsked request past → find (is_row_of packet.chan) (scan_of two.far.shape (part_of (link_number two.after.link) past)).rows ≡ Some row → channel_number packet.chan ≡ channel_number request.chan
+    → RowTells (terms_at request (suc i)) (channel_number request.chan) row (channel_packets (channel_number request.chan) (packets_on two.far (link_number two.after.link) past))
 far-row-at network request i two past packet row fits sound run asked found chan =
     let row-chan : channel_of row ≡ channel_number request.chan = row-of packet.chan row (find-passes (is_row_of packet.chan) row _ found) ∙ chan in
-    elim (cases_lt 0 (offers_to (channel_number request.chan) (part_of (link_number two.behind.link) past))) [
+    elim (cases_lt 0 (offers_to (channel_number request.chan) (part_of (link_number two.after.link) past))) [
       | inl some ↦
-          (let at-far = stands-at network request past (suc i) two.behind (link_number two.behind.link) two.far fits run asked two.follows refl two.far_linked in
-          let once = asked.once (link_number two.behind.link) in
+          (let at-far = stands-at network request past (suc i) two.after (link_number two.after.link) two.far fits run asked two.follows refl two.far_linked in
+          let once = asked.once (link_number two.after.link) in
           let has = at-far.known (omega (arith, once, some)) in
           let same : row ≡ has.row = Each-find (IsOnly (channel_number request.chan) has.row) (is_row_of packet.chan) _ row has.only found row-chan in
-          subst (λ r. RowTells (terms_at request (suc i)) (channel_number request.chan) r (channel_packets (channel_number request.chan) (packets_on two.far (link_number two.behind.link) past))) (sym same) has.tells)
+          subst (λ r. RowTells (terms_at request (suc i)) (channel_number request.chan) r (channel_packets (channel_number request.chan) (packets_on two.far (link_number two.after.link) past))) (sym same) has.tells)
       | inr none ↦
-          (let free = legal-free two.far.shape (terms_at request 0) (channel_number request.chan) (part_of (link_number two.behind.link) past) (part-admissible network past (link_number two.behind.link) two.far fits run two.far_linked) (omega (arith, none)) in
+          (let free = legal-free two.far.shape (terms_at request 0) (channel_number request.chan) (part_of (link_number two.after.link) past) (part-admissible network past (link_number two.after.link) two.far fits run two.far_linked) (omega (arith, none)) in
           absurd (Each-find (IsElsewhere (channel_number request.chan)) (is_row_of packet.chan) _ row free.rows found row-chan))
     ]
 
-taken-behind : (network : Network) (request : Request) (i : ℕ) (two : TwoHops network request i) (past : List Done) (done : Done) (packet : Packet) (row : Row) (level clock e held : ℕ) → NetworkFits network → RequestFits network.links request → IsRun network past → ChannelAsked request past → ArriveComes network past done packet → channel_number packet.chan ≡ channel_number request.chan → link_number done.link ≡ link_number two.behind.link
+taken-after : (network : Network) (request : Request) (i : ℕ) (two : TwoHops network request i) (past : List Done) (done : Done) (packet : Packet) (row : Row) (level clock e held : ℕ) → NetworkFits network → RequestFits network.links request → IsRun network past → ChannelAsked request past → ArriveComes network past done packet → channel_number packet.chan ≡ channel_number request.chan → link_number done.link ≡ link_number two.after.link
     → Each (λ p. p.level ≡ level) (channel_packets (channel_number request.chan) (packets_on two.near (link_number two.hop.link) past))
-    → find (is_row_of packet.chan) (scan_of two.far.shape (part_of (link_number two.behind.link) past)).rows ≡ Some row
+    → find (is_row_of packet.chan) (scan_of two.far.shape (part_of (link_number two.after.link) past)).rows ≡ Some row
     → packet.number ≡ suc (length row.ticks)
-    → IsTimed (kind_of request.control) (bound_at two.near.shape.bounds level + two.near.shape.prop) two.near.shape.prop (clock_of (part_of (link_number two.behind.link) past)) (near_ticks network request i two past) (far_ticks network request i two past)
-    → IsTimed (kind_of request.control) (bound_at two.near.shape.bounds level + two.near.shape.prop) two.near.shape.prop (clock_of (part_of (link_number two.behind.link) past)) (near_ticks network request i two past) (far_ticks network request i two past ++ eligible_next row.terms row.ticks (clock_of (part_of (link_number two.behind.link) past)) packet.due ∷ [])
+    → IsTimed (kind_of request.control) (bound_at two.near.shape.bounds level + two.near.shape.prop) two.near.shape.prop (clock_of (part_of (link_number two.after.link) past)) (near_ticks network request i two past) (far_ticks network request i two past)
+    → IsTimed (kind_of request.control) (bound_at two.near.shape.bounds level + two.near.shape.prop) two.near.shape.prop (clock_of (part_of (link_number two.after.link) past)) (near_ticks network request i two past) (far_ticks network request i two past ++ eligible_next row.terms row.ticks (clock_of (part_of (link_number two.after.link) past)) packet.due ∷ [])
 unfolding eligible_next
-taken-behind network request i two past done packet row level clock e held fits sound run asked comes chan at levels found numbered behind =
+taken-after network request i two past done packet row level clock e held fits sound run asked comes chan at levels found numbered rest =
     let c : ℕ = channel_number request.chan in
     let near = from-near network request i two past done packet fits sound run asked comes chan at in
     let own : Among near.taken (channel_packets (channel_number request.chan) (packets_on two.near (link_number two.hop.link) past)) = Among-passes (is_of_channel (channel_number request.chan)) near.taken (packets_on two.near (link_number two.hop.link) past) near.own near.among in
     let near-row = has-row i two.hop (link_number two.hop.link) two.near refl two.stands two.linked near.taken near.own near.among in
-    let far-row : (row ≡ row) × RowTells (terms_at request (suc i)) (channel_number request.chan) row (channel_packets (channel_number request.chan) (packets_on two.far (link_number two.behind.link) past)) = (refl, far-row-at network request i two past packet row fits sound run asked found chan) in
+    let far-row : (row ≡ row) × RowTells (terms_at request (suc i)) (channel_number request.chan) row (channel_packets (channel_number request.chan) (packets_on two.far (link_number two.after.link) past)) = (refl, far-row-at network request i two past packet row fits sound run asked found chan) in
     let place = place-of 0 _ near.taken near-row.tells.numbered own in
     let count : length (far_ticks network request i two past) ≡ length row.ticks = ap length (sym far-row.1.eligible) ∙ length-reverse row.ticks in
     let index : place.index ≡ length (far_ticks network request i two past) = (let a = place.number in let b = near.number in omega (arith, a, b, numbered, count)) in
@@ -235,25 +235,25 @@ taken-behind network request i two past done packet row level clock e held fits 
     let due = near.due in
     let now = comes.now in
     let in_time = comes.from.in_time in
-    let t : ℕ = clock_of (part_of (link_number two.behind.link) past) in
-    let clock-same : clock_of (part_of (link_number done.link) past) ≡ clock_of (part_of (link_number two.behind.link) past) = ap (λ m. clock_of (part_of m past)) at in
+    let t : ℕ = clock_of (part_of (link_number two.after.link) past) in
+    let clock-same : clock_of (part_of (link_number done.link) past) ≡ clock_of (part_of (link_number two.after.link) past) = ap (λ m. clock_of (part_of m past)) at in
     let due-same : comes.flight.packet.due ≡ packet.due = ap (λ p. p.due) comes.same in
-    let early : clock_of (part_of (link_number two.behind.link) past) ≤ packet.due = omega (arith, now, in_time, clock-same, due-same) in
-    let most = waits-most row.terms.kind row.terms.first (clock_of (part_of (link_number two.behind.link) past)) packet.due early in
+    let early : clock_of (part_of (link_number two.after.link) past) ≤ packet.due = omega (arith, now, in_time, clock-same, due-same) in
+    let most = waits-most row.terms.kind row.terms.first (clock_of (part_of (link_number two.after.link) past)) packet.due early in
     let shorter : length (far_ticks network request i two past) < length (near_ticks network request i two past) = (let w = place.within in let l = mapped-length (channel_packets (channel_number request.chan) (packets_on two.near (link_number two.hop.link) past)) in omega (arith, w, index, l)) in
     let valid : IsContract row.terms.contract = subst IsContract (sym far-row.1.contract_is) far-row.1.valid in
     let keeps : Keeps row.terms.contract (reverse row.ticks) = (Decides-keeps_newest_first row.terms.contract row.ticks (burst-least row.terms.contract valid)).0 (subst (λ k. keeps_newest_first k row.ticks ≡ true) (sym far-row.1.contract_is) far-row.1.keeps) in
-    let is = eligible-is row.terms.contract row.ticks (waits_until row.terms.kind row.terms.first (clock_of (part_of (link_number two.behind.link) past)) packet.due) valid (burst-least row.terms.contract valid) keeps in
-    let is-far : IsEligible row.terms.contract (far_ticks network request i two past) (waits_until row.terms.kind row.terms.first (clock_of (part_of (link_number two.behind.link) past)) packet.due) (eligible row.terms.contract row.ticks (waits_until row.terms.kind row.terms.first (clock_of (part_of (link_number two.behind.link) past)) packet.due)) = eligible-same row.terms.contract (reverse row.ticks) (far_ticks network request i two past) _ _ far-row.1.eligible is in
+    let is = eligible-is row.terms.contract row.ticks (waits_until row.terms.kind row.terms.first (clock_of (part_of (link_number two.after.link) past)) packet.due) valid (burst-least row.terms.contract valid) keeps in
+    let is-far : IsEligible row.terms.contract (far_ticks network request i two past) (waits_until row.terms.kind row.terms.first (clock_of (part_of (link_number two.after.link) past)) packet.due) (eligible row.terms.contract row.ticks (waits_until row.terms.kind row.terms.first (clock_of (part_of (link_number two.after.link) past)) packet.due)) = eligible-same row.terms.contract (reverse row.ticks) (far_ticks network request i two past) _ _ far-row.1.eligible is in
     let near-keeps : Keeps row.terms.contract (near_ticks network request i two past) = subst (λ k. Keeps k (near_ticks network request i two past)) (sym far-row.1.contract_is) (row-keeps _ _ near-row.row _ near-row.tells) in
     let far-keeps : Keeps row.terms.contract (far_ticks network request i two past) = subst (Keeps row.terms.contract) far-row.1.eligible keeps in
-    let under = eligible-behind row.terms.contract (near_ticks network request i two past) (far_ticks network request i two past) (bound_at two.near.shape.bounds level + two.near.shape.prop) _ _ (burst-least row.terms.contract valid) near-keeps far-keeps shorter behind.behind (omega (arith, most, tick, due, shift)) is-far in
+    let under = eligible-after row.terms.contract (near_ticks network request i two past) (far_ticks network request i two past) (bound_at two.near.shape.bounds level + two.near.shape.prop) _ _ (burst-least row.terms.contract valid) near-keeps far-keeps shorter rest.after (omega (arith, most, tick, due, shift)) is-far in
     let reached = is-far.reached in
     let passed = near.passed in
     let later : row.terms.first ≡ false = far-row.1.first_is ∙ ne_eqb (suc i) 0 (λ same. omega (arith, same)) in
-    timed-more (kind_of request.control) (bound_at two.near.shape.bounds level + two.near.shape.prop) two.near.shape.prop (clock_of (part_of (link_number two.behind.link) past)) _ (near_ticks network request i two past) (far_ticks network request i two past) shorter behind under
+    timed-more (kind_of request.control) (bound_at two.near.shape.bounds level + two.near.shape.prop) two.near.shape.prop (clock_of (part_of (link_number two.after.link) past)) _ (near_ticks network request i two past) (far_ticks network request i two past) shorter rest under
     (omega (arith, tick, passed, now, clock-same))
-    (λ is-jitter. (let exact = waits-exact row.terms.kind row.terms.first (clock_of (part_of (link_number two.behind.link) past)) packet.due (far-row.1.kind_is ∙ is-jitter) later in omega (arith, exact, reached, tick, due, shift)))
+    (λ is-jitter. (let exact = waits-exact row.terms.kind row.terms.first (clock_of (part_of (link_number two.after.link) past)) packet.due (far-row.1.kind_is ∙ is-jitter) later in omega (arith, exact, reached, tick, due, shift)))
   where
     mapped-length : (ps : List Arrival) → length (map tick_of_packet ps) ≡ length ps
     mapped-length [] = refl
@@ -267,73 +267,73 @@ taken-behind network request i two past done packet row level clock e held fits 
 
 -- ---- each entry at the far hop
 
-far-arrives : (network : Network) (request : Request) (i : ℕ) (two : TwoHops network request i) (past : List Done) (done : Done) (packet : Packet) (level clock e : ℕ) (found : Option Row) → NetworkFits network → RequestFits network.links request → IsRun network past → ChannelAsked request past → (next : IsNext network past done) → done.ask ≡ Arrive packet → link_number done.link ≡ link_number two.behind.link
+far-arrives : (network : Network) (request : Request) (i : ℕ) (two : TwoHops network request i) (past : List Done) (done : Done) (packet : Packet) (level clock e : ℕ) (found : Option Row) → NetworkFits network → RequestFits network.links request → IsRun network past → ChannelAsked request past → (next : IsNext network past done) → done.ask ≡ Arrive packet → link_number done.link ≡ link_number two.after.link
     → Each (λ p. p.level ≡ level) (channel_packets (channel_number request.chan) (packets_on two.near (link_number two.hop.link) past))
-    → find (is_row_of packet.chan) (scan_of two.far.shape (part_of (link_number two.behind.link) past)).rows ≡ found
-    → Is.Taken clock e ≡ arrive_to two.far.shape (clock_of (part_of (link_number two.behind.link) past)) (packets_on two.far (link_number two.behind.link) past) packet found
-    → IsTimed (kind_of request.control) (bound_at two.near.shape.bounds level + two.near.shape.prop) two.near.shape.prop (clock_of (part_of (link_number two.behind.link) past)) (near_ticks network request i two past) (far_ticks network request i two past)
-    → IsTimed (kind_of request.control) (bound_at two.near.shape.bounds level + two.near.shape.prop) two.near.shape.prop (clock_of (part_of (link_number two.behind.link) past)) (near_ticks network request i two past) (ticks_at (channel_number request.chan) (with_arrival (clock_of (part_of (link_number two.behind.link) past)) packet (scan_of two.far.shape (part_of (link_number two.behind.link) past)) found).packets)
+    → find (is_row_of packet.chan) (scan_of two.far.shape (part_of (link_number two.after.link) past)).rows ≡ found
+    → Is.Taken clock e ≡ arrive_to two.far.shape (clock_of (part_of (link_number two.after.link) past)) (packets_on two.far (link_number two.after.link) past) packet found
+    → IsTimed (kind_of request.control) (bound_at two.near.shape.bounds level + two.near.shape.prop) two.near.shape.prop (clock_of (part_of (link_number two.after.link) past)) (near_ticks network request i two past) (far_ticks network request i two past)
+    → IsTimed (kind_of request.control) (bound_at two.near.shape.bounds level + two.near.shape.prop) two.near.shape.prop (clock_of (part_of (link_number two.after.link) past)) (near_ticks network request i two past) (ticks_at (channel_number request.chan) (with_arrival (clock_of (part_of (link_number two.after.link) past)) packet (scan_of two.far.shape (part_of (link_number two.after.link) past)) found).packets)
 unfolding with_arrival
-far-arrives network request i two past done packet level clock e None fits sound run asked next is at levels found answered behind = behind
-far-arrives network request i two past done packet level clock e (Some row) fits sound run asked next is at levels found answered behind =
-    let scan : Scan = scan_of two.far.shape (part_of (link_number two.behind.link) past) in
-    let t : ℕ = clock_of (part_of (link_number two.behind.link) past) in
+far-arrives network request i two past done packet level clock e None fits sound run asked next is at levels found answered rest = rest
+far-arrives network request i two past done packet level clock e (Some row) fits sound run asked next is at levels found answered rest =
+    let scan : Scan = scan_of two.far.shape (part_of (link_number two.after.link) past) in
+    let t : ℕ = clock_of (part_of (link_number two.after.link) past) in
     let chan : channel_of row ≡ channel_number packet.chan = row-of packet.chan row (find-passes (is_row_of packet.chan) row _ found) in
     elim (cases_Bool (nat_eq (channel_of row) (channel_number request.chan))) [
       | inl on ↦
           (let own : channel_of row ≡ channel_number request.chan = eqb-true (channel_of row) (channel_number request.chan) on in
-          let number = arrive-number two.far.shape.bounds (clock_of (part_of (link_number two.behind.link) past)) packet row.terms (length row.ticks) _ _ clock e answered in
-          let more = taken-behind network request i two past done packet row level clock e 0 fits sound run asked (arrive-comes network past done packet fits run next is) (sym chan ∙ own) at levels found number behind in
-          let ticks = ap (map tick_of_packet) (packets-on (channel_number request.chan) (packets_on two.far (link_number two.behind.link) past) (arrived_packet (clock_of (part_of (link_number two.behind.link) past)) (suc (length (packets_on two.far (link_number two.behind.link) past))) packet row) own (omega (arith, number))) ∙ map-append tick_of_packet (channel_packets (channel_number request.chan) (packets_on two.far (link_number two.behind.link) past)) (arrived_packet (clock_of (part_of (link_number two.behind.link) past)) (suc (length (packets_on two.far (link_number two.behind.link) past))) packet row ∷ []) in
-          subst (IsTimed (kind_of request.control) (bound_at two.near.shape.bounds level + two.near.shape.prop) two.near.shape.prop (clock_of (part_of (link_number two.behind.link) past)) (near_ticks network request i two past)) (sym ticks) more)
+          let number = arrive-number two.far.shape.bounds (clock_of (part_of (link_number two.after.link) past)) packet row.terms (length row.ticks) _ _ clock e answered in
+          let more = taken-after network request i two past done packet row level clock e 0 fits sound run asked (arrive-comes network past done packet fits run next is) (sym chan ∙ own) at levels found number rest in
+          let ticks = ap (map tick_of_packet) (packets-on (channel_number request.chan) (packets_on two.far (link_number two.after.link) past) (arrived_packet (clock_of (part_of (link_number two.after.link) past)) (suc (length (packets_on two.far (link_number two.after.link) past))) packet row) own (omega (arith, number))) ∙ map-append tick_of_packet (channel_packets (channel_number request.chan) (packets_on two.far (link_number two.after.link) past)) (arrived_packet (clock_of (part_of (link_number two.after.link) past)) (suc (length (packets_on two.far (link_number two.after.link) past))) packet row ∷ []) in
+          subst (IsTimed (kind_of request.control) (bound_at two.near.shape.bounds level + two.near.shape.prop) two.near.shape.prop (clock_of (part_of (link_number two.after.link) past)) (near_ticks network request i two past)) (sym ticks) more)
       | inr off ↦
           (let other : channel_of row ≢ channel_number request.chan = eqb-false (channel_of row) (channel_number request.chan) off in
-          subst (λ ps. IsTimed (kind_of request.control) (bound_at two.near.shape.bounds level + two.near.shape.prop) two.near.shape.prop (clock_of (part_of (link_number two.behind.link) past)) (near_ticks network request i two past) (map tick_of_packet ps)) (sym (packets-off (channel_number request.chan) (packets_on two.far (link_number two.behind.link) past) (arrived_packet (clock_of (part_of (link_number two.behind.link) past)) (suc (length (packets_on two.far (link_number two.behind.link) past))) packet row) other)) behind)
+          subst (λ ps. IsTimed (kind_of request.control) (bound_at two.near.shape.bounds level + two.near.shape.prop) two.near.shape.prop (clock_of (part_of (link_number two.after.link) past)) (near_ticks network request i two past) (map tick_of_packet ps)) (sym (packets-off (channel_number request.chan) (packets_on two.far (link_number two.after.link) past) (arrived_packet (clock_of (part_of (link_number two.after.link) past)) (suc (length (packets_on two.far (link_number two.after.link) past))) packet row) other)) rest)
     ]
 
 -- a tick brings no packet of the channel here
 pub far-ticks : (network : Network) (request : Request) (i : ℕ) (two : TwoHops network request i) (past : List Done) → NetworkFits network → IsRun network past → ChannelAsked request past
-    → channel_packets (channel_number request.chan) (after_tick two.far.shape (clock_of (part_of (link_number two.behind.link) past)) (scan_of two.far.shape (part_of (link_number two.behind.link) past))).packets ≡ channel_packets (channel_number request.chan) (packets_on two.far (link_number two.behind.link) past)
+    → channel_packets (channel_number request.chan) (after_tick two.far.shape (clock_of (part_of (link_number two.after.link) past)) (scan_of two.far.shape (part_of (link_number two.after.link) past))).packets ≡ channel_packets (channel_number request.chan) (packets_on two.far (link_number two.after.link) past)
 far-ticks network request i two past fits run asked =
-    let legal = part-admissible network past (link_number two.behind.link) two.far fits run two.far_linked in
-    let differ = legal-channels two.far.shape (part_of (link_number two.behind.link) past) legal in
-    elim (cases_lt 0 (offers_to (channel_number request.chan) (part_of (link_number two.behind.link) past))) [
+    let legal = part-admissible network past (link_number two.after.link) two.far fits run two.far_linked in
+    let differ = legal-channels two.far.shape (part_of (link_number two.after.link) past) legal in
+    elim (cases_lt 0 (offers_to (channel_number request.chan) (part_of (link_number two.after.link) past))) [
       | inl some ↦
-          (let at-far = stands-at network request past (suc i) two.behind (link_number two.behind.link) two.far fits run asked two.follows refl two.far_linked in
-          let once = asked.once (link_number two.behind.link) in
-          tick-none two.far.shape (terms_at request (suc i)) (channel_number request.chan) (clock_of (part_of (link_number two.behind.link) past)) (scan_of two.far.shape (part_of (link_number two.behind.link) past)) (ne_eqb (suc i) 0 (λ same. omega (arith, same))) differ (at-far.known (omega (arith, once, some))))
+          (let at-far = stands-at network request past (suc i) two.after (link_number two.after.link) two.far fits run asked two.follows refl two.far_linked in
+          let once = asked.once (link_number two.after.link) in
+          tick-none two.far.shape (terms_at request (suc i)) (channel_number request.chan) (clock_of (part_of (link_number two.after.link) past)) (scan_of two.far.shape (part_of (link_number two.after.link) past)) (ne_eqb (suc i) 0 (λ same. omega (arith, same))) differ (at-far.known (omega (arith, once, some))))
       | inr none ↦
-          (let free = legal-free two.far.shape (terms_at request 0) (channel_number request.chan) (part_of (link_number two.behind.link) past) legal (omega (arith, none)) in
-          tick-free two.far.shape (channel_number request.chan) (clock_of (part_of (link_number two.behind.link) past)) (scan_of two.far.shape (part_of (link_number two.behind.link) past)) free)
+          (let free = legal-free two.far.shape (terms_at request 0) (channel_number request.chan) (part_of (link_number two.after.link) past) legal (omega (arith, none)) in
+          tick-free two.far.shape (channel_number request.chan) (clock_of (part_of (link_number two.after.link) past)) (scan_of two.far.shape (part_of (link_number two.after.link) past)) free)
     ]
 
-far-step : (network : Network) (request : Request) (i : ℕ) (two : TwoHops network request i) (past : List Done) (done : Done) (level : ℕ) (ask : Ask) (reply : Reply) → NetworkFits network → RequestFits network.links request → IsRun network past → ChannelAsked request past → (next : IsNext network past done) → done.ask ≡ ask → link_number done.link ≡ link_number two.behind.link
+far-step : (network : Network) (request : Request) (i : ℕ) (two : TwoHops network request i) (past : List Done) (done : Done) (level : ℕ) (ask : Ask) (reply : Reply) → NetworkFits network → RequestFits network.links request → IsRun network past → ChannelAsked request past → (next : IsNext network past done) → done.ask ≡ ask → link_number done.link ≡ link_number two.after.link
     → Each (λ p. p.level ≡ level) (channel_packets (channel_number request.chan) (packets_on two.near (link_number two.hop.link) past))
-    → reply ≡ reply_at two.far (clock_of (part_of (link_number two.behind.link) past)) (scan_of two.far.shape (part_of (link_number two.behind.link) past)) ask
-    → IsTimed (kind_of request.control) (bound_at two.near.shape.bounds level + two.near.shape.prop) two.near.shape.prop (clock_of (part_of (link_number two.behind.link) past)) (near_ticks network request i two past) (far_ticks network request i two past)
-    → IsTimed (kind_of request.control) (bound_at two.near.shape.bounds level + two.near.shape.prop) two.near.shape.prop (clock_of (part_of (link_number two.behind.link) past)) (near_ticks network request i two past) (ticks_at (channel_number request.chan) (after two.far.shape (clock_of (part_of (link_number two.behind.link) past)) (scan_of two.far.shape (part_of (link_number two.behind.link) past)) ask reply).packets)
+    → reply ≡ reply_at two.far (clock_of (part_of (link_number two.after.link) past)) (scan_of two.far.shape (part_of (link_number two.after.link) past)) ask
+    → IsTimed (kind_of request.control) (bound_at two.near.shape.bounds level + two.near.shape.prop) two.near.shape.prop (clock_of (part_of (link_number two.after.link) past)) (near_ticks network request i two past) (far_ticks network request i two past)
+    → IsTimed (kind_of request.control) (bound_at two.near.shape.bounds level + two.near.shape.prop) two.near.shape.prop (clock_of (part_of (link_number two.after.link) past)) (near_ticks network request i two past) (ticks_at (channel_number request.chan) (after two.far.shape (clock_of (part_of (link_number two.after.link) past)) (scan_of two.far.shape (part_of (link_number two.after.link) past)) ask reply).packets)
 unfolding after reply_at
-far-step network request i two past done level (Arrive packet) (Is.Taken clock e) fits sound run asked next is at levels answered behind =
-    far-arrives network request i two past done packet level clock e (find (is_row_of packet.chan) (scan_of two.far.shape (part_of (link_number two.behind.link) past)).rows) fits sound run asked next is at levels refl answered behind
-far-step network request i two past done level (Pour count gap size) (Is.Planned clock) fits sound run asked next is at levels answered behind = behind
-far-step network request i two past done level Tick reply fits sound run asked next is at levels answered behind =
-    subst (λ ps. IsTimed (kind_of request.control) (bound_at two.near.shape.bounds level + two.near.shape.prop) two.near.shape.prop (clock_of (part_of (link_number two.behind.link) past)) (near_ticks network request i two past) (map tick_of_packet ps)) (sym (far-ticks network request i two past fits run asked)) behind
-far-step network request i two past done level (Reserve chan contract kind delay up_reach first next') (Is.Offer l reach) fits sound run asked next is at levels answered behind = behind
-far-step network request i two past done level (Relax chan l up_bound) (Is.Relaxed clock) fits sound run asked next is at levels answered behind = behind
-far-step network request i two past done level (Deny chan) Is.Denied fits sound run asked next is at levels answered behind = behind
-far-step network request i two past done level (Submit chan count gap size) (Is.Planned clock) fits sound run asked next is at levels answered behind = behind
-far-step network request i two past done level (Release chan upstream) (Is.Closing count cancelled) fits sound run asked next is at levels answered behind = behind
-far-step network request i two past done level _ _ fits sound run asked next is at levels answered behind = behind
+far-step network request i two past done level (Arrive packet) (Is.Taken clock e) fits sound run asked next is at levels answered rest =
+    far-arrives network request i two past done packet level clock e (find (is_row_of packet.chan) (scan_of two.far.shape (part_of (link_number two.after.link) past)).rows) fits sound run asked next is at levels refl answered rest
+far-step network request i two past done level (Pour count gap size) (Is.Planned clock) fits sound run asked next is at levels answered rest = rest
+far-step network request i two past done level Tick reply fits sound run asked next is at levels answered rest =
+    subst (λ ps. IsTimed (kind_of request.control) (bound_at two.near.shape.bounds level + two.near.shape.prop) two.near.shape.prop (clock_of (part_of (link_number two.after.link) past)) (near_ticks network request i two past) (map tick_of_packet ps)) (sym (far-ticks network request i two past fits run asked)) rest
+far-step network request i two past done level (Reserve chan contract kind delay up_reach first next') (Is.Offer l reach) fits sound run asked next is at levels answered rest = rest
+far-step network request i two past done level (Relax chan l up_bound) (Is.Relaxed clock) fits sound run asked next is at levels answered rest = rest
+far-step network request i two past done level (Deny chan) Is.Denied fits sound run asked next is at levels answered rest = rest
+far-step network request i two past done level (Submit chan count gap size) (Is.Planned clock) fits sound run asked next is at levels answered rest = rest
+far-step network request i two past done level (Release chan upstream) (Is.Closing count cancelled) fits sound run asked next is at levels answered rest = rest
+far-step network request i two past done level _ _ fits sound run asked next is at levels answered rest = rest
 
 -- ---- every run
 
 -- the packets at the near hop are more, or the same
 near-more : (network : Network) (request : Request) (i : ℕ) (two : TwoHops network request i) (past : List Done) (done : Done) (shift now : ℕ) (ticks : List ℕ) → IsTimed (kind_of request.control) shift two.near.shape.prop now (near_ticks network request i two past) ticks → IsTimed (kind_of request.control) shift two.near.shape.prop now (near_ticks network request i two (done ∷ past)) ticks
-near-more network request i two past done shift now ticks behind =
+near-more network request i two past done shift now ticks rest =
     let grows = part-grows two.near (link_number two.hop.link) done past in
     let same : near_ticks network request i two (done ∷ past) ≡ near_ticks network request i two past ++ ticks_at (channel_number request.chan) grows.more =
     ap (ticks_at (channel_number request.chan)) grows.is ∙ ap (map tick_of_packet) (filter-append (is_of_channel (channel_number request.chan)) (packets_on two.near (link_number two.hop.link) past) grows.more) ∙ map-append tick_of_packet _ _ in
-    subst (λ before. IsTimed (kind_of request.control) shift two.near.shape.prop now before ticks) (sym same) (timed-append (kind_of request.control) shift two.near.shape.prop now (near_ticks network request i two past) _ ticks behind)
+    subst (λ before. IsTimed (kind_of request.control) shift two.near.shape.prop now before ticks) (sym same) (timed-append (kind_of request.control) shift two.near.shape.prop now (near_ticks network request i two past) _ ticks rest)
 
 levels-before : (network : Network) (request : Request) (i : ℕ) (two : TwoHops network request i) (past : List Done) (done : Done) (level : ℕ) → Each (λ p. p.level ≡ level) (channel_packets (channel_number request.chan) (packets_on two.near (link_number two.hop.link) (done ∷ past))) → Each (λ p. p.level ≡ level) (channel_packets (channel_number request.chan) (packets_on two.near (link_number two.hop.link) past))
 levels-before network request i two past done level levels =
@@ -344,19 +344,19 @@ levels-before network request i two past done level levels =
 
 hop-step : (network : Network) (request : Request) (i : ℕ) (two : TwoHops network request i) (past : List Done) (done : Done) (level : ℕ) → NetworkFits network → RequestFits network.links request → IsRun network past → ChannelAsked request past → (next : IsNext network past done)
     → Each (λ p. p.level ≡ level) (channel_packets (channel_number request.chan) (packets_on two.near (link_number two.hop.link) past))
-    → IsTimed (kind_of request.control) (bound_at two.near.shape.bounds level + two.near.shape.prop) two.near.shape.prop (clock_of (part_of (link_number two.behind.link) past)) (near_ticks network request i two past) (far_ticks network request i two past)
-    → IsTimed (kind_of request.control) (bound_at two.near.shape.bounds level + two.near.shape.prop) two.near.shape.prop (clock_of (part_of (link_number two.behind.link) past)) (near_ticks network request i two past) (far_ticks network request i two (done ∷ past))
+    → IsTimed (kind_of request.control) (bound_at two.near.shape.bounds level + two.near.shape.prop) two.near.shape.prop (clock_of (part_of (link_number two.after.link) past)) (near_ticks network request i two past) (far_ticks network request i two past)
+    → IsTimed (kind_of request.control) (bound_at two.near.shape.bounds level + two.near.shape.prop) two.near.shape.prop (clock_of (part_of (link_number two.after.link) past)) (near_ticks network request i two past) (far_ticks network request i two (done ∷ past))
 unfolding scan_of reply_to
-hop-step network request i two past done level fits sound run asked next levels behind =
-    elim (cases_Bool (nat_eq (link_number done.link) (link_number two.behind.link))) [
+hop-step network request i two past done level fits sound run asked next levels rest =
+    elim (cases_Bool (nat_eq (link_number done.link) (link_number two.after.link))) [
       | inl on ↦
-          (let at : link_number done.link ≡ link_number two.behind.link = eqb-true (link_number done.link) (link_number two.behind.link) on in
+          (let at : link_number done.link ≡ link_number two.after.link = eqb-true (link_number done.link) (link_number two.after.link) on in
           let link : next.link ≡ two.far = same_Some next.link two.far (sym next.linked ∙ ap (slice_get network.links) at ∙ two.far_linked) in
-          let answered : done.reply ≡ reply_to two.far (part_of (link_number two.behind.link) past) done.ask = next.answered ∙ ap (λ l. reply_to l (part_of (link_number done.link) past) done.ask) link ∙ ap (λ m. reply_to two.far (part_of m past) done.ask) at in
-          subst (λ h. IsTimed (kind_of request.control) (bound_at two.near.shape.bounds level + two.near.shape.prop) two.near.shape.prop (clock_of (part_of (link_number two.behind.link) past)) (near_ticks network request i two past) (ticks_at (channel_number request.chan) (scan_of two.far.shape h).packets)) (sym (part-on (link_number two.behind.link) done past at))
-          (far-step network request i two past done level done.ask done.reply fits sound run asked next refl at levels answered behind))
+          let answered : done.reply ≡ reply_to two.far (part_of (link_number two.after.link) past) done.ask = next.answered ∙ ap (λ l. reply_to l (part_of (link_number done.link) past) done.ask) link ∙ ap (λ m. reply_to two.far (part_of m past) done.ask) at in
+          subst (λ h. IsTimed (kind_of request.control) (bound_at two.near.shape.bounds level + two.near.shape.prop) two.near.shape.prop (clock_of (part_of (link_number two.after.link) past)) (near_ticks network request i two past) (ticks_at (channel_number request.chan) (scan_of two.far.shape h).packets)) (sym (part-on (link_number two.after.link) done past at))
+          (far-step network request i two past done level done.ask done.reply fits sound run asked next refl at levels answered rest))
       | inr off ↦
-          subst (λ h. IsTimed (kind_of request.control) (bound_at two.near.shape.bounds level + two.near.shape.prop) two.near.shape.prop (clock_of (part_of (link_number two.behind.link) past)) (near_ticks network request i two past) (ticks_at (channel_number request.chan) (scan_of two.far.shape h).packets)) (sym (part-off (link_number two.behind.link) done past (eqb-false (link_number done.link) (link_number two.behind.link) off))) behind
+          subst (λ h. IsTimed (kind_of request.control) (bound_at two.near.shape.bounds level + two.near.shape.prop) two.near.shape.prop (clock_of (part_of (link_number two.after.link) past)) (near_ticks network request i two past) (ticks_at (channel_number request.chan) (scan_of two.far.shape h).packets)) (sym (part-off (link_number two.after.link) done past (eqb-false (link_number done.link) (link_number two.after.link) off))) rest
     ]
 
 clock-with-later : (ask : Ask) (t : ℕ) → t ≤ clock_with ask t
@@ -380,11 +380,11 @@ clock-later n done past =
 -- the law of two hops
 pub hop-law : (network : Network) (request : Request) (i : ℕ) (two : TwoHops network request i) → NetworkFits network → RequestFits network.links request → ((past : List Done) → IsRun network past → ChannelAsked request past) → (run : List Done) → IsRun network run → (level : ℕ)
     → Each (λ p. p.level ≡ level) (channel_packets (channel_number request.chan) (packets_on two.near (link_number two.hop.link) run))
-    → IsTimed (kind_of request.control) (bound_at two.near.shape.bounds level + two.near.shape.prop) two.near.shape.prop (clock_of (part_of (link_number two.behind.link) run)) (near_ticks network request i two run) (far_ticks network request i two run)
+    → IsTimed (kind_of request.control) (bound_at two.near.shape.bounds level + two.near.shape.prop) two.near.shape.prop (clock_of (part_of (link_number two.after.link) run)) (near_ticks network request i two run) (far_ticks network request i two run)
 unfolding IsRun part_of scan_of
 hop-law network request i two fits sound asked [] is level levels = timed-none (kind_of request.control) _ two.near.shape.prop _ _
 hop-law network request i two fits sound asked (done ∷ past) is level levels =
     let before = levels-before network request i two past done level levels in
     near-more network request i two past done (bound_at two.near.shape.bounds level + two.near.shape.prop) _ (far_ticks network request i two (done ∷ past))
-    (timed-later (kind_of request.control) (bound_at two.near.shape.bounds level + two.near.shape.prop) two.near.shape.prop (clock_of (part_of (link_number two.behind.link) past)) (clock_of (part_of (link_number two.behind.link) (done ∷ past))) (near_ticks network request i two past) (far_ticks network request i two (done ∷ past)) (clock-later (link_number two.behind.link) done past)
+    (timed-later (kind_of request.control) (bound_at two.near.shape.bounds level + two.near.shape.prop) two.near.shape.prop (clock_of (part_of (link_number two.after.link) past)) (clock_of (part_of (link_number two.after.link) (done ∷ past))) (near_ticks network request i two past) (far_ticks network request i two (done ∷ past)) (clock-later (link_number two.after.link) done past)
     (hop-step network request i two past done level fits sound is.0 (asked past is.0) is.1 before (hop-law network request i two fits sound asked past is.0 level before)))

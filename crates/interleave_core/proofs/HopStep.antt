@@ -12,7 +12,7 @@ use Rattle.interleave_core.specs.Paths.{IsBehind}
 
 spaced-more : (gap least shift : ℕ) (before ticks : List ℕ) → 1 ≤ gap → Spaced gap least before → Spaced gap least ticks → length ticks < length before → IsBehind shift before ticks
     → Spaced gap least (ticks ++ (get_or before (length ticks) 0 + shift) ∷ [])
-spaced-more gap least shift before ticks some far near more behind = record {
+spaced-more gap least shift before ticks some far near more after = record {
   apart = λ i within.
       let d : ℕ = get_or before (length ticks) 0 + shift in
       let count : length (ticks ++ (get_or before (length ticks) 0 + shift) ∷ []) ≡ length ticks + 1 = length_push ticks (get_or before (length ticks) 0 + shift) in
@@ -27,66 +27,66 @@ spaced-more gap least shift before ticks some far near more behind = record {
             let right : get_or (ticks ++ (get_or before (length ticks) 0 + shift) ∷ []) (i + gap) 0 ≡ get_or before (length ticks) 0 + shift = get_or_push ticks (get_or before (length ticks) 0 + shift) 0 (i + gap) e in
             let h = far.apart i (omega (arith, e, more)) in
             let same : get_or before (length ticks) 0 ≡ get_or before (i + gap) 0 = ap (λ j. get_or before j 0) e in
-            let under = behind.behind i (omega (arith, e, some)) in
+            let under = after.after i (omega (arith, e, some)) in
             omega (arith, left, right, h, same, under))
       ];
 }
 
 -- the due tick is one that keeps the contract, so the eligible tick is no later
-pub eligible-behind : (c : Traffic) (before ticks : List ℕ) (shift low e : ℕ) → 1 ≤ burst_of c → Keeps c before → Keeps c ticks → length ticks < length before → IsBehind shift before ticks → low ≤ get_or before (length ticks) 0 + shift → IsEligible c ticks low e
+pub eligible-after : (c : Traffic) (before ticks : List ℕ) (shift low e : ℕ) → 1 ≤ burst_of c → Keeps c before → Keeps c ticks → length ticks < length before → IsBehind shift before ticks → low ≤ get_or before (length ticks) 0 + shift → IsEligible c ticks low e
     → e ≤ get_or before (length ticks) 0 + shift
-eligible-behind c before ticks shift low e burst far near more behind early is =
+eligible-after c before ticks shift low e burst far near more after early is =
     is.least (get_or before (length ticks) 0 + shift) early (record {
-      neighbours = spaced-more 1 c.xmin shift before ticks (omega arith) far.neighbours near.neighbours more behind;
-      bursts = spaced-more (burst_of c) c.interval shift before ticks burst far.bursts near.bursts more behind;
+      neighbours = spaced-more 1 c.xmin shift before ticks (omega arith) far.neighbours near.neighbours more after;
+      bursts = spaced-more (burst_of c) c.interval shift before ticks burst far.bursts near.bursts more after;
     })
 
 -- so one packet more is after too
-pub behind-more : (shift e : ℕ) (before ticks : List ℕ) → length ticks < length before → IsBehind shift before ticks → e ≤ get_or before (length ticks) 0 + shift → IsBehind shift before (ticks ++ e ∷ [])
-behind-more shift e before ticks more behind under =
+pub after-more : (shift e : ℕ) (before ticks : List ℕ) → length ticks < length before → IsBehind shift before ticks → e ≤ get_or before (length ticks) 0 + shift → IsBehind shift before (ticks ++ e ∷ [])
+after-more shift e before ticks more after under =
     let count = length_push ticks e in
     record {
       fewer = omega (arith, count, more);
-      behind = λ k within. elim (cases_lt k (length ticks)) [
-        | inl inside ↦ (let left = get_or_append_left ticks (e ∷ []) 0 k inside in let h = behind.behind k inside in omega (arith, left, h))
+      after = λ k within. elim (cases_lt k (length ticks)) [
+        | inl inside ↦ (let left = get_or_append_left ticks (e ∷ []) 0 k inside in let h = after.after k inside in omega (arith, left, h))
         | inr last ↦ (let e' : length ticks ≡ k = omega (arith, within, count, last) in let right = get_or_push ticks e 0 k e' in let same : get_or before (length ticks) 0 ≡ get_or before k 0 = ap (λ j. get_or before j 0) e' in omega (arith, right, under, same))
       ];
     }
 
 -- and it stays behind where the hop before takes one more
-pub behind-longer : (shift e : ℕ) (before ticks : List ℕ) → IsBehind shift before ticks → IsBehind shift (before ++ e ∷ []) ticks
-behind-longer shift e before ticks behind =
+pub after-longer : (shift e : ℕ) (before ticks : List ℕ) → IsBehind shift before ticks → IsBehind shift (before ++ e ∷ []) ticks
+after-longer shift e before ticks after =
     let count = length_push before e in
     record {
-      fewer = omega (arith, count, behind.fewer);
-      behind = λ k within. (let fewer = behind.fewer in let left = get_or_append_left before (e ∷ []) 0 k (omega (arith, fewer, within)) in let h = behind.behind k within in omega (arith, left, h));
+      fewer = omega (arith, count, after.fewer);
+      after = λ k within. (let fewer = after.fewer in let left = get_or_append_left before (e ∷ []) 0 k (omega (arith, fewer, within)) in let h = after.after k within in omega (arith, left, h));
     }
 
 -- the ticks of a hop against those of the hop before: at most so much behind, for packets that have passed the
 -- propagation by now, and under delay-jitter control exactly so much behind
 pub record IsTimed (kind : Kind) (shift prop now : ℕ) (before ticks : List ℕ) : Type 0 where
-  pub behind : IsBehind shift before ticks
+  pub after : IsBehind shift before ticks
   pub passed : (k : ℕ) → k < length ticks → get_or before k 0 + prop < now
   pub paced : kind ≡ Jitter → (k : ℕ) → k < length ticks → get_or before k 0 + shift ≤ get_or ticks k 0
 
 pub timed-none : (kind : Kind) (shift prop now : ℕ) (before : List ℕ) → IsTimed kind shift prop now before []
 timed-none kind shift prop now before = record {
-  behind = record { fewer = omega arith; behind = λ k within. absurd (omega (arith, within)) };
+  after = record { fewer = omega arith; after = λ k within. absurd (omega (arith, within)) };
   passed = λ k within. absurd (omega (arith, within));
   paced = λ is k within. absurd (omega (arith, within));
 }
 
 pub timed-later : (kind : Kind) (shift prop now later : ℕ) (before ticks : List ℕ) → now ≤ later → IsTimed kind shift prop now before ticks → IsTimed kind shift prop later before ticks
-timed-later kind shift prop now later before ticks upto timed = record { behind = timed.behind; passed = λ k within. (let h = timed.passed k within in omega (arith, h, upto)); paced = timed.paced }
+timed-later kind shift prop now later before ticks upto timed = record { after = timed.after; passed = λ k within. (let h = timed.passed k within in omega (arith, h, upto)); paced = timed.paced }
 
 pub timed-append : (kind : Kind) (shift prop now : ℕ) (before more ticks : List ℕ) → IsTimed kind shift prop now before ticks → IsTimed kind shift prop now (before ++ more) ticks
 timed-append kind shift prop now before more ticks timed =
     let count = length-append before more in
-    let fewer = timed.behind.fewer in
+    let fewer = timed.after.fewer in
     record {
-      behind = record {
+      after = record {
         fewer = omega (arith, count, fewer);
-        behind = λ k within. (let left = get_or_append_left before more 0 k (omega (arith, fewer, within)) in let h = timed.behind.behind k within in omega (arith, left, h));
+        after = λ k within. (let left = get_or_append_left before more 0 k (omega (arith, fewer, within)) in let h = timed.after.after k within in omega (arith, left, h));
       };
       passed = λ k within. (let left = get_or_append_left before more 0 k (omega (arith, fewer, within)) in let h = timed.passed k within in omega (arith, left, h));
       paced = λ is k within. (let left = get_or_append_left before more 0 k (omega (arith, fewer, within)) in let h = timed.paced is k within in omega (arith, left, h));
@@ -97,7 +97,7 @@ pub timed-more : (kind : Kind) (shift prop now e : ℕ) (before ticks : List ℕ
 timed-more kind shift prop now e before ticks more timed under past exact =
     let count = length_push ticks e in
     record {
-      behind = behind-more shift e before ticks more timed.behind under;
+      after = after-more shift e before ticks more timed.after under;
       passed = λ k within. elim (cases_lt k (length ticks)) [
         | inl inside ↦ timed.passed k inside
         | inr last ↦ (let e' : length ticks ≡ k = omega (arith, within, count, last) in let same : get_or before (length ticks) 0 ≡ get_or before k 0 = ap (λ j. get_or before j 0) e' in omega (arith, past, same))

@@ -12,7 +12,7 @@ use Rattle.link_steps.specs.declared.replies.Reply.{Reply}
 use Rattle.setup_protocol.specs.declared.verdict.Deny.{Deny}
 use Rattle.hop_reservation.specs.Offers.{delay_over}
 use Rattle.relaxation.specs.declared.EndDenial.{EndDenial}
-use Rattle.setup_protocol.specs.Setup.{Outcome, Accepts, next_ask, verdict_of, offers_in, behind_offers, on_the_way, undoing, relaxing, behind_test, settled_in, reach_after}
+use Rattle.setup_protocol.specs.Setup.{Outcome, Accepts, next_ask, verdict_of, offers_in, after_offers, on_the_way, undoing, relaxing, after_test, settled_in, reach_after}
 use Rattle.setup_protocol.proofs.ProgressFacts.{progress-on_the_way, progress-tested}
 use Rattle.setup_protocol.specs.declared.request.Request.{Request}
 use Rattle.setup_protocol.proofs.LawFacts.{accepted-keep}
@@ -44,15 +44,15 @@ relaxed-sum : (route : List Hop) (left : ℕ) (own levels : List ℕ) (delay : �
 relaxed-sum route zero own levels delay same = cc
 relaxed-sum route (suc left) own levels delay same = absurd (let clash : None ≡ Some (Accepts levels delay) = same in cc)
 
-tested-sum : (request : Request) (offers : List ℕ) (n : ℕ) (denial : Option EndDenial) (levels : List ℕ) (delay : ℕ) → settled_in (behind_test request offers n denial) ≡ Some (Accepts levels delay) → delay ≡ delay_over request.route levels
+tested-sum : (request : Request) (offers : List ℕ) (n : ℕ) (denial : Option EndDenial) (levels : List ℕ) (delay : ℕ) → settled_in (after_test request offers n denial) ≡ Some (Accepts levels delay) → delay ≡ delay_over request.route levels
 tested-sum request offers n (Some denial) levels delay same = absurd (undone-sum (length request.route - n) _ levels delay same)
 tested-sum request offers n None levels delay same = relaxed-sum request.route (length request.route - n) _ levels delay same
 
 sum-of : (request : Request) (replies : List Reply) (levels : List ℕ) (delay : ℕ) → verdict_of request replies ≡ Some (Accepts levels delay) → delay ≡ delay_over request.route levels
 sum-of request replies levels delay verdict =
     elim (cases_lt (length (offers_in replies)) (length request.route)) [
-      | inl fewer ↦ absurd (way-sum (offers_in replies) (reach_after 0 request.route replies) (behind_offers replies) levels delay (subst (λ p. settled_in p ≡ Some (Accepts levels delay)) (progress-on_the_way request replies fewer) verdict))
-      | inr whole ↦ tested-sum request (offers_in replies) (length (behind_offers replies)) _ levels delay (subst (λ p. settled_in p ≡ Some (Accepts levels delay)) (progress-tested request replies whole) verdict)
+      | inl fewer ↦ absurd (way-sum (offers_in replies) (reach_after 0 request.route replies) (after_offers replies) levels delay (subst (λ p. settled_in p ≡ Some (Accepts levels delay)) (progress-on_the_way request replies fewer) verdict))
+      | inr whole ↦ tested-sum request (offers_in replies) (length (after_offers replies)) _ levels delay (subst (λ p. settled_in p ≡ Some (Accepts levels delay)) (progress-tested request replies whole) verdict)
     ]
 
 -- a task that opens the channel gave the outcome

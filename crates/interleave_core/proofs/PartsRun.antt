@@ -13,7 +13,7 @@ use Rattle.call_script.specs.Tasks.{Network}
 use Rattle.tick_plane.specs.Planes.{plane_of, plane_ask}
 use Rattle.run_record.specs.Runs.{is_by, part_of, replies_to}
 use Rattle.interleave_core.specs.Runs.{plane_no, next_for, IsRun}
-use Rattle.interleave_core.specs.Parts.{reply_of, next_behind, IsAsked, own_of, IsLinked}
+use Rattle.interleave_core.specs.Parts.{reply_of, next_after, IsAsked, own_of, IsLinked}
 use Rattle.interleave_core.proofs.RunLegal.{part-on, part-off}
 
 own-replies : (actor : ℕ) (run : List Done) → replies_to actor run ≡ map reply_of (own_of actor run)
@@ -25,7 +25,7 @@ own-replies actor (done ∷ past) =
       | inr off ↦ rw off (own-replies actor past)
     ]
 
-pub next-is : (network : Network) (actor : ℕ) (run : List Done) → next_for network actor run ≡ next_behind network actor (map reply_of (own_of actor run))
+pub next-is : (network : Network) (actor : ℕ) (run : List Done) → next_for network actor run ≡ next_after network actor (map reply_of (own_of actor run))
 unfolding next_for
 next-is network actor run =
     elim (cases_Bool (nat_eq actor (plane_no network))) [

@@ -34,7 +34,7 @@ use Rattle.interleave_core.proofs.PathLaw.{delay-more, path-law, same-hop}
 use Rattle.interleave_core.proofs.RunLegal.{part-admissible}
 use Rattle.interleave_core.specs.Paths.{HopAt, hop_ticks, packets_at, delay_before, Passed}
 
--- under delay-jitter control the packets are exactly so much behind
+-- under delay-jitter control the packets are exactly the shift later
 pub path-exact : (network : Network) (request : Request) (levels : List ℕ) (run : List Done) → NetworkFits network → RequestFits network.links request → ((past : List Done) → IsRun network past → ChannelAsked request past) → IsRun network run → HaveLevelsAt network request levels run → kind_of request.control ≡ Jitter
     → (first : HopAt network request 0) (i : ℕ) (at : HopAt network request i) (k : ℕ) → k < length (hop_ticks network request i at run) → get_or (hop_ticks network request 0 first run) k 0 + delay_before request levels i ≤ get_or (hop_ticks network request i at run) k 0
 unfolding delay_over
@@ -48,9 +48,9 @@ path-exact network request levels run fits sound asked is have jitter first zero
 path-exact network request levels run fits sound asked is have jitter first (suc i) at k within =
     let inside : suc i < length request.route = slice_get_within request.route (suc i) at.hop at.stands in
     let before = hop-at network request i sound (omega arith) in
-    let two : TwoHops network request i = record { hop = before.hop; behind = at.hop; stands = before.stands; follows = at.stands; near = before.link; far = at.link; linked = before.linked; far_linked = at.linked } in
+    let two : TwoHops network request i = record { hop = before.hop; after = at.hop; stands = before.stands; follows = at.stands; near = before.link; far = at.link; linked = before.linked; far_linked = at.linked } in
     let step = hop-law network request i two fits sound asked run is (get_or levels i 0) (have.at i before) in
-    let fewer = step.behind.fewer in
+    let fewer = step.after.fewer in
     let own = step.paced jitter k within in
     let so-far = path-exact network request levels run fits sound asked is have jitter first i before k (omega (arith, fewer, within)) in
     let more = delay-more network request levels i before (let count = have.count in omega (arith, inside, count)) in
@@ -69,7 +69,7 @@ passed network request levels run fits sound asked is have first i at start amon
     let path = path-law network request levels run fits sound asked is have first i at in
     let count = mapped-length (packets_at network request i at run) in
     let inside : place.index < length (hop_ticks network request i at run) = (let w = place.within in omega (arith, w, count)) in
-    let behind = path.behind place.index inside in
+    let rest = path.after place.index inside in
     let tick = place.tick in
     let level : start.packet.level ≡ get_or levels i 0 = Each-among (λ p. p.level ≡ get_or levels i 0) start.packet _ (have.at i at) own in
     let bound : bound_at at.link.shape.bounds start.packet.level ≡ bound_at at.link.shape.bounds (get_or levels i 0) = ap (bound_at at.link.shape.bounds) level in
@@ -81,7 +81,7 @@ passed network request levels run fits sound asked is have first i at start amon
       index = place.index;
       number = (let e = place.number in omega (arith, e));
       within = (let fewer = path.fewer in omega (arith, fewer, inside));
-      in_time = omega (arith, behind, tick, bound, most, more);
+      in_time = omega (arith, rest, tick, bound, most, more);
       later = λ jitter. (let exact = path-exact network request levels run fits sound asked is have jitter first i at place.index inside in omega (arith, exact, tick, least));
     } where
       mapped-length : (ps : List Arrival) → length (map tick_of_packet ps) ≡ length ps

@@ -21,13 +21,13 @@ use Rattle.interleave_core.specs.Runs.{IsRun}
 use Rattle.interleave_core.proofs.HopLaw.{TwoHops, hop-law}
 use Rattle.interleave_core.specs.Paths.{HopAt, hop_ticks, IsBehind, delay_before}
 
-behind-none : (ticks : List ℕ) → IsBehind 0 ticks ticks
-behind-none ticks = record { fewer = omega arith; behind = λ k within. omega arith }
+after-none : (ticks : List ℕ) → IsBehind 0 ticks ticks
+after-none ticks = record { fewer = omega arith; after = λ k within. omega arith }
 
-behind-trans : (a b : ℕ) (first second third : List ℕ) → IsBehind a first second → IsBehind b second third → IsBehind (a + b) first third
-behind-trans a b first second third one two = record {
+after-trans : (a b : ℕ) (first second third : List ℕ) → IsBehind a first second → IsBehind b second third → IsBehind (a + b) first third
+after-trans a b first second third one two = record {
   fewer = (let x = one.fewer in let y = two.fewer in omega (arith, x, y));
-  behind = λ k within. (let y = two.behind k within in let f = two.fewer in let x = one.behind k (omega (arith, f, within)) in omega (arith, x, y));
+  after = λ k within. (let y = two.after k within in let f = two.fewer in let x = one.after k (omega (arith, f, within)) in omega (arith, x, y));
 }
 
 pub same-hop : (network : Network) (request : Request) (i : ℕ) (one other : HopAt network request i) (run : List Done) → hop_ticks network request i one run ≡ hop_ticks network request i other run
@@ -51,14 +51,14 @@ unfolding delay_over
 path-law network request levels run fits sound asked is have first zero at =
     subst (λ ticks. IsBehind (delay_over request.route []) (hop_ticks network request 0 first run) ticks) (same-hop network request 0 first at run) (no-delay request.route (hop_ticks network request 0 first run)) where
       no-delay : (hops : List Hop) (ticks : List ℕ) → IsBehind (delay_over hops []) ticks ticks
-      no-delay [] ticks = behind-none ticks
-      no-delay (hop ∷ hops) ticks = behind-none ticks
+      no-delay [] ticks = after-none ticks
+      no-delay (hop ∷ hops) ticks = after-none ticks
 path-law network request levels run fits sound asked is have first (suc i) at =
     let within : suc i < length request.route = slice_get_within request.route (suc i) at.hop at.stands in
     let before = hop-at network request i sound (omega arith) in
     let so-far = path-law network request levels run fits sound asked is have first i before in
-    let two : TwoHops network request i = record { hop = before.hop; behind = at.hop; stands = before.stands; follows = at.stands; near = before.link; far = at.link; linked = before.linked; far_linked = at.linked } in
-    let step = (hop-law network request i two fits sound asked run is (get_or levels i 0) (have.at i before)).behind in
+    let two : TwoHops network request i = record { hop = before.hop; after = at.hop; stands = before.stands; follows = at.stands; near = before.link; far = at.link; linked = before.linked; far_linked = at.linked } in
+    let step = (hop-law network request i two fits sound asked run is (get_or levels i 0) (have.at i before)).after in
     let count = have.count in
     subst (λ d. IsBehind d (hop_ticks network request 0 first run) (hop_ticks network request (suc i) at run)) (sym (delay-more network request levels i before (omega (arith, within, count))))
-    (behind-trans (delay_before request levels i) (bound_at before.link.shape.bounds (get_or levels i 0) + before.link.shape.prop) (hop_ticks network request 0 first run) (hop_ticks network request i before run) (hop_ticks network request (suc i) at run) so-far step)
+    (after-trans (delay_before request levels i) (bound_at before.link.shape.bounds (get_or levels i 0) + before.link.shape.prop) (hop_ticks network request 0 first run) (hop_ticks network request i before run) (hop_ticks network request (suc i) at run) so-far step)

@@ -21,7 +21,7 @@ use Rattle.interleave_core.specs.declared.playing.PlayFault.TheVariants.{Memory,
 use Rattle.interleave_core.specs.declared.stepping.Core.{Core}
 use Rattle.interleave_core.proofs.ActorFacts.{plane-number}
 use Rattle.interleave_core.proofs.GuaranteeLaw.{guaranteed-throughout}
-use Rattle.interleave_core.proofs.ScheduleFacts.{follows-none, follows-one, follows-more, repeated-more, repeated-split, repeated-actors, lined-append, lined-one, turns-append, turns-one, stops-behind, stops-before, stops-now}
+use Rattle.interleave_core.proofs.ScheduleFacts.{follows-none, follows-one, follows-more, repeated-more, repeated-split, repeated-actors, lined-append, lined-one, turns-append, turns-one, stops-after, stops-before, stops-now}
 use Rattle.interleave_core.specs.Turns.{most_left}
 use Rattle.interleave_core.proofs.TurnFacts.{makes-one}
 use Rattle.run_record.specs.declared.done.Done.{Done}
@@ -68,7 +68,7 @@ follows-again network past mid run actor n before one = subst (λ actors. Follow
 missing-stops : (network : Network) (past mid : List Done) (turn : Turn) (n count : ℕ) (line made : ℕ) → n < count → FollowsTurns network past (repeated n turn.actor) mid → IsMissing network mid turn (Step line made) → Stops network past (repeated count turn) line made
 missing-stops network past mid turn n count line made less before missing =
     subst (λ turns. Stops network past turns line made) (sym (repeated-split n count turn less))
-    (stops-behind network past mid (repeated n turn) (turn ∷ repeated (count - suc n) turn) line made (subst (λ actors. FollowsTurns network past actors mid) (sym (repeated-actors n turn)) before)
+    (stops-after network past mid (repeated n turn) (turn ∷ repeated (count - suc n) turn) line made (subst (λ actors. FollowsTurns network past actors mid) (sym (repeated-actors n turn)) before)
     (stops-now network mid turn (repeated (count - suc n) turn) line made missing.0 missing.1 missing.2))
 
 pub item-stops : (network : Network) (past mid : List Done) (item : Do) (n : ℕ) (fault : PlayFault) → n < item.count → FollowsTurns network past (repeated n item.actor) mid → IsMissing network mid (turn_of item) fault → IsStop network past (repeated item.count (turn_of item)) fault
@@ -88,7 +88,7 @@ items-stop-at network mid items i item line made within is before stop =
     ap lined_turns (sym (take-append-drop i items) ∙ ap (λ more. take i items ++ more) (left-at items i item within is)) ∙ lined-append (take i items) (item ∷ drop (i + 1) items)
     ∙ ap (λ more. lined_turns (take i items) ++ more) (lined-append (item ∷ []) (drop (i + 1) items) ∙ ap (λ more. more ++ lined_turns (drop (i + 1) items)) (lined-one item)) in
     subst (λ turns. Stops network [] turns line made) (sym all)
-    (stops-behind network [] mid (lined_turns (take i items)) (repeated item.count (turn_of item) ++ lined_turns (drop (i + 1) items)) line made before
+    (stops-after network [] mid (lined_turns (take i items)) (repeated item.count (turn_of item) ++ lined_turns (drop (i + 1) items)) line made before
     (stops-before network mid (repeated item.count (turn_of item)) (lined_turns (drop (i + 1) items)) line made stop))
 
 pub items-stop : (network : Network) (mid : List Done) (items : List Do) (i : ℕ) (item : Do) (fault : PlayFault) → i < length items → item ≡ get_or items i item → FollowsTurns network [] (turns_of (take i items)) mid → IsStop network mid (repeated item.count (turn_of item)) fault → IsStop network [] (lined_turns items) fault

@@ -43,7 +43,7 @@ use Rattle.interleave_core.proofs.RunLegal.{part-on}
 -- the row that takes the packet
 pub record FarReady (network : Network) (request : Request) (i : ℕ) (two : TwoHops network request i) (past : List Done) (packet : Packet) (level : ℕ) : Type 0 where
   pub row : Row
-  pub found : find (is_row_of packet.chan) (scan_of two.far.shape (part_of (link_number two.behind.link) past)).rows ≡ Some row
+  pub found : find (is_row_of packet.chan) (scan_of two.far.shape (part_of (link_number two.after.link) past)).rows ≡ Some row
   pub settled : row.terms.phase ≡ Tentative → ⊥
   pub counts : row.terms.phase ≡ Closing → length row.ticks < row.terms.count
   pub some : 1 ≤ bound_at two.far.shape.bounds (level_number row.terms.level)
@@ -94,7 +94,7 @@ replied link t packet scan row found = ap (arrive_to link.shape t scan.packets p
 -- a packet whose row is ready is taken
 pub ready-counts : (network : Network) (request : Request) (i : ℕ) (two : TwoHops network request i) (done : Done) (past : List Done) (level : ℕ) → NetworkFits network → RequestFits network.links request → ((run : List Done) → IsRun network run → ChannelAsked request run) → IsRun network past → (next : IsNext network past done) → LegStands network request i two past
     → Each (λ p. p.level ≡ level) (channel_packets (channel_number request.chan) (packets_on two.near (link_number two.hop.link) past))
-    → ((packet : Packet) → done.ask ≡ Arrive packet → channel_number packet.chan ≡ channel_number request.chan → link_number done.link ≡ link_number two.behind.link → FarReady network request i two past packet level)
+    → ((packet : Packet) → done.ask ≡ Arrive packet → channel_number packet.chan ≡ channel_number request.chan → link_number done.link ≡ link_number two.after.link → FarReady network request i two past packet level)
     → ArriveCounts network request i two done past
 unfolding scan_of reply_to
 ready-counts network request i two done past level fits sound asked run next leg levels ready packet arrives chan at =
@@ -108,11 +108,11 @@ ready-counts network request i two done past level fits sound asked run next leg
     let narrow : is.row.terms.contract.smax ≡ request.contract.smax = ap (λ k. k.smax) tells.contract_is in
     let slot = slot-free network request i two past done packet is.row level fits sound asked run next arrives at levels is.found chan number is.some is.settled is.reckons in
     let link : next.link ≡ two.far = same_Some next.link two.far (sym next.linked ∙ ap (slice_get network.links) at ∙ two.far_linked) in
-    let answered : done.reply ≡ reply_to two.far (part_of (link_number two.behind.link) past) done.ask = next.answered ∙ ap (λ s. reply_to s (part_of (link_number done.link) past) done.ask) link ∙ ap (λ m. reply_to two.far (part_of m past) done.ask) at in
-    let reply : done.reply ≡ Is.Taken (clock_of (part_of (link_number two.behind.link) past)) (eligible_next is.row.terms is.row.ticks (clock_of (part_of (link_number two.behind.link) past)) packet.due) =
-    answered ∙ ap (reply_to two.far (part_of (link_number two.behind.link) past)) arrives ∙ replied two.far (clock_of (part_of (link_number two.behind.link) past)) packet (scan_of two.far.shape (part_of (link_number two.behind.link) past)) is.row is.found
-    ∙ taken-reply two.far.shape.bounds (clock_of (part_of (link_number two.behind.link) past)) packet is.row.terms (length is.row.ticks) _ _ (tells.first_is ∙ ne_eqb (suc i) 0 (λ same. omega (arith, same))) is.settled number is.counts (omega (arith, small, narrow)) slot in
-    ap (λ h. length (channel_packets (channel_number request.chan) (scan_of two.far.shape h).packets)) (part-on (link_number two.behind.link) done past at)
-    ∙ ap (λ a. length (channel_packets (channel_number request.chan) (after two.far.shape (clock_of (part_of (link_number two.behind.link) past)) (scan_of two.far.shape (part_of (link_number two.behind.link) past)) a done.reply).packets)) arrives
-    ∙ ap (λ r. length (channel_packets (channel_number request.chan) (after two.far.shape (clock_of (part_of (link_number two.behind.link) past)) (scan_of two.far.shape (part_of (link_number two.behind.link) past)) (Arrive packet) r).packets)) reply
-    ∙ counted (channel_number request.chan) (clock_of (part_of (link_number two.behind.link) past)) two.far.shape packet (scan_of two.far.shape (part_of (link_number two.behind.link) past)) is.row _ (omega (arith, number)) is.found own
+    let answered : done.reply ≡ reply_to two.far (part_of (link_number two.after.link) past) done.ask = next.answered ∙ ap (λ s. reply_to s (part_of (link_number done.link) past) done.ask) link ∙ ap (λ m. reply_to two.far (part_of m past) done.ask) at in
+    let reply : done.reply ≡ Is.Taken (clock_of (part_of (link_number two.after.link) past)) (eligible_next is.row.terms is.row.ticks (clock_of (part_of (link_number two.after.link) past)) packet.due) =
+    answered ∙ ap (reply_to two.far (part_of (link_number two.after.link) past)) arrives ∙ replied two.far (clock_of (part_of (link_number two.after.link) past)) packet (scan_of two.far.shape (part_of (link_number two.after.link) past)) is.row is.found
+    ∙ taken-reply two.far.shape.bounds (clock_of (part_of (link_number two.after.link) past)) packet is.row.terms (length is.row.ticks) _ _ (tells.first_is ∙ ne_eqb (suc i) 0 (λ same. omega (arith, same))) is.settled number is.counts (omega (arith, small, narrow)) slot in
+    ap (λ h. length (channel_packets (channel_number request.chan) (scan_of two.far.shape h).packets)) (part-on (link_number two.after.link) done past at)
+    ∙ ap (λ a. length (channel_packets (channel_number request.chan) (after two.far.shape (clock_of (part_of (link_number two.after.link) past)) (scan_of two.far.shape (part_of (link_number two.after.link) past)) a done.reply).packets)) arrives
+    ∙ ap (λ r. length (channel_packets (channel_number request.chan) (after two.far.shape (clock_of (part_of (link_number two.after.link) past)) (scan_of two.far.shape (part_of (link_number two.after.link) past)) (Arrive packet) r).packets)) reply
+    ∙ counted (channel_number request.chan) (clock_of (part_of (link_number two.after.link) past)) two.far.shape packet (scan_of two.far.shape (part_of (link_number two.after.link) past)) is.row _ (omega (arith, number)) is.found own

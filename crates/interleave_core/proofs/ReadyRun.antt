@@ -58,7 +58,7 @@ use Rattle.interleave_core.specs.Paths.{HopAt, packets_at}
 use Rattle.interleave_core.specs.Guarantee.{count_at}
 
 abbrev pub two_of : (network : Network) (request : Request) (i : ℕ) → HopAt network request i → HopAt network request (suc i) → TwoHops network request i
-two_of network request i near far = record { hop = near.hop; behind = far.hop; stands = near.stands; follows = far.stands; near = near.link; far = far.link; linked = near.linked; far_linked = far.linked }
+two_of network request i near far = record { hop = near.hop; after = far.hop; stands = near.stands; follows = far.stands; near = near.link; far = far.link; linked = near.linked; far_linked = far.linked }
 
 -- ---- counts fall along the route
 
@@ -82,7 +82,7 @@ one-level network request i at run fits is asked =
 pub counts-fall : (network : Network) (request : Request) (i : ℕ) (near : HopAt network request i) (far : HopAt network request (suc i)) (run : List Done) → NetworkFits network → RequestFits network.links request → ((run : List Done) → IsRun network run → ChannelAsked request run) → IsRun network run → count_at network request (suc i) far run ≤ count_at network request i near run
 counts-fall network request i near far run fits sound asked is =
     let level = one-level network request i near run fits is (asked run is) in
-    let fewer = (hop-law network request i (two_of network request i near far) fits sound asked run is level.level level.levels).behind.fewer in
+    let fewer = (hop-law network request i (two_of network request i near far) fits sound asked run is level.level level.levels).after.fewer in
     let a = length-map (packets_at network request i near run) tick_of_packet in
     let b = length-map (packets_at network request (suc i) far run) tick_of_packet in
     omega (arith, fewer, a, b)
@@ -190,7 +190,7 @@ run-legs network request owner i near far (done ∷ past) fits sound full is =
 
 pub ready-taken : (network : Network) (request : Request) (i : ℕ) (two : TwoHops network request i) (done : Done) (past : List Done) (packet : Packet) (level : ℕ) → NetworkFits network → RequestFits network.links request → ((run : List Done) → IsRun network run → ChannelAsked request run) → IsRun network past → (next : IsNext network past done) → LegStands network request i two past
     → Each (λ p. p.level ≡ level) (channel_packets (channel_number request.chan) (packets_on two.near (link_number two.hop.link) past))
-    → done.ask ≡ Arrive packet → channel_number packet.chan ≡ channel_number request.chan → link_number done.link ≡ link_number two.behind.link → FarReady network request i two past packet level
+    → done.ask ≡ Arrive packet → channel_number packet.chan ≡ channel_number request.chan → link_number done.link ≡ link_number two.after.link → FarReady network request i two past packet level
     → (clock : ℕ) × (eligible : ℕ) × (done.reply ≡ Is.Taken clock eligible)
 unfolding scan_of reply_to
 ready-taken network request i two done past packet level fits sound asked run next leg levels arrives chan at is =
@@ -202,11 +202,11 @@ ready-taken network request i two done past packet level fits sound asked run ne
     let narrow : is.row.terms.contract.smax ≡ request.contract.smax = ap (λ k. k.smax) tells.contract_is in
     let slot = slot-free network request i two past done packet is.row level fits sound asked run next arrives at levels is.found chan number is.some is.settled is.reckons in
     let link : next.link ≡ two.far = same_Some next.link two.far (sym next.linked ∙ ap (slice_get network.links) at ∙ two.far_linked) in
-    let answered : done.reply ≡ reply_to two.far (part_of (link_number two.behind.link) past) done.ask = next.answered ∙ ap (λ s. reply_to s (part_of (link_number done.link) past) done.ask) link ∙ ap (λ m. reply_to two.far (part_of m past) done.ask) at in (
-      clock_of (part_of (link_number two.behind.link) past),
-      eligible_next is.row.terms is.row.ticks (clock_of (part_of (link_number two.behind.link) past)) packet.due,
-      answered ∙ ap (reply_to two.far (part_of (link_number two.behind.link) past)) arrives ∙ replied two.far (clock_of (part_of (link_number two.behind.link) past)) packet (scan_of two.far.shape (part_of (link_number two.behind.link) past)) is.row is.found
-          ∙ taken-reply two.far.shape.bounds (clock_of (part_of (link_number two.behind.link) past)) packet is.row.terms (length is.row.ticks) _ _ (tells.first_is ∙ ne_eqb (suc i) 0 (λ same. omega (arith, same))) is.settled number is.counts (omega (arith, small, narrow)) slot,
+    let answered : done.reply ≡ reply_to two.far (part_of (link_number two.after.link) past) done.ask = next.answered ∙ ap (λ s. reply_to s (part_of (link_number done.link) past) done.ask) link ∙ ap (λ m. reply_to two.far (part_of m past) done.ask) at in (
+      clock_of (part_of (link_number two.after.link) past),
+      eligible_next is.row.terms is.row.ticks (clock_of (part_of (link_number two.after.link) past)) packet.due,
+      answered ∙ ap (reply_to two.far (part_of (link_number two.after.link) past)) arrives ∙ replied two.far (clock_of (part_of (link_number two.after.link) past)) packet (scan_of two.far.shape (part_of (link_number two.after.link) past)) is.row is.found
+          ∙ taken-reply two.far.shape.bounds (clock_of (part_of (link_number two.after.link) past)) packet is.row.terms (length is.row.ticks) _ _ (tells.first_is ∙ ne_eqb (suc i) 0 (λ same. omega (arith, same))) is.settled number is.counts (omega (arith, small, narrow)) slot,
     )
 
 -- an arrive of the channel comes at a later hop of its route
@@ -225,14 +225,14 @@ arrives-at network request done past packet fits sound asked run next arrives ch
     let row = packet-offered network request past from.n from.link from.taken fits run asked sound from.linked mine from.among in
     let packets : Among from.taken (channel_packets (channel_number request.chan) (packets_on from.link from.n past)) = Among-passes (is_of_channel (channel_number request.chan)) from.taken (packets_on from.link from.n past) mine from.among in
     let named : from.taken.next ≡ option_map hop_link (slice_get request.route (suc row.route.index)) = Rattle.link_steps.proofs.ListFacts.Each-among (λ p. p.next ≡ (terms_at request row.route.index).next) from.taken _ row.row.tells.nexts packets in
-    let behind = next-link (slice_get request.route (suc row.route.index)) comes.flight.to (sym named ∙ from.next) in
-    let within = slice_get_within request.route (suc row.route.index) behind.0 behind.1 in
+    let after = next-link (slice_get request.route (suc row.route.index)) comes.flight.to (sym named ∙ from.next) in
+    let within = slice_get_within request.route (suc row.route.index) after.0 after.1 in
     let far = hop-at network request (suc row.route.index) sound within in
     record {
       i = row.route.index;
       near = hop-at network request row.route.index sound (omega (arith, within));
       far = far;
-      on = sym (ap link_number (behind.2 ∙ comes.to)) ∙ ap link_of (same_Some behind.0 far.hop (sym behind.1 ∙ far.stands));
+      on = sym (ap link_number (after.2 ∙ comes.to)) ∙ ap link_of (same_Some after.0 far.hop (sym after.1 ∙ far.stands));
     }
 
 -- each arrive of the channel in every run is taken

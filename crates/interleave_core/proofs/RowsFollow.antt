@@ -36,11 +36,11 @@ use Rattle.relaxation.specs.Laws.{AreWithinReach}
 use Rattle.relaxation.specs.declared.EndDenial.{EndDenial}
 use Rattle.relaxation.proofs.LawFacts.{allotted-fit}
 use Rattle.setup_protocol.specs.Requests.{jitter_of}
-use Rattle.setup_protocol.specs.Setup.{Outcome, Accepts, Denies, Progress, Reserving, Undoing, Relaxing, Settled, is_offer, level_in, reach_in, offers_in, behind_offers, reach_after, undoing, relaxing, on_the_way, behind_test, asked, asked_of, reserve_of, relax_of, bound_if, bound_given, next_ask, progress_of, settled_in, verdict_of, is_expected, answers_reserve}
+use Rattle.setup_protocol.specs.Setup.{Outcome, Accepts, Denies, Progress, Reserving, Undoing, Relaxing, Settled, is_offer, level_in, reach_in, offers_in, after_offers, reach_after, undoing, relaxing, on_the_way, after_test, asked, asked_of, reserve_of, relax_of, bound_if, bound_given, next_ask, progress_of, settled_in, verdict_of, is_expected, answers_reserve}
 use Rattle.setup_protocol.specs.State.{with_offers, after_reserve, advance}
 use Rattle.setup_protocol.specs.declared.request.Request.{Request}
 use Rattle.setup_protocol.specs.declared.verdict.Deny.{Deny as Denial}
-use Rattle.setup_protocol.proofs.ProgressFacts.{offers-other, offers-more, behind-other, reach-more, progress-on_the_way, progress-tested, progress-advances}
+use Rattle.setup_protocol.proofs.ProgressFacts.{offers-other, offers-more, after-other, reach-more, progress-on_the_way, progress-tested, progress-advances}
 use Rattle.run_record.specs.declared.done.Done.{Done}
 use Rattle.call_script.specs.Fits.{RequestFits, NetworkFits}
 use Rattle.call_script.specs.Tasks.{Network}
@@ -109,27 +109,27 @@ held_at network request i at run = held_by request.chan (scan_of at.link.shape (
 -- the setup's hops hold what its replies say, and the reach before the next hop is that of the last offer
 pub record SetupRows (network : Network) (request : Request) (replies : List Reply) (run : List Done) : Type 0 where
   pub hops : (i : ℕ) (at : HopAt network request i) → HopStands request (offers_in replies) (progress_of request replies) i (held_at network request i at run)
-  pub up : behind_offers replies ≡ [] → reach_after 0 request.route replies ≡ reach_bound request (offers_in replies) (length (offers_in replies))
+  pub up : after_offers replies ≡ [] → reach_after 0 request.route replies ≡ reach_bound request (offers_in replies) (length (offers_in replies))
 
 -- ---- how far a setup is
 
 pub data View (request : Request) (replies : List Reply) : Type 0 where
-  OnWay : length (offers_in replies) < length request.route → behind_offers replies ≡ [] → progress_of request replies ≡ Reserving (offers_in replies) (reach_after 0 request.route replies) → View request replies
+  OnWay : length (offers_in replies) < length request.route → after_offers replies ≡ [] → progress_of request replies ≡ Reserving (offers_in replies) (reach_after 0 request.route replies) → View request replies
   Back : (left : ℕ) (deny : Denial) → left ≤ length request.route → progress_of request replies ≡ undoing left deny → View request replies
   Forth : (left : ℕ) → left ≤ length request.route → length request.route ≤ length (offers_in replies) → denial_of request.route (offers_in replies) request.delay (jitter_of request.control) ≡ None → progress_of request replies ≡ relaxing request.route left (allotted request.route (offers_in replies) request.delay (jitter_of request.control)) → View request replies
 
-view-way : (request : Request) (replies rest : List Reply) → behind_offers replies ≡ rest → length (offers_in replies) < length request.route → progress_of request replies ≡ on_the_way (offers_in replies) (reach_after 0 request.route replies) rest → View request replies
-view-way request replies [] behind fewer is = OnWay fewer behind is
-view-way request replies (first ∷ denied) behind fewer is = Back (length (offers_in replies) - length denied) _ (omega (arith, fewer)) is
+view-way : (request : Request) (replies rest : List Reply) → after_offers replies ≡ rest → length (offers_in replies) < length request.route → progress_of request replies ≡ on_the_way (offers_in replies) (reach_after 0 request.route replies) rest → View request replies
+view-way request replies [] later fewer is = OnWay fewer later is
+view-way request replies (first ∷ denied) later fewer is = Back (length (offers_in replies) - length denied) _ (omega (arith, fewer)) is
 
-view-test : (request : Request) (replies : List Reply) (denial : Option EndDenial) → denial_of request.route (offers_in replies) request.delay (jitter_of request.control) ≡ denial → length request.route ≤ length (offers_in replies) → progress_of request replies ≡ behind_test request (offers_in replies) (length (behind_offers replies)) denial → View request replies
-view-test request replies (Some denial) tested whole is = Back (length request.route - length (behind_offers replies)) _ (omega arith) is
-view-test request replies None tested whole is = Forth (length request.route - length (behind_offers replies)) (omega arith) whole tested is
+view-test : (request : Request) (replies : List Reply) (denial : Option EndDenial) → denial_of request.route (offers_in replies) request.delay (jitter_of request.control) ≡ denial → length request.route ≤ length (offers_in replies) → progress_of request replies ≡ after_test request (offers_in replies) (length (after_offers replies)) denial → View request replies
+view-test request replies (Some denial) tested whole is = Back (length request.route - length (after_offers replies)) _ (omega arith) is
+view-test request replies None tested whole is = Forth (length request.route - length (after_offers replies)) (omega arith) whole tested is
 
 pub view : (request : Request) (replies : List Reply) → View request replies
 view request replies =
     elim (cases_lt (length (offers_in replies)) (length request.route)) [
-      | inl fewer ↦ view-way request replies (behind_offers replies) refl fewer (progress-on_the_way request replies fewer)
+      | inl fewer ↦ view-way request replies (after_offers replies) refl fewer (progress-on_the_way request replies fewer)
       | inr whole ↦ view-test request replies (denial_of request.route (offers_in replies) request.delay (jitter_of request.control)) refl whole (progress-tested request replies whole)
     ]
 
@@ -143,7 +143,7 @@ relax-stands : (request : Request) (offers : List ℕ) (left : ℕ) (levels : Li
 relax-stands request offers zero levels i held tent comm = record { tent = λ less. absurd (omega (arith, less)); tail = λ from. comm (omega arith) }
 relax-stands request offers (suc left) levels i held tent comm = record { tent = tent; tail = comm }
 
-test-stands : (request : Request) (offers : List ℕ) (denial : Option EndDenial) (i : ℕ) (held : Option Reservation) → i < length request.route → IsTent request offers i held → HopStands request offers (behind_test request offers 0 denial) i held
+test-stands : (request : Request) (offers : List ℕ) (denial : Option EndDenial) (i : ℕ) (held : Option Reservation) → i < length request.route → IsTent request offers i held → HopStands request offers (after_test request offers 0 denial) i held
 test-stands request offers (Some denial) i held within tent = undo-stands request offers (length request.route - 0) _ i held (λ less. tent) (λ from. absurd (omega (arith, from, within)))
 test-stands request offers None i held within tent = relax-stands request offers (length request.route - 0) _ i held (λ less. tent) (λ from. absurd (omega (arith, from, within)))
 
@@ -272,7 +272,7 @@ back-goes network request replies done past (suc k) deny fits sound run next row
                   ∙ held-denied at.link.shape request.chan (clock_of (part_of (link_number at.hop.link) past)) (scan_of at.link.shape (part_of (link_number at.hop.link) past)) (legal-channels at.link.shape (part_of (link_number at.hop.link) past) legal-at))
               | inr miss ↦ (let other = eqb-false i k miss in held-elsewhere network request i at done past (other-hop network request i k at here done sound.route on other) ∙ (says i at).1 (omega (arith, from, other)))
             ])));
-        up = λ alone. absurd (not-empty (behind_offers replies) (sym (behind-other replies done.reply plain) ∙ alone));
+        up = λ alone. absurd (not-empty (after_offers replies) (sym (after-other replies done.reply plain) ∙ alone));
       };
     } where
       not-empty : (xs : List Reply) → xs ++ done.reply ∷ [] ≡ [] → ⊥
@@ -283,7 +283,7 @@ back-goes network request replies done past (suc k) deny fits sound run next row
 
 record Way (network : Network) (request : Request) (replies : List Reply) (done : Done) : Type 0 where
   fewer : length (offers_in replies) < length request.route
-  alone : behind_offers replies ≡ []
+  alone : after_offers replies ≡ []
   is : progress_of request replies ≡ Reserving (offers_in replies) (reach_after 0 request.route replies)
   here : HopAt network request (length (offers_in replies))
   on : link_number done.link ≡ link_number here.hop.link
@@ -361,7 +361,7 @@ refused-goes network request replies done past w refusal sound rows told reserve
               | inl hit ↦ (let e : i ≡ length (offers_in replies) = eqb-true i (length (offers_in replies)) hit in same-held network request i (length (offers_in replies)) at w.here (done ∷ past) e ∙ here-none)
               | inr miss ↦ held-elsewhere network request i at done past (other-hop network request i (length (offers_in replies)) at w.here done sound.route w.on (eqb-false i (length (offers_in replies)) miss)) ∙ (way-says network request replies done past w rows i at).tail from
             ])));
-        up = λ alone. absurd (not-empty (behind_offers replies) (sym (behind-other replies done.reply plain) ∙ alone));
+        up = λ alone. absurd (not-empty (after_offers replies) (sym (after-other replies done.reply plain) ∙ alone));
       };
     } where
       not-empty : (xs : List Reply) → xs ++ done.reply ∷ [] ≡ [] → ⊥
@@ -451,7 +451,7 @@ forth-goes network request replies done past (suc k) levels fits sound run next 
                   })))
               | inr miss ↦ (let other = eqb-false i k miss in subst (IsComm request levels i) (sym (held-elsewhere network request i at done past (other-hop network request i k at here done sound.route on other))) ((says i at).1 (omega (arith, from, other))))
             ])));
-        up = λ alone. absurd (not-empty (behind_offers replies) (sym (behind-other replies done.reply plain) ∙ alone));
+        up = λ alone. absurd (not-empty (after_offers replies) (sym (after-other replies done.reply plain) ∙ alone));
       };
     } where
       not-empty : (xs : List Reply) → xs ++ done.reply ∷ [] ≡ [] → ⊥

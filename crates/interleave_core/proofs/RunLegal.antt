@@ -209,7 +209,7 @@ other-clocks links n plane new within few other =
       | inl last ↦ (let e : suc plane.ticked ≡ links = eqb-true (suc plane.ticked) links last in rw (last, lt-ltb n plane.ticked (omega (arith, e)), le-ltb n 0 (omega arith)) (omega arith))
       | inr more ↦ elim (cases_lt n plane.ticked) [
         | inl before ↦ rw (more, lt-ltb n plane.ticked before, lt-ltb n (suc plane.ticked) (omega arith)) refl
-        | inr behind ↦ rw (more, le-ltb n plane.ticked behind, le-ltb n (suc plane.ticked) (omega (arith, other))) refl
+        | inr rest ↦ rw (more, le-ltb n plane.ticked rest, le-ltb n (suc plane.ticked) (omega (arith, other))) refl
       ]
     ]
 

@@ -92,16 +92,16 @@ turns-one item = ap (map actor_in) (lined-one item) ∙ repeated-actors item.cou
 -- ---- where turns stop
 
 -- turns before them find their steps
-pub stops-behind : (network : Network) (past mid : List Done) (first second : List Turn) (line made : ℕ) → FollowsTurns network past (map actor_in first) mid → Stops network mid second line made → Stops network past (first ++ second) line made
-stops-behind network past mid first second line made one stop =
+pub stops-after : (network : Network) (past mid : List Done) (first second : List Turn) (line made : ℕ) → FollowsTurns network past (map actor_in first) mid → Stops network mid second line made → Stops network past (first ++ second) line made
+stops-after network past mid first second line made one stop =
     let all : map actor_in (first ++ stop.before) ≡ map actor_in first ++ map actor_in stop.before = map-append actor_in first stop.before in
     let there : run_from network past (map actor_in (first ++ stop.before)) ≡ run_from network mid (map actor_in stop.before) =
     ap (run_from network past) all ∙ from-append network past (map actor_in first) (map actor_in stop.before) ∙ ap (λ m. run_from network m (map actor_in stop.before)) (sym one.is) in
     record {
       before = first ++ stop.before;
       turn = stop.turn;
-      behind = stop.behind;
-      are = ap (λ turns. first ++ turns) stop.are ∙ sym (append_assoc first stop.before (stop.turn ∷ stop.behind));
+      after = stop.after;
+      are = ap (λ turns. first ++ turns) stop.are ∙ sym (append_assoc first stop.before (stop.turn ∷ stop.after));
       served = subst (HaveSteps network past) (sym all) (have-append network past (map actor_in first) (map actor_in stop.before) one.served (subst (λ m. HaveSteps network m (map actor_in stop.before)) one.is stop.served));
       over = ap (next_for network (actor_number stop.turn.actor)) there ∙ stop.over;
       asks = stop.asks;
@@ -113,8 +113,8 @@ pub stops-before : (network : Network) (past : List Done) (first second : List T
 stops-before network past first second line made stop = record {
   before = stop.before;
   turn = stop.turn;
-  behind = stop.behind ++ second;
-  are = ap (λ turns. turns ++ second) stop.are ∙ append_assoc stop.before (stop.turn ∷ stop.behind) second;
+  after = stop.after ++ second;
+  are = ap (λ turns. turns ++ second) stop.are ∙ append_assoc stop.before (stop.turn ∷ stop.after) second;
   served = stop.served;
   over = stop.over;
   asks = stop.asks;
@@ -122,9 +122,9 @@ stops-before network past first second line made stop = record {
 }
 
 -- the turn at hand finds none left
-pub stops-now : (network : Network) (past : List Done) (turn : Turn) (behind : List Turn) (line made : ℕ) → next_for network (actor_number turn.actor) past ≡ None → line ≡ turn.line → made ≡ length (replies_to (actor_number turn.actor) past) → Stops network past (turn ∷ behind) line made
+pub stops-now : (network : Network) (past : List Done) (turn : Turn) (after : List Turn) (line made : ℕ) → next_for network (actor_number turn.actor) past ≡ None → line ≡ turn.line → made ≡ length (replies_to (actor_number turn.actor) past) → Stops network past (turn ∷ after) line made
 unfolding HaveSteps run_from
-stops-now network past turn behind line made none asks has = record { before = []; turn = turn; behind = behind; are = refl; served = tt; over = none; asks = asks; has_made = has }
+stops-now network past turn after line made none asks has = record { before = []; turn = turn; after = after; are = refl; served = tt; over = none; asks = asks; has_made = has }
 
 -- ---- written schedules
 
@@ -136,7 +136,7 @@ data TurnsEnd (network : Network) (past : List Done) (turns : List Turn) : Type 
 with-turn : (network : Network) (past : List Done) (turn : Turn) (turns : List Turn) → IsSome (next_for network (actor_number turn.actor) past) → TurnsEnd network (step network turn.actor past) turns → TurnsEnd network past (turn ∷ turns)
 unfolding HaveSteps
 with-turn network past turn turns some (AllServed have) = AllServed (some, have)
-with-turn network past turn turns some (OneStops line made stop) = OneStops line made (stops-behind network past (step network turn.actor past) (turn ∷ []) turns line made (follows-one network past (step network turn.actor past) turn.actor some refl) stop)
+with-turn network past turn turns some (OneStops line made stop) = OneStops line made (stops-after network past (step network turn.actor past) (turn ∷ []) turns line made (follows-one network past (step network turn.actor past) turn.actor some refl) stop)
 
 turns-next : (network : Network) (past : List Done) (turn : Turn) (turns : List Turn) (next : Option (LinkNo × Ask)) → next_for network (actor_number turn.actor) past ≡ next → TurnsEnd network (step network turn.actor past) turns → TurnsEnd network past (turn ∷ turns)
 turns-next network past turn turns None is rest = OneStops turn.line (length (replies_to (actor_number turn.actor) past)) (stops-now network past turn turns _ _ is refl refl)
@@ -148,10 +148,10 @@ turns-end network past [] = AllServed tt
 turns-end network past (turn ∷ turns) = turns-next network past turn turns (next_for network (actor_number turn.actor) past) refl (turns-end network (step network turn.actor past) turns)
 
 -- where a turn stops, no run has a step for each
-left-at : (network : Network) (past : List Done) (before : List Turn) (turn : Turn) (behind : List Turn) → HaveSteps network past (map actor_in (before ++ turn ∷ behind)) → IsSome (next_for network (actor_number turn.actor) (run_from network past (map actor_in before)))
+left-at : (network : Network) (past : List Done) (before : List Turn) (turn : Turn) (after : List Turn) → HaveSteps network past (map actor_in (before ++ turn ∷ after)) → IsSome (next_for network (actor_number turn.actor) (run_from network past (map actor_in before)))
 unfolding HaveSteps run_from
-left-at network past [] turn behind have = have.0
-left-at network past (first ∷ before) turn behind have = left-at network (step network first.actor past) before turn behind have.1
+left-at network past [] turn after have = have.0
+left-at network past (first ∷ before) turn after have = left-at network (step network first.actor past) before turn after have.1
 
 not-left : (next : Option (LinkNo × Ask)) → next ≡ None → IsSome next → ⊥
 not-left None none some = cc
@@ -159,7 +159,7 @@ not-left (Some to) none some = cc
 
 follows-or-stops : (network : Network) (past run : List Done) (turns : List Turn) (line made : ℕ) → FollowsTurns network past (map actor_in turns) run → Stops network past turns line made → ⊥
 follows-or-stops network past run turns line made one stop =
-    not-left _ stop.over (left-at network past stop.before stop.turn stop.behind (subst (λ ts. HaveSteps network past (map actor_in ts)) stop.are one.served))
+    not-left _ stop.over (left-at network past stop.before stop.turn stop.after (subst (λ ts. HaveSteps network past (map actor_in ts)) stop.are one.served))
 
 heads : {X : Type 0} (x y : X) (xs ys : List X) → x ∷ xs ≡ y ∷ ys → x ≡ y
 heads x y xs ys same = ap (λ zs. get_or zs 0 x) same
@@ -172,24 +172,24 @@ record SameStop (before other : List Turn) (turn turn_other : Turn) : Type 0 whe
   pub befores : before ≡ other
   pub turns : turn ≡ turn_other
 
-same-stop : (network : Network) (past : List Done) (before other : List Turn) (turn turn_other : Turn) (behind behind_other : List Turn) → before ++ turn ∷ behind ≡ other ++ turn_other ∷ behind_other → HaveSteps network past (map actor_in before) → HaveSteps network past (map actor_in other)
+same-stop : (network : Network) (past : List Done) (before other : List Turn) (turn turn_other : Turn) (after after_other : List Turn) → before ++ turn ∷ after ≡ other ++ turn_other ∷ after_other → HaveSteps network past (map actor_in before) → HaveSteps network past (map actor_in other)
     → next_for network (actor_number turn.actor) (run_from network past (map actor_in before)) ≡ None → next_for network (actor_number turn_other.actor) (run_from network past (map actor_in other)) ≡ None → SameStop before other turn turn_other
 unfolding HaveSteps run_from
-same-stop network past [] [] turn turn_other behind behind_other same have have_other over over_other = record { befores = refl; turns = heads turn turn_other behind behind_other same }
-same-stop network past [] (first ∷ other) turn turn_other behind behind_other same have have_other over over_other =
-    absurd (not-left _ over (subst (λ (t : Turn). IsSome (next_for network (actor_number t.actor) past)) (sym (heads turn first behind (other ++ turn_other ∷ behind_other) same)) have_other.0))
-same-stop network past (first ∷ before) [] turn turn_other behind behind_other same have have_other over over_other =
-    absurd (not-left _ over_other (subst (λ (t : Turn). IsSome (next_for network (actor_number t.actor) past)) (heads first turn_other (before ++ turn ∷ behind) behind_other same) have.0))
-same-stop network past (first ∷ before) (second ∷ other) turn turn_other behind behind_other same have have_other over over_other =
-    let head : second ≡ first = sym (heads first second (before ++ turn ∷ behind) (other ++ turn_other ∷ behind_other) same) in
+same-stop network past [] [] turn turn_other after after_other same have have_other over over_other = record { befores = refl; turns = heads turn turn_other after after_other same }
+same-stop network past [] (first ∷ other) turn turn_other after after_other same have have_other over over_other =
+    absurd (not-left _ over (subst (λ (t : Turn). IsSome (next_for network (actor_number t.actor) past)) (sym (heads turn first after (other ++ turn_other ∷ after_other) same)) have_other.0))
+same-stop network past (first ∷ before) [] turn turn_other after after_other same have have_other over over_other =
+    absurd (not-left _ over_other (subst (λ (t : Turn). IsSome (next_for network (actor_number t.actor) past)) (heads first turn_other (before ++ turn ∷ after) after_other same) have.0))
+same-stop network past (first ∷ before) (second ∷ other) turn turn_other after after_other same have have_other over over_other =
+    let head : second ≡ first = sym (heads first second (before ++ turn ∷ after) (other ++ turn_other ∷ after_other) same) in
     let mine : HaveSteps network (step network first.actor past) (map actor_in other) = subst (λ (t : Turn). HaveSteps network (step network t.actor past) (map actor_in other)) head have_other.1 in
     let ends : next_for network (actor_number turn_other.actor) (run_from network (step network first.actor past) (map actor_in other)) ≡ None = subst (λ (t : Turn). next_for network (actor_number turn_other.actor) (run_from network (step network t.actor past) (map actor_in other)) ≡ None) head over_other in
-    let rest = same-stop network (step network first.actor past) before other turn turn_other behind behind_other (tails first second (before ++ turn ∷ behind) (other ++ turn_other ∷ behind_other) same) have.1 mine over ends in
+    let rest = same-stop network (step network first.actor past) before other turn turn_other after after_other (tails first second (before ++ turn ∷ after) (other ++ turn_other ∷ after_other) same) have.1 mine over ends in
     record { befores = ap (λ (t : Turn). t ∷ before) (sym head) ∙ ap (λ ts. second ∷ ts) rest.befores; turns = rest.turns }
 
 stops-once : (network : Network) (past : List Done) (turns : List Turn) (line made line_other made_other : ℕ) → Stops network past turns line made → Stops network past turns line_other made_other → (line ≡ line_other) × (made ≡ made_other)
 stops-once network past turns line made line_other made_other one two =
-    let is = same-stop network past one.before two.before one.turn two.turn one.behind two.behind (sym one.are ∙ two.are) one.served two.served one.over two.over in (
+    let is = same-stop network past one.before two.before one.turn two.turn one.after two.after (sym one.are ∙ two.are) one.served two.served one.over two.over in (
       one.asks ∙ ap (λ (t : Turn). t.line) is.turns ∙ sym two.asks,
       one.has_made ∙ ap (λ ts. length (replies_to (actor_number one.turn.actor) (run_from network past (map actor_in ts)))) is.befores
           ∙ ap (λ (t : Turn). length (replies_to (actor_number t.actor) (run_from network past (map actor_in two.before)))) is.turns ∙ sym two.has_made,

@@ -17,9 +17,9 @@ use Rattle.link_steps.specs.declared.replies.Reply.TheVariants as Is
 use Rattle.link_steps.specs.declared.shape.LinkShape.{LinkShape}
 use Rattle.link_steps.specs.Lists.{Each}
 use Rattle.channel_laws.specs.Asks.{MayReplyTo}
-use Rattle.setup_protocol.specs.Setup.{is_offer, level_in, offers_in, behind_offers, reach_after, on_the_way, asked, asked_of, reserve_of, next_ask}
+use Rattle.setup_protocol.specs.Setup.{is_offer, level_in, offers_in, after_offers, reach_after, on_the_way, asked, asked_of, reserve_of, next_ask}
 use Rattle.setup_protocol.specs.declared.request.Request.{Request}
-use Rattle.setup_protocol.proofs.ProgressFacts.{behind-other, offers-more, progress-on_the_way, progress-tested}
+use Rattle.setup_protocol.proofs.ProgressFacts.{after-other, offers-more, progress-on_the_way, progress-tested}
 use Rattle.run_record.specs.declared.done.Done.{Done}
 use Rattle.channel_laws.specs.Channels.{HopTerms, offers_with, offers_to, OffersTerms, AllOfferTerms}
 use Rattle.call_script.specs.Fits.{NetworkFits}
@@ -59,7 +59,7 @@ pub record OpensOnce (network : Network) (request : Request) (owner : ℕ) : Typ
 -- ---- a reserve among the asks
 
 pub record Reserves (request : Request) (replies : List Reply) (to : LinkNo) (ask : Ask) : Type 0 where
-  pub alone : behind_offers replies ≡ []
+  pub alone : after_offers replies ≡ []
   pub hop : Hop
   pub stands : slice_get request.route (length (offers_in replies)) ≡ Some hop
   pub at : to ≡ hop.link
@@ -70,16 +70,16 @@ of-hop : (found : Option Hop) (to : LinkNo) (ask : Ask) (own : Ask) → asked_of
 of-hop None to ask own same = cc
 of-hop (Some hop) to ask own same = (let both = same_Some (hop.link, own) (to, ask) same in (hop, refl, sym (ap (λ pair. pair.0) both), sym (ap (λ pair. pair.1) both)))
 
-way-reserves : (request : Request) (replies : List Reply) (rest : List Reply) (to : LinkNo) (ask : Ask) → behind_offers replies ≡ rest → asked request (on_the_way (offers_in replies) (reach_after 0 request.route replies) rest) ≡ Some (to, ask) → IsReserve ask → Reserves request replies to ask
-way-reserves request replies [] to ask behind same is =
+way-reserves : (request : Request) (replies : List Reply) (rest : List Reply) (to : LinkNo) (ask : Ask) → after_offers replies ≡ rest → asked request (on_the_way (offers_in replies) (reach_after 0 request.route replies) rest) ≡ Some (to, ask) → IsReserve ask → Reserves request replies to ask
+way-reserves request replies [] to ask after same is =
     let found = of-hop (slice_get request.route (length (offers_in replies))) to ask (reserve_of request (offers_in replies) (reach_after 0 request.route replies)) same in
-    record { alone = behind; hop = found.0; stands = found.1; at = found.2; reach = reach_after 0 request.route replies; is = found.3 }
-way-reserves request replies (first ∷ denied) to ask behind same is = absurd (undone-asks request _ _ to ask same is)
+    record { alone = after; hop = found.0; stands = found.1; at = found.2; reach = reach_after 0 request.route replies; is = found.3 }
+way-reserves request replies (first ∷ denied) to ask after same is = absurd (undone-asks request _ _ to ask same is)
 
 reserves : (request : Request) (replies : List Reply) (to : LinkNo) (ask : Ask) → next_ask request replies ≡ Some (to, ask) → IsReserve ask → Reserves request replies to ask
 reserves request replies to ask same is =
     elim (cases_lt (length (offers_in replies)) (length request.route)) [
-      | inl fewer ↦ way-reserves request replies (behind_offers replies) to ask refl (subst (λ p. asked request p ≡ Some (to, ask)) (progress-on_the_way request replies fewer) same) is
+      | inl fewer ↦ way-reserves request replies (after_offers replies) to ask refl (subst (λ p. asked request p ≡ Some (to, ask)) (progress-on_the_way request replies fewer) same) is
       | inr whole ↦ absurd (tested-asks request (offers_in replies) _ _ to ask (subst (λ p. asked request p ≡ Some (to, ask)) (progress-tested request replies whole) same) is)
     ]
 
@@ -152,7 +152,7 @@ NoneYet c tasks run = (Each (IsOther c) tasks → ⊥) → (n : ℕ) → offers_
 
 -- nothing was offered at the hops that are still to be asked
 pub record IsUpTo (request : Request) (replies : List Reply) (run : List Done) : Type 0 where
-  pub none : behind_offers replies ≡ [] → (i : ℕ) (hop : Hop) → slice_get request.route i ≡ Some hop → length (offers_in replies) ≤ i → offers_to (channel_number request.chan) (part_of (link_number hop.link) run) ≡ 0
+  pub none : after_offers replies ≡ [] → (i : ℕ) (hop : Hop) → slice_get request.route i ≡ Some hop → length (offers_in replies) ≤ i → offers_to (channel_number request.chan) (part_of (link_number hop.link) run) ≡ 0
 
 abbrev pub IsFresh : Request → List Done → List Task → List Reply → Type 0
 IsFresh request run [] replies = Unit {0}
@@ -271,7 +271,7 @@ own-offered request replies done past route was upto own offer =
 -- a reply that is no offer leaves nothing to reserve
 plain-upto : (request : Request) (replies : List Reply) (reply : Reply) (run : List Done) → is_offer reply ≡ false → IsUpTo request (replies ++ reply ∷ []) run
 plain-upto request replies reply run plain = record {
-  none = λ alone i hop stands from. absurd (not-empty (behind_offers replies) (sym (behind-other replies reply plain) ∙ alone));
+  none = λ alone i hop stands from. absurd (not-empty (after_offers replies) (sym (after-other replies reply plain) ∙ alone));
 } where
   not-empty : (xs : List Reply) → xs ++ reply ∷ [] ≡ [] → ⊥
   not-empty [] same = cc

@@ -20,7 +20,7 @@ use Rattle.link_steps.specs.Lists.{without_first}
 use Rattle.link_steps.specs.Replies.{reply_to}
 use Rattle.link_steps.specs.Split.{Link}
 use Rattle.relaxation.specs.declared.EndDenial.{EndDenial}
-use Rattle.setup_protocol.specs.Setup.{is_offer, offers_in, behind_offers, undoing, relaxing, on_the_way, behind_test, asked, asked_of, next_ask}
+use Rattle.setup_protocol.specs.Setup.{is_offer, offers_in, after_offers, undoing, relaxing, on_the_way, after_test, asked, asked_of, next_ask}
 use Rattle.setup_protocol.specs.declared.request.Request.{Request}
 use Rattle.setup_protocol.specs.declared.verdict.Deny.{Deny}
 use Rattle.setup_protocol.proofs.ProgressFacts.{progress-on_the_way, progress-tested}
@@ -51,36 +51,36 @@ relaxed-some request zero levels to ask same = cc
 relaxed-some request (suc left) levels to ask same = omega arith
 
 -- on the way forward, with the replies after the offers
-way-few : (request : Request) (offers : List ℕ) (reach : ℕ) (behind : List Reply) (to : LinkNo) (ask : Ask) → length offers < length request.route → asked request (on_the_way offers reach behind) ≡ Some (to, ask) → length offers + length behind < 2 * length request.route
+way-few : (request : Request) (offers : List ℕ) (reach : ℕ) (after : List Reply) (to : LinkNo) (ask : Ask) → length offers < length request.route → asked request (on_the_way offers reach after) ≡ Some (to, ask) → length offers + length after < 2 * length request.route
 way-few request offers reach [] to ask fewer same = omega (arith, fewer)
 way-few request offers reach (reply ∷ denied) to ask fewer same =
     let some = undone-some request (length offers - length denied) _ to ask same in
     omega (arith, fewer, some)
 
-tested-few : (request : Request) (offers : List ℕ) (count : ℕ) (denial : Option EndDenial) (to : LinkNo) (ask : Ask) → asked request (behind_test request offers count denial) ≡ Some (to, ask) → count < length request.route
+tested-few : (request : Request) (offers : List ℕ) (count : ℕ) (denial : Option EndDenial) (to : LinkNo) (ask : Ask) → asked request (after_test request offers count denial) ≡ Some (to, ask) → count < length request.route
 tested-few request offers count (Some denial) to ask same = (let some = undone-some request (length request.route - count) _ to ask same in omega (arith, some))
 tested-few request offers count None to ask same = (let some = relaxed-some request (length request.route - count) _ to ask same in omega (arith, some))
 
 -- the offers at the front of the replies and those after them are all
-front-and-behind : (replies : List Reply) → length replies ≡ length (offers_in replies) + length (behind_offers replies)
-unfolding offers_in behind_offers
-front-and-behind [] = refl
-front-and-behind (first ∷ replies) =
+front-and-after : (replies : List Reply) → length replies ≡ length (offers_in replies) + length (after_offers replies)
+unfolding offers_in after_offers
+front-and-after [] = refl
+front-and-after (first ∷ replies) =
     elim (cases_Bool (is_offer first)) [
-      | inl offer ↦ (let rest = front-and-behind replies in rw offer (omega (arith, rest)))
+      | inl offer ↦ (let rest = front-and-after replies in rw offer (omega (arith, rest)))
       | inr plain ↦ rw plain (omega arith)
     ]
 
 setup-few : (request : Request) (replies : List Reply) (to : LinkNo) (ask : Ask) → AreLevels request.route (offers_in replies) → next_ask request replies ≡ Some (to, ask) → length replies < 2 * length request.route
 setup-few request replies to ask are same =
-    let all = front-and-behind replies in
+    let all = front-and-after replies in
     let fit = levels-fit request.route (offers_in replies) are in
     elim (cases_lt (length (offers_in replies)) (length request.route)) [
       | inl fewer ↦
-          (let few = way-few request (offers_in replies) _ (behind_offers replies) to ask fewer (subst (λ p. asked request p ≡ Some (to, ask)) (progress-on_the_way request replies fewer) same) in
+          (let few = way-few request (offers_in replies) _ (after_offers replies) to ask fewer (subst (λ p. asked request p ≡ Some (to, ask)) (progress-on_the_way request replies fewer) same) in
           omega (arith, few, all))
       | inr whole ↦
-          (let few = tested-few request (offers_in replies) (length (behind_offers replies)) _ to ask (subst (λ p. asked request p ≡ Some (to, ask)) (progress-tested request replies whole) same) in
+          (let few = tested-few request (offers_in replies) (length (after_offers replies)) _ to ask (subst (λ p. asked request p ≡ Some (to, ask)) (progress-tested request replies whole) same) in
           omega (arith, few, all, fit))
     ]
 

@@ -13,7 +13,7 @@ use Rattle.link_steps.proofs.PacketRows.{Among-passes}
 use Rattle.call_script.specs.Tasks.{Network}
 use Rattle.run_record.specs.Runs.{is_by, part_of}
 use Rattle.run_record.specs.declared.done.Done.{Done}
-use Rattle.interleave_core.specs.Parts.{reply_of, next_behind, IsAsked, own_of, IsLinked}
+use Rattle.interleave_core.specs.Parts.{reply_of, next_after, IsAsked, own_of, IsLinked}
 use Rattle.interleave_core.specs.Runs.{next_for, IsRun}
 use Rattle.interleave_core.specs.Weave.{Stamped, woven_of, Falls, AreOf, done_of, entry_in, AreOwn, AreJournals, AreAsked, run_of, JournalsWeaveToARun}
 use Rattle.interleave_core.proofs.Merge.{is_at, HoldTheSame, falls-woven, woven-part, each-woven, woven-in, in-woven, pairs-apart, falls-same, falls-filter}
@@ -95,8 +95,8 @@ woven-run network journals owns are of =
     subst (IsLegal link) (sym (woven-parts network journals n there.0 are there.1)) (are.legal n link there.0 found there.1)))
     (λ actor. subst (IsAsked network actor) (sym (own-part network journals owns actor are of)) (of.asked actor))
 
-woven-ends : (network : Network) (journals : List (List Stamped)) (owns : ℕ → List Stamped) (actor : ℕ) → AreJournals network journals → AreAsked network owns journals → next_behind network actor (map reply_of (map done_of (owns actor))) ≡ None → next_for network actor (run_of journals) ≡ None
-woven-ends network journals owns actor are of none = next-is network actor (run_of journals) ∙ ap (λ ds. next_behind network actor (map reply_of ds)) (own-part network journals owns actor are of) ∙ none
+woven-ends : (network : Network) (journals : List (List Stamped)) (owns : ℕ → List Stamped) (actor : ℕ) → AreJournals network journals → AreAsked network owns journals → next_after network actor (map reply_of (map done_of (owns actor))) ≡ None → next_for network actor (run_of journals) ≡ None
+woven-ends network journals owns actor are of none = next-is network actor (run_of journals) ∙ ap (λ ds. next_after network actor (map reply_of ds)) (own-part network journals owns actor are of) ∙ none
 
 pub journals-weave : JournalsWeaveToARun
 journals-weave = record {

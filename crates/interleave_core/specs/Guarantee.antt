@@ -105,8 +105,8 @@ pub record AreClose (network : Network) (request : Request) (levels : List ℕ) 
   pub close : leaves_at at.link.shape.rate one + at.link.shape.prop + get_or (arrival_ticks network request first run) place 0 < leaves_at at.link.shape.rate other + at.link.shape.prop + get_or (arrival_ticks network request first run) index 0 + bound_at at.link.shape.bounds (get_or levels i 0)
 
 -- the bound of the packet with this index at the far end of a hop, from its eligible tick at the first hop on
-abbrev pub bound_behind : (network : Network) (request : Request) → List ℕ → HopAt network request 0 → List Done → ℕ → ℕ → ℕ
-bound_behind network request levels first run i k = get_or (hop_ticks network request 0 first run) k 0 + delay_before request levels (suc i)
+abbrev pub bound_after : (network : Network) (request : Request) → List ℕ → HopAt network request 0 → List Done → ℕ → ℕ → ℕ
+bound_after network request levels first run i k = get_or (hop_ticks network request 0 first run) k 0 + delay_before request levels (suc i)
 
 -- the packet with this index has been taken at the hop and has departed from it
 pub record DepartedAt (network : Network) (request : Request) (i : ℕ) (at : HopAt network request i) (run : List Done) (k : ℕ) : Type 0 where
@@ -121,7 +121,7 @@ pub record ChannelGuaranteed (network : Network) (request : Request) (levels : L
   pub keeps : KeepsRequest request levels delay
   pub sum : delay ≡ delay_over request.route levels
   -- where a packet's bound, less the hop's propagation, is at most the hop's clock, it has departed from there
-  pub departs : (i : ℕ) (at : HopAt network request i) (k : ℕ) → k < count_at network request 0 first run → bound_behind network request levels first run i k ≤ clock_of (part_of (link_number at.hop.link) run) + at.link.shape.prop → DepartedAt network request i at run k
+  pub departs : (i : ℕ) (at : HopAt network request i) (k : ℕ) → k < count_at network request 0 first run → bound_after network request levels first run i k ≤ clock_of (part_of (link_number at.hop.link) run) + at.link.shape.prop → DepartedAt network request i at run k
   -- where the source keeps its contract, each packet is eligible at the first hop in the tick in which it arrives
   pub at_once : SourceKept network request first run → hop_ticks network request 0 first run ≡ arrival_ticks network request first run
   -- then, under delay-jitter control, the delays of two packets are close

@@ -17,13 +17,13 @@ abbrev pub reply_of : Done → Reply
 reply_of done = done.reply
 
 -- what an actor asks next after its own replies
-abbrev pub next_behind : Network → ℕ → List Reply → Option (LinkNo × Ask)
-next_behind network actor replies = if nat_eq actor (plane_no network) then plane_ask network.rounds (plane_of (length network.links) replies) else script_ask (slice_get network.scripts actor) replies
+abbrev pub next_after : Network → ℕ → List Reply → Option (LinkNo × Ask)
+next_after network actor replies = if nat_eq actor (plane_no network) then plane_ask network.rounds (plane_of (length network.links) replies) else script_ask (slice_get network.scripts actor) replies
 
 -- the entries, all of one actor and newest first, are asked by its rules
 abbrev pub IsAsked : Network → ℕ → List Done → Type 0
 IsAsked network actor [] = Unit {0}
-IsAsked network actor (done ∷ before) = IsAsked network actor before × (next_behind network actor (map reply_of before) ≡ Some (done.link, done.ask))
+IsAsked network actor (done ∷ before) = IsAsked network actor before × (next_after network actor (map reply_of before) ≡ Some (done.link, done.ask))
 
 -- the entries of the actor of this number
 abbrev pub own_of : ℕ → List Done → List Done

@@ -37,7 +37,7 @@ hop_ticks network request i at run = ticks_at (channel_number request.chan) (pac
 -- the ticks of a hop, each at most so much behind that of the hop before
 pub record IsBehind (shift : ℕ) (before ticks : List ℕ) : Type 0 where
   pub fewer : length ticks ≤ length before
-  pub behind : (k : ℕ) → k < length ticks → get_or ticks k 0 ≤ get_or before k 0 + shift
+  pub after : (k : ℕ) → k < length ticks → get_or ticks k 0 ≤ get_or before k 0 + shift
 
 -- the delay over the first hops
 abbrev pub delay_before : Request → List ℕ → ℕ → ℕ

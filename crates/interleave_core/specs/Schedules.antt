@@ -61,8 +61,8 @@ pub record FollowsTurns (network : Network) (past : List Done) (actors : List Ac
 pub record Stops (network : Network) (past : List Done) (turns : List Turn) (line made : ℕ) : Type 0 where
   pub before : List Turn
   pub turn : Turn
-  pub behind : List Turn
-  pub are : turns ≡ before ++ turn ∷ behind
+  pub after : List Turn
+  pub are : turns ≡ before ++ turn ∷ after
   pub served : HaveSteps network past (map actor_in before)
   pub over : next_for network (actor_number turn.actor) (run_from network past (map actor_in before)) ≡ None
   pub asks : line ≡ turn.line

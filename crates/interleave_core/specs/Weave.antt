@@ -12,7 +12,7 @@ use Rattle.link_steps.proofs.ListFacts.{Among}
 use Rattle.call_script.specs.Tasks.{Network}
 use Rattle.run_record.specs.Runs.{entry_of, part_of}
 use Rattle.run_record.specs.declared.done.Done.{Done}
-use Rattle.interleave_core.specs.Parts.{reply_of, next_behind, IsAsked}
+use Rattle.interleave_core.specs.Parts.{reply_of, next_after, IsAsked}
 use Rattle.interleave_core.specs.Runs.{next_for, IsRun}
 
 -- ---- the merge by stamp
@@ -113,4 +113,4 @@ pub record JournalsWeaveToARun : Type 0 where
   -- it is a run
   pub run : (network : Network) (journals : List (List Stamped)) (owns : ℕ → List Stamped) → AreJournals network journals → AreAsked network owns journals → IsRun network (run_of journals)
   -- and an actor whose own entries leave it no ask has made all its steps
-  pub ends : (network : Network) (journals : List (List Stamped)) (owns : ℕ → List Stamped) (actor : ℕ) → AreJournals network journals → AreAsked network owns journals → next_behind network actor (map reply_of (map done_of (owns actor))) ≡ None → next_for network actor (run_of journals) ≡ None
+  pub ends : (network : Network) (journals : List (List Stamped)) (owns : ℕ → List Stamped) (actor : ℕ) → AreJournals network journals → AreAsked network owns journals → next_after network actor (map reply_of (map done_of (owns actor))) ≡ None → next_for network actor (run_of journals) ≡ None

@@ -51,13 +51,13 @@ first-own : (link : Link) (past : List Done) (m : Mark) (ms : List Mark) (a : Ac
     → entries_of (actor_number a) (told_after link (history_entry_of m (reply_to link past m.ask) ∷ past) ms) ≡ map (own_entry a) own)
     → (own : List OwnEntry) → m ∷ marks_of (actor_number a) ms ≡ map (own_mark a) own → Each (AnsweredAfter link past (m ∷ ms) a) own
     → journal_entry_of m (reply_to link past m.ask) ∷ entries_of (actor_number a) (told_after link (history_entry_of m (reply_to link past m.ask) ∷ past) ms) ≡ map (own_entry a) own
-first-own link past m ms a behind [] marks each = absurd (cc marks)
-first-own link past m ms a behind (e ∷ own) marks each =
+first-own link past m ms a later [] marks each = absurd (cc marks)
+first-own link past m ms a later (e ∷ own) marks each =
     let past' : List Done = history_entry_of m (reply_to link past m.ask) ∷ past in
     let head : m ≡ own_mark a e = cc marks in
     let tail : marks_of (actor_number a) ms ≡ map (own_mark a) own = cc marks in
     let here = answered-first link past m ms a e head each.0 in
-    let rest = behind own tail (Each-if (AnsweredAfter link past (m ∷ ms) a) (AnsweredAfter link past' ms a) own (answered-rest link past m ms a) each.1) in
+    let rest = later own tail (Each-if (AnsweredAfter link past (m ∷ ms) a) (AnsweredAfter link past' ms a) own (answered-rest link past m ms a) each.1) in
     cc (here, rest)
 
 entries-answered : (link : Link) (past : List Done) (ms : List Mark) (a : ActorNo) (own : List OwnEntry) → marks_of (actor_number a) ms ≡ map (own_mark a) own → Each (AnsweredAfter link past ms a) own → entries_of (actor_number a) (told_after link past ms) ≡ map (own_entry a) own

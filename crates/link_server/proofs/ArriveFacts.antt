@@ -100,8 +100,8 @@ rule-kept (Some other) rules none = cc
 
 pub next-number : (packet : Packet) (terms : Reservation) (taken : ℕ) → None ≡ stray packet terms taken → packet.number ≡ suc taken
 next-number packet terms taken none =
-    let behind = (rule-kept (first_hop terms) (uncommitted terms ∷ wrong_number packet.number (suc taken) ∷ past_count terms taken ∷ big terms packet.size ∷ []) none).1 in
-    let numbered = (rule-kept (uncommitted terms) (wrong_number packet.number (suc taken) ∷ past_count terms taken ∷ big terms packet.size ∷ []) behind).1 in
+    let after = (rule-kept (first_hop terms) (uncommitted terms ∷ wrong_number packet.number (suc taken) ∷ past_count terms taken ∷ big terms packet.size ∷ []) none).1 in
+    let numbered = (rule-kept (uncommitted terms) (wrong_number packet.number (suc taken) ∷ past_count terms taken ∷ big terms packet.size ∷ []) after).1 in
     let kept = (rule-kept (wrong_number packet.number (suc taken)) (past_count terms taken ∷ big terms packet.size ∷ []) numbered).0 in
     eqb-true packet.number (suc taken) (unless-none (nat_eq packet.number (suc taken)) (Stray (WrongNumber (suc taken))) kept)
 

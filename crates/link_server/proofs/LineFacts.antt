@@ -29,15 +29,15 @@ count-passing test packets = sym (ap length (here-passing test packets) ∙ leng
 -- ---- the packets from the last to the first
 
 -- the last packets, which were read from the last on, in their order
-abbrev pub behind : List (Bor HeldPacket) → List HeldPacket
-behind read = reverse (map (λ packet. packet.now) read)
+abbrev pub after : List (Bor HeldPacket) → List HeldPacket
+after read = reverse (map (λ packet. packet.now) read)
 
-pub behind-more : (read : List (Bor HeldPacket)) (packet : Bor HeldPacket) → behind (read ++ packet ∷ []) ≡ packet.now ∷ behind read
-behind-more read packet =
+pub after-more : (read : List (Bor HeldPacket)) (packet : Bor HeldPacket) → after (read ++ packet ∷ []) ≡ packet.now ∷ after read
+after-more read packet =
     ap reverse (map-append (λ (p : Bor HeldPacket). p.now) read (packet ∷ [])) ∙ reverse-append (map (λ (p : Bor HeldPacket). p.now) read) (packet.now ∷ [])
 
 -- one more packet that is eligible is compared with the first of those after it
-pub first-more : (tick : ℕ) (best : Option Arrival) (read : List (Bor HeldPacket)) (packet : Bor HeldPacket) → best ≡ first_in_line (filter (is_eligible_by tick) (here_in (behind read))) → packet.now.eligible ≤ tick → Some (sooner (arrival_in packet.now) best) ≡ first_in_line (filter (is_eligible_by tick) (here_in (behind (read ++ packet ∷ []))))
+pub first-more : (tick : ℕ) (best : Option Arrival) (read : List (Bor HeldPacket)) (packet : Bor HeldPacket) → best ≡ first_in_line (filter (is_eligible_by tick) (here_in (after read))) → packet.now.eligible ≤ tick → Some (sooner (arrival_in packet.now) best) ≡ first_in_line (filter (is_eligible_by tick) (here_in (after (read ++ packet ∷ []))))
 unfolding first_in_line
 first-more tick best read packet same eligible =
-    rw (behind-more read packet, le-leb packet.now.eligible tick eligible) (ap (λ (first : Option Arrival). Some (sooner (arrival_in packet.now) first)) same)
+    rw (after-more read packet, le-leb packet.now.eligible tick eligible) (ap (λ (first : Option Arrival). Some (sooner (arrival_in packet.now) first)) same)

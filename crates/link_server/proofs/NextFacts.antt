@@ -26,13 +26,13 @@ place-told p rank is = eqb-true rank.place p.place (and_parts (nat_eq rank.place
 
 tick-told : (p : Arrival) (rank : Rank) → is_rank_of p rank ≡ true → rank.eligible ≡ p.eligible
 tick-told p rank is =
-    let behind = (and_parts (nat_eq rank.place p.place) (nat_eq rank.eligible p.eligible && nat_eq rank.level p.level) is).1 in
-    eqb-true rank.eligible p.eligible (and_parts (nat_eq rank.eligible p.eligible) (nat_eq rank.level p.level) behind).0
+    let rest = (and_parts (nat_eq rank.place p.place) (nat_eq rank.eligible p.eligible && nat_eq rank.level p.level) is).1 in
+    eqb-true rank.eligible p.eligible (and_parts (nat_eq rank.eligible p.eligible) (nat_eq rank.level p.level) rest).0
 
 level-told : (p : Arrival) (rank : Rank) → is_rank_of p rank ≡ true → rank.level ≡ p.level
 level-told p rank is =
-    let behind = (and_parts (nat_eq rank.place p.place) (nat_eq rank.eligible p.eligible && nat_eq rank.level p.level) is).1 in
-    eqb-true rank.level p.level (and_parts (nat_eq rank.eligible p.eligible) (nat_eq rank.level p.level) behind).1
+    let rest = (and_parts (nat_eq rank.place p.place) (nat_eq rank.eligible p.eligible && nat_eq rank.level p.level) is).1 in
+    eqb-true rank.level p.level (and_parts (nat_eq rank.eligible p.eligible) (nat_eq rank.level p.level) rest).1
 
 -- the ranks stand as the packets go
 before-told : (p q : Arrival) (r s : Rank) → is_rank_of p r ≡ true → is_rank_of q s ≡ true → stands_before r s ≡ goes_before p q
@@ -90,12 +90,12 @@ none-first tick ranks here after are =
 
 -- ---- where one is
 
-any-behind : (tick : ℕ) (p q : Arrival) (first : Rank) (ranks : List Rank) → AllByRecursion (IsBehind tick first) ranks → list_any (is_rank_of p) ranks ≡ true → is_rank_of q first ≡ true → p.eligible ≤ tick → goes_before p q ≡ false
-any-behind tick p q first [] behind any is by = absurd (true≢false (sym any))
-any-behind tick p q first (r ∷ ranks) behind any is by =
+any-follows : (tick : ℕ) (p q : Arrival) (first : Rank) (ranks : List Rank) → AllByRecursion (IsBehind tick first) ranks → list_any (is_rank_of p) ranks ≡ true → is_rank_of q first ≡ true → p.eligible ≤ tick → goes_before p q ≡ false
+any-follows tick p q first [] rest any is by = absurd (true≢false (sym any))
+any-follows tick p q first (r ∷ ranks) rest any is by =
     elim (cases_Bool (is_rank_of p r)) [
-      | inl at ↦ (let same = tick-told p r at in sym (before-told p q r first at is) ∙ behind.0 (omega (arith, same, by)))
-      | inr fails ↦ any-behind tick p q first ranks behind.1 (sym (ap (λ b. b || list_any (is_rank_of p) ranks) fails) ∙ any) is by
+      | inl at ↦ (let same = tick-told p r at in sym (before-told p q r first at is) ∙ rest.0 (omega (arith, same, by)))
+      | inr fails ↦ any-follows tick p q first ranks rest.1 (sym (ap (λ b. b || list_any (is_rank_of p) ranks) fails) ∙ any) is by
     ]
 
 -- no other packet that is eligible goes before this one
@@ -105,7 +105,7 @@ LetsGo tick q p = p.eligible ≤ tick → q.place ≢ p.place → goes_before p 
 let-go : (tick : ℕ) (old new : List Rank) (rank : Rank) (q : Arrival) (here : List Arrival) → IsNext tick old new rank → AreIn old None here → is_rank_of q rank ≡ true → Each (LetsGo tick q) here
 let-go tick old new rank q here next are is =
     Each-if (IsIn old None) (LetsGo tick q) here
-    (λ p there by apart. any-behind tick p q rank new next.behind (rank-left p old new rank next.others (there refl) (other-rank p q rank is apart)) is by) are
+    (λ p there by apart. any-follows tick p q rank new next.after (rank-left p old new rank next.others (there refl) (other-rank p q rank is apart)) is by) are
 
 -- p goes before q or q before p, but not both, where their arrival numbers differ
 before-either : (p q : Arrival) → p.place ≢ q.place → goes_before p q ≡ not (goes_before q p)
@@ -113,8 +113,8 @@ unfolding goes_before
 before-either p q apart = grind (arith, nat_tests)
 
 sooner-first : (x : Arrival) (best : Option Arrival) → ((r : Arrival) → best ≡ Some r → goes_before r x ≡ false) → sooner x best ≡ x
-sooner-first x None behind = refl
-sooner-first x (Some r) behind = rw (behind r refl) refl
+sooner-first x None rest = refl
+sooner-first x (Some r) rest = rw (rest r refl) refl
 
 pub rising-later : (low : ℕ) (ps : List Arrival) → AreRising low ps → Each (λ p. low < p.place) ps
 rising-later low [] rising = tt
@@ -126,18 +126,18 @@ unfolding first_in_line
 first-head tick x xs above go by =
     rw (le-leb x.eligible tick by)
     (ap Some (sooner-first x (first_in_line (filter (is_eligible_by tick) xs))
-    (λ r first. first_in_line-fact (λ p. goes_before p x ≡ false) (filter (is_eligible_by tick) xs) r behind first))) where
-      behind : Each (λ p. goes_before p x ≡ false) (filter (is_eligible_by tick) xs)
-      behind =
+    (λ r first. first_in_line-fact (λ p. goes_before p x ≡ false) (filter (is_eligible_by tick) xs) r rest first))) where
+      rest : Each (λ p. goes_before p x ≡ false) (filter (is_eligible_by tick) xs)
+      rest =
           Each-if (λ p. IsDue tick p × ((x.place < p.place) × LetsGo tick x p)) (λ p. goes_before p x ≡ false) (filter (is_eligible_by tick) xs)
           (λ p all. all.1.1 all.0 (λ same. absurd (let higher = all.1.0 in omega (arith, higher, same))))
           (Each-both (IsDue tick) (λ p. (x.place < p.place) × LetsGo tick x p) (filter (is_eligible_by tick) xs) (are-due tick xs)
           (Each-filter (λ p. (x.place < p.place) × LetsGo tick x p) (is_eligible_by tick) xs (Each-both (λ p. x.place < p.place) (LetsGo tick x) xs above go)))
 
 -- or after one that doesn't go before it
-first-behind : (tick : ℕ) (x q : Arrival) (xs : List Arrival) → x.place ≢ q.place → LetsGo tick q x → first_in_line (filter (is_eligible_by tick) xs) ≡ Some q → first_in_line (filter (is_eligible_by tick) (x ∷ xs)) ≡ Some q
+first-after : (tick : ℕ) (x q : Arrival) (xs : List Arrival) → x.place ≢ q.place → LetsGo tick q x → first_in_line (filter (is_eligible_by tick) xs) ≡ Some q → first_in_line (filter (is_eligible_by tick) (x ∷ xs)) ≡ Some q
 unfolding first_in_line
-first-behind tick x q xs apart go found =
+first-after tick x q xs apart go found =
     elim (cases_Bool (is_eligible_by tick x)) [
       | inl by ↦ (
           let due : x.eligible ≤ tick = leb-true x.eligible tick by in
@@ -154,7 +154,7 @@ first-is tick low (x ∷ xs) q rising found by go =
           let same : x ≡ q = same_Some x q (rw at at found) in
           subst (λ p. first_in_line (filter (is_eligible_by tick) (x ∷ xs)) ≡ Some p) same
           (first-head tick x xs (rising-later x.place xs rising.1) (subst (λ p. Each (LetsGo tick p) xs) (sym same) go.1) (subst (λ p. p.eligible ≤ tick) (sym same) by)))
-      | inr off ↦ first-behind tick x q xs (eqb-false x.place q.place off) go.0 (first-is tick x.place xs q rising.1 (rw off at found) by go.1)
+      | inr off ↦ first-after tick x q xs (eqb-false x.place q.place off) go.0 (first-is tick x.place xs q rising.1 (rw off at found) by go.1)
     ]
 
 -- so the next rank's packet is the first in line

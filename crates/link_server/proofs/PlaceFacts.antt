@@ -34,15 +34,15 @@ absent-found test [] absent = refl
 absent-found test (row ∷ rows) absent = rw (absent 0 row (omega arith)) (absent-found test rows (λ k d inside. absent (suc k) d (omega arith)))
 
 -- and the other way round
-absent-behind : (test : ServedRow → Bool) (row : ServedRow) (rows : List ServedRow) → test row ≡ false → NoRowPasses test rows → NoRowPasses test (row ∷ rows)
-absent-behind test row rows fails others zero d inside = fails
-absent-behind test row rows fails others (suc k) d inside = others k d (omega arith)
+absent-after : (test : ServedRow → Bool) (row : ServedRow) (rows : List ServedRow) → test row ≡ false → NoRowPasses test rows → NoRowPasses test (row ∷ rows)
+absent-after test row rows fails others zero d inside = fails
+absent-after test row rows fails others (suc k) d inside = others k d (omega arith)
 
 found-absent : (test : ServedRow → Bool) (rows : List ServedRow) → find test rows ≡ None → NoRowPasses test rows
 found-absent test [] none = λ k d inside. absurd (omega arith)
 found-absent test (row ∷ rows) none =
     ⊎_elim (λ (passes : test row ≡ true). absurd (let some : Some row ≡ None = rw passes at none in cc))
-    (λ (fails : test row ≡ false). absent-behind test row rows fails (found-absent test rows (rw fails at none)))
+    (λ (fails : test row ≡ false). absent-after test row rows fails (found-absent test rows (rw fails at none)))
     (cases_Bool (test row))
 
 -- what is found in the account is what is kept of that row

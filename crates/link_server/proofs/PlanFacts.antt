@@ -17,9 +17,9 @@ planned-length u gap size zero = refl
 planned-length u gap size (suc count) = ap suc (planned-length (u + gap) gap size count)
 
 -- what is planned after no packets is all that is planned
-pub behind-none : (left more : List SourcePacket) → length left ≡ 0 → more ≡ left ++ more
-behind-none [] more none = refl
-behind-none (p ∷ left) more none = absurd (omega arith)
+pub after-none : (left more : List SourcePacket) → length left ≡ 0 → more ≡ left ++ more
+after-none [] more none = refl
+after-none (p ∷ left) more none = absurd (omega arith)
 
 -- where the rule on a plan that is left is kept, none is left
 pub none-left : (left : ℕ) → None ≡ busy left → left ≡ 0
@@ -31,22 +31,22 @@ unfolding planned_from
 for-none t u gap size zero later = refl
 for-none t u gap size (suc count) later = rw (ne_eqb u t (λ same. omega (arith, later, same))) (for-none t (u + gap) gap size count (omega (arith, later)))
 
--- packets ahead of the clock, of which the first isn't for its tick, have none for it, and all are left behind it
+-- packets ahead of the clock, of which the first isn't for its tick, have none for it, and all are left after it
 pub none-due : (t u gap size count : ℕ) → Each (IsPlannedFrom t) (planned_from u gap size count) → (u ≡ t → ⊥) → find (is_for t) (planned_from u gap size count) ≡ None
 unfolding planned_from
 none-due t u gap size zero ahead other = refl
 none-due t u gap size (suc count) ahead other = for-none t u gap size (suc count) (omega (arith, ahead.0, other))
 
-all-behind : (t u gap size count : ℕ) → Each (IsPlannedFrom t) (planned_from u gap size count) → (u ≡ t → ⊥) → left_at (t + 1) (planned_from u gap size count) ≡ planned_from u gap size count
+all-after : (t u gap size count : ℕ) → Each (IsPlannedFrom t) (planned_from u gap size count) → (u ≡ t → ⊥) → left_at (t + 1) (planned_from u gap size count) ≡ planned_from u gap size count
 unfolding planned_from
-all-behind t u gap size zero ahead other = refl
-all-behind t u gap size (suc count) ahead other = left_at-planned (t + 1) u gap size (suc count) (omega (arith, ahead.0, other))
+all-after t u gap size zero ahead other = refl
+all-after t u gap size (suc count) ahead other = left_at-planned (t + 1) u gap size (suc count) (omega (arith, ahead.0, other))
 
 pub none-due-size : (t u gap size count : ℕ) → Each (IsPlannedFrom t) (planned_from u gap size count) → (u ≡ t → ⊥) → None ≡ size_of (find (is_for t) (planned_from u gap size count))
 none-due-size t u gap size count ahead other = sym (ap size_of (none-due t u gap size count ahead other))
 
 pub none-due-left : (t u gap size count : ℕ) → Each (IsPlannedFrom t) (planned_from u gap size count) → (u ≡ t → ⊥) → planned_from u gap size count ≡ left_at (t + 1) (planned_from u gap size count)
-none-due-left t u gap size count ahead other = sym (all-behind t u gap size count ahead other)
+none-due-left t u gap size count ahead other = sym (all-after t u gap size count ahead other)
 
 -- no packets have none for a tick
 pub empty-due : (t u gap size count : ℕ) → count ≡ 0 → find (is_for t) (planned_from u gap size count) ≡ None

@@ -22,7 +22,7 @@ use Rattle.link_server.specs.Account.{account}
 use Rattle.link_server.specs.Planned.{left_in, size_of}
 use Rattle.link_server.specs.declared.served_row.ServedRow.{ServedRow}
 use Rattle.link_server.specs.declared.packets.Packets.{Packets}
-use Rattle.link_server.proofs.PlanFacts.{planned-length, behind-none, none-left}
+use Rattle.link_server.proofs.PlanFacts.{planned-length, after-none, none-left}
 
 pub left-counted : (packets : Packets) → length (left_in packets.best) ≡ packets.best.count
 left-counted packets = planned-length packets.best.tick packets.best.gap packets.best.size packets.best.count
@@ -50,7 +50,7 @@ pour-same shape k count gap size refusal = refl
 pub pour-kept : (shape : LinkShape) (t : ℕ) (packets : Packets) (rows : List ServedRow) (count gap size clock : ℕ) → None ≡ busy packets.best.count → with_plan (account t packets rows) (planned_from t gap size count) ≡ kept_after shape (account t packets rows) (Pour count gap size) (Planned clock)
 unfolding kept_after
 pour-kept shape t packets rows count gap size clock left =
-    ap (with_plan (account t packets rows)) (behind-none (left_in packets.best) (planned_from t gap size count) (left-counted packets ∙ none-left packets.best.count left))
+    ap (with_plan (account t packets rows)) (after-none (left_in packets.best) (planned_from t gap size count) (left-counted packets ∙ none-left packets.best.count left))
 
 -- ---- the step of the best-effort plan, where its packet fits or not
 

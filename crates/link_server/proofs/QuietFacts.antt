@@ -28,7 +28,7 @@ quiet-plan until t [] plans before = refl
 quiet-plan until t (p ∷ left) plans before =
     rw (ne_eqb p.tick t (λ same. (let from = plans.0 in omega (arith, from, before, same)))) (quiet-plan until t left plans.1 before)
 
--- so all that are planned are left behind it
+-- so all that are planned are left after it
 quiet-left : (until t : ℕ) (left : List SourcePacket) → Each (IsPlannedFrom until) left → t < until → left_at (suc t) left ≡ left
 quiet-left until t [] plans before = refl
 quiet-left until t (p ∷ left) plans before =

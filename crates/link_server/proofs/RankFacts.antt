@@ -50,13 +50,13 @@ upper-after tick x (y ∷ ys) first upper =
     (omega (arith, first, least), upper-after tick x ys first upper.1)
 
 -- none that is ready goes before the first
-upper-behind : (tick : ℕ) (x : Ready) (ys : List Ready) → IsUpperBound backwards x ys → AllByRecursion (IsBehind tick (ready_rank x)) (map ready_rank ys)
-upper-behind tick x [] upper = tt
-upper-behind tick x (y ∷ ys) upper = ((λ by. sym (before-told x y) ∙ upper.0), upper-behind tick x ys upper.1)
+upper-follows : (tick : ℕ) (x : Ready) (ys : List Ready) → IsUpperBound backwards x ys → AllByRecursion (IsBehind tick (ready_rank x)) (map ready_rank ys)
+upper-follows tick x [] upper = tt
+upper-follows tick x (y ∷ ys) upper = ((λ by. sym (before-told x y) ∙ upper.0), upper-follows tick x ys upper.1)
 
-after-behind : (tick : ℕ) (first : Rank) (ranks more : List Rank) → AreAfter tick ranks → AllByRecursion (IsBehind tick first) more → AllByRecursion (IsBehind tick first) (ranks ++ more)
-after-behind tick first [] more after behind = behind
-after-behind tick first (r ∷ ranks) more after behind = ((λ by. absurd (let late = after.0 in omega (arith, late, by))), after-behind tick first ranks more after.1 behind)
+after-follows : (tick : ℕ) (first : Rank) (ranks more : List Rank) → AreAfter tick ranks → AllByRecursion (IsBehind tick first) more → AllByRecursion (IsBehind tick first) (ranks ++ more)
+after-follows tick first [] more after rest = rest
+after-follows tick first (r ∷ ranks) more after rest = ((λ by. absurd (let late = after.0 in omega (arith, late, by))), after-follows tick first ranks more after.1 rest)
 
 -- ---- what comes in line and goes out of it
 
@@ -98,7 +98,7 @@ ready-next tick all later old new x whole after by popped upper = record {
       IsPermutation-trans all (later ++ map ready_rank old) (ready_rank x ∷ (later ++ map ready_rank new)) whole
       (IsPermutation-trans (later ++ map ready_rank old) (later ++ ready_rank x ∷ map ready_rank new) _ (IsPermutation-append_right later _ _ (IsPermutation-map ready_rank old (x ∷ new) popped)) (IsPermutation-middle later (ready_rank x) (map ready_rank new)));
   eligible = (every_shuffled (IsBy tick) old (x ∷ new) popped by).0;
-  behind = after-behind tick (ready_rank x) later (map ready_rank new) after (upper-behind tick x new upper);
+  after = after-follows tick (ready_rank x) later (map ready_rank new) after (upper-follows tick x new upper);
 }
 
 -- what is left of those that are ready keeps their order, whether one was taken out or none was there

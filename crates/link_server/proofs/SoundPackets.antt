@@ -43,15 +43,15 @@ count-more : (test : Arrival → Bool) (here more : List Arrival) → length (fi
 count-more test here more = rw (filter-append test here more, length-append (filter test here) (filter test more)) (omega arith)
 
 -- one at least passes where one of those added does
-count-one : (test : Arrival → Bool) (here before : List Arrival) (p : Arrival) (behind : List Arrival) → test p ≡ true → suc (length (filter test here)) ≤ length (filter test (here ++ (before ++ p ∷ behind)))
-count-one test here before p behind passes =
-    rw (filter-append test here (before ++ p ∷ behind), filter-append test before (p ∷ behind), passes)
-    (rw (length-append (filter test here) (filter test before ++ p ∷ filter test behind), length-append (filter test before) (p ∷ filter test behind)) (omega arith))
+count-one : (test : Arrival → Bool) (here before : List Arrival) (p : Arrival) (after : List Arrival) → test p ≡ true → suc (length (filter test here)) ≤ length (filter test (here ++ (before ++ p ∷ after)))
+count-one test here before p after passes =
+    rw (filter-append test here (before ++ p ∷ after), filter-append test before (p ∷ after), passes)
+    (rw (length-append (filter test here) (filter test before ++ p ∷ filter test after), length-append (filter test before) (p ∷ filter test after)) (omega arith))
 
 -- the packets of a row's lead, where the row takes one of those added
-count-taken : (test : ℕ → Arrival → Bool) (lead place : ℕ) (here before : List Arrival) (p : Arrival) (behind : List Arrival) → length (filter (test 0) here) ≡ 0 → test (lead_with lead place) p ≡ true → suc (length (filter (test lead) here)) ≤ length (filter (test (lead_with lead place)) (here ++ (before ++ p ∷ behind)))
-count-taken test lead place here before p behind none passes =
-    let one = count-one (test (lead_with lead place)) here before p behind passes in
+count-taken : (test : ℕ → Arrival → Bool) (lead place : ℕ) (here before : List Arrival) (p : Arrival) (after : List Arrival) → length (filter (test 0) here) ≡ 0 → test (lead_with lead place) p ≡ true → suc (length (filter (test lead) here)) ≤ length (filter (test (lead_with lead place)) (here ++ (before ++ p ∷ after)))
+count-taken test lead place here before p after none passes =
+    let one = count-one (test (lead_with lead place)) here before p after passes in
     ⊎_elim
     (λ (first : lead ≡ 0). (let e : length (filter (test lead) here) ≡ 0 = ap (λ n. length (filter (test n) here)) first ∙ none in omega (arith, one, e)))
     (λ (later : lead ≡ 0 → ⊥).
@@ -88,7 +88,7 @@ unfolding held_packets
 held-more lead here more = count-more (has_lead lead) here more
 
 -- a row that takes a packet has one more here
-pub held-taken : (lead place : ℕ) (here before : List Arrival) (p : Arrival) (behind : List Arrival) → Each HasLead here → p.lead ≡ lead_with lead place → suc (held_packets lead here) ≤ held_packets (lead_with lead place) (here ++ (before ++ p ∷ behind))
+pub held-taken : (lead place : ℕ) (here before : List Arrival) (p : Arrival) (after : List Arrival) → Each HasLead here → p.lead ≡ lead_with lead place → suc (held_packets lead here) ≤ held_packets (lead_with lead place) (here ++ (before ++ p ∷ after))
 unfolding held_packets
-held-taken lead place here before p behind each is =
-    count-taken has_lead lead place here before p behind (unfold held_packets in held-none here each) (eq-eqb p.lead (lead_with lead place) is)
+held-taken lead place here before p after each is =
+    count-taken has_lead lead place here before p after (unfold held_packets in held-none here each) (eq-eqb p.lead (lead_with lead place) is)

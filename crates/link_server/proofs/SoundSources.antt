@@ -46,11 +46,11 @@ packet-numbered Rests t taken row = omega arith
 packet-numbered Drops t taken row = omega arith
 
 -- its place is one of the row's free slots
-step-places : (bounds : List ℕ) (here chans before behind : List Arrival) (t place : ℕ) (row : KeptRow) (step : SourceStep) → ((l : ℕ) → held_packets l chans ≤ held_packets l here) → Each HasLead chans → IsStep bounds here row step → taken_by step + places_of bounds (chans ++ (before ++ (kept_packet step t place row ++ behind))) (kept_after_step step t place row) ≤ places_of bounds chans row
-step-places bounds here chans before behind t place row (Brings size) less leads is =
-    omega (arith, places-taken bounds chans (chans ++ (before ++ (kept_packet (Brings size) t place row ++ behind))) place (kept_tick row t) row (omega (arith, is.0, less row.lead)) (held-taken row.lead place chans before _ behind leads refl))
-step-places bounds here chans before behind t place row Rests less leads is = omega (arith, held-more row.lead chans (before ++ behind))
-step-places bounds here chans before behind t place row Drops less leads is = omega (arith, held-more row.lead chans (before ++ behind))
+step-places : (bounds : List ℕ) (here chans before after : List Arrival) (t place : ℕ) (row : KeptRow) (step : SourceStep) → ((l : ℕ) → held_packets l chans ≤ held_packets l here) → Each HasLead chans → IsStep bounds here row step → taken_by step + places_of bounds (chans ++ (before ++ (kept_packet step t place row ++ after))) (kept_after_step step t place row) ≤ places_of bounds chans row
+step-places bounds here chans before after t place row (Brings size) less leads is =
+    omega (arith, places-taken bounds chans (chans ++ (before ++ (kept_packet (Brings size) t place row ++ after))) place (kept_tick row t) row (omega (arith, is.0, less row.lead)) (held-taken row.lead place chans before _ after leads refl))
+step-places bounds here chans before after t place row Rests less leads is = omega (arith, held-more row.lead chans (before ++ after))
+step-places bounds here chans before after t place row Drops less leads is = omega (arith, held-more row.lead chans (before ++ after))
 
 -- the row without what was planned for the tick
 past-sound : (levels t taken : ℕ) (row : KeptRow) → IsSoundRow levels t taken row → IsSoundRow levels (suc t) taken (past_tick t row)
@@ -107,10 +107,10 @@ sources-places bounds here chans before t taken [] less leads steps = omega arit
 sources-places bounds here chans before t taken (row ∷ rows) less leads steps =
     let step : SourceStep = kept_step bounds here t row in
     let packet : List Arrival = kept_packet (kept_step bounds here t row) t (suc taken) row in
-    let behind : List Arrival = kept_packets bounds here t (taken + taken_by (kept_step bounds here t row)) rows in
-    let first = step-places bounds here chans before behind t (suc taken) row step less leads steps.0 in
-    let rest = rw (append_assoc before packet behind) at (sources-places bounds here chans (before ++ packet) t (taken + taken_by (kept_step bounds here t row)) rows less leads steps.1) in
-    omega (arith, first, rest, length-append packet behind, packet-length step t (suc taken) row)
+    let after : List Arrival = kept_packets bounds here t (taken + taken_by (kept_step bounds here t row)) rows in
+    let first = step-places bounds here chans before after t (suc taken) row step less leads steps.0 in
+    let rest = rw (append_assoc before packet after) at (sources-places bounds here chans (before ++ packet) t (taken + taken_by (kept_step bounds here t row)) rows less leads steps.1) in
+    omega (arith, first, rest, length-append packet after, packet-length step t (suc taken) row)
 
 -- they have the next arrival numbers
 pub sources-numbered : (bounds : List ℕ) (here : List Arrival) (t taken : ℕ) (rows : List KeptRow) → AreNumberedWithin taken (kept_packets bounds here t taken rows) (taken + length (kept_packets bounds here t taken rows))
@@ -119,10 +119,10 @@ sources-numbered bounds here t taken [] = omega arith
 sources-numbered bounds here t taken (row ∷ rows) =
     let step : SourceStep = kept_step bounds here t row in
     let packet : List Arrival = kept_packet (kept_step bounds here t row) t (suc taken) row in
-    let behind : List Arrival = kept_packets bounds here t (taken + taken_by (kept_step bounds here t row)) rows in
-    let e : taken + length (packet ++ behind) ≡ taken + taken_by step + length behind = omega (arith, length-append packet behind, packet-length step t (suc taken) row) in
-    subst (AreNumberedWithin taken (packet ++ behind)) (sym e)
-    (numbered-append taken (taken + taken_by step) (taken + taken_by step + length behind) packet behind (packet-numbered step t taken row) (sources-numbered bounds here t (taken + taken_by step) rows))
+    let after : List Arrival = kept_packets bounds here t (taken + taken_by (kept_step bounds here t row)) rows in
+    let e : taken + length (packet ++ after) ≡ taken + taken_by step + length after = omega (arith, length-append packet after, packet-length step t (suc taken) row) in
+    subst (AreNumberedWithin taken (packet ++ after)) (sym e)
+    (numbered-append taken (taken + taken_by step) (taken + taken_by step + length after) packet after (packet-numbered step t taken row) (sources-numbered bounds here t (taken + taken_by step) rows))
 
 -- and are sound
 pub sources-packets : (levels t before_all taken more : ℕ) (bounds : List ℕ) (here : List Arrival) (rows : List KeptRow) → before_all ≤ taken → taken + length (kept_packets bounds here t taken rows) ≤ more → AreSteps bounds here t rows → Each (IsSoundRow levels t before_all) rows → Each (IsSoundPacket levels more) (kept_packets bounds here t taken rows)
@@ -131,10 +131,10 @@ sources-packets levels t before_all taken more bounds here [] less upto steps ea
 sources-packets levels t before_all taken more bounds here (row ∷ rows) less upto steps each =
     let step : SourceStep = kept_step bounds here t row in
     let packet : List Arrival = kept_packet (kept_step bounds here t row) t (suc taken) row in
-    let behind : List Arrival = kept_packets bounds here t (taken + taken_by (kept_step bounds here t row)) rows in
-    let n = length-append packet behind in
+    let after : List Arrival = kept_packets bounds here t (taken + taken_by (kept_step bounds here t row)) rows in
+    let n = length-append packet after in
     let m = packet-length step t (suc taken) row in
-    Each-append (IsSoundPacket levels more) packet behind
+    Each-append (IsSoundPacket levels more) packet after
     (step-packet levels t before_all taken more bounds here row step less (omega (arith, upto, n, m)) steps.0 each.0)
     (sources-packets levels t before_all (taken + taken_by step) more bounds here rows (omega (arith, less)) (omega (arith, upto, n, m)) steps.1 each.1)
 

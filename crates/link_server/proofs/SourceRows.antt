@@ -16,7 +16,7 @@ use Rattle.link_server.proofs.SourceFacts.{packet-length, lost_by-most}
 
 -- the first i of the rows have made their step
 pub record HaveStepped (bounds : List ℕ) (was : List Arrival) (t before : ℕ) (old : List ServedRow) (i : ℕ) (rows : List ServedRow) (now : List Arrival) (count dropped : ℕ) : Type 0 where
-  pub behind : drop i rows ≡ drop i old
+  pub after : drop i rows ≡ drop i old
   pub front : map row_in (take i rows) ++ served_rows_after bounds was t count (drop i old) ≡ served_rows_after bounds was t before old
   pub here : now ++ brought_by bounds was t count (drop i old) ≡ was ++ brought_by bounds was t before old
   pub taken : count + length (brought_by bounds was t count (drop i old)) ≡ before + length (brought_by bounds was t before old)
@@ -25,39 +25,39 @@ pub record HaveStepped (bounds : List ℕ) (was : List Arrival) (t before : ℕ)
 
 -- at the beginning none has
 pub none-stepped : (bounds : List ℕ) (was : List Arrival) (t before : ℕ) (old : List ServedRow) → HaveStepped bounds was t before old 0 old was before 0
-none-stepped bounds was t before old = record { behind = refl; front = refl; here = refl; taken = refl; lost = omega arith; few = omega arith }
+none-stepped bounds was t before old = record { after = refl; front = refl; here = refl; taken = refl; lost = omega arith; few = omega arith }
 
 -- rows that are the same from one on are the same after it
-behind-next : (old rows : List ServedRow) (i : ℕ) → drop i rows ≡ drop i old → drop (i + 1) old ≡ drop (i + 1) rows
-behind-next old rows i behind = sym (drop-drop 1 i old) ∙ ap (drop 1) (sym behind) ∙ drop-drop 1 i rows
+after-next : (old rows : List ServedRow) (i : ℕ) → drop i rows ≡ drop i old → drop (i + 1) old ≡ drop (i + 1) rows
+after-next old rows i after = sym (drop-drop 1 i old) ∙ ap (drop 1) (sym after) ∙ drop-drop 1 i rows
 
 -- the packets that they take are those of that one, and then those of the rows after it
 brought-from : (bounds : List ℕ) (was : List Arrival) (t taken : ℕ) (old : List ServedRow) (i : ℕ) (rows : List ServedRow) (d : ServedRow) → drop i rows ≡ drop i old → i < length rows
     → length (brought_by bounds was t taken (drop i old)) ≡ taken_by (step_in bounds was t (get_or rows i d)) + length (brought_by bounds was t (taken + taken_by (step_in bounds was t (get_or rows i d))) (drop (i + 1) old))
 unfolding kept_packets
-brought-from bounds was t taken old i rows d behind inside =
+brought-from bounds was t taken old i rows d after inside =
     let step = step_in bounds was t (get_or rows i d) in
-    ap (λ all. length (brought_by bounds was t taken all)) (sym behind ∙ drop_more rows i d inside)
+    ap (λ all. length (brought_by bounds was t taken all)) (sym after ∙ drop_more rows i d inside)
     ∙ length-append (kept_packet step t (suc taken) (row_in (get_or rows i d))) (brought_by bounds was t (taken + taken_by step) (drop (i + 1) rows))
     ∙ ap (λ n. n + length (brought_by bounds was t (taken + taken_by step) (drop (i + 1) rows))) (packet-length step t (suc taken) (row_in (get_or rows i d)))
-    ∙ ap (λ all. taken_by step + length (brought_by bounds was t (taken + taken_by step) all)) (sym (behind-next old rows i behind))
+    ∙ ap (λ all. taken_by step + length (brought_by bounds was t (taken + taken_by step) all)) (sym (after-next old rows i after))
 
 -- so before its step there is room for its packet, where there is room for all
 pub packets-now : (bounds : List ℕ) (was : List Arrival) (t taken : ℕ) (old : List ServedRow) (i : ℕ) (rows : List ServedRow) (d : ServedRow) → drop i rows ≡ drop i old → i < length rows
     → taken_by (step_in bounds was t (get_or rows i d)) ≤ length (brought_by bounds was t taken (drop i old))
-packets-now bounds was t taken old i rows d behind inside = let split = brought-from bounds was t taken old i rows d behind inside in omega (arith, split)
+packets-now bounds was t taken old i rows d after inside = let split = brought-from bounds was t taken old i rows d after inside in omega (arith, split)
 
 -- what is so of each row is so of those from one on
-each-behind : (P : KeptRow → Type 0) (rows : List ServedRow) (i : ℕ) → Each P (map row_in rows) → Each P (map row_in (drop i rows))
-each-behind P [] zero each = each
-each-behind P [] (suc i) each = each
-each-behind P (row ∷ rows) zero each = each
-each-behind P (row ∷ rows) (suc i) each = each-behind P rows i each.1
+each-after : (P : KeptRow → Type 0) (rows : List ServedRow) (i : ℕ) → Each P (map row_in rows) → Each P (map row_in (drop i rows))
+each-after P [] zero each = each
+each-after P [] (suc i) each = each
+each-after P (row ∷ rows) zero each = each
+each-after P (row ∷ rows) (suc i) each = each-after P rows i each.1
 
 -- so it is ready for its step
 pub ready-now : (t : ℕ) (old : List ServedRow) (i : ℕ) (rows : List ServedRow) (d : ServedRow) → drop i rows ≡ drop i old → AreReady t old → i < length rows → IsReady t (row_in (get_or rows i d))
-ready-now t old i rows d behind ready inside =
-    (subst (λ all. Each (IsReady t) (map row_in all)) (sym behind ∙ drop_more rows i d inside) (each-behind (IsReady t) old i ready)).0
+ready-now t old i rows d after ready inside =
+    (subst (λ all. Each (IsReady t) (map row_in all)) (sym after ∙ drop_more rows i d inside) (each-after (IsReady t) old i ready)).0
 
 -- one row more has made its step
 pub one-stepped : (bounds : List ℕ) (was : List Arrival) (t before : ℕ) (old : List ServedRow) (i : ℕ) (rows : List ServedRow) (here : List Arrival) (taken lost : ℕ) (d new : ServedRow) (now : List Arrival) (taken' lost' : ℕ)
@@ -72,28 +72,28 @@ unfolding kept_packets kept_rows_after kept_lost
 one-stepped bounds was t before old i rows here taken lost d new now taken' lost' so inside stepped brought more dropped =
     let row = get_or rows i d in
     let step = step_in bounds was t row in
-    let rest : drop i old ≡ row ∷ drop (i + 1) rows = sym so.behind ∙ drop_more rows i d inside in
-    let front = behind-next old rows i so.behind in
-    let packets = brought-from bounds was t taken old i rows d so.behind inside in
+    let rest : drop i old ≡ row ∷ drop (i + 1) rows = sym so.after ∙ drop_more rows i d inside in
+    let front = after-next old rows i so.after in
+    let packets = brought-from bounds was t taken old i rows d so.after inside in
     let same : length (brought_by bounds was t taken' (drop (i + 1) old)) ≡ length (brought_by bounds was t (taken + taken_by step) (drop (i + 1) old)) = ap (λ n. length (brought_by bounds was t n (drop (i + 1) old))) more in
     let losses : lost_by_rows bounds was t (drop i old) ≡ dropped_by step + lost_by_rows bounds was t (drop (i + 1) old) =
-    ap (lost_by_rows bounds was t) rest ∙ ap (λ behind. dropped_by step + lost_by_rows bounds was t behind) (sym front) in
+    ap (lost_by_rows bounds was t) rest ∙ ap (λ after. dropped_by step + lost_by_rows bounds was t after) (sym front) in
     record {
-      behind = drop-set-lt (i + 1) rows i new (omega arith) ∙ sym front;
+      after = drop-set-lt (i + 1) rows i new (omega arith) ∙ sym front;
       front =
           ap (λ all. map row_in all ++ served_rows_after bounds was t taken' (drop (i + 1) old)) (take_more_set rows i new inside)
           ∙ ap (λ all. all ++ served_rows_after bounds was t taken' (drop (i + 1) old)) (map_push row_in (take i rows) new)
           ∙ append_assoc (map row_in (take i rows)) (row_in new ∷ []) (served_rows_after bounds was t taken' (drop (i + 1) old))
           ∙ ap (λ r. map row_in (take i rows) ++ (r ∷ served_rows_after bounds was t taken' (drop (i + 1) old))) stepped
           ∙ ap (λ n. map row_in (take i rows) ++ (kept_after_step step t (suc taken) (row_in row) ∷ served_rows_after bounds was t n (drop (i + 1) old))) more
-          ∙ ap (λ behind. map row_in (take i rows) ++ (kept_after_step step t (suc taken) (row_in row) ∷ served_rows_after bounds was t (taken + taken_by step) behind)) front
+          ∙ ap (λ after. map row_in (take i rows) ++ (kept_after_step step t (suc taken) (row_in row) ∷ served_rows_after bounds was t (taken + taken_by step) after)) front
           ∙ ap (λ all. map row_in (take i rows) ++ served_rows_after bounds was t taken all) (sym rest)
           ∙ so.front;
       here =
           ap (λ all. all ++ brought_by bounds was t taken' (drop (i + 1) old)) brought
           ∙ append_assoc here (kept_packet step t (suc taken) (row_in row)) (brought_by bounds was t taken' (drop (i + 1) old))
           ∙ ap (λ n. here ++ (kept_packet step t (suc taken) (row_in row) ++ brought_by bounds was t n (drop (i + 1) old))) more
-          ∙ ap (λ behind. here ++ (kept_packet step t (suc taken) (row_in row) ++ brought_by bounds was t (taken + taken_by step) behind)) front
+          ∙ ap (λ after. here ++ (kept_packet step t (suc taken) (row_in row) ++ brought_by bounds was t (taken + taken_by step) after)) front
           ∙ ap (λ all. here ++ brought_by bounds was t taken all) (sym rest)
           ∙ so.here;
       taken = let all = so.taken in omega (arith, all, packets, same, more);
@@ -117,10 +117,10 @@ all-stepped bounds was t before old i rows here taken lost so past end =
     record {
       all =
           sym (append-nil (map row_in rows)) ∙ ap (λ all. map row_in all ++ []) (sym full)
-          ∙ ap (λ behind. map row_in (take i rows) ++ served_rows_after bounds was t taken behind) (sym none) ∙ so.front;
-      here = sym (append-nil here) ∙ ap (λ behind. here ++ brought_by bounds was t taken behind) (sym none) ∙ so.here;
+          ∙ ap (λ after. map row_in (take i rows) ++ served_rows_after bounds was t taken after) (sym none) ∙ so.front;
+      here = sym (append-nil here) ∙ ap (λ after. here ++ brought_by bounds was t taken after) (sym none) ∙ so.here;
       taken =
-          let nothing : length (brought_by bounds was t taken (drop i old)) ≡ 0 = ap (λ behind. length (brought_by bounds was t taken behind)) none in
+          let nothing : length (brought_by bounds was t taken (drop i old)) ≡ 0 = ap (λ after. length (brought_by bounds was t taken after)) none in
           let all = so.taken in
           omega (arith, nothing, all);
       lost =

@@ -24,7 +24,7 @@ use Rattle.link_server.specs.declared.packets.Packets.{Packets}
 -- rows written over as many are those written
 pub all-written : {X : Type 0} (n : ℕ) (new old : List X) → n ≡ length old → length new ≡ length old → take n (new ++ drop (length new) old) ≡ new
 all-written n new old count same =
-    ap (λ behind. take n (new ++ behind)) (drop_all (length new) old (omega (arith, same)))
+    ap (λ after. take n (new ++ after)) (drop_all (length new) old (omega (arith, same)))
     ∙ ap (take n) (append-nil new)
     ∙ take_all n new (omega (arith, count, same))
 

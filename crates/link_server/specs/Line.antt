@@ -35,7 +35,7 @@ IsBehind tick first rank = rank.eligible ≤ tick → stands_before rank first �
 pub record IsNext (tick : ℕ) (old new : List Rank) (next : Rank) : Type 0 where
   pub others : IsPermutation old (next ∷ new)
   pub eligible : next.eligible ≤ tick
-  pub behind : AllByRecursion (IsBehind tick next) new
+  pub after : AllByRecursion (IsBehind tick next) new
 
 -- this one, eligible by the tick, was taken out
 pub record IsDue (tick : ℕ) (old new : List Rank) (rank : Rank) : Type 0 where

@@ -39,9 +39,9 @@ abbrev IsNumbered : Scan → Type 0
 IsNumbered scan = Each (IsUpTo (length scan.packets)) scan.packets
 
 numbered-append : (packets new : List Arrival) → Each (IsUpTo (length packets)) packets → Each (IsUpTo (length packets + length new)) new → Each (IsUpTo (length (packets ++ new))) (packets ++ new)
-numbered-append packets new before behind =
+numbered-append packets new before rest =
     rw (length-append packets new)
-    (Each-append (IsUpTo (length packets + length new)) packets new (Each-if (IsUpTo (length packets)) (IsUpTo (length packets + length new)) packets (λ p upto. omega arith) before) behind)
+    (Each-append (IsUpTo (length packets + length new)) packets new (Each-if (IsUpTo (length packets)) (IsUpTo (length packets + length new)) packets (λ p upto. omega arith) before) rest)
 
 numbered-arrival : (t : ℕ) (packet : Packet) (scan : Scan) (found : Option Row) → IsNumbered scan → IsNumbered (with_arrival t packet scan found)
 unfolding with_arrival

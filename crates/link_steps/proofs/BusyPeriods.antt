@@ -91,9 +91,9 @@ pub record IsServed (m t : ℕ) (starts : List Start) (ps : List Arrival) : Type
   pub found : first_in_line (filter (is_waiting starts t) ps) ≡ Some packet
   pub level : packet.level ≤ m
 
-served-behind : (m t : ℕ) (starts : List Start) (p : Arrival) (ps : List Arrival) → IsServed m t starts ps → IsServed m t starts (p ∷ ps)
+served-after : (m t : ℕ) (starts : List Start) (p : Arrival) (ps : List Arrival) → IsServed m t starts ps → IsServed m t starts (p ∷ ps)
 unfolding first_in_line
-served-behind m t starts p ps served = by-test (is_waiting starts t p) refl where
+served-after m t starts p ps served = by-test (is_waiting starts t p) refl where
   by-test : (b : Bool) → is_waiting starts t p ≡ b → IsServed m t starts (p ∷ ps)
   by-test true waits = record {
     packet = sooner p (Some served.packet);
@@ -133,7 +133,7 @@ clear-or-served rate m t starts after (p ∷ ps) departs =
     ⊎_elim (λ (own : IsGone rate after m (suc t) p). inl (own, gone))
     (λ (waits : (is_waiting starts t p ≡ true) × (p.level ≤ m)). inr (served-first m t starts p ps waits.0 waits.1))
     (gone-or-waits rate m t starts after p (departs p)))
-    (λ (served : IsServed m t starts ps). inr (served-behind m t starts p ps served))
+    (λ (served : IsServed m t starts ps). inr (served-after m t starts p ps served))
     (clear-or-served rate m t starts after ps departs)
 
 -- ---- the work that is left

@@ -33,7 +33,7 @@ clear-from rate blocking packets m w works fits (suc k) u e clear upto near =
     let after = next.after in
     let within : next.end ≤ u + w = omega (arith, next.within, room.upto) in
     ⊎_elim
-    (λ (behind : e < next.end). record { tick = next.end; after = behind; within = omega (arith, within); clear = next.clear })
+    (λ (rest : e < next.end). record { tick = next.end; after = rest; within = omega (arith, within); clear = next.clear })
     (λ (before : next.end ≤ e). clear-from rate blocking packets m w works fits k next.end e next.clear before (omega (arith, after)))
     (cases_lt e next.end)
 

@@ -32,8 +32,8 @@ upto-trans p q r pq qr = record {
       let one = pq.eligible first in
       let other = qr.eligible second in
       let before = pq.place first (omega (arith, e, one, other)) in
-      let behind = qr.place second (omega (arith, e, one, other)) in
-      omega (arith, before, behind);
+      let after = qr.place second (omega (arith, e, one, other)) in
+      omega (arith, before, after);
 }
 
 -- where q doesn't go before p
@@ -92,7 +92,7 @@ first-upto (q ∷ ps) p found = subst (λ r. Each (IsUpTo r) (q ∷ ps)) (same_S
   sooner-upto None is rest = (upto-same q, line-empty ps q is)
   sooner-upto (Some r) is rest =
       cond_both (goes_before r q) r q (λ s. Each (IsUpTo s) (q ∷ ps)) (λ before. (before-upto r q before, rest r is))
-      (λ behind. (let own = not_before-upto q r behind in (upto-same q, Each-if (IsUpTo r) (IsUpTo q) ps (λ s upto. upto-trans q r s own upto) (rest r is))))
+      (λ after. (let own = not_before-upto q r after in (upto-same q, Each-if (IsUpTo r) (IsUpTo q) ps (λ s upto. upto-trans q r s own upto) (rest r is))))
 
 -- ---- a start
 
@@ -110,9 +110,9 @@ next-is packets starts t p found =
     record { among = both.0; waits = both.1; first = first-upto (filter (is_waiting starts t) packets) p found }
 
 -- the packets after it
-next-behind : (packets : List Arrival) (starts : List Start) (t : ℕ) (p : Arrival) → IsNext packets starts t p → Each (ComesBehind (record { packet = p; tick = t }) starts) packets
+next-after : (packets : List Arrival) (starts : List Start) (t : ℕ) (p : Arrival) → IsNext packets starts t p → Each (ComesBehind (record { packet = p; tick = t }) starts) packets
 unfolding is_waiting
-next-behind packets starts t p next =
+next-after packets starts t p next =
     Each-from_among (ComesBehind (record { packet = p; tick = t }) starts) packets (λ q among eligible out.
     let parts = or_parts (nat_eq p.place q.place) (has_started starts q) out in
     let waits : is_waiting starts t q ≡ true = and_from (nat_le q.eligible t) (not (has_started starts q)) (le-leb q.eligible t eligible) (rw parts.1 refl) in
@@ -128,15 +128,15 @@ next-behind packets starts t p next =
     })
 
 -- where starts are by priority, a packet that hasn't started goes after those of its level
-waits-behind : (packets : List Arrival) (starts : List Start) (start : Start) → Among start.packet packets → has_started starts start.packet ≡ false → AreByPriority packets starts → Each (GoesBehind start) starts
-waits-behind packets [] start among out by = tt
-waits-behind packets (other ∷ earlier) start among out by =
+waits-after : (packets : List Arrival) (starts : List Start) (start : Start) → Among start.packet packets → has_started starts start.packet ≡ false → AreByPriority packets starts → Each (GoesBehind start) starts
+waits-after packets [] start among out by = tt
+waits-after packets (other ∷ earlier) start among out by =
     let parts = or_parts (nat_eq other.packet.place start.packet.place) (has_started earlier start.packet) out in
-    let behind : GoesBehind start other = λ l. ⊎_elim
+    let after : GoesBehind start other = λ l. ⊎_elim
     (λ (later : other.tick < start.packet.eligible). (let own = by.0 in record { eligible = omega (arith, later, own); arrived = λ e. absurd (omega (arith, later, own, e)) }))
     (λ (eligible : start.packet.eligible ≤ other.tick). (Each-among (ComesBehind other earlier) start.packet packets by.1 among eligible out).sooner l)
     (cases_lt other.tick start.packet.eligible) in
-    (behind, waits-behind packets earlier start among parts.1 by.2)
+    (after, waits-after packets earlier start among parts.1 by.2)
 
 -- ---- all starts
 
@@ -156,4 +156,4 @@ start-in-order rate packets (suc t) =
     add-order (Some p) starts next by turn =
         let is = next p refl in
         let parts = and_parts (nat_le p.eligible t) (not (has_started starts p)) is.waits in
-        ((leb-true p.eligible t parts.0, next-behind packets starts t p is, by), (waits-behind packets starts (record { packet = p; tick = t }) is.among (not-true (has_started starts p) parts.1) by, turn))
+        ((leb-true p.eligible t parts.0, next-after packets starts t p is, by), (waits-after packets starts (record { packet = p; tick = t }) is.among (not-true (has_started starts p) parts.1) by, turn))

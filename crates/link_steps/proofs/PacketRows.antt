@@ -73,12 +73,12 @@ unfolding without_first
 Any-without_first P test [] other any = absurd any
 Any-without_first P test (x ∷ xs) other any =
     elim (cases_Bool (test x)) [
-      | inl passed ↦ (let out = other x (rw passed refl) in rw passed (behind out any))
+      | inl passed ↦ (let out = other x (rw passed refl) in rw passed (later out any))
       | inr failed ↦ (let rest = Any-without_first P test xs (λ y found. other y (rw failed found)) in rw failed (stays-there rest any))
     ] where
-      behind : (P x → ⊥) → Any P (x ∷ xs) → Any P xs
-      behind out (inl here) = absurd (out here)
-      behind out (inr any) = any
+      later : (P x → ⊥) → Any P (x ∷ xs) → Any P xs
+      later out (inl here) = absurd (out here)
+      later out (inr any) = any
 
       stays-there : (Any P xs → Any P (without_first test xs)) → Any P (x ∷ xs) → Any P (x ∷ without_first test xs)
       stays-there rest (inl here) = inl here

@@ -112,8 +112,8 @@ brought-now shape h m t legal from upto near =
 -- ---- one that it has passed
 
 -- packets that are eligible after the window are not in it
-behind-window : (m t w clock : ℕ) (rows : List Row) (new : List Arrival) → t + w ≤ clock → Each (IsFrom clock) new → Each (IsBrought m t w rows) new
-behind-window m t w clock rows new past from =
+after-window : (m t w clock : ℕ) (rows : List Row) (new : List Arrival) → t + w ≤ clock → Each (IsFrom clock) new → Each (IsBrought m t w rows) new
+after-window m t w clock rows new past from =
     Each-if (IsFrom clock) (IsBrought m t w rows) new (λ p later. record { one = λ inside. (let before = (in-window m t w p inside).before in absurd (omega (arith, before, past, later))) }) from
 
 pub stand-together : (shape : LinkShape) (h : List Entry) (m t : ℕ) → IsAdmissible shape h → 1 ≤ m → m ≤ length shape.bounds → StandTogether shape h m t
@@ -127,7 +127,7 @@ stand-together shape [] m t legal from upto = record {
 }
 stand-together shape (e ∷ past) m t legal from upto =
     ⊎_elim
-    (λ (behind : t + bound_at shape.bounds m < clock_with e.ask (clock_of past)).
+    (λ (after : t + bound_at shape.bounds m < clock_with e.ask (clock_of past)).
     let before = stand-together shape past m t legal.0 from upto in
     let adds = packets-after shape (clock_of past) (scan_of shape past) e.ask e.reply in
     let most = clock_with-most e.ask (clock_of past) in
@@ -138,7 +138,7 @@ stand-together shape (e ∷ past) m t legal from upto =
       passes = before.passes;
       brought = subst (Each (IsBrought m t (bound_at shape.bounds m) (scan_of shape before.past).rows)) (sym adds.are)
           (Each-append (IsBrought m t (bound_at shape.bounds m) (scan_of shape before.past).rows) (scan_of shape past).packets adds.new before.brought
-          (behind-window m t (bound_at shape.bounds m) (clock_of past) (scan_of shape before.past).rows adds.new (omega (arith, behind, most)) adds.from));
+          (after-window m t (bound_at shape.bounds m) (clock_of past) (scan_of shape before.past).rows adds.new (omega (arith, after, most)) adds.from));
     })
     (λ (near : clock_with e.ask (clock_of past) ≤ t + bound_at shape.bounds m). record {
       past = e ∷ past;

@@ -136,10 +136,10 @@ unfolding IsAdmissible scan_of clock_of
 window-fits shape [] m u legal from upto = room-now shape [] m u legal from upto (omega arith)
 window-fits shape (e ∷ past) m u legal from upto =
     ⊎_elim
-    (λ (behind : u + bound_at shape.bounds m < clock_with e.ask (clock_of past)).
+    (λ (others : u + bound_at shape.bounds m < clock_with e.ask (clock_of past)).
     let most = clock_with-most e.ask (clock_of past) in
     let before = window-fits shape past m u legal.0 from upto in
-    let same = same-after shape m u before.window (clock_of past) (scan_of shape past) e.ask e.reply (omega (arith, behind, most, before.upto)) in
+    let same = same-after shape m u before.window (clock_of past) (scan_of shape past) e.ask e.reply (omega (arith, others, most, before.upto)) in
     let work = before.fits.work in
     record { window = before.window; upto = before.upto; fits = record { some = before.fits.some; work = omega (arith, same, work) } })
     (λ (near : clock_with e.ask (clock_of past) ≤ u + bound_at shape.bounds m). room-now shape (e ∷ past) m u legal from upto near)

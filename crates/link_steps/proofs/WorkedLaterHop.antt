@@ -15,18 +15,18 @@ use Rattle.link_steps.proofs.Play.{legal_replies, replied, replied-legal}
 use Rattle.link_steps.proofs.WorkedLink.{shape_a, voice, chan1, chan2, reserve, offer, ticks, quiet, left, sends}
 
 -- a reserve after a hop with a reach of 40 ticks, a relax after one allotted 20 ticks, and a packet that arrives
-abbrev pub reserve_behind : ChanNo → Kind → Ask
-reserve_behind chan kind = Reserve chan voice kind 50 40 false None
+abbrev pub reserve_after : ChanNo → Kind → Ask
+reserve_after chan kind = Reserve chan voice kind 50 40 false None
 
-abbrev pub relax_behind : ChanNo → ℕ → Ask
-relax_behind chan level = Relax chan (level_of level) 20
+abbrev pub relax_after : ChanNo → ℕ → Ask
+relax_after chan level = Relax chan (level_of level) 20
 
 abbrev pub arrive : ChanNo → ℕ → ℕ → ℕ → Ask
 arrive chan number size due = Arrive (record { chan = chan; number = number; size = size; due = due })
 
 -- under delay-jitter control packets that arrive at 4 and 14 wait until 22 and 32, at which they are due
 waits-until-due : legal_replies (whole shape_a) []
-    ((reserve_behind chan1 Jitter ∷ relax_behind chan1 1 ∷ ticks 4)
+    ((reserve_after chan1 Jitter ∷ relax_after chan1 1 ∷ ticks 4)
     ++ (arrive chan1 1 2 22 ∷ ticks 10)
     ++ (arrive chan1 2 2 32 ∷ ticks 26))
     ≡ (offer 1 3 ∷ Relaxed 0 ∷ quiet 0 4)
@@ -42,9 +42,9 @@ waits-until-due = replied-legal (whole shape_a) _ ∙ refl
 packets-without-a-place : legal_replies (whole shape_a) []
     ((reserve chan2 voice 12
     ∷ arrive chan2 1 2 0
-    ∷ reserve_behind chan1 Rate
+    ∷ reserve_after chan1 Rate
     ∷ arrive chan1 1 2 0
-    ∷ relax_behind chan1 2
+    ∷ relax_after chan1 2
     ∷ arrive chan1 2 2 0
     ∷ arrive chan1 1 3 0
     ∷ arrive chan1 1 2 0
@@ -83,10 +83,10 @@ packets-without-a-place = replied-legal (whole shape_a) _ ∙ refl
 -- a release that is told a count of 1 while that packet is on its way: the reservation is held until the packet,
 -- which arrives at 4, has been eligible for the 40 ticks of the link's largest bound
 held-for-a-packet-on-its-way : legal_replies (whole shape_a) []
-    ((reserve_behind chan1 Rate ∷ relax_behind chan1 2 ∷ ticks 2)
+    ((reserve_after chan1 Rate ∷ relax_after chan1 2 ∷ ticks 2)
     ++ (Release chan1 (Some 1) ∷ ticks 2)
     ++ (arrive chan1 1 2 22 ∷ ticks 40)
-    ++ (reserve_behind chan1 Rate ∷ Tick ∷ reserve_behind chan1 Rate ∷ []))
+    ++ (reserve_after chan1 Rate ∷ Tick ∷ reserve_after chan1 Rate ∷ []))
     ≡ (offer 1 3 ∷ Relaxed 0 ∷ quiet 0 2)
     ++ (Closing 1 0 ∷ quiet 2 2)
     ++ (Taken 4 4 ∷ quiet 4 1)

@@ -7,7 +7,7 @@ use Rattle.link_steps.specs.declared.asks.Ask.TheVariants.{Reserve, Submit}
 use Rattle.link_steps.specs.declared.replies.Reply.TheVariants.{Relaxed, Planned, Taken}
 use Rattle.link_steps.specs.Split.{whole}
 use Rattle.link_steps.proofs.Play.{legal_replies, replied, replied-legal}
-use Rattle.link_steps.proofs.WorkedLaterHop.{relax_behind, arrive}
+use Rattle.link_steps.proofs.WorkedLaterHop.{relax_after, arrive}
 use Rattle.link_steps.proofs.WorkedLink.{shape_a, voice, chan1, chan2, chan3, reserve, relax, offer, ticks, quiet, left, sends}
 
 abbrev link_b : LinkNo
@@ -21,7 +21,7 @@ each-to-its-next-link : legal_replies (whole shape_a) []
     (Reserve chan1 voice Rate 50 0 true (Some link_b)
     ∷ relax chan1 1
     ∷ Reserve chan2 voice Rate 50 40 false (Some link_c)
-    ∷ relax_behind chan2 2
+    ∷ relax_after chan2 2
     ∷ reserve chan3 voice 50
     ∷ relax chan3 2
     ∷ Submit chan1 1 1 2

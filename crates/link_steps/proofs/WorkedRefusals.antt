@@ -10,7 +10,7 @@ use Rattle.link_steps.specs.declared.replies.Why.TheVariants.{FirstHop, Uncommit
 use Rattle.link_steps.specs.Split.{whole}
 use Rattle.link_steps.proofs.Play.{legal_replies, replied, replied-legal}
 use Rattle.link_steps.proofs.WorkedBest.{best_a}
-use Rattle.link_steps.proofs.WorkedLaterHop.{reserve_behind, relax_behind, arrive}
+use Rattle.link_steps.proofs.WorkedLaterHop.{reserve_after, relax_after, arrive}
 use Rattle.link_steps.proofs.WorkedLink.{shape_a, with_buffer, voice, chan1, chan2, chan3, chan4, reserve, relax, offer}
 
 -- a reserve that is too wide and comes twice, a submit on a tentative reservation whose packets are too large, a relax of a
@@ -65,9 +65,9 @@ no-level-and-no-buffer = replied-legal (whole (with_buffer 3 (lit≤ tt))) _ ∙
 no-place-twice : legal_replies (whole shape_a) []
     (reserve chan2 voice 12
     ∷ arrive chan2 2 3 0
-    ∷ reserve_behind chan1 Rate
+    ∷ reserve_after chan1 Rate
     ∷ arrive chan1 2 3 0
-    ∷ relax_behind chan1 2
+    ∷ relax_after chan1 2
     ∷ arrive chan1 2 3 0
     ∷ arrive chan1 1 2 0
     ∷ arrive chan1 2 2 0
@@ -78,7 +78,7 @@ no-place-twice : legal_replies (whole shape_a) []
     ∷ arrive chan1 6 3 0
     ∷ arrive chan1 5 3 0
     ∷ Release chan1 (Some 9)
-    ∷ relax_behind chan1 1
+    ∷ relax_after chan1 1
     ∷ Deny chan1
     ∷ [])
     ≡ offer 1 1

@@ -9,19 +9,19 @@ use Rattle.link_steps.specs.declared.replies.Phase.TheVariants as phase
 use Rattle.link_steps.specs.Levels.{level_of}
 use Rattle.link_steps.specs.Split.{whole}
 use Rattle.link_steps.proofs.Play.{legal_replies, replied, replied-legal}
-use Rattle.link_steps.proofs.WorkedLaterHop.{reserve_behind, relax_behind, arrive}
+use Rattle.link_steps.proofs.WorkedLaterHop.{reserve_after, relax_after, arrive}
 use Rattle.link_steps.proofs.WorkedLink.{shape_a, with_buffer, voice, chan1, chan2, chan3, chan4, reserve, relax, offer}
 
 -- after a reach of 40 ticks, with a reach of 40 of its own, it keeps 8 packets of 2 units: all that come in 80 ticks
-needs-both-reaches : legal_replies (whole (with_buffer 15 (lit≤ tt))) [] (reserve_behind chan1 Rate ∷ []) ≡ Refused (NoBuffer 16 15) ∷ []
+needs-both-reaches : legal_replies (whole (with_buffer 15 (lit≤ tt))) [] (reserve_after chan1 Rate ∷ []) ≡ Refused (NoBuffer 16 15) ∷ []
 unfolding replied
 needs-both-reaches = replied-legal (whole (with_buffer 15 (lit≤ tt))) _ ∙ refl
 
 -- relaxed to 10 ticks after 20 it keeps 4: those that come in 30. So 8 units are free, for two that keep 4 each
 keeps-both-bounds : legal_replies (whole (with_buffer 16 (lit≤ tt))) []
-    (reserve_behind chan1 Rate
+    (reserve_after chan1 Rate
     ∷ reserve chan2 voice 22
-    ∷ relax_behind chan1 1
+    ∷ relax_after chan1 1
     ∷ reserve chan2 voice 22
     ∷ relax chan2 2
     ∷ reserve chan3 voice 22
@@ -42,8 +42,8 @@ keeps-both-bounds = replied-legal (whole (with_buffer 16 (lit≤ tt))) _ ∙ ref
 
 -- released, it keeps them still
 keeps-them-when-closing : legal_replies (whole (with_buffer 16 (lit≤ tt))) []
-    (reserve_behind chan1 Rate
-    ∷ relax_behind chan1 1
+    (reserve_after chan1 Rate
+    ∷ relax_after chan1 1
     ∷ Release chan1 (Some 1)
     ∷ reserve chan2 voice 50
     ∷ reserve chan3 voice 22
@@ -59,8 +59,8 @@ keeps-them-when-closing = replied-legal (whole (with_buffer 16 (lit≤ tt))) _ �
 
 -- of two packets that are taken, a release tells two, though it is told one
 told-fewer : legal_replies (whole shape_a) []
-    (reserve_behind chan1 Rate
-    ∷ relax_behind chan1 2
+    (reserve_after chan1 Rate
+    ∷ relax_after chan1 2
     ∷ arrive chan1 1 2 0
     ∷ arrive chan1 2 2 0
     ∷ Release chan1 (Some 1)
@@ -76,10 +76,10 @@ told-fewer = replied-legal (whole shape_a) _ ∙ refl
 
 -- a relax is granted up to the bounds that its reserve reckoned with, and no further
 up-to-the-reaches : legal_replies (whole shape_a) []
-    (reserve_behind chan1 Rate
+    (reserve_after chan1 Rate
     ∷ Relax chan1 (level_of 3) 41
     ∷ Relax chan1 (level_of 3) 40
-    ∷ reserve_behind chan2 Rate
+    ∷ reserve_after chan2 Rate
     ∷ Relax chan2 (level_of 1) 0
     ∷ Relax chan2 (level_of 2) 0
     ∷ [])

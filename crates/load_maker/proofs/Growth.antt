@@ -256,5 +256,5 @@ pub made-is-plan : (number size : ℕ) → size ≤ 1024 → IsPlan (made_parts 
 made-is-plan number size few =
     let keep = callers-keep number size few in
     let beside = rounds-keep (parts_to number size 4) 4000 keep (omega arith) in
-    let behind = tail-keeps (with_rounds 4000 (parts_to number size 4)) 1000 beside (omega arith) in
-    grown-is-plan (made_parts number size) behind (record { links = omega arith; ticks = omega arith })
+    let after = tail-keeps (with_rounds 4000 (parts_to number size 4)) 1000 beside (omega arith) in
+    grown-is-plan (made_parts number size) after (record { links = omega arith; ticks = omega arith })

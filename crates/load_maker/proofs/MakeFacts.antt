@@ -120,9 +120,9 @@ own-is caller n from same is = eq-eqb (n % 4) caller (same ∙ is)
 next-is : (n : ℕ) → suc n ≡ n + 1
 next-is n = omega arith
 
-pub requests-more : (number caller n from chan state : ℕ) (load : Load) (entry : RequestEntry) (old before behind : List RequestEntry) → n % 4 ≡ from → from ≡ caller → load ≡ load_from state → state ≡ state_after (6 * n) number
-    → before ≡ old ++ own_requests number (length old) caller n → chan ≡ length before → entry ≡ request_entry_of load n caller chan → behind ≡ before ++ entry ∷ [] → behind ≡ old ++ own_requests number (length old) caller (n + 1)
-requests-more number caller n from chan state load entry old before behind same is loads draws so_far there made more =
+pub requests-more : (number caller n from chan state : ℕ) (load : Load) (entry : RequestEntry) (old before after : List RequestEntry) → n % 4 ≡ from → from ≡ caller → load ≡ load_from state → state ≡ state_after (6 * n) number
+    → before ≡ old ++ own_requests number (length old) caller n → chan ≡ length before → entry ≡ request_entry_of load n caller chan → after ≡ before ++ entry ∷ [] → after ≡ old ++ own_requests number (length old) caller (n + 1)
+requests-more number caller n from chan state load entry old before after same is loads draws so_far there made more =
     let own = own-is caller n from same is in
     let here = load-here number n state load loads draws in
     let number_is : chan ≡ length old + share caller n = there ∙ chan-is number caller n old before so_far in
@@ -130,9 +130,9 @@ requests-more number caller n from chan state load entry old before behind same 
     more ∙ ap (λ (xs : List RequestEntry). xs ++ entry ∷ []) so_far ∙ append_assoc old (own_requests number (length old) caller n) (entry ∷ [])
     ∙ ap (λ (e : RequestEntry). old ++ (own_requests number (length old) caller n ++ e ∷ [])) entry_is ∙ ap (λ xs. old ++ xs) (sym (requests-own number (length old) caller n own)) ∙ ap (λ k. old ++ own_requests number (length old) caller k) (next-is n)
 
-pub ops-more : (number caller n from chan state first : ℕ) (load : Load) (old before : List RequestEntry) (ops behind : List Op) → n % 4 ≡ from → from ≡ caller → load ≡ load_from state → state ≡ state_after (6 * n) number
-    → before ≡ old ++ own_requests number (length old) caller n → chan ≡ length before → first ≡ length old → ops ≡ own_ops number (length old) caller n → behind ≡ ops ++ ops_for load first (chan - first) → behind ≡ own_ops number (length old) caller (n + 1)
-ops-more number caller n from chan state first load old before ops behind same is loads draws so_far there begun ops_far more =
+pub ops-more : (number caller n from chan state first : ℕ) (load : Load) (old before : List RequestEntry) (ops after : List Op) → n % 4 ≡ from → from ≡ caller → load ≡ load_from state → state ≡ state_after (6 * n) number
+    → before ≡ old ++ own_requests number (length old) caller n → chan ≡ length before → first ≡ length old → ops ≡ own_ops number (length old) caller n → after ≡ ops ++ ops_for load first (chan - first) → after ≡ own_ops number (length old) caller (n + 1)
+ops-more number caller n from chan state first load old before ops after same is loads draws so_far there begun ops_far more =
     let own = own-is caller n from same is in
     let here = load-here number n state load loads draws in
     let number_is = chan-is number caller n old before so_far in
@@ -143,12 +143,12 @@ ops-more number caller n from chan state first load old before ops behind same i
 other-is : (caller n from : ℕ) → n % 4 ≢ from → from ≡ caller → belongs_to caller n ≡ false
 other-is caller n from apart is = ne_eqb (n % 4) caller (λ same. apart (same ∙ sym is))
 
-pub requests-stay : (number caller n from : ℕ) (old before behind : List RequestEntry) → n % 4 ≢ from → from ≡ caller → before ≡ old ++ own_requests number (length old) caller n → behind ≡ before → behind ≡ old ++ own_requests number (length old) caller (n + 1)
-requests-stay number caller n from old before behind apart is so_far same =
+pub requests-stay : (number caller n from : ℕ) (old before after : List RequestEntry) → n % 4 ≢ from → from ≡ caller → before ≡ old ++ own_requests number (length old) caller n → after ≡ before → after ≡ old ++ own_requests number (length old) caller (n + 1)
+requests-stay number caller n from old before after apart is so_far same =
     same ∙ so_far ∙ ap (λ xs. old ++ xs) (sym (requests-other number (length old) caller n (other-is caller n from apart is))) ∙ ap (λ k. old ++ own_requests number (length old) caller k) (next-is n)
 
-pub ops-stay : (number first caller n from : ℕ) (ops behind : List Op) → n % 4 ≢ from → from ≡ caller → ops ≡ own_ops number first caller n → behind ≡ ops → behind ≡ own_ops number first caller (n + 1)
-ops-stay number first caller n from ops behind apart is so_far same =
+pub ops-stay : (number first caller n from : ℕ) (ops after : List Op) → n % 4 ≢ from → from ≡ caller → ops ≡ own_ops number first caller n → after ≡ ops → after ≡ own_ops number first caller (n + 1)
+ops-stay number first caller n from ops after apart is so_far same =
     same ∙ so_far ∙ sym (ops-other number first caller n (other-is caller n from apart is)) ∙ ap (own_ops number first caller) (next-is n)
 
 -- ---- the callers

@@ -84,9 +84,9 @@ place from n count start within =
       | inl before ↦
           (let round : from + (n + count - from) ≡ count + n = omega (arith, before, start) in
           record { places = n + count - from; few = omega (arith, before, start, within); is = ap (λ m. m % count) round ∙ add-mod_left count n ∙ mod-eq_of_lt within })
-      | inr behind ↦
-          (let there : from + (n - from) ≡ n = omega (arith, behind) in
-          record { places = n - from; few = omega (arith, behind, within); is = ap (λ m. m % count) there ∙ mod-eq_of_lt within })
+      | inr after ↦
+          (let there : from + (n - from) ≡ n = omega (arith, after) in
+          record { places = n - from; few = omega (arith, after, within); is = ap (λ m. m % count) there ∙ mod-eq_of_lt within })
     ]
 
 -- all have been passed over

@@ -71,9 +71,9 @@ here parts caller place op pass accepted at has =
     let inside = inside-of entry.ops place op op_at in
     let is = read-at entry.ops place op op_at in
     let task = task_of requests op in
-    let behind : tasks_of requests (drop place entry.ops) ≡ with_task task (tasks_of requests (drop (place + 1) entry.ops)) = ap (tasks_of requests) (left-at entry.ops place op inside is) ∙ tasks-one requests op (drop (place + 1) entry.ops) in
+    let after : tasks_of requests (drop place entry.ops) ≡ with_task task (tasks_of requests (drop (place + 1) entry.ops)) = ap (tasks_of requests) (left-at entry.ops place op inside is) ∙ tasks-one requests op (drop (place + 1) entry.ops) in
     let before : tasks_of requests (take (place + 1) entry.ops) ≡ tasks_of requests (take place entry.ops) ++ with_task task [] = ap (tasks_of requests) (before-at entry.ops place op inside is) ∙ tasks-append requests (take place entry.ops) (op ∷ []) ∙ ap (λ ts. tasks_of requests (take place entry.ops) ++ ts) (tasks-one requests op [] ∙ ap (with_task task) (tasks-none requests)) in
-    let all : tasks_of requests (take place entry.ops) ++ with_task task (tasks_of requests (drop (place + 1) entry.ops)) ≡ tasks_of requests entry.ops = ap (λ ts. tasks_of requests (take place entry.ops) ++ ts) (sym behind) ∙ sym (tasks-append requests (take place entry.ops) (drop place entry.ops)) ∙ ap (tasks_of requests) (take-append-drop place entry.ops) in
+    let all : tasks_of requests (take place entry.ops) ++ with_task task (tasks_of requests (drop (place + 1) entry.ops)) ≡ tasks_of requests entry.ops = ap (λ ts. tasks_of requests (take place entry.ops) ++ ts) (sym after) ∙ sym (tasks-append requests (take place entry.ops) (drop place entry.ops)) ∙ ap (tasks_of requests) (take-append-drop place entry.ops) in
     record {
       front = tasks_of requests (take place entry.ops);
       rest = tasks_of requests (drop (place + 1) entry.ops);
@@ -81,7 +81,7 @@ here parts caller place op pass accepted at has =
         caller = ne_eqb (actor_number pass.actor) (length (map (script_of requests) parts.callers)) (λ clash. absurd (let low = inside-of parts.callers caller entry at.found in let number = at.is in let count = length-map parts.callers (script_of requests) in omega (arith, low, number, count, clash)));
         found = ap (slice_get (map (script_of requests) parts.callers)) at.is ∙ slice_get-map (script_of requests) parts.callers caller ∙ ap (option_map (script_of requests)) at.found ∙ ap Some (sym all);
       };
-      between = subst (λ rest. StandsBetween (network_of parts) (tasks_of requests (take place entry.ops)) rest pass accepted) behind at.between;
+      between = subst (λ rest. StandsBetween (network_of parts) (tasks_of requests (take place entry.ops)) rest pass accepted) after at.between;
       next = λ pass' accepted' by long between. record {
         entry = entry;
         found = at.found;

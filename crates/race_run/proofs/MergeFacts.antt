@@ -26,7 +26,7 @@ use Rattle.race_run.proofs.Lists.{turned-map, among-turned, among-turned_map, ge
 use Rattle.itertools.proofs.KMergeLemmas.{All-of-map}
 use Rattle.std.proofs.lemmas.List.Folds.{flat_map-map}
 use Rattle.call_script.proofs.Walks.{before-at}
-use Rattle.shared_network.proofs.CountFacts.{get-behind}
+use Rattle.shared_network.proofs.CountFacts.{get-after}
 use Rattle.race_run.proofs.WholeFacts.{whole-journals}
 
 -- ---- lists by falling stamps
@@ -275,7 +275,7 @@ places-inside : (all : List Journal) (n at : ℕ) (journal : Journal) (before en
 unfolding places_from
 places-inside all n at journal before [] found are long = tt
 places-inside all n at journal before (e ∷ entries) found are long = (
-  record { journal = journal; found = found; entry = e; here = ap (slice_get journal.entries.items) long ∙ ap (λ es. slice_get es (length before)) are ∙ get-behind before entries e },
+  record { journal = journal; found = found; entry = e; here = ap (slice_get journal.entries.items) long ∙ ap (λ es. slice_get es (length before)) are ∙ get-after before entries e },
   places-inside all n (suc at) journal (before ++ e ∷ []) entries found (are ∙ sym (append_assoc before (e ∷ []) entries)) (let more = length-append before (e ∷ []) in omega (arith, long, more)),
 )
 
@@ -284,7 +284,7 @@ unfolding sources_from
 sources-inside all before [] n are long = tt
 sources-inside all before (journal ∷ journals) n are long =
     Each-append (IsInside all) (places_from n 0 journal.entries.items) (flat_map (λ places. places) (sources_from (suc n) journals))
-    (places-inside all n 0 journal [] journal.entries.items (ap (slice_get all) long ∙ ap (λ js. slice_get js (length before)) are ∙ get-behind before journals journal) refl refl)
+    (places-inside all n 0 journal [] journal.entries.items (ap (slice_get all) long ∙ ap (λ js. slice_get js (length before)) are ∙ get-after before journals journal) refl refl)
     (sources-inside all (before ++ journal ∷ []) journals (suc n) (are ∙ sym (append_assoc before (journal ∷ []) journals)) (let more = length-append before (journal ∷ []) in omega (arith, long, more)))
 
 pub places-all-inside : (journals : List Journal) (all : List Place) → IsPermutation (places_of journals) all → All (λ place. IsInside journals place) all

@@ -23,7 +23,7 @@ use Rattle.link_steps.proofs.ListFacts.{Each-if}
 use Rattle.step_stamp.specs.Lists.{Has}
 use Rattle.step_stamp.proofs.ListFacts.{each_has, has_split}
 use Rattle.setup_protocol.specs.Laws.{is_accepted}
-use Rattle.setup_protocol.specs.Setup.{Outcome, Accepts, Denies, Progress, Settled, offers_in, behind_offers, asked, asked_of, settled_in, progress_of, next_ask, verdict_of}
+use Rattle.setup_protocol.specs.Setup.{Outcome, Accepts, Denies, Progress, Settled, offers_in, after_offers, asked, asked_of, settled_in, progress_of, next_ask, verdict_of}
 use Rattle.setup_protocol.specs.Teardown.{next_release, first_count}
 use Rattle.setup_protocol.specs.declared.request.Request.{Request}
 use Rattle.link_ledger.specs.Owners.{IsOwner}
@@ -163,7 +163,7 @@ route-least parts c entry plan found = (request-fits parts c entry plan found).r
 
 -- a setup of a request with a hop asks something
 route-some : (request : Request) → 1 ≤ length request.route → verdict_of request [] ≡ None
-unfolding offers_in behind_offers
+unfolding offers_in after_offers
 route-some request some = rw (lt-ltb 0 (length request.route) some) refl
 
 established-first : (chan : ChanNo) (outcome : Outcome) (outcomes : List Opened) (c : ChanNo) → channel_number chan ≡ channel_number c → is_established c (record { chan = chan; outcome = outcome } ∷ outcomes) ≡ is_accepting outcome

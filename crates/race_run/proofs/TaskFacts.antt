@@ -1,4 +1,4 @@
--- A caller's own entries with one entry more, and with all entries of one task more: they are what it asks, and behind the
+-- A caller's own entries with one entry more, and with all entries of one task more: they are what it asks, and after the
 -- task's last reply it stands before its next task.
 use Rattle.std.proofs.Common.{◌≡◌, ℕ, zero, suc, ◌+◌, ◌<◌, Bool, true, false, List, [], ◌∷◌, ◌++◌, map, reverse, length, Option, Some, None, refl, sym, ap, ◌∙◌, subst, inl, inr, arith}
 use Rattle.std.proofs.lemmas.List.{append_assoc, append-nil, map-append, reverse-append}
@@ -14,7 +14,7 @@ use Rattle.shared_network.specs.Calls.{Follows, reply_in}
 use Rattle.call_script.specs.Scripts.{Standing, Opened, ask_at, begun, continued, replied, resumed, standing, task_ask, outcome_by}
 use Rattle.call_script.specs.Tasks.{Network}
 use Rattle.call_script.specs.declared.tasks.Task.{Task}
-use Rattle.interleave_core.specs.Parts.{IsAsked, next_behind, reply_of}
+use Rattle.interleave_core.specs.Parts.{IsAsked, next_after, reply_of}
 use Rattle.interleave_core.specs.Runs.{plane_no}
 use Rattle.race_run.specs.Whole.{own_done}
 use Rattle.race_run.proofs.Lists.{turned-map}
@@ -32,10 +32,10 @@ pub done-replies : (actor : ActorNo) (own : List OwnEntry) → map reply_of (rev
 done-replies actor own = turned-map reply_of (map (own_done actor) own) ∙ ap reverse (own-replies actor own)
 
 -- an entry more that the actor asks next
-pub asked-more : (network : Network) (actor : ActorNo) (own : List OwnEntry) (e : OwnEntry) → IsAsked network (actor_number actor) (reverse (map (own_done actor) own)) → next_behind network (actor_number actor) (reverse (map reply_in own)) ≡ Some (e.link, e.ask)
+pub asked-more : (network : Network) (actor : ActorNo) (own : List OwnEntry) (e : OwnEntry) → IsAsked network (actor_number actor) (reverse (map (own_done actor) own)) → next_after network (actor_number actor) (reverse (map reply_in own)) ≡ Some (e.link, e.ask)
     → IsAsked network (actor_number actor) (reverse (map (own_done actor) (own ++ e ∷ [])))
 asked-more network actor own e asked next =
-    let now : next_behind network (actor_number actor) (map reply_of (reverse (map (own_done actor) own))) ≡ Some (e.link, e.ask) = ap (next_behind network (actor_number actor)) (done-replies actor own) ∙ next in
+    let now : next_after network (actor_number actor) (map reply_of (reverse (map (own_done actor) own))) ≡ Some (e.link, e.ask) = ap (next_after network (actor_number actor)) (done-replies actor own) ∙ next in
     subst (IsAsked network (actor_number actor)) (sym (turned-last (own_done actor) own e)) (asked, now)
 
 -- ---- a caller
@@ -50,7 +50,7 @@ pub record HasTasks (network : Network) (actor : ActorNo) (tasks : List Task) : 
   pub caller : nat_eq (actor_number actor) (plane_no network) ≡ false
   pub found : slice_get network.scripts (actor_number actor) ≡ Some tasks
 
-pub caller-next : (network : Network) (actor : ActorNo) (tasks : List Task) (replies : List Reply) → HasTasks network actor tasks → next_behind network (actor_number actor) replies ≡ ask_at (standing tasks replies)
+pub caller-next : (network : Network) (actor : ActorNo) (tasks : List Task) (replies : List Reply) → HasTasks network actor tasks → next_after network (actor_number actor) replies ≡ ask_at (standing tasks replies)
 caller-next network actor tasks replies has = rw (has.caller, has.found) refl
 
 one-more : (network : Network) (actor : ActorNo) (tasks : List Task) (own : List OwnEntry) (e : OwnEntry) (at : Standing) → HasTasks network actor tasks → Past network tasks actor own at → ask_at at ≡ Some (e.link, e.ask) → Past network tasks actor (own ++ e ∷ []) (replied at e.reply)

@@ -26,7 +26,7 @@ use Rattle.shared_network.specs.Closing.{StandsIn as StandsAt, number_of}
 use Rattle.shared_network.specs.Gathering.{token_actor}
 use Rattle.shared_network.proofs.LinkNumbers.{same-link, numbered-length, numbered-at}
 use Rattle.call_script.specs.Tasks.{Network}
-use Rattle.interleave_core.specs.Parts.{IsAsked, next_behind, reply_of}
+use Rattle.interleave_core.specs.Parts.{IsAsked, next_after, reply_of}
 use Rattle.interleave_core.specs.Runs.{plane_no, IsRun, next_for}
 use Rattle.interleave_core.specs.Weave.{Stamped, IsUnder, Falls, IsUnlike, AreStampedApart, PairsApart, AreOf, AreJournals, AreAsked, InOne, StandsIn, done_of, entry_in}
 use Rattle.interleave_core.proofs.WeaveLaw.{journals-weave}
@@ -183,7 +183,7 @@ pub whole-run : (network : Network) (passes : List Token) (journals : List Journ
 whole-run network passes journals whole = journals-weave.run network (map stamped_in journals) (owns_of passes) (whole-journals network passes journals whole) (whole-asked network passes journals whole)
 
 -- after its own entries no actor has an ask left, and none that the network hasn't
-own-over : (network : Network) (passes : List Token) (journals : List Journal) (actor : ℕ) (found : Option Token) → IsWhole network passes journals → slice_get passes actor ≡ found → next_behind network actor (map reply_of (map done_of (own_in found))) ≡ None
+own-over : (network : Network) (passes : List Token) (journals : List Journal) (actor : ℕ) (found : Option Token) → IsWhole network passes journals → slice_get passes actor ≡ found → next_after network actor (map reply_of (map done_of (own_in found))) ≡ None
 own-over network passes journals actor None whole is =
     let all : length passes ≡ suc (plane_no network) = numbered-length token_actor passes (suc (plane_no network)) whole.actors in
     let past : suc (plane_no network) ≤ actor = past-end passes actor (suc (plane_no network)) all is in
@@ -197,7 +197,7 @@ own-over network passes journals actor None whole is =
 own-over network passes journals actor (Some pass) whole is =
     let made = each-get (HasMadeAll network) passes actor pass whole.made_all is in
     let told : map reply_of (map done_of (own_in (Some pass))) ≡ reverse (map reply_in pass.own) = ap (map reply_of) (turned-map done_of (map (own_stamped pass.actor) pass.own)) ∙ turned-map reply_of (map done_of (map (own_stamped pass.actor) pass.own)) ∙ ap reverse (own-replies pass.actor pass.own) in
-    ap (next_behind network actor) told ∙ ap (λ n. next_behind network n (reverse (map reply_in pass.own))) (sym (pass-number network passes journals actor pass whole is)) ∙ made.over
+    ap (next_after network actor) told ∙ ap (λ n. next_after network n (reverse (map reply_in pass.own))) (sym (pass-number network passes journals actor pass whole is)) ∙ made.over
 
 pub whole-over : (network : Network) (passes : List Token) (journals : List Journal) (actor : ℕ) → IsWhole network passes journals → next_for network actor (weave_of journals) ≡ None
 whole-over network passes journals actor whole =

@@ -20,7 +20,7 @@ use Rattle.shared_network.specs.Closing.{IsClosed}
 use Rattle.shared_network.specs.Gathering.{token_actor}
 use Rattle.call_script.specs.Tasks.{Network}
 use Rattle.run_record.specs.declared.done.Done.{Done}
-use Rattle.interleave_core.specs.Parts.{IsAsked, next_behind}
+use Rattle.interleave_core.specs.Parts.{IsAsked, next_after}
 use Rattle.interleave_core.specs.Runs.{plane_no}
 use Rattle.interleave_core.specs.Weave.{Stamped, run_of}
 
@@ -33,7 +33,7 @@ own_done actor e = record { actor = actor; link = e.link; ask = e.ask; reply = e
 -- the own entries are what the actor asks, and then it has no ask left
 pub record HasMadeAll (network : Network) (pass : Token) : Type 0 where
   pub asked : IsAsked network (actor_number pass.actor) (reverse (map (own_done pass.actor) pass.own))
-  pub over : next_behind network (actor_number pass.actor) (reverse (map reply_in pass.own)) ≡ None
+  pub over : next_after network (actor_number pass.actor) (reverse (map reply_in pass.own)) ≡ None
 
 -- ---- whole
 

@@ -69,27 +69,27 @@ unfolding allotment delay_over bound_at_end AreShares AreLevels HaveBounds
 shared jitter slack before hops [] bounds are within = shared-nothing jitter slack before hops
 shared jitter slack before [] (offer ∷ offers) bounds are within = absurd are
 shared jitter slack before (hop ∷ hops) (offer ∷ []) bounds are within =
-    let behind = shared-nothing jitter slack (suc before) hops in
+    let after = shared-nothing jitter slack (suc before) hops in
     let left = (allotment jitter slack (suc before) hops []).slack in
     let is = relaxed_level jitter hop offer (left / suc before) bounds.0 are.0 within in
-    let more = one_more jitter slack hop offer left (suc before) _ behind.less is in
+    let more = one_more jitter slack hop offer left (suc before) _ after.less is in
     record {
       less = more.less;
-      sum = omega (arith, more.sum, behind.sum);
-      shares = (more.share, behind.shares);
+      sum = omega (arith, more.sum, after.sum);
+      shares = (more.share, after.shares);
       last = subst (λ levels. IsWithin jitter (bound_at_end (hop ∷ hops) (relaxed jitter hop offer (left / suc before) ∷ levels))) (sym (ap (λ a. a.levels) (allotment-empty jitter slack (suc before) hops))) is.in_limit;
     }
 shared jitter slack before (hop ∷ []) (offer ∷ next ∷ offers) bounds are within = absurd are.1
 shared jitter slack before (hop ∷ second ∷ hops) (offer ∷ next ∷ offers) bounds are within =
-    let behind = shared jitter slack (suc before) (second ∷ hops) (next ∷ offers) bounds.1 are.1 within in
+    let after = shared jitter slack (suc before) (second ∷ hops) (next ∷ offers) bounds.1 are.1 within in
     let left = (allotment jitter slack (suc before) (second ∷ hops) (next ∷ offers)).slack in
     let is = relaxed_level None hop offer (left / suc before) bounds.0 are.0 (λ most is. absurd (let clash : None ≡ Some most = is in cc)) in
-    let more = one_more None slack hop offer left (suc before) _ behind.less is in
+    let more = one_more None slack hop offer left (suc before) _ after.less is in
     record {
       less = more.less;
-      sum = omega (arith, more.sum, behind.sum);
-      shares = (more.share, behind.shares);
-      last = behind.last;
+      sum = omega (arith, more.sum, after.sum);
+      shares = (more.share, after.shares);
+      last = after.last;
     }
 
 -- ---- within reach

@@ -42,8 +42,8 @@ bound_at_end-at (first ∷ hops) [] hop some found = absurd (omega arith)
 bound_at_end-at (first ∷ hops) (offer ∷ []) hop some found = (let same : first ≡ hop = cc in ap (λ h. bound_at h.bounds offer) same)
 bound_at_end-at (first ∷ hops) (offer ∷ next ∷ offers) hop some found =
     let e : length (offer ∷ next ∷ offers) - 1 ≡ suc (length (next ∷ offers) - 1) = omega arith in
-    let behind : slice_get hops (length (next ∷ offers) - 1) ≡ Some hop = subst (λ i. slice_get (first ∷ hops) i ≡ Some hop) e found in
-    bound_at_end-at hops (next ∷ offers) hop (omega arith) behind ∙ ap (λ i. bound_at hop.bounds (get_or (offer ∷ next ∷ offers) i 0)) (sym e)
+    let after : slice_get hops (length (next ∷ offers) - 1) ≡ Some hop = subst (λ i. slice_get (first ∷ hops) i ≡ Some hop) e found in
+    bound_at_end-at hops (next ∷ offers) hop (omega arith) after ∙ ap (λ i. bound_at hop.bounds (get_or (offer ∷ next ∷ offers) i 0)) (sym e)
 
 -- ---- the limit
 
@@ -109,13 +109,13 @@ pub share-step : (jitter : Option ℕ) (slack : ℕ) (hops : List Hop) (offers :
     → (left - (bound_at hop.bounds level - bound_at hop.bounds offer) ≡ (allotment jitter slack (place - 1) (drop (place - 1) hops) (drop (place - 1) offers)).slack)
     × (level ∷ (allotment jitter slack place (drop place hops) (drop place offers)).levels ≡ (allotment jitter slack (place - 1) (drop (place - 1) hops) (drop (place - 1) offers)).levels)
 share-step jitter slack hops offers place hop offer level left one upto found is_offer is_left is_level =
-    let behind = allotment jitter slack place (drop place hops) (drop place offers) in
+    let after = allotment jitter slack place (drop place hops) (drop place offers) in
     let step = allotment-step jitter slack hops offers place hop one upto found in (
       ap (λ l. l - (bound_at hop.bounds level - bound_at hop.bounds offer)) is_left
-          ∙ ap (λ o. behind.slack - (bound_at hop.bounds level - bound_at hop.bounds o)) is_offer
-          ∙ ap (λ v. behind.slack - (bound_at hop.bounds v - bound_at hop.bounds (get_or offers (place - 1) 0))) is_level
+          ∙ ap (λ o. after.slack - (bound_at hop.bounds level - bound_at hop.bounds o)) is_offer
+          ∙ ap (λ v. after.slack - (bound_at hop.bounds v - bound_at hop.bounds (get_or offers (place - 1) 0))) is_level
           ∙ sym (ap (λ a. a.slack) step),
-      ap (λ v. v ∷ behind.levels) is_level ∙ sym (ap (λ a. a.levels) step),
+      ap (λ v. v ∷ after.levels) is_level ∙ sym (ap (λ a. a.levels) step),
     )
 
 -- ---- the levels in their array
@@ -141,6 +141,6 @@ bounds-none hops place past = subst HaveBounds (sym (drop_all place hops past)) 
 -- those of one more hop
 pub bounds-one : (hops : List Hop) (place : ℕ) (hop : Hop) → 1 ≤ place → slice_get hops (place - 1) ≡ Some hop → are_bounds hop.bounds ≡ true → HaveBounds (drop place hops) → HaveBounds (drop (place - 1) hops)
 unfolding HaveBounds
-bounds-one hops place hop one found are behind =
+bounds-one hops place hop one found are after =
     let next : suc (place - 1) ≡ place = omega (arith, one) in
-    subst HaveBounds (sym (drop-item hops (place - 1) hop found)) (are, subst (λ p. HaveBounds (drop p hops)) (sym next) behind)
+    subst HaveBounds (sym (drop-item hops (place - 1) hop found)) (are, subst (λ p. HaveBounds (drop p hops)) (sym next) after)

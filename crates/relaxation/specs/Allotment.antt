@@ -49,7 +49,7 @@ capped (Some limit) ticks = min limit ticks
 -- the limit of a hop with these offers after it: the last hop alone has one
 abbrev pub limit_before : Option ℕ → List ℕ → Option ℕ
 limit_before jitter [] = jitter
-limit_before jitter (offer ∷ behind) = None
+limit_before jitter (offer ∷ after) = None
 
 -- the largest level whose bound is within the offered bound and a share of the slack
 abbrev pub relaxed : Option ℕ → Hop → ℕ → ℕ → ℕ
@@ -57,9 +57,9 @@ relaxed limit hop offer share = levels_within hop.bounds (capped limit (bound_at
 
 -- a hop gets this level, before the hops that have theirs
 abbrev pub with_level : Hop → ℕ → Allotment → ℕ → Allotment
-with_level hop offer behind level = record {
-  levels = level ∷ behind.levels;
-  slack = behind.slack - (bound_at hop.bounds level - bound_at hop.bounds offer);
+with_level hop offer after level = record {
+  levels = level ∷ after.levels;
+  slack = after.slack - (bound_at hop.bounds level - bound_at hop.bounds offer);
 }
 
 -- what these hops are allotted of the slack, with `before` hops before them

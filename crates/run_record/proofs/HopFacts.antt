@@ -25,8 +25,8 @@ place-kept n m (k ∷ links) some =
     elim (cases_Bool (nat_eq k n)) [
       | inl same ↦ rw (same) refl
       | inr other ↦
-          let behind : place_in n links ≡ 0 → ⊥ = λ none. some (simp (other, none)) in
-          rw (other, place-kept n m links behind) refl
+          let after : place_in n links ≡ 0 → ⊥ = λ none. some (simp (other, none)) in
+          rw (other, place-kept n m links after) refl
     ]
 
 -- so does one that makes no offer
@@ -43,8 +43,8 @@ place-new n (k ∷ links) none =
     elim (cases_Bool (nat_eq k n)) [
       | inl same ↦ absurd (no-one 1 refl (rw (same) at none))
       | inr other ↦
-          let behind : place_in n links ≡ 0 = no-place (place_in n links) (rw (other) at none) in
-          rw (other, place-new n links behind) refl
+          let after : place_in n links ≡ 0 = no-place (place_in n links) (rw (other) at none) in
+          rw (other, place-new n links after) refl
     ]
 
 -- ---- what is kept of a channel's hops

@@ -101,19 +101,19 @@ unfolding put_row
 each-put P row [] here all = (here, tt)
 each-put P row (other ∷ rows) here all = elim (cases_Bool (comes_before other row)) [
   | inl before ↦ rw (before) (all.0, each-put P row rows here all.1)
-  | inr behind ↦ rw (behind) (here, all)
+  | inr after ↦ rw (after) (here, all)
 ]
 
-each-behind : (o : IsStrictWeakOrder comes_before) (row other : HopRow) (rows : List HopRow) → comes_before other row ≡ false → NoneBelow comes_before other rows → NoneBelow comes_before row rows
-each-behind o row other [] behind all = tt
-each-behind o row other (next ∷ rows) behind all = (o.chain next other row all.0 behind, each-behind o row other rows behind all.1)
+each-after : (o : IsStrictWeakOrder comes_before) (row other : HopRow) (rows : List HopRow) → comes_before other row ≡ false → NoneBelow comes_before other rows → NoneBelow comes_before row rows
+each-after o row other [] after all = tt
+each-after o row other (next ∷ rows) after all = (o.chain next other row all.0 after, each-after o row other rows after all.1)
 
 put-ascends : (o : IsStrictWeakOrder comes_before) (row : HopRow) (rows : List HopRow) → Ascends comes_before rows → Ascends comes_before (put_row row rows)
 unfolding put_row
 put-ascends o row [] up = (tt, tt)
 put-ascends o row (other ∷ rows) up = elim (cases_Bool (comes_before other row)) [
   | inl before ↦ rw (before) (each-put (λ y. comes_before y other ≡ false) row rows (o.one_way other row before) up.0, put-ascends o row rows up.1)
-  | inr behind ↦ rw (behind) ((behind, each-behind o row other rows behind up.0), up)
+  | inr after ↦ rw (after) ((after, each-after o row other rows after up.0), up)
 ]
 
 order-ascends : (o : IsStrictWeakOrder comes_before) (rows : List HopRow) → Ascends comes_before (in_order rows)
@@ -136,7 +136,7 @@ put-ties : (o : IsStrictWeakOrder comes_before) (x row : HopRow) (rows : List Ho
 unfolding put_row
 put-ties o x row [] = refl
 put-ties o x row (other ∷ rows) = elim (cases_Bool (comes_before other row)) [
-  | inr behind ↦ rw (behind) refl
+  | inr after ↦ rw (after) refl
   | inl before ↦
       let later : filter (ties comes_before x) (put_row row rows) ≡ filter (ties comes_before x) (row ∷ rows) = put-ties o x row rows in
       rw (before) (elim (cases_Bool (ties comes_before x row)) [

@@ -23,10 +23,10 @@ written (part.Route ∷ parts) fields place =
 written (part.Bounds ∷ parts) fields place = drop place fields ++ written parts fields (place + length (drop place fields))
 
 -- a form goes on after a fixed word
-pub behind_word : (keyword : Keyword) (parts : List Part) (fs : List (List ℕ)) → has_form (part.Word keyword ∷ parts) fs ≡ true
+pub after_word : (keyword : Keyword) (parts : List Part) (fs : List (List ℕ)) → has_form (part.Word keyword ∷ parts) fs ≡ true
     → (fs ≡ text_of keyword ∷ drop 1 fs) × (has_form parts (drop 1 fs) ≡ true)
-behind_word keyword parts [] e = cc
-behind_word keyword parts (f ∷ fs) e = on_test (is_word keyword f) refl e
+after_word keyword parts [] e = cc
+after_word keyword parts (f ∷ fs) e = on_test (is_word keyword f) refl e
   where
     on_test : (test : Bool) → is_word keyword f ≡ test → on_taken (cond test (Some 1) None) (λ count. has_form parts (drop count (f ∷ fs))) ≡ true
         → (f ∷ fs ≡ text_of keyword ∷ fs) × (has_form parts fs ≡ true)
@@ -34,10 +34,10 @@ behind_word keyword parts (f ∷ fs) e = on_test (is_word keyword f) refl e
     on_test false t e = cc
 
 -- a form goes on after a field
-pub behind_field : (parts : List Part) (fs : List (List ℕ)) → has_form (part.Field ∷ parts) fs ≡ true
+pub after_field : (parts : List Part) (fs : List (List ℕ)) → has_form (part.Field ∷ parts) fs ≡ true
     → (fs ≡ get_or fs 0 [] ∷ drop 1 fs) × (has_form parts (drop 1 fs) ≡ true)
-behind_field parts [] e = cc
-behind_field parts (f ∷ fs) e = (refl, e)
+after_field parts [] e = cc
+after_field parts (f ∷ fs) e = (refl, e)
 
 -- fields that are taken are one at least, and at most so many
 pub few_taken : (most count : ℕ) (go_on : ℕ → Bool) → on_taken (fields_up_to most count) go_on ≡ true → (1 ≤ count) × (count ≤ most) × (go_on count ≡ true)
@@ -48,17 +48,17 @@ few_taken most count go_on e = on_test (nat_le 1 count && nat_le count most) ref
     on_test false t e = cc
 
 -- a form goes on after the links of a route, of which there is one at least
-pub behind_links : (parts : List Part) (fs : List (List ℕ)) → has_form (part.Route ∷ parts) fs ≡ true
+pub after_links : (parts : List Part) (fs : List (List ℕ)) → has_form (part.Route ∷ parts) fs ≡ true
     → (1 ≤ route_length fs) × (route_length fs ≤ 16) × (has_form parts (drop (route_length fs) fs) ≡ true)
-behind_links parts fs e = few_taken 16 (route_length fs) (λ count. has_form parts (drop count fs)) e
+after_links parts fs e = few_taken 16 (route_length fs) (λ count. has_form parts (drop count fs)) e
 
 -- a form goes on after the bounds of a link
-pub behind_bounds : (parts : List Part) (fs : List (List ℕ)) → has_form (part.Bounds ∷ parts) fs ≡ true → has_form parts (drop (length fs) fs) ≡ true
-behind_bounds parts fs e = (few_taken 8 (length fs) (λ count. has_form parts (drop count fs)) e).2
+pub after_bounds : (parts : List Part) (fs : List (List ℕ)) → has_form (part.Bounds ∷ parts) fs ≡ true → has_form parts (drop (length fs) fs) ≡ true
+after_bounds parts fs e = (few_taken 8 (length fs) (λ count. has_form parts (drop count fs)) e).2
 
 -- after a field stands the next
-behind_one : (fields : List (List ℕ)) (place : ℕ) → drop 1 (drop place fields) ≡ drop (place + 1) fields
-behind_one fields place = drop-drop 1 place fields
+after_one : (fields : List (List ℕ)) (place : ℕ) → drop 1 (drop place fields) ≡ drop (place + 1) fields
+after_one fields place = drop-drop 1 place fields
 
 -- after all fields nothing stands
 all_taken : (fs : List (List ℕ)) → fs ≡ fs ++ drop (length fs) fs
@@ -73,23 +73,23 @@ as_written [] fields place e = none_left (drop place fields) e
     none_left [] e = refl
     none_left (f ∷ fs) e = cc
 as_written (part.Word keyword ∷ parts) fields place e =
-    let p = behind_word keyword parts (drop place fields) e in
-    let rest = as_written parts fields (place + 1) (subst (λ fs. has_form parts fs ≡ true) (behind_one fields place) p.1) in
-    p.0 ∙ ap (λ fs. text_of keyword ∷ fs) (behind_one fields place ∙ rest)
+    let p = after_word keyword parts (drop place fields) e in
+    let rest = as_written parts fields (place + 1) (subst (λ fs. has_form parts fs ≡ true) (after_one fields place) p.1) in
+    p.0 ∙ ap (λ fs. text_of keyword ∷ fs) (after_one fields place ∙ rest)
 as_written (part.Field ∷ parts) fields place e =
-    let p = behind_field parts (drop place fields) e in
-    let rest = as_written parts fields (place + 1) (subst (λ fs. has_form parts fs ≡ true) (behind_one fields place) p.1) in
-    p.0 ∙ ap (λ fs. get_or (drop place fields) 0 [] ∷ fs) (behind_one fields place ∙ rest)
+    let p = after_field parts (drop place fields) e in
+    let rest = as_written parts fields (place + 1) (subst (λ fs. has_form parts fs ≡ true) (after_one fields place) p.1) in
+    p.0 ∙ ap (λ fs. get_or (drop place fields) 0 [] ∷ fs) (after_one fields place ∙ rest)
     ∙ ap (λ f. f ∷ written parts fields (place + 1)) (get_or-drop place fields 0 [] ∙ ap (λ n. get_or fields n []) (omega arith))
 as_written (part.Route ∷ parts) fields place e =
     let fs = drop place fields in
     let hops = route_length (drop place fields) in
-    let p = behind_links parts (drop place fields) e in
+    let p = after_links parts (drop place fields) e in
     let rest = as_written parts fields (place + hops) (subst (λ gs. has_form parts gs ≡ true) (drop-drop hops place fields) p.2) in
     sym (take-append-drop hops fs) ∙ ap (λ gs. take hops fs ++ gs) (drop-drop hops place fields ∙ rest)
 as_written (part.Bounds ∷ parts) fields place e =
     let fs = drop place fields in
-    let p = behind_bounds parts (drop place fields) e in
+    let p = after_bounds parts (drop place fields) e in
     let rest = as_written parts fields (place + length fs) (subst (λ gs. has_form parts gs ≡ true) (drop-drop (length fs) place fields) p) in
     all_taken fs ∙ ap (λ gs. fs ++ gs) (drop-drop (length fs) place fields ∙ rest)
 
@@ -104,22 +104,22 @@ AreSingle (part.Route ∷ parts) = ⊥
 AreSingle (part.Bounds ∷ parts) = ⊥
 
 -- a form goes on after parts that take one field each
-pub behind_front : (front behind : List Part) (fields : List (List ℕ)) (place : ℕ) → AreSingle front → has_form (front ++ behind) (drop place fields) ≡ true
-    → has_form behind (drop (place + length front) fields) ≡ true
-behind_front [] behind fields place single e = subst (λ n. has_form behind (drop n fields) ≡ true) (omega arith) e
-behind_front (part.Word keyword ∷ parts) behind fields place single e =
-    let p = behind_word keyword (parts ++ behind) (drop place fields) e in
-    let rest = behind_front parts behind fields (place + 1) single (subst (λ fs. has_form (parts ++ behind) fs ≡ true) (behind_one fields place) p.1) in
-    subst (λ n. has_form behind (drop n fields) ≡ true) (omega arith) rest
-behind_front (part.Field ∷ parts) behind fields place single e =
-    let p = behind_field (parts ++ behind) (drop place fields) e in
-    let rest = behind_front parts behind fields (place + 1) single (subst (λ fs. has_form (parts ++ behind) fs ≡ true) (behind_one fields place) p.1) in
-    subst (λ n. has_form behind (drop n fields) ≡ true) (omega arith) rest
-behind_front (part.Route ∷ parts) behind fields place single e = absurd single
-behind_front (part.Bounds ∷ parts) behind fields place single e = absurd single
+pub after_front : (front after : List Part) (fields : List (List ℕ)) (place : ℕ) → AreSingle front → has_form (front ++ after) (drop place fields) ≡ true
+    → has_form after (drop (place + length front) fields) ≡ true
+after_front [] after fields place single e = subst (λ n. has_form after (drop n fields) ≡ true) (omega arith) e
+after_front (part.Word keyword ∷ parts) after fields place single e =
+    let p = after_word keyword (parts ++ after) (drop place fields) e in
+    let rest = after_front parts after fields (place + 1) single (subst (λ fs. has_form (parts ++ after) fs ≡ true) (after_one fields place) p.1) in
+    subst (λ n. has_form after (drop n fields) ≡ true) (omega arith) rest
+after_front (part.Field ∷ parts) after fields place single e =
+    let p = after_field (parts ++ after) (drop place fields) e in
+    let rest = after_front parts after fields (place + 1) single (subst (λ fs. has_form (parts ++ after) fs ≡ true) (after_one fields place) p.1) in
+    subst (λ n. has_form after (drop n fields) ≡ true) (omega arith) rest
+after_front (part.Route ∷ parts) after fields place single e = absurd single
+after_front (part.Bounds ∷ parts) after fields place single e = absurd single
 
 -- the word that stands at a place
 pub word_at : (keyword : Keyword) (parts : List Part) (fields : List (List ℕ)) (place : ℕ) → has_form (part.Word keyword ∷ parts) (drop place fields) ≡ true
     → field_at fields place ≡ text_of keyword
 word_at keyword parts fields place e =
-    ap (λ n. get_or fields n []) (omega arith) ∙ sym (get_or-drop place fields 0 []) ∙ ap (λ fs. get_or fs 0 []) (behind_word keyword parts (drop place fields) e).0
+    ap (λ n. get_or fields n []) (omega arith) ∙ sym (get_or-drop place fields 0 []) ∙ ap (λ fs. get_or fs 0 []) (after_word keyword parts (drop place fields) e).0

@@ -19,9 +19,9 @@ one_hop : (found : Option LinkEntry) (hops : List Hop) (hop : Hop) → option_ma
 one_hop None hops hop e = cc
 one_hop (Some entry) hops hop e = ap (λ h. h ∷ hops) (same_Some (hop_of entry) hop e)
 
-behind_hop : (found : Option LinkEntry) (hops more : List Hop) → with_hop found (hops ++ more) ≡ with_hop found hops ++ more
-behind_hop None hops more = refl
-behind_hop (Some entry) hops more = refl
+after_hop : (found : Option LinkEntry) (hops more : List Hop) → with_hop found (hops ++ more) ≡ with_hop found hops ++ more
+after_hop None hops more = refl
+after_hop (Some entry) hops more = refl
 
 route_next : (links : List LinkEntry) (names : List (List ℕ)) (place : ℕ) (hop : Hop) → place < length names
     → option_map hop_of (link_named links (get_or names place [])) ≡ Some hop → route_over links (take (suc place) names) ≡ route_over links (take place names) ++ hop ∷ []
@@ -29,7 +29,7 @@ route_next links [] place hop h found = absurd (omega arith)
 route_next links (name ∷ names) zero hop h found = one_hop (link_named links name) [] hop found
 route_next links (name ∷ names) (suc place) hop h found =
     ap (with_hop (link_named links name)) (route_next links names place hop (omega arith) found)
-    ∙ behind_hop (link_named links name) (route_over links (take place names)) (hop ∷ [])
+    ∙ after_hop (link_named links name) (route_over links (take place names)) (hop ∷ [])
 
 -- a hop more over the next name
 pub route_more : (links : List LinkEntry) (names : List (List ℕ)) (place : ℕ) (field : List ℕ) (hop : Hop) → place < length names → field ≡ get_or names place []

@@ -17,12 +17,12 @@ pub bounds-next : (bounds : List ℕ) (i j : ℕ) (before after all : List ℕ) 
 bounds-next bounds i j before after all within next is so_far =
     let at : j ≡ suc i = omega (arith, next) in
     ap (λ (k : ℕ). after ++ spaced (map decimal (drop k bounds))) at ∙ ap (λ (line : List ℕ). line ++ spaced (map decimal (drop (suc i) bounds))) is
-    ∙ append_assoc before (32 ∷ decimal (get_or bounds i 0)) (spaced (map decimal (drop (suc i) bounds))) ∙ ap (λ (rest : List ℕ). before ++ rest) (sym (behind bounds i within)) ∙ so_far
+    ∙ append_assoc before (32 ∷ decimal (get_or bounds i 0)) (spaced (map decimal (drop (suc i) bounds))) ∙ ap (λ (rest : List ℕ). before ++ rest) (sym (later bounds i within)) ∙ so_far
   where
-    behind : (xs : List ℕ) (n : ℕ) → n < length xs → spaced (map decimal (drop n xs)) ≡ (32 ∷ decimal (get_or xs n 0)) ++ spaced (map decimal (drop (suc n) xs))
-    behind [] n inside = absurd (omega arith)
-    behind (x ∷ xs) zero inside = refl
-    behind (x ∷ xs) (suc n) inside = behind xs n (omega arith)
+    later : (xs : List ℕ) (n : ℕ) → n < length xs → spaced (map decimal (drop n xs)) ≡ (32 ∷ decimal (get_or xs n 0)) ++ spaced (map decimal (drop (suc n) xs))
+    later [] n inside = absurd (omega arith)
+    later (x ∷ xs) zero inside = refl
+    later (x ∷ xs) (suc n) inside = later xs n (omega arith)
 
 -- the hops of a route from one on: the name of its link, if there is one, and those after it
 pub hops-next : (links : List LinkEntry) (route : List Hop) (i j : ℕ) (hop : Hop) (before after all : List ℕ) → slice_get route i ≡ Some hop → j ≡ i + 1 → after ≡ before ++ spaced (with_name (slice_get links (link_number hop.link)) [])
@@ -30,16 +30,16 @@ pub hops-next : (links : List LinkEntry) (route : List Hop) (i j : ℕ) (hop : H
 hops-next links route i j hop before after all found next is so_far =
     let at : j ≡ suc i = omega (arith, next) in
     ap (λ (k : ℕ). after ++ spaced (route_names links (drop k route))) at ∙ ap (λ (line : List ℕ). line ++ spaced (route_names links (drop (suc i) route))) is
-    ∙ append_assoc before (spaced (with_name (slice_get links (link_number hop.link)) [])) (spaced (route_names links (drop (suc i) route))) ∙ ap (λ (rest : List ℕ). before ++ rest) (sym (behind route i found)) ∙ so_far
+    ∙ append_assoc before (spaced (with_name (slice_get links (link_number hop.link)) [])) (spaced (route_names links (drop (suc i) route))) ∙ ap (λ (rest : List ℕ). before ++ rest) (sym (later route i found)) ∙ so_far
   where
     one : (link : Option LinkEntry) (names : List (List ℕ)) → spaced (with_name link names) ≡ spaced (with_name link []) ++ spaced names
     one None names = refl
     one (Some entry) names = ap (λ (front : List ℕ). front ++ spaced names) (sym (append-nil (32 ∷ entry.name)))
 
-    behind : (hops : List Hop) (n : ℕ) → slice_get hops n ≡ Some hop → spaced (route_names links (drop n hops)) ≡ spaced (with_name (slice_get links (link_number hop.link)) []) ++ spaced (route_names links (drop (suc n) hops))
-    behind [] n at = cc
-    behind (h ∷ hops) zero at = one (slice_get links (link_number h.link)) (route_names links hops) ∙ ap (λ (x : Hop). spaced (with_name (slice_get links (link_number x.link)) []) ++ spaced (route_names links hops)) (same_Some h hop at)
-    behind (h ∷ hops) (suc n) at = behind hops n at
+    later : (hops : List Hop) (n : ℕ) → slice_get hops n ≡ Some hop → spaced (route_names links (drop n hops)) ≡ spaced (with_name (slice_get links (link_number hop.link)) []) ++ spaced (route_names links (drop (suc n) hops))
+    later [] n at = cc
+    later (h ∷ hops) zero at = one (slice_get links (link_number h.link)) (route_names links hops) ∙ ap (λ (x : Hop). spaced (with_name (slice_get links (link_number x.link)) []) ++ spaced (route_names links hops)) (same_Some h hop at)
+    later (h ∷ hops) (suc n) at = later hops n at
 
 -- ---- whole lines
 

@@ -37,7 +37,7 @@ pub link_is_line : (entry : LinkEntry) → HasNames entry → are_fields (link_f
 link_is_line entry named =
     let b = bounds_parts entry.shape.bounds entry.shape.bounds_rise in
     let bounds : are_fields (bounds_fields entry.shape.bounds) ≡ true = numbers_fields entry.shape.bounds (λ i h. let each = b.each i h in omega (arith, each)) in
-    let behind = both_fields (best_fields entry.shape.best) (bounds_fields entry.shape.bounds) (best_is_fields entry.shape.best (nat_eq entry.shape.best 0) entry.shape.best_most) bounds in
+    let after = both_fields (best_fields entry.shape.best) (bounds_fields entry.shape.bounds) (best_is_fields entry.shape.best (nat_eq entry.shape.best 0) entry.shape.best_most) bounds in
     both_fields (codes "link" ∷ entry.name ∷ entry.from ∷ entry.to ∷ codes "rate" ∷ decimal entry.shape.rate ∷ codes "cap" ∷ decimal entry.shape.cap ∷ codes "prop" ∷ decimal entry.shape.prop ∷ codes "buffer" ∷ decimal entry.shape.buffer ∷ [])
     (best_fields entry.shape.best ++ bounds_fields entry.shape.bounds)
     (rw (
@@ -49,7 +49,7 @@ link_is_line entry named =
       number_field entry.shape.prop (omega (arith, entry.shape.prop_most)),
       number_field entry.shape.buffer (omega (arith, entry.shape.buffer_most)),
     ) refl)
-    behind
+    after
 
 pub caller_is_line : (name : List ℕ) → is_name name ≡ true → are_fields (caller_fields name) ≡ true
 caller_is_line name is = rw (name_field name is) refl

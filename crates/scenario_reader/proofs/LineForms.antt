@@ -10,7 +10,7 @@ use Rattle.scenario_reader.specs.OpenLine.{open_front, rate_form, jitter_form, i
 use Rattle.scenario_reader.specs.declared.form.Keyword.TheVariants as word
 use Rattle.scenario_reader.specs.declared.form.Part.{Part}
 use Rattle.scenario_reader.specs.declared.form.Part.TheVariants as part
-use Rattle.scenario_reader.proofs.FormText.{few_taken, behind_links, behind_front, word_at}
+use Rattle.scenario_reader.proofs.FormText.{few_taken, after_links, after_front, word_at}
 
 -- a word is the test of its bytes
 word_is : (field : List ℕ) → field ≡ text_of word.Levels → is_word word.Best field ≡ false
@@ -22,14 +22,14 @@ best_is field e = rw e refl
 -- a plain line has no best-effort packets
 pub plain_best : (fields : List (List ℕ)) → has_form plain_form fields ≡ true → has_best fields ≡ false
 plain_best fields e =
-    let behind = behind_front (link_front []) (part.Word word.Levels ∷ part.Bounds ∷ []) fields 0 tt e in
-    word_is (field_at fields 12) (word_at word.Levels (part.Bounds ∷ []) fields 12 behind)
+    let after = after_front (link_front []) (part.Word word.Levels ∷ part.Bounds ∷ []) fields 0 tt e in
+    word_is (field_at fields 12) (word_at word.Levels (part.Bounds ∷ []) fields 12 after)
 
 -- the other form has them
 pub best_best : (fields : List (List ℕ)) → has_form best_form fields ≡ true → has_best fields ≡ true
 best_best fields e =
-    let behind = behind_front (link_front []) (part.Word word.Best ∷ part.Field ∷ part.Word word.Levels ∷ part.Bounds ∷ []) fields 0 tt e in
-    best_is (field_at fields 12) (word_at word.Best (part.Field ∷ part.Word word.Levels ∷ part.Bounds ∷ []) fields 12 behind)
+    let after = after_front (link_front []) (part.Word word.Best ∷ part.Field ∷ part.Word word.Levels ∷ part.Bounds ∷ []) fields 0 tt e in
+    best_is (field_at fields 12) (word_at word.Best (part.Field ∷ part.Word word.Levels ∷ part.Bounds ∷ []) fields 12 after)
 
 few_at : (fields : List (List ℕ)) (place : ℕ) → has_form (part.Bounds ∷ []) (drop place fields) ≡ true → length (drop place fields) ≤ 8
 few_at fields place e = (few_taken 8 (length (drop place fields)) (λ count. has_form [] (drop count (drop place fields))) e).1
@@ -37,12 +37,12 @@ few_at fields place e = (few_taken 8 (length (drop place fields)) (λ count. has
 -- up to 8 bounds stand in a line of either form
 pub plain_few : (fields : List (List ℕ)) → has_form plain_form fields ≡ true → length (bound_fields fields) ≤ 8
 plain_few fields e =
-    rw (plain_best fields e) (few_at fields 13 (behind_front (link_front (part.Word word.Levels ∷ [])) (part.Bounds ∷ []) fields 0 tt e))
+    rw (plain_best fields e) (few_at fields 13 (after_front (link_front (part.Word word.Levels ∷ [])) (part.Bounds ∷ []) fields 0 tt e))
 
 pub best_few : (fields : List (List ℕ)) → has_form best_form fields ≡ true → length (bound_fields fields) ≤ 8
 best_few fields e =
     rw (best_best fields e)
-    (few_at fields 15 (behind_front (link_front (part.Word word.Best ∷ part.Field ∷ part.Word word.Levels ∷ [])) (part.Bounds ∷ []) fields 0 tt e))
+    (few_at fields 15 (after_front (link_front (part.Word word.Best ∷ part.Field ∷ part.Word word.Levels ∷ [])) (part.Bounds ∷ []) fields 0 tt e))
 
 pub link_line_few : (version : Version) (fields : List (List ℕ)) → is_link_line version fields ≡ true → length (bound_fields fields) ≤ 8
 link_line_few version fields e =
@@ -55,8 +55,8 @@ link_line_few version fields e =
 route_few : (control : List Part) (fields : List (List ℕ)) → has_form (open_front control) fields ≡ true → (1 ≤ route_hops fields) × (route_hops fields ≤ 16)
 route_few control fields e =
     let parts = part.Word word.Contract ∷ part.Field ∷ part.Field ∷ part.Field ∷ part.Field ∷ part.Word word.Delay ∷ part.Field ∷ control in
-    let behind = behind_front (part.Word word.Open ∷ part.Field ∷ part.Word word.Route ∷ []) (part.Route ∷ part.Word word.Contract ∷ part.Field ∷ part.Field ∷ part.Field ∷ part.Field ∷ part.Word word.Delay ∷ part.Field ∷ control) fields 0 tt e in
-    let links = behind_links parts (drop 3 fields) behind in
+    let after = after_front (part.Word word.Open ∷ part.Field ∷ part.Word word.Route ∷ []) (part.Route ∷ part.Word word.Contract ∷ part.Field ∷ part.Field ∷ part.Field ∷ part.Field ∷ part.Word word.Delay ∷ part.Field ∷ control) fields 0 tt e in
+    let links = after_links parts (drop 3 fields) after in
     (links.0, links.1)
 
 pub open_line_few : (fields : List (List ℕ)) → is_open_line fields ≡ true → (1 ≤ route_hops fields) × (route_hops fields ≤ 16)

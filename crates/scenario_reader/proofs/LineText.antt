@@ -10,7 +10,7 @@ use Rattle.scenario_reader.proofs.FieldText.{line_no_feed}
 abbrev pub AreLines : List (List (List ℕ)) → Type 0
 AreLines lines = Each (λ fields. are_fields fields ≡ true) lines
 
--- lines of fields are the whole lines of their bytes, and nothing is left behind them
+-- lines of fields are the whole lines of their bytes, and nothing is left after them
 pub lines_of_text : (lines : List (List (List ℕ))) (most : ℕ) → AreLines lines → length (flat_map ended_line lines) ≤ most
     → outlook most (flat_map ended_line lines) ≡ record { lines = map line_of lines; ending = all_given }
 lines_of_text [] most are few = refl
@@ -20,12 +20,12 @@ lines_of_text (fields ∷ lines) most are few =
     let count = length-append (ended_line fields) (flat_map ended_line lines) in
     let count_line = length-append (line_of fields) (10 ∷ []) in
     let room : most ≡ length (line_of fields) + 1 + (most - (length (line_of fields) + 1)) = omega arith in
-    let behind = lines_of_text lines (most - (length line + 1)) are.1 (omega arith) in
+    let after = lines_of_text lines (most - (length line + 1)) are.1 (omega arith) in
     let no_feed = line_no_feed fields are.0 in
     rw (append_assoc line (10 ∷ []) rest)
     (same_parts most (line ++ feed ∷ rest) (line ∷ map line_of lines)
-    (whole_lines-line most _ line rest no_feed room ∙ ap (λ (o : Outlook). line ∷ o.lines) behind)
-    (ending_from-line false most _ line rest no_feed room ∙ ap (λ (o : Outlook). o.ending) behind))
+    (whole_lines-line most _ line rest no_feed room ∙ ap (λ (o : Outlook). line ∷ o.lines) after)
+    (ending_from-line false most _ line rest no_feed room ∙ ap (λ (o : Outlook). o.ending) after))
   where
     same_parts : (most : ℕ) (bs : List ℕ) (ls : List (List ℕ)) → whole_lines most bs ≡ ls → ending most bs ≡ all_given → outlook most bs ≡ record { lines = ls; ending = all_given }
     same_parts most bs ls p q = rw (p, q) refl

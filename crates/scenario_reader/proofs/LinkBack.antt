@@ -53,11 +53,11 @@ bounds_end entry =
     let count = length-map entry.shape.bounds decimal in
     bounds_form (map decimal entry.shape.bounds) (omega (arith, b.least)) (omega (arith, b.most))
 
-plain_behind : (version : Version) (entry : LinkEntry) → entry.shape.best ≡ 0 → IsBehind version entry (bounds_fields entry.shape.bounds)
-plain_behind version entry none = record { form = rw (bounds_end entry) refl; bounds = refl; best = sym none; best_passes = refl }
+plain_after : (version : Version) (entry : LinkEntry) → entry.shape.best ≡ 0 → IsBehind version entry (bounds_fields entry.shape.bounds)
+plain_after version entry none = record { form = rw (bounds_end entry) refl; bounds = refl; best = sym none; best_passes = refl }
 
-best_behind : (version : Version) (entry : LinkEntry) → has_best_effort version ≡ true → 1 ≤ entry.shape.best → IsBehind version entry (codes "best" ∷ decimal entry.shape.best ∷ bounds_fields entry.shape.bounds)
-best_behind version entry has some = record {
+best_after : (version : Version) (entry : LinkEntry) → has_best_effort version ≡ true → 1 ≤ entry.shape.best → IsBehind version entry (codes "best" ∷ decimal entry.shape.best ∷ bounds_fields entry.shape.bounds)
+best_after version entry has some = record {
   form = rw (has, bounds_end entry) refl;
   bounds = refl;
   best = value-decimal entry.shape.best (omega (arith, entry.shape.best_most));
@@ -71,14 +71,14 @@ numbers_of entry = record { rate = entry.shape.rate; cap = entry.shape.cap; prop
 
 numbers_again : (version : Version) (entry : LinkEntry) (rest : List (List ℕ)) → IsBehind version entry rest → link_numbers (front_with entry rest) ≡ numbers_of entry
 unfolding numbers_of
-numbers_again version entry rest behind =
+numbers_again version entry rest after =
     let b = entry_bounds entry in
     let rate = value-decimal entry.shape.rate (omega (arith, entry.shape.rate_most)) in
     let cap = value-decimal entry.shape.cap (omega (arith, entry.shape.cap_most)) in
     let prop = value-decimal entry.shape.prop (omega (arith, entry.shape.prop_most)) in
     let buffer = value-decimal entry.shape.buffer (omega (arith, entry.shape.buffer_most)) in
     let bounds = values-decimals entry.shape.bounds (λ i h. let from = b.each i h in omega (arith, from)) in
-    rw (rate, cap, prop, buffer, behind.best, behind.bounds, bounds) refl
+    rw (rate, cap, prop, buffer, after.best, after.bounds, bounds) refl
 
 has_its_bounds : (entry : LinkEntry) → has_bounds (numbers_of entry) ≡ true
 unfolding numbers_of
@@ -110,7 +110,7 @@ pub record IsNextLink (version : Version) (links : List LinkEntry) (entry : Link
   pub number : link_number entry.shape.link ≡ length links
 
 line_passes : (version : Version) (said : Said) (entry : LinkEntry) (rest : List (List ℕ)) → IsBehind version entry rest → IsNextLink version said.links entry → link_rule version said (front_with entry rest) ≡ None
-line_passes version said entry rest behind is =
+line_passes version said entry rest after is =
     let fields = front_with entry rest in
     let b = entry_bounds entry in
     let numbers = pass_all (number_rule 1 65536 (field_at fields 5) ∷ number_rule 1 65536 (field_at fields 7) ∷ number_rule 0 1048576 (field_at fields 9) ∷ number_rule 0 262144 (field_at fields 11) ∷ []) (
@@ -120,17 +120,17 @@ line_passes version said entry rest behind is =
         (decimal_passes 0 1048576 entry.shape.prop (omega arith) entry.shape.prop_most (omega arith), (decimal_passes 0 262144 entry.shape.buffer (omega arith) entry.shape.buffer_most (omega arith), tt)),
       ),
     ) in
-    let bounds = ap bound_numbers_rule behind.bounds ∙ decimals_pass 1 1048576 entry.shape.bounds b.each (omega arith) in
+    let bounds = ap bound_numbers_rule after.bounds ∙ decimals_pass 1 1048576 entry.shape.bounds b.each (omega arith) in
     let left = pass_all (new_name_rule (link_names said.links) (field_at fields 1) ∷ name_rule (field_at fields 2) ∷ name_rule (field_at fields 3) ∷ link_numbers_rule fields ∷ best_rule fields ∷ bound_numbers_rule (bound_fields fields) ∷ [])
-    (new_name_back (link_names said.links) entry.name is.named.name is.new, (name_back entry.from is.named.from, (name_back entry.to is.named.to, (numbers, (behind.best_passes, (bounds, tt)))))) in
-    let levels : has_bounds (link_numbers (front_with entry rest)) ≡ true = ap has_bounds (numbers_again version entry rest behind) ∙ has_its_bounds entry in
+    (new_name_back (link_names said.links) entry.name is.named.name is.new, (name_back entry.from is.named.from, (name_back entry.to is.named.to, (numbers, (after.best_passes, (bounds, tt)))))) in
+    let levels : has_bounds (link_numbers (front_with entry rest)) ≡ true = ap has_bounds (numbers_again version entry rest after) ∙ has_its_bounds entry in
     pass_all (unless (is_link_line version fields) cause.Shape ∷ link_fields_rule said fields ∷ unless (nat_lt (length said.links) 32) cause.Many ∷ unless (has_bounds (link_numbers fields)) cause.Levels ∷ [])
-    (unless_holds (is_link_line version fields) cause.Shape behind.form, (left, (unless_holds (nat_lt (length said.links) 32) cause.Many (lt-ltb (length said.links) 32 is.few), (unless_holds (has_bounds (link_numbers fields)) cause.Levels levels, tt))))
+    (unless_holds (is_link_line version fields) cause.Shape after.form, (left, (unless_holds (nat_lt (length said.links) 32) cause.Many (lt-ltb (length said.links) 32 is.few), (unless_holds (has_bounds (link_numbers fields)) cause.Levels levels, tt))))
 
 line_says : (version : Version) (said : Said) (entry : LinkEntry) (rest : List (List ℕ)) → IsBehind version entry rest → IsNextLink version said.links entry → link_said version said (front_with entry rest) ≡ Some entry
-line_says version said entry rest behind is =
+line_says version said entry rest after is =
     let test = (and_parts (is_test (test_of version) entry.shape.test) _ is.kept).0 in
-    let shape = ap (shape_of (link_at (length said.links)) (test_of version)) (numbers_again version entry rest behind) ∙ its_shape version (length said.links) entry is.few is.number test in
+    let shape = ap (shape_of (link_at (length said.links)) (test_of version)) (numbers_again version entry rest after) ∙ its_shape version (length said.links) entry is.few is.number test in
     rw shape refl
 
 -- ---- both
@@ -142,15 +142,15 @@ pub record IsRead (version : Version) (said : Said) (entry : LinkEntry) : Type 0
 pub link_back : (version : Version) (said : Said) (entry : LinkEntry) → IsNextLink version said.links entry → IsRead version said entry
 link_back version said entry is = by (nat_eq entry.shape.best 0) refl where
   both : (rest : List (List ℕ)) → IsBehind version entry rest → link_fields entry ≡ front_with entry rest → IsRead version said entry
-  both rest behind same = record { passes = ap (link_rule version said) same ∙ line_passes version said entry rest behind is; says = ap (link_said version said) same ∙ line_says version said entry rest behind is }
+  both rest after same = record { passes = ap (link_rule version said) same ∙ line_passes version said entry rest after is; says = ap (link_said version said) same ∙ line_says version said entry rest after is }
 
   effort : (b : Bool) → (if b then true else nat_eq entry.shape.best 0) ≡ true → nat_eq entry.shape.best 0 ≡ false → b ≡ true
   effort true e f = refl
   effort false e f = cc
 
   by : (none : Bool) → nat_eq entry.shape.best 0 ≡ none → IsRead version said entry
-  by true e = both (bounds_fields entry.shape.bounds) (plain_behind version entry (eqb-true entry.shape.best 0 e)) (rw e refl)
+  by true e = both (bounds_fields entry.shape.bounds) (plain_after version entry (eqb-true entry.shape.best 0 e)) (rw e refl)
   by false e =
       let has = effort (has_best_effort version) (and_parts (is_test (test_of version) entry.shape.test) _ is.kept).1 e in
       let some : 1 ≤ entry.shape.best = (let other = eqb-false entry.shape.best 0 e in omega (arith, other)) in
-      both (codes "best" ∷ decimal entry.shape.best ∷ bounds_fields entry.shape.bounds) (best_behind version entry has some) (rw e refl)
+      both (codes "best" ∷ decimal entry.shape.best ∷ bounds_fields entry.shape.bounds) (best_after version entry has some) (rw e refl)

@@ -26,7 +26,7 @@ use Rattle.scenario_reader.specs.Drafts.{Said, last_caller, link_named, route_ov
 use Rattle.scenario_reader.specs.Entries.{hop_of}
 use Rattle.scenario_reader.specs.Fields.{field_at}
 use Rattle.scenario_reader.specs.Forms.{is_word, is_among, route_length, has_form, new_name_rule, number_rule}
-use Rattle.scenario_reader.specs.OpenLine.{is_open_line, route_hops, route_fields, behind_route, has_jitter, control_in, contract_told, contract_of, hops_in, route_names_rule, terms_rule, jitter_rule, open_fields_rule, is_way, open_limits_rule, open_rule, request_said}
+use Rattle.scenario_reader.specs.OpenLine.{is_open_line, route_hops, route_fields, after_route, has_jitter, control_in, contract_told, contract_of, hops_in, route_names_rule, terms_rule, jitter_rule, open_fields_rule, is_way, open_limits_rule, open_rule, request_said}
 use Rattle.scenario_reader.specs.PlanText.{with_name, route_names, control_fields, delay_fields, open_fields}
 use Rattle.scenario_reader.specs.declared.cause.Cause.TheVariants as cause
 use Rattle.scenario_reader.specs.declared.form.Keyword.TheVariants as word
@@ -75,46 +75,46 @@ route_again links (hop ∷ hops) here =
 -- ---- the fields of an open line
 
 abbrev line_with : List ℕ → List (List ℕ) → List (List ℕ) → List (List ℕ)
-line_with name names behind = codes "open" ∷ name ∷ codes "route" ∷ (names ++ codes "contract" ∷ behind)
+line_with name names after = codes "open" ∷ name ∷ codes "route" ∷ (names ++ codes "contract" ∷ after)
 
-hops_count : (names behind : List (List ℕ)) → NoWords names → route_length (names ++ codes "contract" ∷ behind) ≡ length names
+hops_count : (names after : List (List ℕ)) → NoWords names → route_length (names ++ codes "contract" ∷ after) ≡ length names
 unfolding NoWords
-hops_count [] behind none = refl
-hops_count (name ∷ names) behind none = rw none.0 (ap suc (hops_count names behind none.1))
+hops_count [] after none = refl
+hops_count (name ∷ names) after none = rw none.0 (ap suc (hops_count names after none.1))
 
-take_names : (names behind : List (List ℕ)) → take (length names) (names ++ behind) ≡ names
-take_names [] behind = refl
-take_names (name ∷ names) behind = ap (λ (rest : List (List ℕ)). name ∷ rest) (take_names names behind)
+take_names : (names after : List (List ℕ)) → take (length names) (names ++ after) ≡ names
+take_names [] after = refl
+take_names (name ∷ names) after = ap (λ (rest : List (List ℕ)). name ∷ rest) (take_names names after)
 
-drop_names : (names behind : List (List ℕ)) → drop (length names) (names ++ behind) ≡ behind
-drop_names [] behind = refl
-drop_names (name ∷ names) behind = drop_names names behind
+drop_names : (names after : List (List ℕ)) → drop (length names) (names ++ after) ≡ after
+drop_names [] after = refl
+drop_names (name ∷ names) after = drop_names names after
 
-at_behind : (names behind : List (List ℕ)) (place k : ℕ) → k ≡ length names + place → field_at (names ++ behind) k ≡ field_at behind place
-at_behind [] behind place k same = ap (field_at behind) (omega (arith, same))
-at_behind (name ∷ names) behind place zero same = absurd (omega (arith, same))
-at_behind (name ∷ names) behind place (suc k) same = at_behind names behind place k (omega (arith, same))
+at_after : (names after : List (List ℕ)) (place k : ℕ) → k ≡ length names + place → field_at (names ++ after) k ≡ field_at after place
+at_after [] after place k same = ap (field_at after) (omega (arith, same))
+at_after (name ∷ names) after place zero same = absurd (omega (arith, same))
+at_after (name ∷ names) after place (suc k) same = at_after names after place k (omega (arith, same))
 
-record IsLine (name : List ℕ) (names behind : List (List ℕ)) : Type 0 where
-  hops : route_hops (line_with name names behind) ≡ length names
-  route : route_fields (line_with name names behind) ≡ names
-  fields : (place : ℕ) → behind_route (line_with name names behind) place ≡ field_at (codes "contract" ∷ behind) place
+record IsLine (name : List ℕ) (names after : List (List ℕ)) : Type 0 where
+  hops : route_hops (line_with name names after) ≡ length names
+  route : route_fields (line_with name names after) ≡ names
+  fields : (place : ℕ) → after_route (line_with name names after) place ≡ field_at (codes "contract" ∷ after) place
 
-line_is : (name : List ℕ) (names behind : List (List ℕ)) → NoWords names → IsLine name names behind
-line_is name names behind none =
-    let count = hops_count names behind none in
+line_is : (name : List ℕ) (names after : List (List ℕ)) → NoWords names → IsLine name names after
+line_is name names after none =
+    let count = hops_count names after none in
     record {
       hops = count;
-      route = ap (λ (n : ℕ). take n (names ++ codes "contract" ∷ behind)) count ∙ take_names names (codes "contract" ∷ behind);
+      route = ap (λ (n : ℕ). take n (names ++ codes "contract" ∷ after)) count ∙ take_names names (codes "contract" ∷ after);
       fields = λ place.
-          let at : 3 + route_length (names ++ codes "contract" ∷ behind) + place ≡ suc (suc (suc (length names + place))) = omega (arith, count) in
-          ap (field_at (line_with name names behind)) at ∙ at_behind names (codes "contract" ∷ behind) place (length names + place) refl;
+          let at : 3 + route_length (names ++ codes "contract" ∷ after) + place ≡ suc (suc (suc (length names + place))) = omega (arith, count) in
+          ap (field_at (line_with name names after)) at ∙ at_after names (codes "contract" ∷ after) place (length names + place) refl;
     }
 
 -- a form after the route
-form_behind : (parts : List Part) (names behind : List (List ℕ)) → NoWords names → 1 ≤ length names → length names ≤ 16 → has_form (part.Route ∷ parts) (names ++ codes "contract" ∷ behind) ≡ has_form parts (codes "contract" ∷ behind)
-form_behind parts names behind none least most =
-    rw (hops_count names behind none, le-leb 1 (length names) least, le-leb (length names) 16 most) (ap (has_form parts) (drop_names names (codes "contract" ∷ behind)))
+form_after : (parts : List Part) (names after : List (List ℕ)) → NoWords names → 1 ≤ length names → length names ≤ 16 → has_form (part.Route ∷ parts) (names ++ codes "contract" ∷ after) ≡ has_form parts (codes "contract" ∷ after)
+form_after parts names after none least most =
+    rw (hops_count names after none, le-leb 1 (length names) least, le-leb (length names) 16 most) (ap (has_form parts) (drop_names names (codes "contract" ∷ after)))
 
 abbrev end_fields : RequestEntry → List (List ℕ)
 end_fields entry = decimal entry.request.contract.xmin ∷ decimal entry.request.contract.xave ∷ decimal entry.request.contract.interval ∷ decimal entry.request.contract.smax ∷ delay_fields entry.request
@@ -125,7 +125,7 @@ end_parts control = part.Word word.Contract ∷ part.Field ∷ part.Field ∷ pa
 
 -- ---- what the control says
 
-control_says : (control : Control) (fields : List (List ℕ)) → ((place : ℕ) → behind_route fields (7 + place) ≡ field_at (control_fields control) place) → control_in_range control ≡ true → (control_in fields ≡ control) × (jitter_rule fields ≡ None)
+control_says : (control : Control) (fields : List (List ℕ)) → ((place : ℕ) → after_route fields (7 + place) ≡ field_at (control_fields control) place) → control_in_range control ≡ true → (control_in fields ≡ control) × (jitter_rule fields ≡ None)
 control_says Rate fields at range =
     let no : has_jitter fields ≡ false = ap (is_word word.Jitter) (at 0) in
     (rw no refl, rw no refl)
@@ -139,7 +139,7 @@ control_says (Jitter bound) fields at range =
 form_says : (name : List ℕ) (names : List (List ℕ)) (entry : RequestEntry) → NoWords names → 1 ≤ length names → length names ≤ 16 → is_open_line (line_with name names (end_fields entry)) ≡ true
 form_says name names entry none least most = by entry.request.control refl where
   with_end : (control : List Part) → has_form (part.Route ∷ end_parts control) (names ++ codes "contract" ∷ end_fields entry) ≡ has_form (end_parts control) (codes "contract" ∷ end_fields entry)
-  with_end control = form_behind (end_parts control) names (end_fields entry) none least most
+  with_end control = form_after (end_parts control) names (end_fields entry) none least most
 
   by : (control : Control) → entry.request.control ≡ control → is_open_line (line_with name names (end_fields entry)) ≡ true
   by Rate is = or_left _ _ (with_end (part.Word word.Rate ∷ []) ∙ ap (λ (c : Control). has_form (part.Word word.Rate ∷ []) (control_fields c)) is)
@@ -195,18 +195,18 @@ open_back said entry is =
     let line = line_is entry.name names (end_fields entry) none in
     let range = and_parts (is_within 1 67108864 request.delay) (control_in_range request.control) is.range in
     let delay = from-low 1 67108864 request.delay range.0 in
-    let at_control : (place : ℕ) → behind_route fields (7 + place) ≡ field_at (control_fields request.control) place = λ place.
+    let at_control : (place : ℕ) → after_route fields (7 + place) ≡ field_at (control_fields request.control) place = λ place.
     line.fields (7 + place) ∙ ap (field_at (codes "contract" ∷ end_fields entry)) (seven place) in
     let control = control_says request.control fields at_control range.1 in
     let small : (n : ℕ) → n ≤ 16777216 → value_of (decimal n) ≡ n = λ n h. value-decimal n (omega (arith, h)) in
-    let xmin : value_of (behind_route fields 1) ≡ request.contract.xmin = ap value_of (line.fields 1) ∙ small request.contract.xmin (omega (arith, c.xave_least, c.xave_most)) in
-    let xave : value_of (behind_route fields 2) ≡ request.contract.xave = ap value_of (line.fields 2) ∙ small request.contract.xave (omega (arith, c.xave_most)) in
-    let interval : value_of (behind_route fields 3) ≡ request.contract.interval = ap value_of (line.fields 3) ∙ small request.contract.interval c.interval_most in
-    let smax : value_of (behind_route fields 4) ≡ request.contract.smax = ap value_of (line.fields 4) ∙ small request.contract.smax (omega (arith, c.smax_most)) in
+    let xmin : value_of (after_route fields 1) ≡ request.contract.xmin = ap value_of (line.fields 1) ∙ small request.contract.xmin (omega (arith, c.xave_least, c.xave_most)) in
+    let xave : value_of (after_route fields 2) ≡ request.contract.xave = ap value_of (line.fields 2) ∙ small request.contract.xave (omega (arith, c.xave_most)) in
+    let interval : value_of (after_route fields 3) ≡ request.contract.interval = ap value_of (line.fields 3) ∙ small request.contract.interval c.interval_most in
+    let smax : value_of (after_route fields 4) ≡ request.contract.smax = ap value_of (line.fields 4) ∙ small request.contract.smax (omega (arith, c.smax_most)) in
     let terms : contract_told fields ≡ request.contract = rw (xmin, xave, interval, smax) refl in
-    let wait : value_of (behind_route fields 6) ≡ request.delay = ap value_of (line.fields 6) ∙ value-decimal request.delay (omega (arith, delay.1)) in
+    let wait : value_of (after_route fields 6) ≡ request.delay = ap value_of (line.fields 6) ∙ value-decimal request.delay (omega (arith, delay.1)) in
     let route : hops_in said fields ≡ request.route = ap (route_over said.links) line.route ∙ route_again said.links request.route is.hops in
-    let numbers = pass_all (number_rule 1 1048576 (behind_route fields 1) ∷ number_rule 1 1048576 (behind_route fields 2) ∷ number_rule 1 16777216 (behind_route fields 3) ∷ number_rule 1 65536 (behind_route fields 4) ∷ []) (
+    let numbers = pass_all (number_rule 1 1048576 (after_route fields 1) ∷ number_rule 1 1048576 (after_route fields 2) ∷ number_rule 1 16777216 (after_route fields 3) ∷ number_rule 1 65536 (after_route fields 4) ∷ []) (
       ap (number_rule 1 1048576) (line.fields 1) ∙ decimal_passes 1 1048576 request.contract.xmin c.xmin_least (omega (arith, c.xave_least, c.xave_most)) (omega arith),
       (
         ap (number_rule 1 1048576) (line.fields 2) ∙ decimal_passes 1 1048576 request.contract.xave (omega (arith, c.xmin_least, c.xave_least)) c.xave_most (omega arith),
@@ -216,7 +216,7 @@ open_back said entry is =
         ),
       ),
     ) in
-    let left = pass_all (new_name_rule (request_names said.requests) (field_at fields 1) ∷ route_names_rule said (route_fields fields) ∷ terms_rule fields ∷ number_rule 1 67108864 (behind_route fields 6) ∷ jitter_rule fields ∷ []) (
+    let left = pass_all (new_name_rule (request_names said.requests) (field_at fields 1) ∷ route_names_rule said (route_fields fields) ∷ terms_rule fields ∷ number_rule 1 67108864 (after_route fields 6) ∷ jitter_rule fields ∷ []) (
       new_name_back (request_names said.requests) entry.name is.name is.new,
       (
         ap (route_names_rule said) line.route ∙ names_pass said request.route is.hops,
@@ -234,7 +234,7 @@ open_back said entry is =
       says =
           let caller : actor_at (last_caller said) ≡ entry.caller = sym (actor_is entry.caller (last_caller said) is.callers is.caller) in
           let chan : channel_at (length said.requests) ≡ entry.request.chan = sym (channel_is entry.request.chan (length said.requests) (omega (arith, is.few)) is.number) in
-          same_entry entry (actor_at (last_caller said)) (channel_at (length said.requests)) (hops_in said fields) (contract_told fields) (control_in fields) (value_of (behind_route fields 6)) caller chan route terms control.0 wait;
+          same_entry entry (actor_at (last_caller said)) (channel_at (length said.requests)) (hops_in said fields) (contract_told fields) (control_in fields) (value_of (after_route fields 6)) caller chan route terms control.0 wait;
     }
   where
     seven : (place : ℕ) → 7 + place ≡ suc (suc (suc (suc (suc (suc (suc place))))))

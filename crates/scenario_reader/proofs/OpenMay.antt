@@ -20,7 +20,7 @@ use Rattle.scenario_reader.specs.Drafts.{Said, parts_said, link_named, with_hop,
 use Rattle.scenario_reader.specs.Fields.{field_at}
 use Rattle.scenario_reader.specs.Forms.{new_name_rule, number_rule}
 use Rattle.scenario_reader.specs.Kept.{IsDraft, MayPutOpen}
-use Rattle.scenario_reader.specs.OpenLine.{is_open_line, route_fields, behind_route, has_jitter, control_in, contract_told, contract_of, hops_in, route_names_rule, terms_rule, jitter_rule, open_fields_rule, is_way, open_limits_rule, open_rule, request_said}
+use Rattle.scenario_reader.specs.OpenLine.{is_open_line, route_fields, after_route, has_jitter, control_in, contract_told, contract_of, hops_in, route_names_rule, terms_rule, jitter_rule, open_fields_rule, is_way, open_limits_rule, open_rule, request_said}
 use Rattle.scenario_reader.specs.declared.cause.Cause.TheVariants as cause
 use Rattle.scenario_reader.proofs.LinkMay.{headed_is, some_items, longer_than_none, is_none_said}
 use Rattle.scenario_reader.proofs.OwnFacts.{few_parts}
@@ -74,7 +74,7 @@ from_range low high field e =
 control_range : (fields : List (List ℕ)) → jitter_rule fields ≡ None → control_in_range (control_in fields) ≡ true
 control_range fields e = by (has_jitter fields) refl where
   by : (has : Bool) → has_jitter fields ≡ has → control_in_range (control_in fields) ≡ true
-  by true is = rw is (from_range 1 67108864 (behind_route fields 8) (rw is at e))
+  by true is = rw is (from_range 1 67108864 (after_route fields 8) (rw is at e))
   by false is = rw is refl
 
 pub open_may : (version : Version) (said : Said) (fields : List (List ℕ)) → IsDraft said → said.version ≡ Some version
@@ -82,7 +82,7 @@ pub open_may : (version : Version) (said : Said) (fields : List (List ℕ)) → 
 open_may version said fields draft v stands rule =
     let p = all_pass (unless (is_open_line fields) cause.Shape ∷ open_fields_rule said fields ∷ open_limits_rule said fields ∷ []) rule in
     let q = all_pass (new_name_rule (request_names said.requests) (field_at fields 1) ∷ route_names_rule said (route_fields fields) ∷ terms_rule fields
-    ∷ number_rule 1 67108864 (behind_route fields 6) ∷ jitter_rule fields ∷ []) p.1.0 in
+    ∷ number_rule 1 67108864 (after_route fields 6) ∷ jitter_rule fields ∷ []) p.1.0 in
     let l = all_pass (unless (nat_lt (length said.requests) 1024) cause.Many ∷ unless (is_some (contract_of (contract_told fields))) cause.Contract
     ∷ unless (is_way said (hops_in said fields)) cause.Route ∷ []) p.1.1.0 in
     let may = and_parts (not (nat_eq (length said.callers) 0)) (is_none said.rounds) stands in
@@ -103,8 +103,8 @@ open_may version said fields draft v stands rule =
         caller = omega arith;
         there = route_there said.links (route_fields fields) numbered;
         joined = way.1;
-        range = and_from (is_within 1 67108864 (value_of (behind_route fields 6))) (control_in_range (control_in fields))
-            (from_range 1 67108864 (behind_route fields 6) q.1.1.1.0) (control_range fields q.1.1.1.1.0);
+        range = and_from (is_within 1 67108864 (value_of (after_route fields 6))) (control_in_range (control_in fields))
+            (from_range 1 67108864 (after_route fields 6) q.1.1.1.0) (control_range fields q.1.1.1.1.0);
         hops = route_follows said.links (route_fields fields) numbered;
         terms = record {
           contract = contract_passes (contract_told fields) (unless_passes (is_some (contract_of (contract_told fields))) cause.Contract l.1.0);

@@ -77,11 +77,11 @@ pub record OpsLeft (version : Version) (links : List LinkEntry) (all : List Requ
   pub unclosed : each_after is_unclosed caller.ops ops ≡ true
   pub load : load_in all (callers ++ caller ∷ []) + total (load_of all) ops + later ≤ 262144
 
-pub record OpsRead (version : Version) (links : List LinkEntry) (all requests : List RequestEntry) (callers : List CallerEntry) (caller : CallerEntry) (ops : List Op) (behind : List Opening) : Type 0 where
+pub record OpsRead (version : Version) (links : List LinkEntry) (all requests : List RequestEntry) (callers : List CallerEntry) (caller : CallerEntry) (ops : List Op) (following : List Opening) : Type 0 where
   pub after : List RequestEntry
   pub rest : List RequestEntry
   pub stands : Stands version links all after rest callers (with_ops caller ops)
-  pub left : behind ≡ map opening_of rest
+  pub left : following ≡ map opening_of rest
   pub reads : Reads (flat_map (op_lines links all) ops) (front version links requests (callers ++ caller ∷ [])) (front version links after (callers ++ with_ops caller ops ∷ []))
 
 same_caller : (caller : CallerEntry) → caller ≡ with_ops caller []
@@ -94,25 +94,25 @@ step_caller caller op ops = ap (λ (all : List Op). record { name = caller.name;
 load_step : (all : List RequestEntry) (callers : List CallerEntry) (caller : CallerEntry) (op : Op) → load_in all (callers ++ with_its_op op caller ∷ []) ≤ load_in all (callers ++ caller ∷ []) + load_of all op
 load_step all callers caller op = subst (λ (cs : List CallerEntry). load_in all cs ≤ load_in all (callers ++ caller ∷ []) + load_of all op) (add_last op callers caller) (added-total (load_of all) op (callers ++ caller ∷ []))
 
-ops_read : (version : Version) (links : List LinkEntry) (all requests rest : List RequestEntry) (callers : List CallerEntry) (caller : CallerEntry) (ops : List Op) (later : ℕ) (behind : List Opening) → LinksStand links
-    → Stands version links all requests rest callers caller → OpsLeft version links all callers caller ops later → openings_in (length callers) ops ++ behind ≡ map opening_of rest → OpsRead version links all requests callers caller ops behind
+ops_read : (version : Version) (links : List LinkEntry) (all requests rest : List RequestEntry) (callers : List CallerEntry) (caller : CallerEntry) (ops : List Op) (later : ℕ) (following : List Opening) → LinksStand links
+    → Stands version links all requests rest callers caller → OpsLeft version links all callers caller ops later → openings_in (length callers) ops ++ following ≡ map opening_of rest → OpsRead version links all requests callers caller ops following
 unfolding each_after openings_in
-ops_read version links all requests rest callers caller [] later behind stand s left is = record {
+ops_read version links all requests rest callers caller [] later following stand s left is = record {
   after = requests;
   rest = rest;
   stands = subst (λ (c : CallerEntry). Stands version links all requests rest callers c) (same_caller caller) s;
   left = is;
   reads = subst (λ (c : CallerEntry). Reads [] (front version links requests (callers ++ caller ∷ [])) (front version links requests (callers ++ c ∷ []))) (same_caller caller) (reads_none (front version links requests (callers ++ caller ∷ [])));
 }
-ops_read version links all requests rest callers caller (op ∷ ops) later behind stand s left is =
+ops_read version links all requests rest callers caller (op ∷ ops) later following stand s left is =
     let opened = and_parts (is_opened caller.ops op) (each_after is_opened (caller.ops ++ op ∷ []) ops) left.opened in
     let unclosed = and_parts (is_unclosed caller.ops op) (each_after is_unclosed (caller.ops ++ op ∷ []) ops) left.unclosed in
     let load = left.load in
-    let step = op_step version links all requests rest callers caller op (openings_in (length callers) ops ++ behind) stand s
+    let step = op_step version links all requests rest callers caller op (openings_in (length callers) ops ++ following) stand s
     (record { sound = left.sound.0; opened = opened.0; unclosed = unclosed.0; load = omega (arith, load) })
-    (sym (append_assoc (opened_by (length callers) op) (openings_in (length callers) ops) behind) ∙ is) in
+    (sym (append_assoc (opened_by (length callers) op) (openings_in (length callers) ops) following) ∙ is) in
     let more = load_step all callers caller op in
-    let others = ops_read version links all step.after step.rest callers (with_its_op op caller) ops later behind stand step.stands
+    let others = ops_read version links all step.after step.rest callers (with_its_op op caller) ops later following stand step.stands
     (record { sound = left.sound.1; opened = opened.1; unclosed = unclosed.1; load = omega (arith, load, more) }) step.left in
     record {
       after = others.after;

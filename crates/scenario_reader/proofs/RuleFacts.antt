@@ -21,7 +21,7 @@ rules_next_suc rule [] place h = absurd (omega arith)
 rules_next_suc rule (f ∷ fields) zero h = refl
 rules_next_suc rule (f ∷ fields) (suc place) h = rules_next_suc rule fields place (omega arith)
 
--- a field that passes leaves the cause to those behind it
+-- a field that passes leaves the cause to those after it
 pub rules_pass : (rule : List ℕ → Rule) (fields : List (List ℕ)) (place : ℕ) (field : List ℕ) → place < length fields → field ≡ get_or fields place [] → rule field ≡ None → rules_from rule fields place ≡ rules_from rule fields (place + 1)
 rules_pass rule fields place field h e n =
     rw add-one (rules_next_suc rule fields place h ∙ ap (λ r. or_else r (rules_from rule fields (suc place))) (ap rule (sym e) ∙ n))

@@ -120,10 +120,10 @@ plan_leads parts schedule plan named is =
     let end = schedule_back parts schedule named.callers names.callers few.callers is.items is.unwritten in
     let tails = then_some (tail_fields parts.tail ∷ []) (schedule_lines cs schedule) rounded done (IsWhole parts schedule) (tail_read v l rs cs parts.rounds parts.tail ranges.tail says.ticks) end in
     let rounds = then_some (rounds_fields parts.rounds ∷ []) (tail_fields parts.tail ∷ schedule_lines cs schedule) called rounded (IsWhole parts schedule) (rounds_read v l rs cs parts.rounds says.some ranges.rounds) tails in
-    let behind = rounds_fields parts.rounds ∷ tail_fields parts.tail ∷ schedule_lines cs schedule in
-    let calls = then_some (flat_map (caller_lines l rs) cs) behind linked called (IsWhole parts schedule) callers.reads rounds in
-    let lines = then_some (map link_fields l) (flat_map (caller_lines l rs) cs ++ behind) nobody linked (IsWhole parts schedule) links.reads calls in
-    then_some (header_fields v ∷ []) (map link_fields l ++ (flat_map (caller_lines l rs) cs ++ behind)) nothing_said nobody (IsWhole parts schedule) (header_read v) lines 0
+    let later = rounds_fields parts.rounds ∷ tail_fields parts.tail ∷ schedule_lines cs schedule in
+    let calls = then_some (flat_map (caller_lines l rs) cs) later linked called (IsWhole parts schedule) callers.reads rounds in
+    let lines = then_some (map link_fields l) (flat_map (caller_lines l rs) cs ++ later) nobody linked (IsWhole parts schedule) links.reads calls in
+    then_some (header_fields v ∷ []) (map link_fields l ++ (flat_map (caller_lines l rs) cs ++ later)) nothing_said nobody (IsWhole parts schedule) (header_read v) lines 0
 
 -- ---- the law
 

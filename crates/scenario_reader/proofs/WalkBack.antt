@@ -222,11 +222,11 @@ is_ours version links all requests rest callers caller chan s opened unclosed =
 plain_step : (version : Version) (links : List LinkEntry) (all requests rest : List RequestEntry) (callers : List CallerEntry) (caller : CallerEntry) (op : Op) (openings : List Opening) (fields : List (List ℕ))
     → Stands version links all requests rest callers caller → openings ≡ map opening_of rest → op_fields links all op ≡ Some fields → KeepSoFar (parts_of version links requests (add_op op (callers ++ caller ∷ [])) 0 0)
     → Reads (fields ∷ []) (front version links requests (callers ++ caller ∷ [])) (front version links requests (add_op op (callers ++ caller ∷ []))) → Stepped version links all requests callers caller op openings
-plain_step version links all requests rest callers caller op openings fields s behind is keeps reads = record {
+plain_step version links all requests rest callers caller op openings fields s later is keeps reads = record {
   after = requests;
   rest = rest;
   stands = record { keeps = subst (λ (cs : List CallerEntry). KeepSoFar (parts_of version links requests cs 0 0)) (add_last op callers caller) keeps; same = s.same; stand = s.stand; named = s.named; few = s.few };
-  left = behind;
+  left = later;
   reads = subst (λ (lines : List (List (List ℕ))). Reads lines (front version links requests (callers ++ caller ∷ [])) (front version links requests (callers ++ with_its_op op caller ∷ []))) (sym (ap lines_if is))
       (subst (λ (cs : List CallerEntry). Reads (fields ∷ []) (front version links requests (callers ++ caller ∷ [])) (front version links requests cs)) (add_last op callers caller) reads);
 }
@@ -245,33 +245,33 @@ load_so_far version links all requests rest callers caller op s load =
 
 send_step : (version : Version) (links : List LinkEntry) (all requests rest : List RequestEntry) (callers : List CallerEntry) (caller : CallerEntry) (chan : ChanNo) (count gap size : ℕ) (openings : List Opening)
     → Stands version links all requests rest callers caller → IsNextOp version links all callers caller (Send chan count gap size) → openings ≡ map opening_of rest → Stepped version links all requests callers caller (Send chan count gap size) openings
-send_step version links all requests rest callers caller chan count gap size openings s is behind =
+send_step version links all requests rest callers caller chan count gap size openings s is later =
     let parts = parts_of version links requests (callers ++ caller ∷ []) 0 0 in
     let ours = is_ours version links all requests rest callers caller chan s (not-not-true (list_any (opens (channel_number chan)) caller.ops) is.opened) (not-true (list_any (closes (channel_number chan)) caller.ops) is.unclosed) in
     let are = are_packets count gap size is.sound.range in
     let load = load_so_far version links all requests rest callers caller (Send chan count gap size) s is.load in
     let here : load_in requests (callers ++ caller ∷ []) + count * hops_of (Some ours.entry) ≤ 262144 = subst (λ (found : Option RequestEntry). load_in requests (callers ++ caller ∷ []) + count * hops_of found ≤ 262144) ours.found load in
-    plain_step version links all requests rest callers caller (Send chan count gap size) openings (send_fields count gap size ours.entry) s behind (ap (option_map (send_fields count gap size)) ours.among_all)
+    plain_step version links all requests rest callers caller (Send chan count gap size) openings (send_fields count gap size ours.entry) s later (ap (option_map (send_fields count gap size)) ours.among_all)
     (send-keeps parts chan count gap size s.keeps (record { channel = ours.there; range = is.sound.range; load = load }))
     (send_read version links requests (callers ++ caller ∷ []) chan count gap size ours.entry (some_callers callers caller) ours.here are here)
 
 close_step : (version : Version) (links : List LinkEntry) (all requests rest : List RequestEntry) (callers : List CallerEntry) (caller : CallerEntry) (chan : ChanNo) (openings : List Opening)
     → Stands version links all requests rest callers caller → IsNextOp version links all callers caller (Close chan) → openings ≡ map opening_of rest → Stepped version links all requests callers caller (Close chan) openings
-close_step version links all requests rest callers caller chan openings s is behind =
+close_step version links all requests rest callers caller chan openings s is later =
     let parts = parts_of version links requests (callers ++ caller ∷ []) 0 0 in
     let ours = is_ours version links all requests rest callers caller chan s (not-not-true (list_any (opens (channel_number chan)) caller.ops) is.opened) (not-true (list_any (closes (channel_number chan)) caller.ops) is.unclosed) in
-    plain_step version links all requests rest callers caller (Close chan) openings (close_fields ours.entry) s behind (ap (option_map close_fields) ours.among_all)
+    plain_step version links all requests rest callers caller (Close chan) openings (close_fields ours.entry) s later (ap (option_map close_fields) ours.among_all)
     (close-keeps parts chan s.keeps ours.there)
     (close_read version links requests (callers ++ caller ∷ []) chan ours.entry (some_callers callers caller) ours.here)
 
 pour_step : (version : Version) (links : List LinkEntry) (all requests rest : List RequestEntry) (callers : List CallerEntry) (caller : CallerEntry) (link : LinkNo) (count gap size : ℕ) (openings : List Opening) → LinksStand links
     → Stands version links all requests rest callers caller → IsNextOp version links all callers caller (Pour link count gap size) → openings ≡ map opening_of rest → Stepped version links all requests callers caller (Pour link count gap size) openings
-pour_step version links all requests rest callers caller link count gap size openings stand s is behind =
+pour_step version links all requests rest callers caller link count gap size openings stand s is later =
     let parts = parts_of version links requests (callers ++ caller ∷ []) 0 0 in
     let at = is_there links link stand is.sound.there in
     let are = are_packets count gap size is.sound.range in
     let load = load_so_far version links all requests rest callers caller (Pour link count gap size) s is.load in
-    plain_step version links all requests rest callers caller (Pour link count gap size) openings (pour_fields count gap size at.entry) s behind (ap (option_map (pour_fields count gap size)) at.found)
+    plain_step version links all requests rest callers caller (Pour link count gap size) openings (pour_fields count gap size at.entry) s later (ap (option_map (pour_fields count gap size)) at.found)
     (pour-keeps parts link count gap size s.keeps (record { some = some_callers callers caller; version = is.sound.kept; there = is.sound.there; range = is.sound.range; load = load; taken = is.sound.taken }))
     (pour_read version links requests (callers ++ caller ∷ []) link count gap size at.entry (some_callers callers caller) is.sound.kept
     (record { name = at.name; found = at.named; same = at.same; taken = ap takes_best_effort (sym at.found) ∙ is.sound.taken }) are load)
@@ -280,8 +280,8 @@ pour_step version links all requests rest callers caller link count gap size ope
 open_step : (version : Version) (links : List LinkEntry) (all requests rest : List RequestEntry) (callers : List CallerEntry) (caller : CallerEntry) (chan : ChanNo) (openings : List Opening) → LinksStand links
     → Stands version links all requests rest callers caller → record { caller = length callers; chan = channel_number chan } ∷ openings ≡ map opening_of rest → Stepped version links all requests callers caller (Open chan) openings
 unfolding each_after
-open_step version links all requests [] callers caller chan openings stand s behind = cc
-open_step version links all requests (entry ∷ rest) callers caller chan openings stand s behind =
+open_step version links all requests [] callers caller chan openings stand s later = cc
+open_step version links all requests (entry ∷ rest) callers caller chan openings stand s later =
     let parts = parts_of version links requests (callers ++ caller ∷ []) 0 0 in
     let first : record { caller = length callers; chan = channel_number chan } ≡ opening_of entry = cc in
     let others : openings ≡ map opening_of rest = cc in
@@ -335,13 +335,13 @@ open_step version links all requests (entry ∷ rest) callers caller chan openin
           (subst (λ (cs : List CallerEntry). Reads (open_fields links entry ∷ []) (front version links requests (callers ++ caller ∷ [])) (front version links (requests ++ entry ∷ []) cs)) to reads);
     }
   where
-    new_first : (es : List RequestEntry) (e : RequestEntry) (behind_it : List RequestEntry) → each_after is_new (request_names es) (request_names (e ∷ behind_it)) ≡ true → is_new (request_names es) e.name ≡ true
-    new_first es e behind_it each = (and_parts (is_new (request_names es) e.name) (each_after is_new (request_names es ++ e.name ∷ []) (request_names behind_it)) each).0
+    new_first : (es : List RequestEntry) (e : RequestEntry) (after_it : List RequestEntry) → each_after is_new (request_names es) (request_names (e ∷ after_it)) ≡ true → is_new (request_names es) e.name ≡ true
+    new_first es e after_it each = (and_parts (is_new (request_names es) e.name) (each_after is_new (request_names es ++ e.name ∷ []) (request_names after_it)) each).0
 
 -- any operation
 pub op_step : (version : Version) (links : List LinkEntry) (all requests rest : List RequestEntry) (callers : List CallerEntry) (caller : CallerEntry) (op : Op) (openings : List Opening) → LinksStand links
     → Stands version links all requests rest callers caller → IsNextOp version links all callers caller op → opened_by (length callers) op ++ openings ≡ map opening_of rest → Stepped version links all requests callers caller op openings
-op_step version links all requests rest callers caller (Open chan) openings stand s is behind = open_step version links all requests rest callers caller chan openings stand s behind
-op_step version links all requests rest callers caller (Send chan count gap size) openings stand s is behind = send_step version links all requests rest callers caller chan count gap size openings s is behind
-op_step version links all requests rest callers caller (Close chan) openings stand s is behind = close_step version links all requests rest callers caller chan openings s is behind
-op_step version links all requests rest callers caller (Pour link count gap size) openings stand s is behind = pour_step version links all requests rest callers caller link count gap size openings stand s is behind
+op_step version links all requests rest callers caller (Open chan) openings stand s is later = open_step version links all requests rest callers caller chan openings stand s later
+op_step version links all requests rest callers caller (Send chan count gap size) openings stand s is later = send_step version links all requests rest callers caller chan count gap size openings s is later
+op_step version links all requests rest callers caller (Close chan) openings stand s is later = close_step version links all requests rest callers caller chan openings s is later
+op_step version links all requests rest callers caller (Pour link count gap size) openings stand s is later = pour_step version links all requests rest callers caller link count gap size openings stand s is later

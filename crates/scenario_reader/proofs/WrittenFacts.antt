@@ -35,11 +35,11 @@ fails-longer (Err WriteFault) WriteFault a b g g' g'' f f' text more same failed
 
 -- ---- the items of a list
 
-text-behind : {X : Type 0} (text : X → List ℕ) (xs : List X) (i : ℕ) (x : X) → i < length xs → x ≡ get_or xs i x → flat_map text xs ≡ flat_map text (take i xs) ++ (text x ++ flat_map text (drop (suc i) xs))
-text-behind text [] i x within is = absurd (omega arith)
-text-behind text (y ∷ ys) zero x within is = ap (λ (first : List ℕ). first ++ flat_map text ys) (ap text (sym is))
-text-behind text (y ∷ ys) (suc i) x within is =
-    ap (λ (rest : List ℕ). text y ++ rest) (text-behind text ys i x (omega arith) is) ∙ sym (append_assoc (text y) (flat_map text (take i ys)) (text x ++ flat_map text (drop (suc i) ys)))
+text-after : {X : Type 0} (text : X → List ℕ) (xs : List X) (i : ℕ) (x : X) → i < length xs → x ≡ get_or xs i x → flat_map text xs ≡ flat_map text (take i xs) ++ (text x ++ flat_map text (drop (suc i) xs))
+text-after text [] i x within is = absurd (omega arith)
+text-after text (y ∷ ys) zero x within is = ap (λ (first : List ℕ). first ++ flat_map text ys) (ap text (sym is))
+text-after text (y ∷ ys) (suc i) x within is =
+    ap (λ (rest : List ℕ). text y ++ rest) (text-after text ys i x (omega arith) is) ∙ sym (append_assoc (text y) (flat_map text (take i ys)) (text x ++ flat_map text (drop (suc i) ys)))
 
 text-next : {X : Type 0} (text : X → List ℕ) (xs : List X) (i : ℕ) (x : X) → i < length xs → x ≡ get_or xs i x → flat_map text (take (suc i) xs) ≡ flat_map text (take i xs) ++ text x
 text-next text [] i x within is = absurd (omega arith)
@@ -59,7 +59,7 @@ item-added text xs i j x a b c g g' g'' f f' f'' within next is first rest =
 pub item-failed : {X : Type 0} (text : X → List ℕ) (xs : List X) (i : ℕ) (x : X) (r : Result (Unit {0}) ReportFault) (e : ReportFault) (a b c : Option (List ℕ)) (g g' g'' : List ℕ) (f f' f'' : ℕ) → i < length xs → x ≡ get_or xs i x → r ≡ Err e
     → AddsAll a b g g' f f' (flat_map text (take i xs)) → AddsText (Err e) b c g' g'' f' f'' (text x) → AddsText r a c g g'' f f'' (flat_map text xs)
 item-failed text xs i x r e a b c g g' g'' f f' f'' within is same first failed =
-    subst (λ (t : List ℕ). AddsText r a c g g'' f f'' t) (append_assoc (flat_map text (take i xs)) (text x) (flat_map text (drop (suc i) xs)) ∙ sym (text-behind text xs i x within is))
+    subst (λ (t : List ℕ). AddsText r a c g g'' f f'' t) (append_assoc (flat_map text (take i xs)) (text x) (flat_map text (drop (suc i) xs)) ∙ sym (text-after text xs i x within is))
     (fails-longer r e a c g g'' g'' f f'' (flat_map text (take i xs) ++ text x) (flat_map text (drop (suc i) xs)) same (adds-on (Err e) a b c g g' g'' f f' f'' (flat_map text (take i xs)) (text x) first failed))
 
 -- ---- texts of texts

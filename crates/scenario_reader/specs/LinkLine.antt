@@ -22,8 +22,8 @@ use Rattle.scenario_reader.specs.declared.form.Part.TheVariants as part
 
 -- the parts up to the buffer, and then these
 abbrev pub link_front : List Part → List Part
-link_front behind = part.Word word.Link ∷ part.Field ∷ part.Field ∷ part.Field ∷ part.Word word.Rate ∷ part.Field ∷ part.Word word.Cap ∷ part.Field
-    ∷ part.Word word.Prop ∷ part.Field ∷ part.Word word.Buffer ∷ part.Field ∷ behind
+link_front after = part.Word word.Link ∷ part.Field ∷ part.Field ∷ part.Field ∷ part.Word word.Rate ∷ part.Field ∷ part.Word word.Cap ∷ part.Field
+    ∷ part.Word word.Prop ∷ part.Field ∷ part.Word word.Buffer ∷ part.Field ∷ after
 
 abbrev pub plain_form : List Part
 plain_form = link_front (part.Word word.Levels ∷ part.Bounds ∷ [])

@@ -3,7 +3,7 @@ use Rattle.std.specs.Prelude.{ℕ, List}
 use Rattle.scenario_reader.specs.Decimal.{value_of}
 use Rattle.scenario_reader.specs.Drafts.{Said}
 use Rattle.scenario_reader.specs.Fields.{field_at}
-use Rattle.scenario_reader.specs.OpenLine.{behind_route, control_in, contract_told, contract_of, hops_in}
+use Rattle.scenario_reader.specs.OpenLine.{after_route, control_in, contract_told, contract_of, hops_in}
 use Rattle.scenario_reader.specs.declared.open_line.OpenFields.{OpenFields}
 
 -- the fields of a line, after what was read
@@ -12,6 +12,6 @@ open_in said fields = record {
   name = field_at fields 1;
   hops = hops_in said fields;
   contract = contract_of (contract_told fields);
-  delay = value_of (behind_route fields 6);
+  delay = value_of (after_route fields 6);
   control = control_in fields;
 }

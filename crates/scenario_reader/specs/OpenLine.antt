@@ -43,19 +43,19 @@ abbrev pub route_fields : List (List ℕ) → List (List ℕ)
 route_fields fields = take (route_hops fields) (drop 3 fields)
 
 -- the field that stands `place` places after the route, from 0: the word `contract` and what follows it
-abbrev pub behind_route : List (List ℕ) → ℕ → List ℕ
-behind_route fields place = field_at fields (3 + route_hops fields + place)
+abbrev pub after_route : List (List ℕ) → ℕ → List ℕ
+after_route fields place = field_at fields (3 + route_hops fields + place)
 
 -- whether a jitter bound stands after the delay bound
 abbrev pub has_jitter : List (List ℕ) → Bool
-has_jitter fields = is_word word.Jitter (behind_route fields 7)
+has_jitter fields = is_word word.Jitter (after_route fields 7)
 
 abbrev pub control_in : List (List ℕ) → Control
-control_in fields = if has_jitter fields then Jitter (value_of (behind_route fields 8)) else Rate
+control_in fields = if has_jitter fields then Jitter (value_of (after_route fields 8)) else Rate
 
 -- the four numbers of the contract
 abbrev pub contract_told : List (List ℕ) → Traffic
-contract_told fields = terms_of (value_of (behind_route fields 1)) (value_of (behind_route fields 2)) (value_of (behind_route fields 3)) (value_of (behind_route fields 4))
+contract_told fields = terms_of (value_of (after_route fields 1)) (value_of (after_route fields 2)) (value_of (after_route fields 3)) (value_of (after_route fields 4))
 
 -- the contract that four numbers are, if they are one
 abbrev pub contract_of : Traffic → Option Traffic
@@ -75,15 +75,15 @@ route_names_rule said route = first_cause (map (route_link_rule said) route)
 -- the numbers of the contract, each in its range
 abbrev pub terms_rule : List (List ℕ) → Rule
 terms_rule fields = first_cause (
-    number_rule 1 most_gap (behind_route fields 1)
-    ∷ number_rule 1 most_gap (behind_route fields 2)
-    ∷ number_rule 1 most_interval (behind_route fields 3)
-    ∷ number_rule 1 most_size (behind_route fields 4)
+    number_rule 1 most_gap (after_route fields 1)
+    ∷ number_rule 1 most_gap (after_route fields 2)
+    ∷ number_rule 1 most_interval (after_route fields 3)
+    ∷ number_rule 1 most_size (after_route fields 4)
     ∷ [])
 
 -- the jitter bound, where there is one
 abbrev pub jitter_rule : List (List ℕ) → Rule
-jitter_rule fields = if has_jitter fields then number_rule 1 most_delay (behind_route fields 8) else None
+jitter_rule fields = if has_jitter fields then number_rule 1 most_delay (after_route fields 8) else None
 
 -- the fields, from left to right
 abbrev pub open_fields_rule : Said → List (List ℕ) → Rule
@@ -91,7 +91,7 @@ open_fields_rule said fields = first_cause (
     new_name_rule (request_names said.requests) (field_at fields 1)
     ∷ route_names_rule said (route_fields fields)
     ∷ terms_rule fields
-    ∷ number_rule 1 most_delay (behind_route fields 6)
+    ∷ number_rule 1 most_delay (after_route fields 6)
     ∷ jitter_rule fields
     ∷ [])
 
@@ -124,6 +124,6 @@ request_said said fields = record {
     route = hops_in said fields;
     contract = contract_told fields;
     control = control_in fields;
-    delay = value_of (behind_route fields 6);
+    delay = value_of (after_route fields 6);
   };
 }

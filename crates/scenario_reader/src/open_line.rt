@@ -9,7 +9,7 @@ ghost use Rattle.scenario_reader.specs.Drafts.{link_named, last_caller};
 ghost use Rattle.scenario_reader.specs.Entries.{hop_of as hop_over};
 ghost use Rattle.scenario_reader.specs.Fields.{fields_of, field_at};
 ghost use Rattle.scenario_reader.specs.OpenFields.{open_in};
-ghost use Rattle.scenario_reader.specs.OpenLine.{is_open_line, route_hops, route_fields, behind_route, has_jitter, control_in, contract_told, contract_of, hops_in, route_link_rule, route_names_rule, terms_rule, jitter_rule, open_fields_rule, is_way, open_limits_rule, open_rule, request_said};
+ghost use Rattle.scenario_reader.specs.OpenLine.{is_open_line, route_hops, route_fields, after_route, has_jitter, control_in, contract_told, contract_of, hops_in, route_link_rule, route_names_rule, terms_rule, jitter_rule, open_fields_rule, is_way, open_limits_rule, open_rule, request_said};
 
 use crate::cause::Cause;
 use crate::draft::Draft;

@@ -23,7 +23,7 @@ use Rattle.relaxation.specs.declared.EndDenial.{EndDenial}
 use Rattle.relaxation.proofs.LawFacts.{allotted-fit}
 use Rattle.setup_protocol.specs.Requests.{jitter_of}
 use Rattle.setup_protocol.specs.Laws.{AsksHop, EverySetupAskFits}
-use Rattle.setup_protocol.specs.Setup.{is_offer, reach_in, offers_in, behind_offers, reach_after, undoing, relaxing, on_the_way, behind_test, asked, asked_of, reserve_of, relax_of, bound_if, bound_given}
+use Rattle.setup_protocol.specs.Setup.{is_offer, reach_in, offers_in, after_offers, reach_after, undoing, relaxing, on_the_way, after_test, asked, asked_of, reserve_of, relax_of, bound_if, bound_given}
 use Rattle.setup_protocol.specs.declared.request.Request.{Request}
 use Rattle.setup_protocol.specs.declared.verdict.Deny.{Deny}
 use Rattle.setup_protocol.proofs.ProgressFacts.{progress-on_the_way, progress-tested}
@@ -58,8 +58,8 @@ reach-most before (hop ∷ hops) (reply ∷ replies) bounds most =
     ]
 
 -- before the first hop there is none
-reach-none : (hops : List Hop) (replies : List Reply) → length (offers_in replies) ≡ 0 → behind_offers replies ≡ [] → reach_after 0 hops replies ≡ 0
-unfolding offers_in behind_offers reach_after
+reach-none : (hops : List Hop) (replies : List Reply) → length (offers_in replies) ≡ 0 → after_offers replies ≡ [] → reach_after 0 hops replies ≡ 0
+unfolding offers_in after_offers reach_after
 reach-none hops [] none alone = refl
 reach-none hops (reply ∷ replies) none alone =
     elim (cases_Bool (is_offer reply)) [
@@ -99,7 +99,7 @@ undone-fits request zero deny to ask is = absurd (let clash : None ≡ Some (to,
 undone-fits request (suc left) deny to ask is = of-hop request (suc left - 1) (slice_get request.route (suc left - 1)) to ask (GiveBack request.chan) refl is (λ hop found shape bounds. tt)
 
 -- a reserve
-reserve-fits : (request : Request) (replies : List Reply) (to : LinkNo) (ask : Ask) → IsContract request.contract → HaveBounds request.route → behind_offers replies ≡ []
+reserve-fits : (request : Request) (replies : List Reply) (to : LinkNo) (ask : Ask) → IsContract request.contract → HaveBounds request.route → after_offers replies ≡ []
     → asked_of (slice_get request.route (length (offers_in replies))) (λ hop. reserve_of request (offers_in replies) (reach_after 0 request.route replies)) ≡ Some (to, ask) → AsksHop request to ask
 reserve-fits request replies to ask contract bounds alone is =
     of-hop request (length (offers_in replies)) (slice_get request.route (length (offers_in replies))) to ask (reserve_of request (offers_in replies) (reach_after 0 request.route replies)) refl is
@@ -126,24 +126,24 @@ relax-fits request levels (suc left) to ask bounds are whole is =
     })
 
 -- on the way, and after the test
-way-fits : (request : Request) (replies rest : List Reply) (to : LinkNo) (ask : Ask) → IsContract request.contract → HaveBounds request.route → behind_offers replies ≡ rest
+way-fits : (request : Request) (replies rest : List Reply) (to : LinkNo) (ask : Ask) → IsContract request.contract → HaveBounds request.route → after_offers replies ≡ rest
     → asked request (on_the_way (offers_in replies) (reach_after 0 request.route replies) rest) ≡ Some (to, ask) → AsksHop request to ask
-way-fits request replies [] to ask contract bounds behind is = reserve-fits request replies to ask contract bounds behind is
-way-fits request replies (first ∷ denied) to ask contract bounds behind is = undone-fits request (length (offers_in replies) - length denied) _ to ask is
+way-fits request replies [] to ask contract bounds after is = reserve-fits request replies to ask contract bounds after is
+way-fits request replies (first ∷ denied) to ask contract bounds after is = undone-fits request (length (offers_in replies) - length denied) _ to ask is
 
 test-fits : (request : Request) (replies : List Reply) (denial : Option EndDenial) (to : LinkNo) (ask : Ask) → HaveBounds request.route → AreLevels request.route (offers_in replies) → length request.route ≤ length (offers_in replies)
     → denial_of request.route (offers_in replies) request.delay (jitter_of request.control) ≡ denial
-    → asked request (behind_test request (offers_in replies) (length (behind_offers replies)) denial) ≡ Some (to, ask) → AsksHop request to ask
-test-fits request replies (Some denial) to ask bounds are whole tested is = undone-fits request (length request.route - length (behind_offers replies)) _ to ask is
+    → asked request (after_test request (offers_in replies) (length (after_offers replies)) denial) ≡ Some (to, ask) → AsksHop request to ask
+test-fits request replies (Some denial) to ask bounds are whole tested is = undone-fits request (length request.route - length (after_offers replies)) _ to ask is
 test-fits request replies None to ask bounds are whole tested is =
     let levels = allotted request.route (offers_in replies) request.delay (jitter_of request.control) in
     let fit = allotted-fit request.route (offers_in replies) request.delay (jitter_of request.control) bounds are tested in
     let have = reach-have request.delay request.route (offers_in replies) levels fit.0 in
-    relax-fits request levels (length request.route - length (behind_offers replies)) to ask bounds have.0 (omega (arith, have.1, whole, levels-fit request.route (offers_in replies) are)) is
+    relax-fits request levels (length request.route - length (after_offers replies)) to ask bounds have.0 (omega (arith, have.1, whole, levels-fit request.route (offers_in replies) are)) is
 
 pub ask-fits : EverySetupAskFits
 ask-fits request replies to ask contract bounds are is =
     elim (cases_lt (length (offers_in replies)) (length request.route)) [
-      | inl fits ↦ way-fits request replies (behind_offers replies) to ask contract bounds refl (subst (λ p. asked request p ≡ Some (to, ask)) (progress-on_the_way request replies fits) is)
+      | inl fits ↦ way-fits request replies (after_offers replies) to ask contract bounds refl (subst (λ p. asked request p ≡ Some (to, ask)) (progress-on_the_way request replies fits) is)
       | inr whole ↦ test-fits request replies _ to ask bounds are whole refl (subst (λ p. asked request p ≡ Some (to, ask)) (progress-tested request replies whole) is)
     ]

@@ -23,7 +23,7 @@ use Rattle.relaxation.specs.Laws.{HaveBounds, AreWithinReach}
 use Rattle.relaxation.specs.declared.EndDenial.{EndDenial}
 use Rattle.relaxation.proofs.LawFacts.{allotted-fit}
 use Rattle.setup_protocol.specs.Requests.{jitter_of}
-use Rattle.setup_protocol.specs.Setup.{is_offer, level_in, reach_in, offers_in, behind_offers, reach_after, undoing, relaxing, on_the_way, behind_test, asked, asked_of, reserve_of, relax_of, bound_if, bound_given, next_ask}
+use Rattle.setup_protocol.specs.Setup.{is_offer, level_in, reach_in, offers_in, after_offers, reach_after, undoing, relaxing, on_the_way, after_test, asked, asked_of, reserve_of, relax_of, bound_if, bound_given, next_ask}
 use Rattle.setup_protocol.specs.Teardown.{first_count}
 use Rattle.setup_protocol.specs.WayBack.{TellReaches, IsFitRelax, EveryRelaxIsFit, IsReleaseOfHop, EveryReleaseGoesToItsHop}
 use Rattle.setup_protocol.specs.declared.request.Request.{Request}
@@ -37,10 +37,10 @@ use Rattle.setup_protocol.proofs.RouteFacts.{reach-have}
 -- of so many replies as there are offers, or fewer, each is an offer
 record AreOffersAlone (replies : List Reply) (count : ℕ) : Type 0 where
   offers : length (offers_in (take count replies)) ≡ count
-  alone : behind_offers (take count replies) ≡ []
+  alone : after_offers (take count replies) ≡ []
 
 front-offers : (replies : List Reply) (count : ℕ) → count ≤ length (offers_in replies) → AreOffersAlone replies count
-unfolding offers_in behind_offers
+unfolding offers_in after_offers
 front-offers replies zero less = record { offers = refl; alone = refl }
 front-offers [] (suc count) less = absurd (omega arith)
 front-offers (first ∷ replies) (suc count) less =
@@ -188,18 +188,18 @@ relaxing-fit request replies levels (suc left) to chan level up_bound bounds are
 
 tested-fit : (request : Request) (replies : List Reply) (denial : Option EndDenial) (to : LinkNo) (chan : ChanNo) (level : Level) (up_bound : ℕ) → HaveBounds request.route → AreLevels request.route (offers_in replies) → TellReaches request.delay request.route replies
     → length request.route ≤ length (offers_in replies) → denial_of request.route (offers_in replies) request.delay (jitter_of request.control) ≡ denial
-    → asked request (behind_test request (offers_in replies) (length (behind_offers replies)) denial) ≡ Some (to, Relax chan level up_bound) → IsFitRelax request replies to (level_number level) up_bound
-tested-fit request replies (Some denial) to chan level up_bound bounds are tell whole tested is = absurd (no-relax-undoing request (length request.route - length (behind_offers replies)) _ (Relax chan level up_bound) to is tt)
+    → asked request (after_test request (offers_in replies) (length (after_offers replies)) denial) ≡ Some (to, Relax chan level up_bound) → IsFitRelax request replies to (level_number level) up_bound
+tested-fit request replies (Some denial) to chan level up_bound bounds are tell whole tested is = absurd (no-relax-undoing request (length request.route - length (after_offers replies)) _ (Relax chan level up_bound) to is tt)
 tested-fit request replies None to chan level up_bound bounds are tell whole tested is =
     let levels = allotted request.route (offers_in replies) request.delay (jitter_of request.control) in
     let fit = allotted-fit request.route (offers_in replies) request.delay (jitter_of request.control) bounds are tested in
     let have = reach-have request.delay request.route (offers_in replies) levels fit.0 in
-    relaxing-fit request replies levels (length request.route - length (behind_offers replies)) to chan level up_bound bounds have.0 fit.0 tell have.1 (omega (arith, whole, levels-fit request.route (offers_in replies) are)) is
+    relaxing-fit request replies levels (length request.route - length (after_offers replies)) to chan level up_bound bounds have.0 fit.0 tell have.1 (omega (arith, whole, levels-fit request.route (offers_in replies) are)) is
 
 pub relax-fit : EveryRelaxIsFit
 relax-fit request replies to chan level up_bound bounds are tell is =
     elim (cases_lt (length (offers_in replies)) (length request.route)) [
-      | inl fits ↦ absurd (no-relax-on_the_way request (offers_in replies) (reach_after 0 request.route replies) (behind_offers replies) (Relax chan level up_bound) to (subst (λ p. asked request p ≡ Some (to, Relax chan level up_bound)) (progress-on_the_way request replies fits) is) tt)
+      | inl fits ↦ absurd (no-relax-on_the_way request (offers_in replies) (reach_after 0 request.route replies) (after_offers replies) (Relax chan level up_bound) to (subst (λ p. asked request p ≡ Some (to, Relax chan level up_bound)) (progress-on_the_way request replies fits) is) tt)
       | inr whole ↦ tested-fit request replies _ to chan level up_bound bounds are tell whole refl (subst (λ p. asked request p ≡ Some (to, Relax chan level up_bound)) (progress-tested request replies whole) is)
     ]
 

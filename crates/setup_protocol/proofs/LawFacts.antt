@@ -10,7 +10,7 @@ use Rattle.relaxation.specs.declared.EndDenial.{EndDenial}
 use Rattle.relaxation.proofs.LawFacts.{allotted-fit}
 use Rattle.setup_protocol.specs.Requests.{jitter_of}
 use Rattle.setup_protocol.specs.Laws.{is_accepted, AcceptedWhereAllPass, KeepsRequest, AcceptedKeepTheirBounds, EveryOfferIsAskedBack}
-use Rattle.setup_protocol.specs.Setup.{Outcome, Accepts, Denies, offers_in, behind_offers, reach_after, undoing, relaxing, on_the_way, behind_test, settled_in, progress_of}
+use Rattle.setup_protocol.specs.Setup.{Outcome, Accepts, Denies, offers_in, after_offers, reach_after, undoing, relaxing, on_the_way, after_test, settled_in, progress_of}
 use Rattle.setup_protocol.specs.declared.request.Request.{Request}
 use Rattle.setup_protocol.specs.declared.verdict.Deny.{Deny}
 use Rattle.setup_protocol.proofs.ProgressFacts.{progress-on_the_way, progress-tested}
@@ -38,16 +38,16 @@ record IsTested (request : Request) (replies : List Reply) (outcome : Outcome) :
       → Accepts (allotted request.route (offers_in replies) request.delay (jitter_of request.control)) (delay_over request.route (allotted request.route (offers_in replies) request.delay (jitter_of request.control))) ≡ outcome
 
 tested : (request : Request) (replies : List Reply) (outcome : Outcome) (denial : Option EndDenial) → denial_of request.route (offers_in replies) request.delay (jitter_of request.control) ≡ denial
-    → settled_in (behind_test request (offers_in replies) (length (behind_offers replies)) denial) ≡ Some outcome → IsTested request replies outcome
+    → settled_in (after_test request (offers_in replies) (length (after_offers replies)) denial) ≡ Some outcome → IsTested request replies outcome
 tested request replies outcome (Some denial) is settled =
-    let denied = undone-denies (length request.route - length (behind_offers replies)) _ outcome settled in
+    let denied = undone-denies (length request.route - length (after_offers replies)) _ outcome settled in
     record {
       accepted = λ accepted. absurd (let clash : true ≡ false = sym accepted ∙ denied in cc);
       passed = λ none. absurd (let clash : Some denial ≡ None = sym is ∙ none in cc);
     }
 tested request replies outcome None is settled = record {
   accepted = λ accepted. is;
-  passed = λ none. relaxed-accepts request (length request.route - length (behind_offers replies)) (allotted request.route (offers_in replies) request.delay (jitter_of request.control)) outcome settled;
+  passed = λ none. relaxed-accepts request (length request.route - length (after_offers replies)) (allotted request.route (offers_in replies) request.delay (jitter_of request.control)) outcome settled;
 }
 
 -- where all hops have offered
@@ -58,7 +58,7 @@ settled-tested request replies outcome whole settled =
 -- where one hasn't
 settled-denied : (request : Request) (replies : List Reply) (outcome : Outcome) → length (offers_in replies) < length request.route → settled_in (progress_of request replies) ≡ Some outcome → is_accepted outcome ≡ false
 settled-denied request replies outcome fits settled =
-    way-denies (offers_in replies) (reach_after 0 request.route replies) (behind_offers replies) outcome (subst (λ p. settled_in p ≡ Some outcome) (progress-on_the_way request replies fits) settled)
+    way-denies (offers_in replies) (reach_after 0 request.route replies) (after_offers replies) outcome (subst (λ p. settled_in p ≡ Some outcome) (progress-on_the_way request replies fits) settled)
 
 pub accepted-passed : AcceptedWhereAllPass
 accepted-passed request replies outcome settled =
@@ -106,7 +106,7 @@ way-asked : (offers : List ℕ) (reach : ℕ) (rest : List Reply) (outcome : Out
 way-asked offers reach [] outcome settled = absurd (let clash : None ≡ Some outcome = settled in cc)
 way-asked offers reach (first ∷ denied) outcome settled = (let none = undone-all (length offers - length denied) _ outcome settled in omega (arith, none))
 
-test-asked : (request : Request) (offers : List ℕ) (count : ℕ) (denial : Option EndDenial) (outcome : Outcome) → settled_in (behind_test request offers count denial) ≡ Some outcome → length request.route ≤ count
+test-asked : (request : Request) (offers : List ℕ) (count : ℕ) (denial : Option EndDenial) (outcome : Outcome) → settled_in (after_test request offers count denial) ≡ Some outcome → length request.route ≤ count
 test-asked request offers count (Some denial) outcome settled = (let none = undone-all (length request.route - count) _ outcome settled in omega (arith, none))
 test-asked request offers count None outcome settled = (let none = relaxed-all request.route (length request.route - count) _ outcome settled in omega (arith, none))
 
@@ -115,8 +115,8 @@ offers-asked_back request replies outcome are settled =
     elim (cases_lt (length (offers_in replies)) (length request.route)) [
       | inl fits ↦
           rw (lt-ltb (length (offers_in replies)) (length request.route) fits)
-          (way-asked (offers_in replies) (reach_after 0 request.route replies) (behind_offers replies) outcome (subst (λ p. settled_in p ≡ Some outcome) (progress-on_the_way request replies fits) settled))
+          (way-asked (offers_in replies) (reach_after 0 request.route replies) (after_offers replies) outcome (subst (λ p. settled_in p ≡ Some outcome) (progress-on_the_way request replies fits) settled))
       | inr whole ↦
-          let count = test-asked request (offers_in replies) (length (behind_offers replies)) _ outcome (subst (λ p. settled_in p ≡ Some outcome) (progress-tested request replies whole) settled) in
+          let count = test-asked request (offers_in replies) (length (after_offers replies)) _ outcome (subst (λ p. settled_in p ≡ Some outcome) (progress-tested request replies whole) settled) in
           rw (le-ltb (length (offers_in replies)) (length request.route) whole) (omega (arith, count, levels-fit request.route (offers_in replies) are))
     ]

@@ -10,7 +10,7 @@ use Rattle.link_steps.specs.declared.replies.Reply.TheVariants.{Offer, Relaxed, 
 use Rattle.relaxation.specs.Allotment.{denial_of, allotted}
 use Rattle.relaxation.specs.declared.EndDenial.{EndDenial}
 use Rattle.setup_protocol.specs.Requests.{jitter_of}
-use Rattle.setup_protocol.specs.Setup.{Reserving, is_offer, level_in, reach_in, offers_in, behind_offers, reach_after, undoing, relaxing, on_the_way, behind_test, at_destination, progress_of, is_expected, refusal_in, answers_reserve, answers_deny, answers_relax}
+use Rattle.setup_protocol.specs.Setup.{Reserving, is_offer, level_in, reach_in, offers_in, after_offers, reach_after, undoing, relaxing, on_the_way, after_test, at_destination, progress_of, is_expected, refusal_in, answers_reserve, answers_deny, answers_relax}
 use Rattle.setup_protocol.specs.State.{after_reserve, advance}
 use Rattle.setup_protocol.specs.declared.verdict.Deny.{Deny}
 use Rattle.setup_protocol.specs.declared.verdict.Deny.TheVariants.{Hop as AtHop, End}
@@ -27,19 +27,19 @@ offers-other (first ∷ replies) reply other =
       | inr plain ↦ rw plain refl
     ]
 
-pub behind-other : (replies : List Reply) (reply : Reply) → is_offer reply ≡ false → behind_offers (replies ++ reply ∷ []) ≡ behind_offers replies ++ reply ∷ []
-unfolding behind_offers
-behind-other [] reply other = rw other refl
-behind-other (first ∷ replies) reply other =
+pub after-other : (replies : List Reply) (reply : Reply) → is_offer reply ≡ false → after_offers (replies ++ reply ∷ []) ≡ after_offers replies ++ reply ∷ []
+unfolding after_offers
+after-other [] reply other = rw other refl
+after-other (first ∷ replies) reply other =
     elim (cases_Bool (is_offer first)) [
-      | inl offer ↦ rw offer (behind-other replies reply other)
+      | inl offer ↦ rw offer (after-other replies reply other)
       | inr plain ↦ rw plain refl
     ]
 
 -- ---- one offer more, after offers alone
 
-pub offers-more : (replies : List Reply) (reply : Reply) → behind_offers replies ≡ [] → is_offer reply ≡ true → offers_in (replies ++ reply ∷ []) ≡ offers_in replies ++ level_in reply ∷ []
-unfolding offers_in behind_offers
+pub offers-more : (replies : List Reply) (reply : Reply) → after_offers replies ≡ [] → is_offer reply ≡ true → offers_in (replies ++ reply ∷ []) ≡ offers_in replies ++ level_in reply ∷ []
+unfolding offers_in after_offers
 offers-more [] reply none offer = rw offer refl
 offers-more (first ∷ replies) reply none offer =
     elim (cases_Bool (is_offer first)) [
@@ -47,19 +47,19 @@ offers-more (first ∷ replies) reply none offer =
       | inr plain ↦ absurd (let clash : first ∷ replies ≡ [] = rw plain at none in cc)
     ]
 
-pub behind-none : (replies : List Reply) (reply : Reply) → behind_offers replies ≡ [] → is_offer reply ≡ true → behind_offers (replies ++ reply ∷ []) ≡ []
-unfolding behind_offers
-behind-none [] reply none offer = rw offer refl
-behind-none (first ∷ replies) reply none offer =
+pub after-none : (replies : List Reply) (reply : Reply) → after_offers replies ≡ [] → is_offer reply ≡ true → after_offers (replies ++ reply ∷ []) ≡ []
+unfolding after_offers
+after-none [] reply none offer = rw offer refl
+after-none (first ∷ replies) reply none offer =
     elim (cases_Bool (is_offer first)) [
-      | inl is ↦ rw is (behind-none replies reply (rw is at none) offer)
+      | inl is ↦ rw is (after-none replies reply (rw is at none) offer)
       | inr plain ↦ absurd (let clash : first ∷ replies ≡ [] = rw plain at none in cc)
     ]
 
 -- the reach is that of the hop that offers
-pub reach-more : (before : ℕ) (hops : List Hop) (replies : List Reply) (reply : Reply) → behind_offers replies ≡ [] → is_offer reply ≡ true → length (offers_in replies) < length hops
+pub reach-more : (before : ℕ) (hops : List Hop) (replies : List Reply) (reply : Reply) → after_offers replies ≡ [] → is_offer reply ≡ true → length (offers_in replies) < length hops
     → reach_after before hops (replies ++ reply ∷ []) ≡ next_bound hops (offers_in replies) (reach_in reply)
-unfolding offers_in behind_offers reach_after next_bound
+unfolding offers_in after_offers reach_after next_bound
 reach-more before [] replies reply none offer fits = absurd (omega arith)
 reach-more before (hop ∷ hops) [] reply none offer fits = rw offer refl
 reach-more before (hop ∷ hops) (first ∷ replies) reply none offer fits =
@@ -110,29 +110,29 @@ relaxing-less request total count (suc left) levels reply same expected =
 
 -- on the way, and after the destination's test
 pub progress-on_the_way : (request : Request) (replies : List Reply) → length (offers_in replies) < length request.route
-    → progress_of request replies ≡ on_the_way (offers_in replies) (reach_after 0 request.route replies) (behind_offers replies)
+    → progress_of request replies ≡ on_the_way (offers_in replies) (reach_after 0 request.route replies) (after_offers replies)
 progress-on_the_way request replies fits = rw (lt-ltb (length (offers_in replies)) (length request.route) fits) refl
 
 pub progress-tested : (request : Request) (replies : List Reply) → length request.route ≤ length (offers_in replies)
-    → progress_of request replies ≡ at_destination request (offers_in replies) (length (behind_offers replies))
+    → progress_of request replies ≡ at_destination request (offers_in replies) (length (after_offers replies))
 progress-tested request replies whole = rw (le-ltb (length (offers_in replies)) (length request.route) whole) refl
 
 one-more : (replies : List Reply) (reply : Reply) → length (replies ++ reply ∷ []) ≡ suc (length replies)
 one-more replies reply = omega (arith, length-append replies (reply ∷ []))
 
 -- the reply to a reserve
-reserved-advances : (request : Request) (replies : List Reply) (reply : Reply) → length (offers_in replies) < length request.route → behind_offers replies ≡ []
+reserved-advances : (request : Request) (replies : List Reply) (reply : Reply) → length (offers_in replies) < length request.route → after_offers replies ≡ []
     → answers_reserve (next_levels request.route (offers_in replies)) reply ≡ true → progress_of request (replies ++ reply ∷ []) ≡ after_reserve request (offers_in replies) reply
 reserved-advances request replies (Offer level reach) fits none expected =
     rw (offers-more replies (Offer level reach) none refl)
-    (rw (behind-none replies (Offer level reach) none refl)
+    (rw (after-none replies (Offer level reach) none refl)
     (rw (reach-more 0 request.route replies (Offer level reach) none refl fits) refl))
 reserved-advances request replies (Refused refusal) fits none expected =
     let other = offers-other replies (Refused refusal) refl in
-    let behind : behind_offers (replies ++ Refused refusal ∷ []) ≡ Refused refusal ∷ [] = behind-other replies (Refused refusal) refl ∙ ap (λ rest. rest ++ Refused refusal ∷ []) none in
+    let after : after_offers (replies ++ Refused refusal ∷ []) ≡ Refused refusal ∷ [] = after-other replies (Refused refusal) refl ∙ ap (λ rest. rest ++ Refused refusal ∷ []) none in
     let whole : length (offers_in replies) - 0 ≡ length (offers_in replies) = omega arith in
     progress-on_the_way request (replies ++ Refused refusal ∷ []) (omega (arith, fits, ap length other))
-    ∙ rw behind (rw other (ap (λ n. undoing n (AtHop (suc (length (offers_in replies))) refusal)) whole))
+    ∙ rw after (rw other (ap (λ n. undoing n (AtHop (suc (length (offers_in replies))) refusal)) whole))
 reserved-advances request replies (Relaxed clock) fits none expected = absurd (let clash : false ≡ true = expected in cc)
 reserved-advances request replies Denied fits none expected = absurd (let clash : false ≡ true = expected in cc)
 reserved-advances request replies (Planned clock) fits none expected = absurd (let clash : false ≡ true = expected in cc)
@@ -141,39 +141,39 @@ reserved-advances request replies (Taken clock eligible) fits none expected = ab
 reserved-advances request replies (Ticked clock full sent best_sent best_lost) fits none expected = absurd (let clash : false ≡ true = expected in cc)
 
 -- a reply on the way, with these replies after the offers
-way-advances : (request : Request) (replies : List Reply) (reply : Reply) (rest : List Reply) → length (offers_in replies) < length request.route → behind_offers replies ≡ rest
+way-advances : (request : Request) (replies : List Reply) (reply : Reply) (rest : List Reply) → length (offers_in replies) < length request.route → after_offers replies ≡ rest
     → is_expected request (on_the_way (offers_in replies) (reach_after 0 request.route replies) rest) reply ≡ true
     → progress_of request (replies ++ reply ∷ []) ≡ advance request (on_the_way (offers_in replies) (reach_after 0 request.route replies) rest) reply
-way-advances request replies reply [] fits behind expected = reserved-advances request replies reply fits behind expected
-way-advances request replies reply (first ∷ denied) fits behind expected =
+way-advances request replies reply [] fits after expected = reserved-advances request replies reply fits after expected
+way-advances request replies reply (first ∷ denied) fits after expected =
     let deny = AtHop (suc (length (offers_in replies))) (refusal_in first) in
     let less = undoing-less request (length (offers_in replies)) (length denied) (length (offers_in replies) - length denied) deny reply refl expected in
     let other = offers-other replies reply less.0 in
-    let more : behind_offers (replies ++ reply ∷ []) ≡ first ∷ denied ++ reply ∷ [] = behind-other replies reply less.0 ∙ ap (λ rest. rest ++ reply ∷ []) behind in
+    let more : after_offers (replies ++ reply ∷ []) ≡ first ∷ denied ++ reply ∷ [] = after-other replies reply less.0 ∙ ap (λ rest. rest ++ reply ∷ []) after in
     progress-on_the_way request (replies ++ reply ∷ []) (omega (arith, fits, ap length other))
     ∙ rw more (rw other (ap (λ n. undoing (length (offers_in replies) - n) deny) (one-more denied reply))) ∙ less.1
 
 -- after the test, one reply more that is no offer
 tested-more : (request : Request) (replies : List Reply) (reply : Reply) (denial : Option EndDenial) → length request.route ≤ length (offers_in replies)
     → denial_of request.route (offers_in replies) request.delay (jitter_of request.control) ≡ denial → is_offer reply ≡ false
-    → progress_of request (replies ++ reply ∷ []) ≡ behind_test request (offers_in replies) (suc (length (behind_offers replies))) denial
+    → progress_of request (replies ++ reply ∷ []) ≡ after_test request (offers_in replies) (suc (length (after_offers replies))) denial
 tested-more request replies reply denial whole is plain =
     let other = offers-other replies reply plain in
-    let more : length (behind_offers (replies ++ reply ∷ [])) ≡ suc (length (behind_offers replies)) = ap length (behind-other replies reply plain) ∙ one-more (behind_offers replies) reply in
+    let more : length (after_offers (replies ++ reply ∷ [])) ≡ suc (length (after_offers replies)) = ap length (after-other replies reply plain) ∙ one-more (after_offers replies) reply in
     progress-tested request (replies ++ reply ∷ []) (omega (arith, whole, ap length other))
-    ∙ rw more (rw other (ap (behind_test request (offers_in replies) (suc (length (behind_offers replies)))) is))
+    ∙ rw more (rw other (ap (after_test request (offers_in replies) (suc (length (after_offers replies)))) is))
 
 -- a reply after the test, whose result this is
 test-advances : (request : Request) (replies : List Reply) (reply : Reply) (denial : Option EndDenial) → length request.route ≤ length (offers_in replies)
     → denial_of request.route (offers_in replies) request.delay (jitter_of request.control) ≡ denial
-    → is_expected request (behind_test request (offers_in replies) (length (behind_offers replies)) denial) reply ≡ true
-    → progress_of request (replies ++ reply ∷ []) ≡ advance request (behind_test request (offers_in replies) (length (behind_offers replies)) denial) reply
+    → is_expected request (after_test request (offers_in replies) (length (after_offers replies)) denial) reply ≡ true
+    → progress_of request (replies ++ reply ∷ []) ≡ advance request (after_test request (offers_in replies) (length (after_offers replies)) denial) reply
 test-advances request replies reply (Some denial) whole is expected =
-    let less = undoing-less request (length request.route) (length (behind_offers replies)) (length request.route - length (behind_offers replies)) (End denial) reply refl expected in
+    let less = undoing-less request (length request.route) (length (after_offers replies)) (length request.route - length (after_offers replies)) (End denial) reply refl expected in
     tested-more request replies reply (Some denial) whole is less.0 ∙ less.1
 test-advances request replies reply None whole is expected =
     let levels = allotted request.route (offers_in replies) request.delay (jitter_of request.control) in
-    let less = relaxing-less request (length request.route) (length (behind_offers replies)) (length request.route - length (behind_offers replies)) levels reply refl expected in
+    let less = relaxing-less request (length request.route) (length (after_offers replies)) (length request.route - length (after_offers replies)) levels reply refl expected in
     tested-more request replies reply None whole is less.0 ∙ less.1
 
 -- each reply to what is asked goes on from where the setup has come
@@ -183,7 +183,7 @@ progress-advances request replies reply expected =
     elim (cases_lt (length (offers_in replies)) (length request.route)) [
       | inl fits ↦
           let now = progress-on_the_way request replies fits in
-          way-advances request replies reply (behind_offers replies) fits refl (subst (λ p. is_expected request p reply ≡ true) now expected) ∙ ap (λ p. advance request p reply) (sym now)
+          way-advances request replies reply (after_offers replies) fits refl (subst (λ p. is_expected request p reply ≡ true) now expected) ∙ ap (λ p. advance request p reply) (sym now)
       | inr whole ↦
           let now = progress-tested request replies whole in
           test-advances request replies reply _ whole refl (subst (λ p. is_expected request p reply ≡ true) now expected) ∙ ap (λ p. advance request p reply) (sym now)
@@ -191,5 +191,5 @@ progress-advances request replies reply expected =
 
 -- without a reply the first hop is to reserve
 pub progress-none : (request : Request) → 1 ≤ length request.route → progress_of request [] ≡ Reserving [] 0
-unfolding offers_in behind_offers reach_after
+unfolding offers_in after_offers reach_after
 progress-none request some = rw (lt-ltb 0 (length request.route) (omega (arith, some))) refl

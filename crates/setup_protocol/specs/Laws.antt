@@ -16,7 +16,7 @@ use Rattle.link_steps.specs.declared.replies.Reply.{Reply}
 use Rattle.relaxation.specs.Allotment.{denial_of, bound_at_end, IsWithin}
 use Rattle.relaxation.specs.Laws.{HaveBounds}
 use Rattle.setup_protocol.specs.Requests.{jitter_of}
-use Rattle.setup_protocol.specs.Setup.{Outcome, Accepts, Denies, offers_in, behind_offers, next_ask, verdict_of}
+use Rattle.setup_protocol.specs.Setup.{Outcome, Accepts, Denies, offers_in, after_offers, next_ask, verdict_of}
 use Rattle.setup_protocol.specs.State.{HaveLevels}
 use Rattle.setup_protocol.specs.declared.request.Request.{Request}
 
@@ -61,7 +61,7 @@ EverySetupAskFits = (request : Request) (replies : List Reply) (to : LinkNo) (as
 
 -- the replies on the way back: those after the refusal of a hop, or after the offers of all
 abbrev pub replies_back : Request → List Reply → List Reply
-replies_back request replies = if nat_lt (length (offers_in replies)) (length request.route) then drop 1 (behind_offers replies) else behind_offers replies
+replies_back request replies = if nat_lt (length (offers_in replies)) (length request.route) then drop 1 (after_offers replies) else after_offers replies
 
 -- a settled request has as many of them as there were offers, at least. The offers are levels of their hops
 abbrev pub EveryOfferIsAskedBack : Type 0

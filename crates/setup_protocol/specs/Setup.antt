@@ -48,9 +48,9 @@ offers_in [] = []
 offers_in (reply ∷ replies) = if is_offer reply then level_in reply ∷ offers_in replies else []
 
 -- the replies after the offers
-unfoldable pub behind_offers : List Reply → List Reply
-behind_offers [] = []
-behind_offers (reply ∷ replies) = if is_offer reply then behind_offers replies else reply ∷ replies
+unfoldable pub after_offers : List Reply → List Reply
+after_offers [] = []
+after_offers (reply ∷ replies) = if is_offer reply then after_offers replies else reply ∷ replies
 
 -- the bound of the last offer's reach in ticks, or `before` where there is no offer
 unfoldable pub reach_after : ℕ → List Hop → List Reply → ℕ
@@ -94,20 +94,20 @@ on_the_way offers reach [] = Reserving offers reach
 on_the_way offers reach (reply ∷ denied) = undoing (length offers - length denied) (AtHop (suc (length offers)) (refusal_in reply))
 
 -- after the destination's test, with `count` replies after the offers
-abbrev pub behind_test : Request → List ℕ → ℕ → Option EndDenial → Progress
-behind_test request offers count (Some denial) = undoing (length request.route - count) (End denial)
-behind_test request offers count None = relaxing request.route (length request.route - count) (allotted request.route offers request.delay (jitter_of request.control))
+abbrev pub after_test : Request → List ℕ → ℕ → Option EndDenial → Progress
+after_test request offers count (Some denial) = undoing (length request.route - count) (End denial)
+after_test request offers count None = relaxing request.route (length request.route - count) (allotted request.route offers request.delay (jitter_of request.control))
 
 -- the same, once all hops have offered
 abbrev pub at_destination : Request → List ℕ → ℕ → Progress
-at_destination request offers count = behind_test request offers count (denial_of request.route offers request.delay (jitter_of request.control))
+at_destination request offers count = after_test request offers count (denial_of request.route offers request.delay (jitter_of request.control))
 
 -- how far a setup with these replies has come
 abbrev pub progress_of : Request → List Reply → Progress
 progress_of request replies =
     if nat_lt (length (offers_in replies)) (length request.route)
-    then on_the_way (offers_in replies) (reach_after 0 request.route replies) (behind_offers replies)
-    else at_destination request (offers_in replies) (length (behind_offers replies))
+    then on_the_way (offers_in replies) (reach_after 0 request.route replies) (after_offers replies)
+    else at_destination request (offers_in replies) (length (after_offers replies))
 
 -- ---- what is asked next
 

@@ -34,8 +34,8 @@ back_of request index (Accepts levels delay) = relax_of request levels (suc inde
 pub record IsAskedBack (request : Request) (replies : List Reply) (hop : Hop) (ask : Ask) : Type 0 where
   pub before : List Reply
   pub reply : Reply
-  pub behind : List Reply
-  pub split : replies ≡ before ++ reply ∷ behind
+  pub after : List Reply
+  pub split : replies ≡ before ++ reply ∷ after
   pub is_asked : next_ask request before ≡ Some (hop.link, ask)
 
 -- so each hop that has offered, before the request settles. The offers are levels of their hops

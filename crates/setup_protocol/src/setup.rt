@@ -119,7 +119,7 @@ impl Setup {
             delay: self.request.delay,
             up_reach: self.itinerary.reach_before(),
             first: place == 1,
-            next: link_behind(route, place),
+            next: link_after(route, place),
         };
         (route.hop(place).link, ask)
     }
@@ -225,7 +225,7 @@ fn refuses_reserve(refusal: &Refusal) -> bool
 }
 
 // The link of the hop after a place, where there is one.
-fn link_behind(route: &Route, place: u8) -> Option<LinkNo>
+fn link_after(route: &Route, place: u8) -> Option<LinkNo>
     requires { IsPlace route.now place }
     ensures { result ≡ option_map hop_link (slice_get route.now place) }
 {
@@ -248,7 +248,7 @@ fn bound_allotted(route: &Route, levels: &Levels, place: u8) -> u64
     }
 }
 
-// What is left behind an offer: the next reserve, or what the destination's test leaves.
+// What is left after an offer: the next reserve, or what the destination's test leaves.
 fn after_offer(request: &Request, it: &Itinerary) -> State
     requires { it.now.route ≡ request.now.route }
     ensures progress { progress_at it.now.levels it.now.reach result ≡ with_offers request.now it.now.levels it.now.reach }

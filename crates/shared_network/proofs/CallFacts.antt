@@ -21,7 +21,7 @@ use Rattle.link_steps.specs.declared.replies.Reply.TheVariants as Is
 use Rattle.relaxation.specs.Allotment.{denial_of, allotted}
 use Rattle.relaxation.specs.declared.EndDenial.{EndDenial}
 use Rattle.setup_protocol.specs.Requests.{jitter_of}
-use Rattle.setup_protocol.specs.Setup.{Progress, Reserving, Undoing, Relaxing, Settled, offers_in, behind_offers, undoing, relaxing, behind_test, at_destination, next_ask, progress_of, is_expected}
+use Rattle.setup_protocol.specs.Setup.{Progress, Reserving, Undoing, Relaxing, Settled, offers_in, after_offers, undoing, relaxing, after_test, at_destination, next_ask, progress_of, is_expected}
 use Rattle.setup_protocol.specs.Standing.{progress_in, SetupStands}
 use Rattle.setup_protocol.specs.State.{with_offers, after_reserve, advance, progress_at, IsStateOf}
 use Rattle.setup_protocol.specs.declared.request.Request.{Request}
@@ -91,7 +91,7 @@ left-relaxing : (hops left : ℕ) (route : List Hop) (levels : List ℕ) → ask
 left-relaxing hops zero route levels = refl
 left-relaxing hops (suc left) route levels = refl
 
-left-tested : (request : Request) (offers : List ℕ) (denial : Option EndDenial) → asks_left (length request.route) (behind_test request offers 0 denial) ≤ length request.route
+left-tested : (request : Request) (offers : List ℕ) (denial : Option EndDenial) → asks_left (length request.route) (after_test request offers 0 denial) ≤ length request.route
 left-tested request offers (Some denial) = (let is = left-undoing (length request.route) (length request.route - 0) (End denial) in omega (arith, is))
 left-tested request offers None = (let is = left-relaxing (length request.route) (length request.route - 0) request.route (allotted request.route offers request.delay (jitter_of request.control)) in omega (arith, is))
 
@@ -165,7 +165,7 @@ have-bounds links [] are = tt
 have-bounds links (hop ∷ hops) are = (ap are_bounds are.0.bounds ∙ are.0.link.shape.bounds_rise, have-bounds links hops are.1)
 
 rows-first : (request : Request) (own : List OwnEntry) → 1 ≤ length request.route → HasNone request.chan own → SetupRows request own []
-unfolding offers_in behind_offers reach_after AreLevels
+unfolding offers_in after_offers reach_after AreLevels
 rows-first request own some none = record {
   hops = λ i hop found. subst (λ p. HopStands request [] p i (hold_at request.chan hop own)) (sym (progress-none request some)) (record { tent = λ less. absurd (omega (arith, less)); tail = λ from. none-hold request.chan hop own none });
   levels = tt;

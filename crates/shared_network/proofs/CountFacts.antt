@@ -25,16 +25,16 @@ up_to-get (suc n) k below =
     ]
 
 -- the element after a front
-pub get-behind : {X : Type 0} (xs ys : List X) (y : X) → slice_get (xs ++ y ∷ ys) (length xs) ≡ Some y
-get-behind [] ys y = refl
-get-behind (x ∷ xs) ys y = get-behind xs ys y
+pub get-after : {X : Type 0} (xs ys : List X) (y : X) → slice_get (xs ++ y ∷ ys) (length xs) ≡ Some y
+get-after [] ys y = refl
+get-after (x ∷ xs) ys y = get-after xs ys y
 
 -- after the first numbers comes their count
 pub up_to-next : (n : ℕ) (xs ys : List ℕ) (y : ℕ) → xs ++ y ∷ ys ≡ up_to n → y ≡ length xs
 up_to-next n xs ys y is =
     let long : length (xs ++ y ∷ ys) ≡ n = ap length is ∙ up_to-length n in
     let parts = length-append xs (y ∷ ys) in
-    sym (same_Some (length xs) y (sym (up_to-get n (length xs) (omega (arith, long, parts))) ∙ ap (λ ns. slice_get ns (length xs)) (sym is) ∙ get-behind xs ys y))
+    sym (same_Some (length xs) y (sym (up_to-get n (length xs) (omega (arith, long, parts))) ∙ ap (λ ns. slice_get ns (length xs)) (sym is) ∙ get-after xs ys y))
 
 empty : {X : Type 0} (xs : List X) → length xs ≡ 0 → xs ≡ []
 empty [] none = refl

@@ -97,8 +97,8 @@ given-more done closed closed' pass gone so more actor own has =
     })
 
 -- what holds of all holds of one among them
-pub behind : {X : Type 0} (P : X → Type 0) (all done rest : List X) (x : X) → done ++ x ∷ rest ≡ all → Each P all → P x
-behind P all done rest x is each = each_has P x all each (subst (Has x) is (has_right x done (x ∷ rest) (inl refl)))
+pub after : {X : Type 0} (P : X → Type 0) (all done rest : List X) (x : X) → done ++ x ∷ rest ≡ all → Each P all → P x
+after P all done rest x is each = each_has P x all each (subst (Has x) is (has_right x done (x ∷ rest) (inl refl)))
 
 -- ---- the links
 

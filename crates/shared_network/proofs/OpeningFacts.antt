@@ -23,7 +23,7 @@ use Rattle.link_steps.specs.Scan.{scan_of}
 use Rattle.shared_network.specs.Holds.{hold_from}
 use Rattle.shared_network.specs.Ready.{KnowsLink, MayStep, IsNew}
 use Rattle.shared_network.specs.Sight.{IsUnusedLink}
-use Rattle.shared_network.proofs.CountFacts.{up_to-length, up_to-next, get-behind}
+use Rattle.shared_network.proofs.CountFacts.{up_to-length, up_to-next, get-after}
 
 -- ---- locking the links
 
@@ -50,7 +50,7 @@ locking-left links made seats rules l =
 pub locking-link : (links : List Link) (made seats : List ℕ) (rules : List Link) (s : ℕ) (r : Link) → Locking links made (s ∷ seats) (r ∷ rules) → IsLink links s r
 locking-link links made seats rules s r l =
     let number : s ≡ length l.front = up_to-next (length links) made seats s l.numbers ∙ sym l.long in
-    ap (slice_get links) number ∙ ap (λ ls. slice_get ls (length l.front)) (sym l.rules_are) ∙ get-behind l.front rules r
+    ap (slice_get links) number ∙ ap (λ ls. slice_get ls (length l.front)) (sym l.rules_are) ∙ get-after l.front rules r
 
 -- and is locked
 pub locking-next : (links : List Link) (made seats : List ℕ) (rules : List Link) (s : ℕ) (r : Link) → Locking links made (s ∷ seats) (r ∷ rules) → Locking links (made ++ s ∷ []) seats rules

@@ -33,11 +33,11 @@ use Rattle.relaxation.specs.Allotment.{allotted}
 use Rattle.relaxation.specs.Laws.{HaveBounds, AreWithinReach}
 use Rattle.relaxation.proofs.LawFacts.{allotted-fit}
 use Rattle.setup_protocol.specs.Requests.{kind_of, jitter_of}
-use Rattle.setup_protocol.specs.Setup.{Progress, Reserving, is_offer, level_in, reach_in, offers_in, behind_offers, reach_after, undoing, relaxing, asked, asked_of, reserve_of, relax_of, bound_if, bound_given, hop_link, next_ask, progress_of, is_expected, answers_reserve}
+use Rattle.setup_protocol.specs.Setup.{Progress, Reserving, is_offer, level_in, reach_in, offers_in, after_offers, reach_after, undoing, relaxing, asked, asked_of, reserve_of, relax_of, bound_if, bound_given, hop_link, next_ask, progress_of, is_expected, answers_reserve}
 use Rattle.setup_protocol.specs.State.{with_offers, after_reserve, advance}
 use Rattle.setup_protocol.specs.declared.request.Request.{Request}
 use Rattle.setup_protocol.specs.declared.verdict.Deny.{Deny as Denial}
-use Rattle.setup_protocol.proofs.ProgressFacts.{offers-other, offers-more, behind-other, reach-more, progress-advances}
+use Rattle.setup_protocol.proofs.ProgressFacts.{offers-other, offers-more, after-other, reach-more, progress-advances}
 use Rattle.channel_laws.specs.Reservations.{held_by}
 use Rattle.channel_laws.proofs.Places.{Each-at}
 use Rattle.link_ledger.specs.Tokens.{IsLink}
@@ -87,7 +87,7 @@ index-apart hops a b one other route first second same =
 pub record SetupRows (request : Request) (own : List OwnEntry) (replies : List Reply) : Type 0 where
   pub hops : (i : ℕ) (hop : Hop) → slice_get request.route i ≡ Some hop → HopStands request (offers_in replies) (progress_of request replies) i (hold_at request.chan hop own)
   pub levels : AreLevels request.route (offers_in replies)
-  pub up : behind_offers replies ≡ [] → reach_after 0 request.route replies ≡ reach_bound request (offers_in replies) (length (offers_in replies))
+  pub up : after_offers replies ≡ [] → reach_after 0 request.route replies ≡ reach_bound request (offers_in replies) (length (offers_in replies))
 
 -- ---- what an entry makes of a hold
 
@@ -172,7 +172,7 @@ module _ (links : List Link) (request : Request) (own : List OwnEntry) (replies 
                 | inr miss ↦ (let other = eqb-false i k miss in elsewhere i k at ask_at.hop found stands on other ∙ (says i at found).1 (omega (arith, from, other)))
               ]));
           levels = subst (AreLevels request.route) (sym offers) rows.levels;
-          up = λ alone. absurd (not-empty (behind_offers replies) e.reply (sym (behind-other replies e.reply plain) ∙ alone));
+          up = λ alone. absurd (not-empty (after_offers replies) e.reply (sym (after-other replies e.reply plain) ∙ alone));
         };
       }
 
@@ -180,7 +180,7 @@ module _ (links : List Link) (request : Request) (own : List OwnEntry) (replies 
 
   record Way : Type 0 where
     fewer : length (offers_in replies) < length request.route
-    alone : behind_offers replies ≡ []
+    alone : after_offers replies ≡ []
     is : progress_of request replies ≡ Reserving (offers_in replies) (reach_after 0 request.route replies)
     here : HopAt links request (length (offers_in replies))
     on : link_number e.link ≡ link_of here.hop
@@ -272,7 +272,7 @@ module _ (links : List Link) (request : Request) (own : List OwnEntry) (replies 
                 | inr miss ↦ elsewhere i n at w.here.hop found w.here.stands w.on (eqb-false i n miss) ∙ (way-says w i at found).tail from
               ]));
           levels = subst (AreLevels request.route) (sym offers) rows.levels;
-          up = λ alone. absurd (not-empty (behind_offers replies) e.reply (sym (behind-other replies e.reply plain) ∙ alone));
+          up = λ alone. absurd (not-empty (after_offers replies) e.reply (sym (after-other replies e.reply plain) ∙ alone));
         };
       }
 
@@ -359,7 +359,7 @@ module _ (links : List Link) (request : Request) (own : List OwnEntry) (replies 
                 | inr miss ↦ (let other = eqb-false i k miss in subst (IsComm request levels i) (sym (elsewhere i k at ask_at.hop found stands on other)) ((says i at found).1 (omega (arith, from, other))))
               ]));
           levels = subst (AreLevels request.route) (sym offers) rows.levels;
-          up = λ alone. absurd (not-empty (behind_offers replies) e.reply (sym (behind-other replies e.reply plain) ∙ alone));
+          up = λ alone. absurd (not-empty (after_offers replies) e.reply (sym (after-other replies e.reply plain) ∙ alone));
         };
       }
 

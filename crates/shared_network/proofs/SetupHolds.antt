@@ -16,7 +16,7 @@ use Rattle.relaxation.specs.Allotment.{denial_of, allotted}
 use Rattle.relaxation.specs.Laws.{AreWithinReach}
 use Rattle.relaxation.specs.declared.EndDenial.{EndDenial}
 use Rattle.setup_protocol.specs.Requests.{jitter_of}
-use Rattle.setup_protocol.specs.Setup.{Accepts, Denies, Progress, Reserving, Undoing, Relaxing, Settled, offers_in, behind_offers, reach_after, undoing, relaxing, on_the_way, behind_test, bound_given, progress_of}
+use Rattle.setup_protocol.specs.Setup.{Accepts, Denies, Progress, Reserving, Undoing, Relaxing, Settled, offers_in, after_offers, reach_after, undoing, relaxing, on_the_way, after_test, bound_given, progress_of}
 use Rattle.setup_protocol.specs.State.{with_offers}
 use Rattle.setup_protocol.specs.declared.request.Request.{Request}
 use Rattle.setup_protocol.specs.declared.verdict.Deny.{Deny as Denial}
@@ -75,22 +75,22 @@ pub record HopStands (request : Request) (offers : List ℕ) (p : Progress) (i :
 -- ---- how far a setup is
 
 pub data View (request : Request) (replies : List Reply) : Type 0 where
-  OnWay : length (offers_in replies) < length request.route → behind_offers replies ≡ [] → progress_of request replies ≡ Reserving (offers_in replies) (reach_after 0 request.route replies) → View request replies
+  OnWay : length (offers_in replies) < length request.route → after_offers replies ≡ [] → progress_of request replies ≡ Reserving (offers_in replies) (reach_after 0 request.route replies) → View request replies
   Back : (left : ℕ) (deny : Denial) → left ≤ length request.route → progress_of request replies ≡ undoing left deny → View request replies
   Forth : (left : ℕ) → left ≤ length request.route → length request.route ≤ length (offers_in replies) → denial_of request.route (offers_in replies) request.delay (jitter_of request.control) ≡ None → progress_of request replies ≡ relaxing request.route left (allotted request.route (offers_in replies) request.delay (jitter_of request.control)) → View request replies
 
-view-way : (request : Request) (replies rest : List Reply) → behind_offers replies ≡ rest → length (offers_in replies) < length request.route → progress_of request replies ≡ on_the_way (offers_in replies) (reach_after 0 request.route replies) rest → View request replies
-view-way request replies [] behind fewer is = OnWay fewer behind is
-view-way request replies (first ∷ denied) behind fewer is = Back (length (offers_in replies) - length denied) _ (omega (arith, fewer)) is
+view-way : (request : Request) (replies rest : List Reply) → after_offers replies ≡ rest → length (offers_in replies) < length request.route → progress_of request replies ≡ on_the_way (offers_in replies) (reach_after 0 request.route replies) rest → View request replies
+view-way request replies [] after fewer is = OnWay fewer after is
+view-way request replies (first ∷ denied) after fewer is = Back (length (offers_in replies) - length denied) _ (omega (arith, fewer)) is
 
-view-test : (request : Request) (replies : List Reply) (denial : Option EndDenial) → denial_of request.route (offers_in replies) request.delay (jitter_of request.control) ≡ denial → length request.route ≤ length (offers_in replies) → progress_of request replies ≡ behind_test request (offers_in replies) (length (behind_offers replies)) denial → View request replies
-view-test request replies (Some denial) tested whole is = Back (length request.route - length (behind_offers replies)) _ (omega arith) is
-view-test request replies None tested whole is = Forth (length request.route - length (behind_offers replies)) (omega arith) whole tested is
+view-test : (request : Request) (replies : List Reply) (denial : Option EndDenial) → denial_of request.route (offers_in replies) request.delay (jitter_of request.control) ≡ denial → length request.route ≤ length (offers_in replies) → progress_of request replies ≡ after_test request (offers_in replies) (length (after_offers replies)) denial → View request replies
+view-test request replies (Some denial) tested whole is = Back (length request.route - length (after_offers replies)) _ (omega arith) is
+view-test request replies None tested whole is = Forth (length request.route - length (after_offers replies)) (omega arith) whole tested is
 
 pub view : (request : Request) (replies : List Reply) → View request replies
 view request replies =
     elim (cases_lt (length (offers_in replies)) (length request.route)) [
-      | inl fewer ↦ view-way request replies (behind_offers replies) refl fewer (progress-on_the_way request replies fewer)
+      | inl fewer ↦ view-way request replies (after_offers replies) refl fewer (progress-on_the_way request replies fewer)
       | inr whole ↦ view-test request replies (denial_of request.route (offers_in replies) request.delay (jitter_of request.control)) refl whole (progress-tested request replies whole)
     ]
 
@@ -104,7 +104,7 @@ pub relax-stands : (request : Request) (offers : List ℕ) (left : ℕ) (levels 
 relax-stands request offers zero levels i hold tent comm = record { tent = λ less. absurd (omega (arith, less)); tail = λ from. comm (omega arith) }
 relax-stands request offers (suc left) levels i hold tent comm = record { tent = tent; tail = comm }
 
-test-stands : (request : Request) (offers : List ℕ) (denial : Option EndDenial) (i : ℕ) (hold : Hold) → i < length request.route → IsTent request offers i hold → HopStands request offers (behind_test request offers 0 denial) i hold
+test-stands : (request : Request) (offers : List ℕ) (denial : Option EndDenial) (i : ℕ) (hold : Hold) → i < length request.route → IsTent request offers i hold → HopStands request offers (after_test request offers 0 denial) i hold
 test-stands request offers (Some denial) i hold within tent = undo-stands request offers (length request.route - 0) _ i hold (λ less. tent) (λ from. absurd (omega (arith, from, within)))
 test-stands request offers None i hold within tent = relax-stands request offers (length request.route - 0) _ i hold (λ less. tent) (λ from. absurd (omega (arith, from, within)))
 

@@ -13,31 +13,31 @@ head_from-empty level ([] ∷ higher) empty =
 head_from-empty level ((key ∷ keys) ∷ higher) empty = let e = empty 0 (omega arith) in absurd (cc)
 
 -- where the queues before a place are empty, the key that leaves is the head of the queue there
-pub head_from-at : (level : ℕ) (queues : List (List ℕ)) (place key : ℕ) (behind : List ℕ) → place < length queues
-    → get_or queues place [] ≡ key ∷ behind → ((k : ℕ) → k < place → get_or queues k [] ≡ [])
-    → (head_from level queues ≡ Some (level + place, key)) × (left_of queues ≡ set queues place behind)
+pub head_from-at : (level : ℕ) (queues : List (List ℕ)) (place key : ℕ) (after : List ℕ) → place < length queues
+    → get_or queues place [] ≡ key ∷ after → ((k : ℕ) → k < place → get_or queues k [] ≡ [])
+    → (head_from level queues ≡ Some (level + place, key)) × (left_of queues ≡ set queues place after)
 unfolding head_from left_of
-head_from-at level [] place key behind within head before = absurd (omega arith)
-head_from-at level ([] ∷ higher) zero key behind within head before = absurd (cc)
-head_from-at level ((first ∷ keys) ∷ higher) zero key behind within head before =
+head_from-at level [] place key after within head before = absurd (omega arith)
+head_from-at level ([] ∷ higher) zero key after within head before = absurd (cc)
+head_from-at level ((first ∷ keys) ∷ higher) zero key after within head before =
     let same_key : first ≡ key = cc in
-    let same_keys : keys ≡ behind = cc in
+    let same_keys : keys ≡ after = cc in
     let here : level ≡ level + 0 = omega arith in
     (cc, cc)
-head_from-at level ([] ∷ higher) (suc place) key behind within head before =
-    let rest = head_from-at (level + 1) higher place key behind (omega arith) head (λ k lt. before (suc k) (omega arith)) in
+head_from-at level ([] ∷ higher) (suc place) key after within head before =
+    let rest = head_from-at (level + 1) higher place key after (omega arith) head (λ k lt. before (suc k) (omega arith)) in
     let place_is : level + suc place ≡ level + 1 + place = omega arith in
     (rw place_is rest.0, ap (λ queues. [] ∷ queues) rest.1)
-head_from-at level ((first ∷ keys) ∷ higher) (suc place) key behind within head before = let e = before 0 (omega arith) in absurd (cc)
+head_from-at level ((first ∷ keys) ∷ higher) (suc place) key after within head before = let e = before 0 (omega arith) in absurd (cc)
 
 -- what is picked there
-pub picks_at : (queues : List (List ℕ)) (place level key : ℕ) (behind : List ℕ) → level ≡ place + 1 → place < length queues
-    → get_or queues place [] ≡ key ∷ behind → ((k : ℕ) → k < place → get_or queues k [] ≡ [])
-    → PicksHead queues (set queues place behind) level key
-picks_at queues place level key behind counted within head before =
+pub picks_at : (queues : List (List ℕ)) (place level key : ℕ) (after : List ℕ) → level ≡ place + 1 → place < length queues
+    → get_or queues place [] ≡ key ∷ after → ((k : ℕ) → k < place → get_or queues k [] ≡ [])
+    → PicksHead queues (set queues place after) level key
+picks_at queues place level key after counted within head before =
     let place_is : level - 1 ≡ place = omega arith in
     record {
-      behind = behind;
+      after = after;
       one_of = (omega arith, omega arith);
       head = rw place_is head;
       least = λ smaller from below. before (smaller - 1) (omega arith);

@@ -114,9 +114,9 @@ pub seen_alike : (old new : List (List ℕ)) (spare spare' : ℕ) → old ≡ ne
 seen_alike old new spare spare' queues room = rw (queues, room) refl
 
 -- where a queue has a key, a key waits
-pub some_wait : (queues : List (VecDeque ℕ Global)) (waiting room place key : ℕ) (behind : List ℕ) (queue : VecDeque ℕ Global) → HasRoomFor queues waiting room
-    → place < length queues → queue ≡ get_or queues place queue → queue.items ≡ key ∷ behind → 1 ≤ waiting
-some_wait queues waiting room place key behind queue has within is taken =
-    let there : get_or (map keys_of queues) place [] ≡ key ∷ behind = keys_at queues place queue within is ∙ taken in
+pub some_wait : (queues : List (VecDeque ℕ Global)) (waiting room place key : ℕ) (after : List ℕ) (queue : VecDeque ℕ Global) → HasRoomFor queues waiting room
+    → place < length queues → queue ≡ get_or queues place queue → queue.items ≡ key ∷ after → 1 ≤ waiting
+some_wait queues waiting room place key after queue has within is taken =
+    let there : get_or (map keys_of queues) place [] ≡ key ∷ after = keys_at queues place queue within is ∙ taken in
     let among = get_or-le-sum_by length (map keys_of queues) place [] (omega (arith, length-map queues keys_of)) in
     omega (arith, among, ap length there, has.counted)

@@ -43,8 +43,8 @@ numbered (Some picked) = Some (level_number picked.0, picked.1)
 -- this key was picked at this level: it was the head there, every smaller level's queue was empty, and all
 -- other keys stay as they are
 pub record PicksHead (old new : List (List ℕ)) (level key : ℕ) : Type 0 where
-  pub behind : List ℕ
+  pub after : List ℕ
   pub one_of : (1 ≤ level) × (level ≤ length old)
-  pub head : queue_of old level ≡ key ∷ behind
+  pub head : queue_of old level ≡ key ∷ after
   pub least : (smaller : ℕ) → 1 ≤ smaller → smaller < level → queue_of old smaller ≡ []
-  pub left : new ≡ slice_set old (level - 1) behind
+  pub left : new ≡ slice_set old (level - 1) after

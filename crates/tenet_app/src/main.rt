@@ -31,7 +31,7 @@ fn main(rt: HostRuntime) -> ExitCode {
             top(
                 &rt,
                 rt.alloc(),
-                words_behind_first(words.as_slice()),
+                words_after_first(words.as_slice()),
                 &mut source,
                 &mut sink,
                 &NoGate,
@@ -49,12 +49,12 @@ fn read_words(rt: &(impl Env + AllocGlobal)) -> io::Result<Vec<String>> {
 }
 
 // The words after the first.
-fn words_behind_first(words: &[String]) -> &[String]
+fn words_after_first(words: &[String]) -> &[String]
     ensures { result.now ≡ drop 1 words.now }
 {
     match words {
         [] => &[],
-        [_, behind @ ..] => behind,
+        [_, rest @ ..] => rest,
     }
 }
 

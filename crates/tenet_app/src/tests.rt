@@ -243,7 +243,7 @@ fn a_run_that_stops_says_why(rt: HostRuntime) -> Result<(), Fail> {
     };
     ends_with(&rt, alloc, &["play"], first, failing_end, told)?;
     // The first read gives a whole line that is refused, so there is no second one to fail.
-    let failing_behind = Ends {
+    let failing_after = Ends {
         block: 8,
         ..failing_end
     };
@@ -253,7 +253,7 @@ fn a_run_that_stops_says_why(rt: HostRuntime) -> Result<(), Fail> {
         alloc,
         &["play"],
         b"tenet 9\nlink",
-        failing_behind,
+        failing_after,
         told,
     )?;
     let told = (Status::Words, "");
@@ -343,7 +343,7 @@ fn header_and(alloc: Global, second: &[u8], bytes: usize) -> Result<Vec<u8>, Fai
 }
 
 #[test]
-fn too_many_bytes_are_refused_behind_the_whole_lines(rt: HostRuntime) -> Result<(), Fail> {
+fn too_many_bytes_are_refused_after_the_whole_lines(rt: HostRuntime) -> Result<(), Fail> {
     let alloc = rt.alloc();
     let full = header_and(alloc, b"", 4_194_304)?;
     plays(

@@ -135,11 +135,11 @@ last_at-none t i (p ∷ ps) none = by-case (last_at t (suc i) ps) refl (cases_Bo
 pub record IsSplitAt (t i q : ℕ) (ps : List Place) : Type 0 where
   pub before : List Place
   pub place : Place
-  pub behind : List Place
-  pub was : ps ≡ before ++ place ∷ behind
+  pub after : List Place
+  pub was : ps ≡ before ++ place ∷ after
   pub at : q ≡ length before + i
   pub here : waits_at t place ≡ true
-  pub none : HasNone t behind
+  pub none : HasNone t after
 
 pub split-last : (t i q : ℕ) (ps : List Place) → last_at t i ps ≡ Some q → IsSplitAt t i q ps
 unfolding last_at
@@ -149,10 +149,10 @@ split-last t i q (p ∷ ps) found = by-case (last_at t (suc i) ps) refl (cases_B
   by-case (Some r) is at more =
       let e : r ≡ q = cc (rw is at found) in
       let rest = more (is ∙ ap Some e) in
-      record { before = p ∷ rest.before; place = rest.place; behind = rest.behind; was = ap (λ l. p ∷ l) rest.was; at = omega (arith, rest.at); here = rest.here; none = rest.none }
+      record { before = p ∷ rest.before; place = rest.place; after = rest.after; was = ap (λ l. p ∷ l) rest.was; at = omega (arith, rest.at); here = rest.here; none = rest.none }
   by-case None is (inl at) more =
       let e : i ≡ q = cc (rw (is, at) at found) in
-      record { before = []; place = p; behind = ps; was = refl; at = omega (arith, e); here = at; none = last_at-none t (suc i) ps is }
+      record { before = []; place = p; after = ps; was = refl; at = omega (arith, e); here = at; none = last_at-none t (suc i) ps is }
   by-case None is (inr apart) more = absurd (cc (rw (is, apart) at found))
 
 -- where the first place of a tick is taken, the last one stays, if there is one

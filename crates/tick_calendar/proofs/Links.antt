@@ -15,11 +15,11 @@ linked-past end t i (p ∷ ps) n linked none tick next = (
   linked-past end t (suc i) ps n linked.1 none.1 tick next,
 )
 
--- a place behind the last one of its tick, which names it
-pub linked-behind : (end t i : ℕ) (a b : List Place) (x y n : Place) → AreLinked end i (a ++ x ∷ b) → waits_at t x ≡ true → waits_at t y ≡ true → HasNone t b → waits_at t n ≡ true → n.next ≡ None
+-- a place after the last one of its tick, which names it
+pub linked-after : (end t i : ℕ) (a b : List Place) (x y n : Place) → AreLinked end i (a ++ x ∷ b) → waits_at t x ≡ true → waits_at t y ≡ true → HasNone t b → waits_at t n ≡ true → n.next ≡ None
     → y.next ≡ Some (suc (length b + (length a + i))) → AreLinked end i (a ++ y ∷ (b ++ n ∷ []))
 unfolding AreLinked first_at
-linked-behind end t i [] b x y n linked at_x at_y none at_n next names =
+linked-after end t i [] b x y n linked at_x at_y none at_n next names =
     let tick_y : y.tick ≡ t = eqb-true y.tick t (and_parts y.waits (nat_eq y.tick t) at_y).1 in
     let tick_n : n.tick ≡ t = eqb-true n.tick t (and_parts n.waits (nat_eq n.tick t) at_n).1 in
     let found : first_at t (suc i) (b ++ n ∷ []) ≡ Some (length b + suc i) = first_at-none t (suc i) b (n ∷ []) none ∙ rw at_n refl in
@@ -27,7 +27,7 @@ linked-behind end t i [] b x y n linked at_x at_y none at_n next names =
       (λ _ _. names ∙ ap Some (sym step) ∙ sym found ∙ ap (λ u. first_at u (suc i) (b ++ n ∷ [])) (sym tick_y)),
       linked-past end t (suc i) b n linked.1 none tick_n next,
     )
-linked-behind end t i (p ∷ a) b x y n linked at_x at_y none at_n next names =
+linked-after end t i (p ∷ a) b x y n linked at_x at_y none at_n next names =
     let tick_x : x.tick ≡ t = eqb-true x.tick t (and_parts x.waits (nat_eq x.tick t) at_x).1 in
     let tick_y : y.tick ≡ t = eqb-true y.tick t (and_parts y.waits (nat_eq y.tick t) at_y).1 in
     let tick_n : n.tick ≡ t = eqb-true n.tick t (and_parts n.waits (nat_eq n.tick t) at_n).1 in
@@ -39,7 +39,7 @@ linked-behind end t i (p ∷ a) b x y n linked at_x at_y none at_n next names =
           first_at-alike p.tick (suc i) a b x y (is_at-other p.tick x (λ e. apart (sym e ∙ tick_x)) ∙ sym (is_at-other p.tick y (λ e. apart (sym e ∙ tick_y))))
           ∙ sym (rw append_assoc at (first_at-past p.tick (suc i) (a ++ y ∷ b) n (is_at-other p.tick n (λ e. apart (sym e ∙ tick_n)))))
     ] in
-    ((λ waits low. linked.0 waits low ∙ same), linked-behind end t (suc i) a b x y n linked.1 at_x at_y none at_n next (names ∙ ap Some step))
+    ((λ waits low. linked.0 waits low ∙ same), linked-after end t (suc i) a b x y n linked.1 at_x at_y none at_n next (names ∙ ap Some step))
 
 -- the first place of a tick leaves its place behind
 pub linked-taken : (end t i : ℕ) (a b : List Place) (x y : Place) → AreLinked end i (a ++ x ∷ b) → HasNone t a → waits_at t x ≡ true → y.waits ≡ false → AreLinked end i (a ++ y ∷ b)

@@ -13,33 +13,33 @@ use Rattle.tick_calendar.specs.Wheel.{entries_in, IsWheel, RemovesFirst, AreAllF
 use Rattle.tick_calendar.proofs.Chains.{entries-append, entries-here, none-first_at}
 use Rattle.tick_calendar.proofs.Ahead.{all-left, all-right, all-both, all-without, all-before}
 
-due_place-first : (before behind : List Entry) (e : Entry) (now : ℕ) → AllByRecursion (λ other. e.0 < other.0) before → AllByRecursion (λ other. e.0 ≤ other.0) behind → e.0 ≤ now → due_place (before ++ e ∷ behind) now ≡ Some (length before)
-due_place-first before behind e now later least due =
-    let at : get_or (before ++ e ∷ behind) (length before) e ≡ e = get_or_at before e behind e (length before) refl in
-    let within : length before < length (before ++ e ∷ behind) = omega (arith, length-append before (e ∷ behind)) in
-    due_place-least (before ++ e ∷ behind) now (length before) e within (rw at due)
-    (rw at (All-append (λ other. e.0 ≤ other.0) before (e ∷ behind)
+due_place-first : (before after : List Entry) (e : Entry) (now : ℕ) → AllByRecursion (λ other. e.0 < other.0) before → AllByRecursion (λ other. e.0 ≤ other.0) after → e.0 ≤ now → due_place (before ++ e ∷ after) now ≡ Some (length before)
+due_place-first before after e now later least due =
+    let at : get_or (before ++ e ∷ after) (length before) e ≡ e = get_or_at before e after e (length before) refl in
+    let within : length before < length (before ++ e ∷ after) = omega (arith, length-append before (e ∷ after)) in
+    due_place-least (before ++ e ∷ after) now (length before) e within (rw at due)
+    (rw at (All-append (λ other. e.0 ≤ other.0) before (e ∷ after)
     (λ k d lt. let low = All-from_recursion (λ other. e.0 < other.0) before later k d lt in omega (arith, low))
-    (All-cons (λ other. e.0 ≤ other.0) e behind (omega arith) (All-from_recursion (λ other. e.0 ≤ other.0) behind least))))
-    (λ k lt. rw (at, get_or_append_left before (e ∷ behind) e k lt) (All-from_recursion (λ other. e.0 < other.0) before later k e lt))
+    (All-cons (λ other. e.0 ≤ other.0) e after (omega arith) (All-from_recursion (λ other. e.0 ≤ other.0) after least))))
+    (λ k lt. rw (at, get_or_append_left before (e ∷ after) e k lt) (All-from_recursion (λ other. e.0 < other.0) before later k e lt))
 
-removed-at : (before behind : List Entry) (e : Entry) → remove (before ++ e ∷ behind) (length before) ≡ before ++ behind
-removed-at before behind e =
+removed-at : (before after : List Entry) (e : Entry) → remove (before ++ e ∷ after) (length before) ≡ before ++ after
+removed-at before after e =
     let zero_left : length before - length before ≡ 0 = omega arith in
-    remove-append_right before (e ∷ behind) (length before) (length before) refl (omega arith) ∙ ap (λ k. before ++ remove (e ∷ behind) k) zero_left
+    remove-append_right before (e ∷ after) (length before) (length before) refl (omega arith) ∙ ap (λ k. before ++ remove (e ∷ after) k) zero_left
 
 taken-is-due : (t now key : ℕ) (old new : List Place) → RemovesFirst t old new key → AreAllFrom t (entries_in old) → t ≤ now → (due_key (entries_in old) now ≡ Some key) × (left_after (entries_in old) now ≡ entries_in new)
 taken-is-due t now key old new removes all due =
     let tick : removes.place.tick ≡ t = eqb-true removes.place.tick t (and_parts removes.place.waits (nat_eq removes.place.tick t) removes.at).1 in
     let e : Entry = (removes.place.tick, removes.place.key) in
-    let whole : entries_in old ≡ entries_in removes.before ++ e ∷ entries_in removes.behind = ap entries_in removes.was ∙ entries-append removes.before (removes.place ∷ removes.behind) ∙ ap (λ es. entries_in removes.before ++ es) (entries-here removes.place removes.behind (and_parts removes.place.waits (nat_eq removes.place.tick t) removes.at).0) in
+    let whole : entries_in old ≡ entries_in removes.before ++ e ∷ entries_in removes.after = ap entries_in removes.was ∙ entries-append removes.before (removes.place ∷ removes.after) ∙ ap (λ es. entries_in removes.before ++ es) (entries-here removes.place removes.after (and_parts removes.place.waits (nat_eq removes.place.tick t) removes.at).0) in
     let all' = subst (AreAllFrom t) whole all in
-    let later = all-before t removes.before (none-first_at t 0 removes.before removes.none) (all-left t (entries_in removes.before) (e ∷ entries_in removes.behind) all') in
-    let least = (all-right t (entries_in removes.before) (e ∷ entries_in removes.behind) all').1 in
-    let place : due_place (entries_in removes.before ++ e ∷ entries_in removes.behind) now ≡ Some (length (entries_in removes.before)) =
-    due_place-first (entries_in removes.before) (entries_in removes.behind) e now (subst (λ u. AllByRecursion (λ (entry : Entry). u < entry.0) (entries_in removes.before)) (sym tick) later) (subst (λ u. AllByRecursion (λ (entry : Entry). u ≤ entry.0) (entries_in removes.behind)) (sym tick) least) (omega (arith, tick, due)) in (
-      ap (λ es. due_key es now) whole ∙ ap (key_at (entries_in removes.before ++ e ∷ entries_in removes.behind)) place ∙ ap (λ (x : Entry). Some x.1) (get_or_at (entries_in removes.before) e (entries_in removes.behind) (0, 0) (length (entries_in removes.before)) refl) ∙ ap Some (sym removes.key_is),
-      ap (λ es. left_after es now) whole ∙ ap (without_place (entries_in removes.before ++ e ∷ entries_in removes.behind)) place ∙ removed-at (entries_in removes.before) (entries_in removes.behind) e ∙ sym removes.left,
+    let later = all-before t removes.before (none-first_at t 0 removes.before removes.none) (all-left t (entries_in removes.before) (e ∷ entries_in removes.after) all') in
+    let least = (all-right t (entries_in removes.before) (e ∷ entries_in removes.after) all').1 in
+    let place : due_place (entries_in removes.before ++ e ∷ entries_in removes.after) now ≡ Some (length (entries_in removes.before)) =
+    due_place-first (entries_in removes.before) (entries_in removes.after) e now (subst (λ u. AllByRecursion (λ (entry : Entry). u < entry.0) (entries_in removes.before)) (sym tick) later) (subst (λ u. AllByRecursion (λ (entry : Entry). u ≤ entry.0) (entries_in removes.after)) (sym tick) least) (omega (arith, tick, due)) in (
+      ap (λ es. due_key es now) whole ∙ ap (key_at (entries_in removes.before ++ e ∷ entries_in removes.after)) place ∙ ap (λ (x : Entry). Some x.1) (get_or_at (entries_in removes.before) e (entries_in removes.after) (0, 0) (length (entries_in removes.before)) refl) ∙ ap Some (sym removes.key_is),
+      ap (λ es. left_after es now) whole ∙ ap (without_place (entries_in removes.before ++ e ∷ entries_in removes.after)) place ∙ removed-at (entries_in removes.before) (entries_in removes.after) e ∙ sym removes.left,
     )
 
 -- every tick is still ahead
@@ -72,17 +72,17 @@ takes-due es left now key is same = by-case (due_place es now) refl is same wher
 pub removes-one : (t key : ℕ) (old new : List Place) → RemovesFirst t old new key → length (entries_in old) ≡ suc (length (entries_in new))
 removes-one t key old new removes =
     let waits = (and_parts removes.place.waits (nat_eq removes.place.tick t) removes.at).0 in
-    let whole : entries_in old ≡ entries_in removes.before ++ (removes.place.tick, removes.place.key) ∷ entries_in removes.behind =
-    ap entries_in removes.was ∙ entries-append removes.before (removes.place ∷ removes.behind) ∙ ap (λ es. entries_in removes.before ++ es) (entries-here removes.place removes.behind waits) in
-    omega (arith, ap length whole, ap length removes.left, length-append (entries_in removes.before) ((removes.place.tick, removes.place.key) ∷ entries_in removes.behind), length-append (entries_in removes.before) (entries_in removes.behind))
+    let whole : entries_in old ≡ entries_in removes.before ++ (removes.place.tick, removes.place.key) ∷ entries_in removes.after =
+    ap entries_in removes.was ∙ entries-append removes.before (removes.place ∷ removes.after) ∙ ap (λ es. entries_in removes.before ++ es) (entries-here removes.place removes.after waits) in
+    omega (arith, ap length whole, ap length removes.left, length-append (entries_in removes.before) ((removes.place.tick, removes.place.key) ∷ entries_in removes.after), length-append (entries_in removes.before) (entries_in removes.after))
 
 -- what is left is still ahead
 removes-ahead : (t u key : ℕ) (old new : List Place) → RemovesFirst t old new key → AreAllFrom u (entries_in old) → AreAllFrom u (entries_in new)
 removes-ahead t u key old new removes all =
     let waits = (and_parts removes.place.waits (nat_eq removes.place.tick t) removes.at).0 in
-    let whole : entries_in old ≡ entries_in removes.before ++ (removes.place.tick, removes.place.key) ∷ entries_in removes.behind =
-    ap entries_in removes.was ∙ entries-append removes.before (removes.place ∷ removes.behind) ∙ ap (λ es. entries_in removes.before ++ es) (entries-here removes.place removes.behind waits) in
-    subst (AreAllFrom u) (sym removes.left) (all-without u (entries_in removes.before) (entries_in removes.behind) (removes.place.tick, removes.place.key) (subst (AreAllFrom u) whole all))
+    let whole : entries_in old ≡ entries_in removes.before ++ (removes.place.tick, removes.place.key) ∷ entries_in removes.after =
+    ap entries_in removes.was ∙ entries-append removes.before (removes.place ∷ removes.after) ∙ ap (λ es. entries_in removes.before ++ es) (entries-here removes.place removes.after waits) in
+    subst (AreAllFrom u) (sym removes.left) (all-without u (entries_in removes.before) (entries_in removes.after) (removes.place.tick, removes.place.key) (subst (AreAllFrom u) whole all))
 
 -- what a taking from the wheel is to the calendar
 pub removes-due : (t now key : ℕ) (es : List Entry) (old new : List Place) → RemovesFirst t old new key → entries_in old ≡ es → AreAllFrom t (entries_in old) → t ≤ now → (due_key es now ≡ Some key) × (left_after es now ≡ entries_in new)

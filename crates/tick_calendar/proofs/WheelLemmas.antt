@@ -6,7 +6,7 @@ use Rattle.std.proofs.lemmas.Option.{same_Some}
 use Rattle.tick_calendar.specs.declared.place.Place.{Place}
 use Rattle.tick_calendar.specs.Wheel.{entries_in, waits_at, first_at, last_at, IsWheel, RemovesFirst}
 use Rattle.tick_calendar.proofs.Chains.{entries-alike, entries-put, entries-gone, first_at-past, first_at-alike, first_at-found, HasNone, first_at-none, none-first_at, none-found, first-one, is_at-other, last_at-past, last_at-new, last_at-alike, split-last, last_at-taken, found-last}
-use Rattle.tick_calendar.proofs.Links.{linked-past, linked-behind, linked-taken, first_at-taken, linked-beyond}
+use Rattle.tick_calendar.proofs.Links.{linked-past, linked-after, linked-taken, first_at-taken, linked-beyond}
 
 -- what isn't of a tick of the turn changes no chain
 pub wheel-beyond : (places : List Place) (firsts : List (Option ℕ)) (lasts : List ℕ) (base : ℕ) (n : Place) → IsWheel places firsts lasts base → base + 1024 ≤ n.tick → n.next ≡ None → IsWheel (places ++ n ∷ []) firsts lasts base
@@ -65,10 +65,10 @@ wheel-taken a b x y firsts lasts base slot wheel low none at gone =
       linked = linked-taken (base + 1024) (base + slot) 0 a b x y wheel.linked none at gone;
     }
 
-wheel-behind : (a b : List Place) (x y n : Place) (firsts : List (Option ℕ)) (lasts : List ℕ) (base slot : ℕ) → IsWheel (a ++ x ∷ b) firsts lasts base → slot < 1024
+wheel-after : (a b : List Place) (x y n : Place) (firsts : List (Option ℕ)) (lasts : List ℕ) (base slot : ℕ) → IsWheel (a ++ x ∷ b) firsts lasts base → slot < 1024
     → waits_at (base + slot) x ≡ true → HasNone (base + slot) b → waits_at (base + slot) n ≡ true → n.next ≡ None → y.tick ≡ x.tick → y.waits ≡ x.waits → y.next ≡ Some (length (a ++ x ∷ b))
     → IsWheel (a ++ y ∷ (b ++ n ∷ [])) firsts (set lasts slot (length (a ++ x ∷ b))) base
-wheel-behind a b x y n firsts lasts base slot wheel low at none at_n next tick waits names =
+wheel-after a b x y n firsts lasts base slot wheel low at none at_n next tick waits names =
     let tick_x : x.tick ≡ base + slot = eqb-true x.tick (base + slot) (and_parts x.waits (nat_eq x.tick (base + slot)) at).1 in
     let tick_n : n.tick ≡ base + slot = eqb-true n.tick (base + slot) (and_parts n.waits (nat_eq n.tick (base + slot)) at_n).1 in
     let alike : (t : ℕ) → waits_at t x ≡ waits_at t y = λ t. rw (tick, waits) refl in
@@ -92,14 +92,14 @@ wheel-behind a b x y n firsts lasts base slot wheel low at none at_n next tick w
             let past : last_at (base + s) 0 (a ++ y ∷ (b ++ n ∷ [])) ≡ last_at (base + s) 0 (a ++ y ∷ b) = rw append_assoc at (last_at-past (base + s) 0 (a ++ y ∷ b) n (other s apart)) in
             get_or-set_other lasts slot s (length (a ++ x ∷ b)) 0 apart ∙ wheel.lasts_at s last within (last_at-alike (base + s) 0 a b x y (alike (base + s)) ∙ sym past ∙ found)
       ];
-      linked = linked-behind (base + 1024) (base + slot) 0 a b x y n wheel.linked at at_y none at_n next (names ∙ ap Some ends);
+      linked = linked-after (base + 1024) (base + slot) 0 a b x y n wheel.linked at at_y none at_n next (names ∙ ap Some ends);
     }
 
 pub record IsSplitFirst (t i q : ℕ) (ps : List Place) : Type 0 where
   pub before : List Place
   pub place : Place
-  pub behind : List Place
-  pub was : ps ≡ before ++ place ∷ behind
+  pub after : List Place
+  pub was : ps ≡ before ++ place ∷ after
   pub at : q ≡ length before + i
   pub here : waits_at t place ≡ true
   pub none : HasNone t before
@@ -108,28 +108,28 @@ split-first : (t i q : ℕ) (ps : List Place) → first_at t i ps ≡ Some q →
 unfolding first_at
 split-first t i q [] found = absurd (cc)
 split-first t i q (p ∷ ps) found = elim (cases_Bool (waits_at t p)) [
-  | inl at ↦ (let e : i ≡ q = cc (rw at at found) in record { before = []; place = p; behind = ps; was = refl; at = omega (arith, e); here = at; none = tt })
+  | inl at ↦ (let e : i ≡ q = cc (rw at at found) in record { before = []; place = p; after = ps; was = refl; at = omega (arith, e); here = at; none = tt })
   | inr apart ↦ (
       let rest = split-first t (suc i) q ps (rw apart at found) in
-      record { before = p ∷ rest.before; place = rest.place; behind = rest.behind; was = ap (λ l. p ∷ l) rest.was; at = omega (arith, rest.at); here = rest.here; none = (apart, rest.none) })
+      record { before = p ∷ rest.before; place = rest.place; after = rest.after; was = ap (λ l. p ∷ l) rest.was; at = omega (arith, rest.at); here = rest.here; none = (apart, rest.none) })
 ]
 
-pub append-behind : (places : List Place) (firsts : List (Option ℕ)) (lasts : List ℕ) (base slot first last : ℕ) (x y n : Place) → IsWheel places firsts lasts base → slot < 1024 → get_or firsts slot None ≡ Some first → last ≡ get_or lasts slot 0
+pub append-after : (places : List Place) (firsts : List (Option ℕ)) (lasts : List ℕ) (base slot first last : ℕ) (x y n : Place) → IsWheel places firsts lasts base → slot < 1024 → get_or firsts slot None ≡ Some first → last ≡ get_or lasts slot 0
     → waits_at (base + slot) n ≡ true → n.next ≡ None → x ≡ get_or (places ++ n ∷ []) last x → y.tick ≡ x.tick → y.key ≡ x.key → y.waits ≡ x.waits → y.next ≡ Some (length places)
     → IsWheel (set (places ++ n ∷ []) last y) firsts (set lasts slot (length places)) base × (entries_in (set (places ++ n ∷ []) last y) ≡ entries_in places ++ (n.tick, n.key) ∷ [])
-append-behind places firsts lasts base slot first last x y n wheel low is_first is_last at next read tick key waits names =
+append-after places firsts lasts base slot first last x y n wheel low is_first is_last at next read tick key waits names =
     let q = found-last (base + slot) 0 first places (sym (wheel.firsts_at slot low) ∙ is_first) in
     let split = split-last (base + slot) 0 q.0 places q.1 in
     let place : last ≡ length split.before = omega (arith, is_last ∙ wheel.lasts_at slot q.0 low q.1, split.at) in
-    let whole : places ++ n ∷ [] ≡ split.before ++ split.place ∷ (split.behind ++ n ∷ []) = ap (λ l. l ++ n ∷ []) split.was ∙ append_assoc split.before (split.place ∷ split.behind) (n ∷ []) in
-    let same : x ≡ split.place = read ∙ ap (λ l. get_or l last x) whole ∙ get_or_at split.before split.place (split.behind ++ n ∷ []) x last (sym place) in
-    let written : set (places ++ n ∷ []) last y ≡ split.before ++ y ∷ (split.behind ++ n ∷ []) = ap (λ l. set l last y) whole ∙ set_at split.before split.place (split.behind ++ n ∷ []) y last (sym place) in
-    let long : length (split.before ++ split.place ∷ split.behind) ≡ length places = ap length (sym split.was) in
-    let turned = wheel-behind split.before split.behind split.place y n firsts lasts base slot (subst (λ l. IsWheel l firsts lasts base) split.was wheel) low split.here split.none at next
+    let whole : places ++ n ∷ [] ≡ split.before ++ split.place ∷ (split.after ++ n ∷ []) = ap (λ l. l ++ n ∷ []) split.was ∙ append_assoc split.before (split.place ∷ split.after) (n ∷ []) in
+    let same : x ≡ split.place = read ∙ ap (λ l. get_or l last x) whole ∙ get_or_at split.before split.place (split.after ++ n ∷ []) x last (sym place) in
+    let written : set (places ++ n ∷ []) last y ≡ split.before ++ y ∷ (split.after ++ n ∷ []) = ap (λ l. set l last y) whole ∙ set_at split.before split.place (split.after ++ n ∷ []) y last (sym place) in
+    let long : length (split.before ++ split.place ∷ split.after) ≡ length places = ap length (sym split.was) in
+    let turned = wheel-after split.before split.after split.place y n firsts lasts base slot (subst (λ l. IsWheel l firsts lasts base) split.was wheel) low split.here split.none at next
     (tick ∙ ap (λ (p : Place). p.tick) same) (waits ∙ ap (λ (p : Place). p.waits) same) (names ∙ ap Some (sym long)) in
-    let alike : entries_in (split.before ++ y ∷ (split.behind ++ n ∷ [])) ≡ entries_in (places ++ n ∷ []) =
-    entries-alike split.before (split.behind ++ n ∷ []) y split.place (tick ∙ ap (λ (p : Place). p.tick) same) (key ∙ ap (λ (p : Place). p.key) same) (waits ∙ ap (λ (p : Place). p.waits) same) ∙ ap entries_in (sym whole) in (
-      subst (λ l. IsWheel l firsts (set lasts slot (length places)) base) (sym written) (subst (λ m. IsWheel (split.before ++ y ∷ (split.behind ++ n ∷ [])) firsts (set lasts slot m) base) long turned),
+    let alike : entries_in (split.before ++ y ∷ (split.after ++ n ∷ [])) ≡ entries_in (places ++ n ∷ []) =
+    entries-alike split.before (split.after ++ n ∷ []) y split.place (tick ∙ ap (λ (p : Place). p.tick) same) (key ∙ ap (λ (p : Place). p.key) same) (waits ∙ ap (λ (p : Place). p.waits) same) ∙ ap entries_in (sym whole) in (
+      subst (λ l. IsWheel l firsts (set lasts slot (length places)) base) (sym written) (subst (λ m. IsWheel (split.before ++ y ∷ (split.after ++ n ∷ [])) firsts (set lasts slot m) base) long turned),
       ap entries_in written ∙ alike ∙ entries-put places n (and_parts n.waits (nat_eq n.tick (base + slot)) at).0,
     )
 
@@ -137,22 +137,22 @@ append-behind places firsts lasts base slot first last x y n wheel low is_first 
 pub first-within : (places : List Place) (firsts : List (Option ℕ)) (lasts : List ℕ) (base slot first : ℕ) → IsWheel places firsts lasts base → slot < 1024 → get_or firsts slot None ≡ Some first → first < length places
 first-within places firsts lasts base slot first wheel low is_first =
     let split = split-first (base + slot) 0 first places (sym (wheel.firsts_at slot low) ∙ is_first) in
-    omega (arith, ap length split.was, length-append split.before (split.place ∷ split.behind), split.at)
+    omega (arith, ap length split.was, length-append split.before (split.place ∷ split.after), split.at)
 
 pub last-within : (places : List Place) (firsts : List (Option ℕ)) (lasts : List ℕ) (base slot first : ℕ) → IsWheel places firsts lasts base → slot < 1024 → get_or firsts slot None ≡ Some first → get_or lasts slot 0 < length places
 last-within places firsts lasts base slot first wheel low is_first =
     let q = found-last (base + slot) 0 first places (sym (wheel.firsts_at slot low) ∙ is_first) in
     let split = split-last (base + slot) 0 q.0 places q.1 in
-    omega (arith, wheel.lasts_at slot q.0 low q.1, ap length split.was, length-append split.before (split.place ∷ split.behind), split.at)
+    omega (arith, wheel.lasts_at slot q.0 low q.1, ap length split.was, length-append split.before (split.place ∷ split.after), split.at)
 
 pub take-first : (places : List Place) (firsts : List (Option ℕ)) (lasts : List ℕ) (base slot first : ℕ) (x y : Place) → IsWheel places firsts lasts base → slot < 1024 → get_or firsts slot None ≡ Some first → x ≡ get_or places first x → y.waits ≡ false
     → IsWheel (set places first y) (set firsts slot x.next) lasts base × RemovesFirst (base + slot) places (set places first y) x.key
 take-first places firsts lasts base slot first x y wheel low is_first read gone =
     let split = split-first (base + slot) 0 first places (sym (wheel.firsts_at slot low) ∙ is_first) in
     let place : first ≡ length split.before = omega (arith, split.at) in
-    let same : x ≡ split.place = read ∙ ap (λ l. get_or l first x) split.was ∙ get_or_at split.before split.place split.behind x first (sym place) in
-    let written : set places first y ≡ split.before ++ y ∷ split.behind = ap (λ l. set l first y) split.was ∙ set_at split.before split.place split.behind y first (sym place) in
-    let turned = wheel-taken split.before split.behind split.place y firsts lasts base slot (subst (λ l. IsWheel l firsts lasts base) split.was wheel) low split.none split.here gone in (
-      subst (λ l. IsWheel l (set firsts slot x.next) lasts base) (sym written) (subst (λ (m : Option ℕ). IsWheel (split.before ++ y ∷ split.behind) (set firsts slot m) lasts base) (ap (λ (p : Place). p.next) (sym same)) turned),
-      record { before = split.before; place = split.place; behind = split.behind; was = split.was; at = split.here; none = none-found (base + slot) 0 split.before split.none; key_is = ap (λ (p : Place). p.key) same; left = ap entries_in written ∙ entries-gone split.before split.behind y gone },
+    let same : x ≡ split.place = read ∙ ap (λ l. get_or l first x) split.was ∙ get_or_at split.before split.place split.after x first (sym place) in
+    let written : set places first y ≡ split.before ++ y ∷ split.after = ap (λ l. set l first y) split.was ∙ set_at split.before split.place split.after y first (sym place) in
+    let turned = wheel-taken split.before split.after split.place y firsts lasts base slot (subst (λ l. IsWheel l firsts lasts base) split.was wheel) low split.none split.here gone in (
+      subst (λ l. IsWheel l (set firsts slot x.next) lasts base) (sym written) (subst (λ (m : Option ℕ). IsWheel (split.before ++ y ∷ split.after) (set firsts slot m) lasts base) (ap (λ (p : Place). p.next) (sym same)) turned),
+      record { before = split.before; place = split.place; after = split.after; was = split.was; at = split.here; none = none-found (base + slot) 0 split.before split.none; key_is = ap (λ (p : Place). p.key) same; left = ap entries_in written ∙ entries-gone split.before split.after y gone },
     )

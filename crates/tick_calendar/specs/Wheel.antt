@@ -22,7 +22,7 @@ first_at t i (p ∷ ps) = if waits_at t p then Some i else first_at t (suc i) ps
 
 -- a place whose tick is below the end of the turn names the next place of its tick
 abbrev pub IsChained : ℕ → ℕ → Place → List Place → Type 0
-IsChained end i p behind = p.waits ≡ true → p.tick < end → p.next ≡ first_at p.tick (suc i) behind
+IsChained end i p after = p.waits ≡ true → p.tick < end → p.next ≡ first_at p.tick (suc i) after
 
 unfoldable pub AreLinked : ℕ → ℕ → List Place → Type 0
 AreLinked end i [] = Unit {0}
@@ -58,12 +58,12 @@ AreAllFrom t entries = AllByRecursion (IsFrom t) entries
 pub record RemovesFirst (t : ℕ) (old new : List Place) (key : ℕ) : Type 0 where
   pub before : List Place
   pub place : Place
-  pub behind : List Place
-  pub was : old ≡ before ++ place ∷ behind
+  pub after : List Place
+  pub was : old ≡ before ++ place ∷ after
   pub at : waits_at t place ≡ true
   pub none : first_at t 0 before ≡ None
   pub key_is : key ≡ place.key
-  pub left : entries_in new ≡ entries_in before ++ entries_in behind
+  pub left : entries_in new ≡ entries_in before ++ entries_in after
 
 -- what a calendar keeps
 pub record IsKeptWheel (places : List Place) (firsts : List (Option ℕ)) (lasts : List ℕ) (base slot waiting room clock capacity : ℕ) : Type 0 where

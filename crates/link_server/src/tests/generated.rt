@@ -29,7 +29,7 @@ fn ask(link: &mut LinkState, number: u64) -> Result<Reply, Fail> {
     let some = (number >> 40) % 65_536;
     match kind {
         0 | 1 => reserve(link, chan, &voice()?, 12 + some % 30),
-        2 | 3 => reserve_behind(link, chan),
+        2 | 3 => reserve_at_later_hop(link, chan),
         4..=7 => relax(link, chan, 1 + (some % 3) as u8),
         8 => deny(link, chan),
         9..=12 => submit(
@@ -48,7 +48,7 @@ fn ask(link: &mut LinkState, number: u64) -> Result<Reply, Fail> {
 }
 
 // A reserve at a hop that isn't the first.
-fn reserve_behind(link: &mut LinkState, chan: u32) -> Result<Reply, Fail> {
+fn reserve_at_later_hop(link: &mut LinkState, chan: u32) -> Result<Reply, Fail> {
     let contract = voice()?;
     let ask = Ask::Reserve {
         chan: ChanNo::new(chan).ok_or("channel")?,

@@ -44,13 +44,13 @@ loop-place-preserved c =
     let offers = c.args.it.now.levels in
     let place = c.loop-place.place in
     let hop = c.offer-offer.result.hop in
-    let behind = allotment c.args.jitter c.args.slack place (drop place hops) (drop place offers) in
-    let level : level_number c.within_share-level.result ≡ relaxed (limit_before c.args.jitter (drop place offers)) hop (get_or offers (place - 1) 0) (behind.slack / place) =
+    let after = allotment c.args.jitter c.args.slack place (drop place hops) (drop place offers) in
+    let level : level_number c.within_share-level.result ≡ relaxed (limit_before c.args.jitter (drop place offers)) hop (get_or offers (place - 1) 0) (after.slack / place) =
     c.within_share-level.ensures.value
     ∙ ap (λ l. relaxed l hop (level_number c.offer-offer.result.level) (c.loop-place.left / c.from.result)) c.loop-place.invariant.limit
     ∙ ap (λ o. relaxed (limit_before c.args.jitter (drop place offers)) hop o (c.loop-place.left / c.from.result)) c.offer-offer.ensures.level
     ∙ ap (λ s. relaxed (limit_before c.args.jitter (drop place offers)) hop (get_or offers (place - 1) 0) (s / c.from.result)) c.loop-place.invariant.left
-    ∙ ap (λ p. relaxed (limit_before c.args.jitter (drop place offers)) hop (get_or offers (place - 1) 0) (behind.slack / p)) c.from.ensures in
+    ∙ ap (λ p. relaxed (limit_before c.args.jitter (drop place offers)) hop (get_or offers (place - 1) 0) (after.slack / p)) c.from.ensures in
     let step = share-step c.args.jitter c.args.slack hops offers place hop (level_number c.offer-offer.result.level) (level_number c.within_share-level.result) c.loop-place.left
     c.loop-place-test.true c.loop-place.invariant.in_route c.offer-offer.ensures.hop c.offer-offer.ensures.level c.loop-place.invariant.left level in
     let bounds : c.from-in-loop-place.result - c.bound_of.result ≡ bound_at hop.bounds (level_number c.within_share-level.result) - bound_at hop.bounds (level_number c.offer-offer.result.level) =

@@ -53,7 +53,7 @@ loop-row-init c =
 
 pub take_source_packet-requires-clause-ready : goal.take_source_packet-requires-clause-ready
 take_source_packet-requires-clause-ready c =
-    ready-now c.args.clock c.args.rows.now c.loop-row.row-index c.loop-row.rows c.row-item.result c.loop-row.invariant.stepped.behind c.requires.ready (omega (arith, c.loop-row-test.true, c.loop-row.auto.rows))
+    ready-now c.args.clock c.args.rows.now c.loop-row.row-index c.loop-row.rows c.row-item.result c.loop-row.invariant.stepped.after c.requires.ready (omega (arith, c.loop-row-test.true, c.loop-row.auto.rows))
 
 pub take_source_packet-requires-clause-within : goal.take_source_packet-requires-clause-within
 take_source_packet-requires-clause-within c = c.loop-row.invariant.levels c.loop-row.row-index c.row-item.result (omega (arith, c.loop-row-test.true, c.loop-row.auto.rows))
@@ -66,7 +66,7 @@ take_source_packet-requires-clause-room c =
     let step : taken_by (step_in c.args.bounds.now (take c.len-before.result (here_in c.loop-row.packets.here.items)) c.args.clock (get_or c.loop-row.rows c.loop-row.row-index c.row-item.result))
     ≡ taken_by (step_in c.args.bounds.now (here_in c.args.packets.now.here.items) c.args.clock (get_or c.loop-row.rows c.loop-row.row-index c.row-item.result)) =
     ap (λ here. taken_by (step_in c.args.bounds.now here c.args.clock (get_or c.loop-row.rows c.loop-row.row-index c.row-item.result))) c.loop-row.invariant.front in
-    let fits = packets-now c.args.bounds.now (here_in c.args.packets.now.here.items) c.args.clock c.loop-row.packets.taken c.args.rows.now c.loop-row.row-index c.loop-row.rows c.row-item.result c.loop-row.invariant.stepped.behind (omega (arith, c.loop-row-test.true, c.loop-row.auto.rows)) in
+    let fits = packets-now c.args.bounds.now (here_in c.args.packets.now.here.items) c.args.clock c.loop-row.packets.taken c.args.rows.now c.loop-row.row-index c.loop-row.rows c.row-item.result c.loop-row.invariant.stepped.after (omega (arith, c.loop-row-test.true, c.loop-row.auto.rows)) in
     let all = ap length c.loop-row.invariant.stepped.here in
     let now = length-append (here_in c.loop-row.packets.here.items) (brought_by c.args.bounds.now (here_in c.args.packets.now.here.items) c.args.clock c.loop-row.packets.taken (drop c.loop-row.row-index c.args.rows.now)) in
     let was = length-append (here_in c.args.packets.now.here.items) (brought_by c.args.bounds.now (here_in c.args.packets.now.here.items) c.args.clock c.args.packets.now.taken c.args.rows.now) in
@@ -79,7 +79,7 @@ take_source_packet-requires-clause-numbers c =
     let step : taken_by (step_in c.args.bounds.now (take c.len-before.result (here_in c.loop-row.packets.here.items)) c.args.clock (get_or c.loop-row.rows c.loop-row.row-index c.row-item.result))
     ≡ taken_by (step_in c.args.bounds.now (here_in c.args.packets.now.here.items) c.args.clock (get_or c.loop-row.rows c.loop-row.row-index c.row-item.result)) =
     ap (λ here. taken_by (step_in c.args.bounds.now here c.args.clock (get_or c.loop-row.rows c.loop-row.row-index c.row-item.result))) c.loop-row.invariant.front in
-    let fits = packets-now c.args.bounds.now (here_in c.args.packets.now.here.items) c.args.clock c.loop-row.packets.taken c.args.rows.now c.loop-row.row-index c.loop-row.rows c.row-item.result c.loop-row.invariant.stepped.behind (omega (arith, c.loop-row-test.true, c.loop-row.auto.rows)) in
+    let fits = packets-now c.args.bounds.now (here_in c.args.packets.now.here.items) c.args.clock c.loop-row.packets.taken c.args.rows.now c.loop-row.row-index c.loop-row.rows c.row-item.result c.loop-row.invariant.stepped.after (omega (arith, c.loop-row-test.true, c.loop-row.auto.rows)) in
     let all = c.loop-row.invariant.stepped.taken in
     omega (arith, step, fits, all, c.requires.numbers)
 

@@ -3,7 +3,7 @@ use Rattle.std.proofs.lemmas.List.{append_assoc, length-append}
 use Rattle.std.specs.Vec.Iter.{into_iter_items}
 use Rattle.link_ledger.specs.Tokens.{Token}
 use Rattle.shared_network.specs.Ready.{MayStep}
-use Rattle.shared_network.proofs.GatherFacts.{gathered-first, gathered-next, given-none, given-more, behind}
+use Rattle.shared_network.proofs.GatherFacts.{gathered-first, gathered-next, given-none, given-more, after}
 use Rattle.shared_network.proofs.closing.gather.Goals as goal
 
 pub loop-pass-init : goal.loop-pass-init
@@ -12,8 +12,8 @@ loop-pass-init g c =
     let first : Token = c.in-Some.first in
     let split : first ∷ into_iter_items c.into_iter-pass-iterator.result ≡ c.args.passes.items =
     ap (λ it. first ∷ into_iter_items it) c.into_iter-pass-iterator.ensures.into_iter_gives ∙ sym c.in-Some.ensures.items ∙ c.into_iter-rest.ensures.rest in
-    let may : MayStep g.H.Home.table g.H.Home.owners g.H.Home.links first = behind (MayStep g.H.Home.table g.H.Home.owners g.H.Home.links) c.args.passes.items [] _ first split all.may_step in
-    let among : first.view.among ≡ length c.args.passes.items = behind (λ (p : Token). p.view.among ≡ length c.args.passes.items) c.args.passes.items [] _ first split all.among in
+    let may : MayStep g.H.Home.table g.H.Home.owners g.H.Home.links first = after (MayStep g.H.Home.table g.H.Home.owners g.H.Home.links) c.args.passes.items [] _ first split all.may_step in
+    let among : first.view.among ≡ length c.args.passes.items = after (λ (p : Token). p.view.among ≡ length c.args.passes.items) c.args.passes.items [] _ first split all.among in
     let given = c.in-Some-give_seat.ensures in
     let pushed = c.push_reserved.ensures.items in
     let room = c.requires.room in
@@ -31,7 +31,7 @@ pub unreachable-requires-in_default-give_seat-2 : goal.unreachable-requires-in_d
 unreachable-requires-in_default-give_seat-2 g c =
     let so = c.loop-pass.invariant in
     let split = ap (λ ps. so.done ++ ps) (sym c.in-Some-pass.ensures.steps.0) ∙ so.split in
-    let may : MayStep g.H.Home.table g.H.Home.owners g.H.Home.links c.in-Some-pass.pass = behind (MayStep g.H.Home.table g.H.Home.owners g.H.Home.links) c.args.passes.items so.done _ c.in-Some-pass.pass split c.requires.all.may_step in
+    let may : MayStep g.H.Home.table g.H.Home.owners g.H.Home.links c.in-Some-pass.pass = after (MayStep g.H.Home.table g.H.Home.owners g.H.Home.links) c.args.passes.items so.done _ c.in-Some-pass.pass split c.requires.all.may_step in
     let given = c.in_default-give_seat-2.ensures.given.1 may.has_seat in
     cc
 
@@ -39,7 +39,7 @@ pub gather-requires-clause-that : goal.gather-requires-clause-that
 gather-requires-clause-that g c =
     let so = c.loop-pass.invariant in
     let split = ap (λ ps. so.done ++ ps) (sym c.in-Some-pass.ensures.steps.0) ∙ so.split in
-    let may : MayStep g.H.Home.table g.H.Home.owners g.H.Home.links c.in-Some-pass.pass = behind (MayStep g.H.Home.table g.H.Home.owners g.H.Home.links) c.args.passes.items so.done _ c.in-Some-pass.pass split c.requires.all.may_step in
+    let may : MayStep g.H.Home.table g.H.Home.owners g.H.Home.links c.in-Some-pass.pass = after (MayStep g.H.Home.table g.H.Home.owners g.H.Home.links) c.args.passes.items so.done _ c.in-Some-pass.pass split c.requires.all.may_step in
     c.in-Some-give_seat-2.ensures.seat.1 ∙ may.table_is ∙ sym c.requires.table
 
 pub loop-pass-preserved : goal.loop-pass-preserved
@@ -49,7 +49,7 @@ loop-pass-preserved g c =
     let n : ℕ = length c.args.passes.items in
     let rest : List Token = into_iter_items c.next-in-loop-pass.new.self in
     let split : so.done ++ pass ∷ rest ≡ c.args.passes.items = ap (λ ps. so.done ++ ps) (sym c.in-Some-pass.ensures.steps.0) ∙ so.split in
-    let may : MayStep g.H.Home.table g.H.Home.owners g.H.Home.links pass = behind (MayStep g.H.Home.table g.H.Home.owners g.H.Home.links) c.args.passes.items so.done rest pass split c.requires.all.may_step in
+    let may : MayStep g.H.Home.table g.H.Home.owners g.H.Home.links pass = after (MayStep g.H.Home.table g.H.Home.owners g.H.Home.links) c.args.passes.items so.done rest pass split c.requires.all.may_step in
     let given = c.in-Some-give_seat-2.ensures in
     let pushed = c.push_reserved-in-loop-pass.ensures.items in
     let capacity = c.push_reserved-in-loop-pass.ensures.capacity in

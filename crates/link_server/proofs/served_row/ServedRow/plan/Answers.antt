@@ -5,7 +5,7 @@ use Rattle.link_steps.specs.Rows.{SourcePacket, planned_from}
 use Rattle.link_server.specs.declared.served_row.ServedRow.{ServedRow}
 use Rattle.link_server.specs.Planned.{left_in}
 use Rattle.link_server.specs.Rows.{row_in}
-use Rattle.link_server.proofs.PlanFacts.{behind-none}
+use Rattle.link_server.proofs.PlanFacts.{after-none}
 use Rattle.link_server.proofs.served_row.ServedRow.plan.Goals as goal
 
 -- the row with other packets planned
@@ -15,4 +15,4 @@ with_left row left = record (row_in row) { left = left }
 pub returns : goal.returns
 returns c =
     ap (with_left c.args.self.now)
-    (behind-none (left_in c.args.self.now.planned) (planned_from c.args.planned.tick c.args.planned.gap c.args.planned.size c.args.planned.count) c.requires)
+    (after-none (left_in c.args.self.now.planned) (planned_from c.args.planned.tick c.args.planned.gap c.args.planned.size c.args.planned.count) c.requires)

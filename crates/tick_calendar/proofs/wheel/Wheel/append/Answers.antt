@@ -4,7 +4,7 @@ use Rattle.std.specs.Option.{is_some}
 use Rattle.std.proofs.lemmas.List.{get_or_read}
 use Rattle.std.proofs.lemmas.Bool.{eq-eqb, true≢false}
 use Rattle.tick_calendar.proofs.Chains.{entries-put}
-use Rattle.tick_calendar.proofs.WheelLemmas.{wheel-beyond, wheel-first, append-behind, last-within}
+use Rattle.tick_calendar.proofs.WheelLemmas.{wheel-beyond, wheel-first, append-after, last-within}
 use Rattle.tick_calendar.proofs.wheel.Wheel.append.Goals as goal
 
 pub returns-then-tick-self-ge1024-clause-wheel : goal.returns-then-tick-self-ge1024-clause-wheel
@@ -56,7 +56,7 @@ returns-clause-wheel c =
     let some = some-of c.index.result.now (c.is_none.ensures ∙ ap not c.if-is_none.false) in
     let first : get_or c.args.self.now.firsts.items slot None ≡ Some some.0 = sym (get_or_read c.args.self.now.firsts.items slot c.index.result.now (omega (arith, w.slots, low)) c.index.ensures None) ∙ some.1 in
     let last = get_or_read c.args.self.now.lasts.items slot c.index-last.result.now (omega (arith, w.ends, low)) c.index-last.ensures 0 in
-    (rw (c.push_reserved.ensures.items, place) ((append-behind c.args.self.now.places.items c.args.self.now.firsts.items c.args.self.now.lasts.items c.args.self.now.base slot some.0 c.index-last.result.now c.index_mut-2.result.now _ _ w low first last
+    (rw (c.push_reserved.ensures.items, place) ((append-after c.args.self.now.places.items c.args.self.now.firsts.items c.args.self.now.lasts.items c.args.self.now.base slot some.0 c.index-last.result.now c.index_mut-2.result.now _ _ w low first last
     (eq-eqb c.args.tick (c.args.self.now.base + slot) back) refl (rw c.push_reserved.ensures.items at c.index_mut-2.ensures.value) refl refl refl refl).0))
 
 pub returns-clause-entries : goal.returns-clause-entries
@@ -69,5 +69,5 @@ returns-clause-entries c =
     let some = some-of c.index.result.now (c.is_none.ensures ∙ ap not c.if-is_none.false) in
     let first : get_or c.args.self.now.firsts.items slot None ≡ Some some.0 = sym (get_or_read c.args.self.now.firsts.items slot c.index.result.now (omega (arith, w.slots, low)) c.index.ensures None) ∙ some.1 in
     let last = get_or_read c.args.self.now.lasts.items slot c.index-last.result.now (omega (arith, w.ends, low)) c.index-last.ensures 0 in
-    (rw (c.push_reserved.ensures.items, place) ((append-behind c.args.self.now.places.items c.args.self.now.firsts.items c.args.self.now.lasts.items c.args.self.now.base slot some.0 c.index-last.result.now c.index_mut-2.result.now _ _ w low first last
+    (rw (c.push_reserved.ensures.items, place) ((append-after c.args.self.now.places.items c.args.self.now.firsts.items c.args.self.now.lasts.items c.args.self.now.base slot some.0 c.index-last.result.now c.index_mut-2.result.now _ _ w low first last
     (eq-eqb c.args.tick (c.args.self.now.base + slot) back) refl (rw c.push_reserved.ensures.items at c.index_mut-2.ensures.value) refl refl refl refl).1))

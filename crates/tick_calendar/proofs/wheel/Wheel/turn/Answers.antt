@@ -15,9 +15,9 @@ loop-index-init c =
     filter_same _ (λ place. place.waits) _ (λ x b f k. search (rules, tests)) c.args.self.now.places.items c.retain.new.self.items c.retain.ensures.filtered in
     let same : entries_in c.retain.new.self.items ≡ entries_in c.args.self.now.places.items = ap entries_in kept ∙ entries-kept c.args.self.now.places.items in
     let waits : All (λ place. place.waits ≡ true) c.retain.new.self.items = subst (All (λ place. place.waits ≡ true)) (sym kept) (kept-wait c.args.self.now.places.items) in
-    let behind : drop c.len-index.result c.retain.new.self.items ≡ [] = drop_all c.len-index.result c.retain.new.self.items (omega (arith, c.len-index.ensures, c.retain.new.self.ok)) in
+    let after : drop c.len-index.result c.retain.new.self.items ≡ [] = drop_all c.len-index.result c.retain.new.self.items (omega (arith, c.len-index.ensures, c.retain.new.self.ok)) in
     record {
-      wheel = subst (λ l. IsWheelFrom c.len-index.result l c.fill.new.self.items c.args.self.now.lasts.items c.args.base) (sym behind)
+      wheel = subst (λ l. IsWheelFrom c.len-index.result l c.fill.new.self.items c.args.self.now.lasts.items c.args.base) (sym after)
           (turn-begins (vec_len c.args.self.now.firsts) c.len-index.result c.fill.new.self.items c.args.self.now.lasts.items c.args.base (c.fill.ensures.items (λ y same. first_of (search rules, grind arith, cc)))
           (omega (arith, c.requires.wheel.slots, c.args.self.now.firsts.ok)) (omega (arith, c.fill.ensures.len, c.requires.wheel.slots, c.args.self.now.firsts.ok, c.fill.new.self.ok)) c.requires.wheel.ends);
       within = omega (arith, c.len-index.ensures, c.retain.new.self.ok);
