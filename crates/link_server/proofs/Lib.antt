@@ -7,6 +7,7 @@ pub mod StepFacts
 pub mod PlanFacts
 pub mod TakeFacts
 pub mod HoldFacts
+pub mod HoldsAgreeFacts
 pub mod AccountFacts
 pub mod RoomFacts
 pub mod TickFacts

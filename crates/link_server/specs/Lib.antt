@@ -14,6 +14,7 @@ pub mod Sound
 pub mod SoundProp
 pub mod Quiet
 pub mod Rank
+pub mod HoldsAgree
 pub mod Line
 pub mod InLine
 pub mod Parting

@@ -12,6 +12,7 @@ mod expiry;
 mod held_packet;
 mod held_row;
 mod in_line;
+pub mod laws;
 mod line;
 mod link_state;
 mod packets;
