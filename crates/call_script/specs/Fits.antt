@@ -6,23 +6,16 @@ use Rattle.std.specs.List.{slice_get}
 use Rattle.net_units.specs.Numbers.{link_number}
 use Rattle.net_units.specs.declared.numbers.LinkNo.{LinkNo}
 use Rattle.hop_reservation.specs.Routes.{IsRoute}
-use Rattle.hop_reservation.specs.declared.route.Hop.{Hop}
 use Rattle.link_steps.specs.Legal.{SubmitFits}
 use Rattle.link_steps.specs.Lists.{Each}
 use Rattle.link_steps.specs.Split.{Link, SplitFits}
 use Rattle.relaxation.specs.Laws.{HaveBounds}
+use Rattle.setup_protocol.specs.Hops.{IsHopOf}
 use Rattle.setup_protocol.specs.declared.request.Request.{Request}
 use Rattle.traffic_contract.specs.Contract.{IsContract}
 use Rattle.call_script.specs.Tasks.{Network}
 use Rattle.call_script.specs.declared.tasks.Task.{Task}
 use Rattle.call_script.specs.declared.tasks.Task.TheVariants.{Opens, Sends, Closes, Pours}
-
--- a hop over one of the links
-pub record IsHopOf (links : List Link) (hop : Hop) : Type 0 where
-  pub link : Link
-  pub linked : slice_get links (link_number hop.link) ≡ Some link
-  pub bounds : hop.bounds ≡ link.shape.bounds
-  pub prop : hop.prop ≡ link.shape.prop
 
 pub record RequestFits (links : List Link) (request : Request) : Type 0 where
   pub contract : IsContract request.contract

@@ -11,7 +11,7 @@ use Rattle.link_steps.specs.Lists.{Each}
 use Rattle.link_steps.specs.Scan.{clock_of}
 use Rattle.link_steps.specs.Split.{Link}
 use Rattle.call_script.proofs.FitFacts.{request-fits}
-use Rattle.call_script.specs.Fits.{IsHopOf}
+use Rattle.setup_protocol.specs.Hops.{IsHopOf}
 use Rattle.call_script.specs.Parts.{PlanParts}
 use Rattle.call_script.specs.Plans.{IsPlan}
 use Rattle.call_script.specs.Tasks.{entry_link}

@@ -4,7 +4,8 @@ use Rattle.std.specs.List.{slice_get}
 use Rattle.hop_reservation.specs.declared.route.Hop.{Hop}
 use Rattle.link_steps.specs.Lists.{Each}
 use Rattle.setup_protocol.specs.declared.request.Request.{Request}
-use Rattle.call_script.specs.Fits.{IsHopOf, RequestFits}
+use Rattle.call_script.specs.Fits.{RequestFits}
+use Rattle.setup_protocol.specs.Hops.{IsHopOf}
 use Rattle.call_script.specs.Tasks.{Network}
 use Rattle.run_record.specs.declared.done.Done.{Done}
 use Rattle.channel_laws.proofs.Places.{Each-at}

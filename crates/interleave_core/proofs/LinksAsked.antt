@@ -29,7 +29,8 @@ use Rattle.link_steps.proofs.ListFacts.{Each-append, Each-filter, Each-find, Eac
 use Rattle.link_steps.proofs.ServiceFacts.{starts-fact}
 use Rattle.setup_protocol.specs.Setup.{Progress, Reserving, Undoing, Relaxing, Settled, asked, asked_of, hop_link, progress_of}
 use Rattle.setup_protocol.specs.declared.request.Request.{Request}
-use Rattle.call_script.specs.Fits.{IsHopOf, TaskFits, NetworkFits}
+use Rattle.call_script.specs.Fits.{TaskFits, NetworkFits}
+use Rattle.setup_protocol.specs.Hops.{IsHopOf}
 use Rattle.call_script.specs.Scripts.{first_ask, ask_at, script_ask, standing, task_ask}
 use Rattle.call_script.specs.Tasks.{Network}
 use Rattle.call_script.specs.declared.tasks.Task.{Task}

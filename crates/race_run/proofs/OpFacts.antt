@@ -19,7 +19,6 @@ use Rattle.channel_laws.specs.Asks.{IsOff}
 use Rattle.shared_network.specs.Added.{Adds, Asked, asked_in}
 use Rattle.shared_network.specs.Sight.{FitsAt}
 use Rattle.net_units.specs.declared.numbers.LinkNo.{LinkNo}
-use Rattle.link_steps.proofs.ListFacts.{Each-if}
 use Rattle.step_stamp.specs.Lists.{Has}
 use Rattle.step_stamp.proofs.ListFacts.{each_has, has_split}
 use Rattle.setup_protocol.specs.Laws.{is_accepted}
@@ -29,9 +28,10 @@ use Rattle.setup_protocol.specs.declared.request.Request.{Request}
 use Rattle.link_ledger.specs.Owners.{IsOwner}
 use Rattle.link_ledger.specs.Tokens.{Token}
 use Rattle.link_ledger.specs.declared.entries.OwnEntry.{OwnEntry}
-use Rattle.shared_network.specs.Calls.{OthersStay, HasNone, IsEstablished, IsHopOf, Follows, SetsUp, TearsDown, reply_in}
+use Rattle.shared_network.specs.Calls.{OthersStay, HasNone, IsEstablished, Follows, SetsUp, TearsDown, reply_in}
+use Rattle.setup_protocol.specs.Hops.{IsHopOf}
 use Rattle.shared_network.proofs.LinkNumbers.{same-actor}
-use Rattle.call_script.specs.Fits.{IsHopOf as HopOf, RequestFits, SendFits, PourFits, TaskFits}
+use Rattle.call_script.specs.Fits.{RequestFits, SendFits, PourFits, TaskFits}
 use Rattle.call_script.specs.Owners.{TaskOff, FullScript, OwnedFully}
 use Rattle.call_script.specs.Parts.{PlanParts}
 use Rattle.call_script.specs.Plans.{IsPlan}
@@ -116,7 +116,7 @@ pub hops-of : (parts : PlanParts) (links : List Link) (owners : List ActorNo) (c
 unfolding network_of
 hops-of parts links owners c entry plan network found =
     subst (λ ls. Each (IsHopOf ls) entry.request.route) (sym network.links_are)
-    (Each-if (HopOf (map entry_link parts.links)) (IsHopOf (map entry_link parts.links)) entry.request.route (λ hop of. record { link = of.link; is_link = of.linked; bounds = of.bounds; prop = of.prop }) (request-fits parts c entry plan found).hops)
+    (request-fits parts c entry plan found).hops
 
 -- ---- opening
 
@@ -273,7 +273,7 @@ send-owner parts links owners caller place chan count gap size entry pass accept
 pub send-there : (parts : PlanParts) (links : List Link) (owners : List ActorNo) (c : ℕ) (entry : RequestEntry) (hop : Hop) → IsPlan parts → IsNetworkOf parts links owners → slice_get parts.requests c ≡ Some entry → slice_get entry.request.route 0 ≡ Some hop → link_number hop.link < length links
 send-there parts links owners c entry hop plan network found first =
     let of : IsHopOf links hop = each-get (IsHopOf links) entry.request.route 0 hop (hops-of parts links owners c entry plan network found) first in
-    inside-of links (link_number hop.link) of.link of.is_link
+    inside-of links (link_number hop.link) of.link of.linked
 
 pub send-fits : (parts : PlanParts) (links : List Link) (caller place : ℕ) (chan : ChanNo) (count gap size : ℕ) (entry : RequestEntry) (pass : Token) (accepted : List Bool) (l : ℕ) → IsPlan parts → CallerIsAt parts caller place pass accepted → HasOp parts caller place (Send chan count gap size) → slice_get parts.requests (channel_number chan) ≡ Some entry → FitsAt links l (Submit entry.request.chan count gap size)
 send-fits parts links caller place chan count gap size entry pass accepted l plan at has found =

@@ -1,3 +1,4 @@
+pub mod Hops
 pub mod Laws
 pub mod Releases
 pub mod Requests

@@ -57,7 +57,8 @@ use Rattle.setup_protocol.proofs.ProgressFacts.{progress-advances, progress-none
 use Rattle.channel_laws.specs.Asks.{IsOff}
 use Rattle.channel_laws.proofs.Places.{Each-at}
 use Rattle.link_ledger.specs.Owners.{OwnsAsk, NextBelow, IsBelow}
-use Rattle.shared_network.specs.Calls.{HasNone, IsHopOf, IsCommitted, IsEstablished, hold_at}
+use Rattle.shared_network.specs.Calls.{HasNone, IsCommitted, IsEstablished, hold_at}
+use Rattle.setup_protocol.specs.Hops.{IsHopOf}
 use Rattle.shared_network.specs.Holds.{Hold, Free, Untold, reserved, hold_relaxed, denied, hold_with, hold_from, hold_of}
 use Rattle.shared_network.specs.Sight.{FitsAt, IsSend}
 use Rattle.shared_network.proofs.HoldSteps.{AnswersOf, answers}
@@ -207,7 +208,7 @@ owns-asked owners a request (Settled outcome) to ask owner same = absurd (let cl
 -- and each reserve a next link of the network
 next-found : (links : List Link) (route : List Hop) (i : ℕ) (found : Option Hop) → Each (IsHopOf links) route → slice_get route i ≡ found → IsBelow (length links) (option_map hop_link found)
 next-found links route i None hops is = tt
-next-found links route i (Some hop) hops is = (let at = Each-at (IsHopOf links) route i hop hops is in slice_get_within links (link_number hop.link) at.link at.is_link)
+next-found links route i (Some hop) hops is = (let at = Each-at (IsHopOf links) route i hop hops is in slice_get_within links (link_number hop.link) at.link at.linked)
 
 next-hop : (links : ℕ) (found : Option Hop) (own : Hop → Ask) (to : LinkNo) (ask : Ask) → ((hop : Hop) → NextBelow links (own hop)) → asked_of found own ≡ Some (to, ask) → NextBelow links ask
 next-hop links None own to ask next same = absurd (let clash : None ≡ Some (to, ask) = same in cc)
@@ -228,7 +229,7 @@ module _ (table : TableId) (owners : List ActorNo) (links : List Link) (request 
   hop-of = Each-at (IsHopOf links) request.route hop-asked.index hop-asked.hop so.sound.hops hop-asked.stands
 
   at-link : IsLink links (link_number to) hop-of.link
-  at-link = subst (λ (l : LinkNo). IsLink links (link_number l) hop-of.link) (sym hop-asked.is_asked) hop-of.is_link
+  at-link = subst (λ (l : LinkNo). IsLink links (link_number l) hop-of.link) (sym hop-asked.is_asked) hop-of.linked
 
   pub to-below : link_number to < length links
   to-below = slice_get_within links (link_number to) hop-of.link at-link

@@ -44,7 +44,8 @@ use Rattle.link_ledger.specs.Tokens.{IsLink}
 use Rattle.link_ledger.specs.Own.{own_at}
 use Rattle.link_ledger.specs.declared.entries.OwnEntry.{OwnEntry}
 use Rattle.link_ledger.proofs.OwnFacts.{one_at, none_at}
-use Rattle.shared_network.specs.Calls.{IsHopOf, hold_at}
+use Rattle.shared_network.specs.Calls.{hold_at}
+use Rattle.setup_protocol.specs.Hops.{IsHopOf}
 use Rattle.shared_network.specs.Holds.{Hold, Free, Holds, reserved, denied, hold_with, hold_of, IsHeld}
 use Rattle.shared_network.proofs.HoldFacts.{hold-more}
 use Rattle.shared_network.proofs.HoldSteps.{AnswersOf}
@@ -67,7 +68,7 @@ record HopAt (links : List Link) (request : Request) (i : ℕ) : Type 0 where
   bounds : hop.bounds ≡ link.shape.bounds
 
 abbrev hop-at : (links : List Link) (request : Request) (i : ℕ) (hop : Hop) → IsSound links request → slice_get request.route i ≡ Some hop → HopAt links request i
-hop-at links request i hop sound found = (let is = Each-at (IsHopOf links) request.route i hop sound.hops found in record { hop = hop; stands = found; link = is.link; is_link = is.is_link; bounds = is.bounds })
+hop-at links request i hop sound found = (let is = Each-at (IsHopOf links) request.route i hop sound.hops found in record { hop = hop; stands = found; link = is.link; is_link = is.linked; bounds = is.bounds })
 
 -- two hops over one link are the same
 pub index-apart : (hops : List Hop) (a b : ℕ) (one other : Hop) → IsRoute hops → slice_get hops a ≡ Some one → slice_get hops b ≡ Some other → link_of one ≡ link_of other → a ≡ b

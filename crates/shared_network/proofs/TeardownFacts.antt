@@ -34,7 +34,8 @@ use Rattle.link_ledger.specs.Owners.{OwnsAsk, IsOwner, NextBelow}
 use Rattle.link_ledger.specs.Tokens.{Token, IsLink, Steps}
 use Rattle.link_ledger.specs.declared.entries.OwnEntry.{OwnEntry}
 use Rattle.shared_network.specs.Added.{IsSamePass}
-use Rattle.shared_network.specs.Calls.{Follows, IsHopOf, IsCommitted, IsEstablished, TearsDown, reply_in, hold_at}
+use Rattle.shared_network.specs.Calls.{Follows, IsCommitted, IsEstablished, TearsDown, reply_in, hold_at}
+use Rattle.setup_protocol.specs.Hops.{IsHopOf}
 use Rattle.shared_network.specs.Holds.{hold_of, IsHeld}
 use Rattle.shared_network.specs.Ready.{MayStep, PassGoesOn}
 use Rattle.shared_network.specs.Sight.{FitsAt}
@@ -118,7 +119,7 @@ module _ (table : TableId) (owners : List ActorNo) (links : List Link) (request 
   hop-of = Each-at (IsHopOf links) request.route (length replies) hop-asked.hop so.hops hop-asked.stands
 
   at-link : IsLink links (link_number to) hop-of.link
-  at-link = subst (λ (l : LinkNo). IsLink links (link_number l) hop-of.link) (sym hop-asked.at) hop-of.is_link
+  at-link = subst (λ (l : LinkNo). IsLink links (link_number l) hop-of.link) (sym hop-asked.at) hop-of.linked
 
   pub to-below : link_number to < length links
   to-below = slice_get_within links (link_number to) hop-of.link at-link

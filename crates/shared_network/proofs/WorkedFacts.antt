@@ -25,7 +25,8 @@ use Rattle.tick_plane.specs.Planes.{plane_start, plane_of}
 use Rattle.link_ledger.specs.Owners.{IsOwner}
 use Rattle.link_ledger.specs.Tokens.{Token, IsLink}
 use Rattle.link_ledger.specs.declared.entries.OwnEntry.{OwnEntry}
-use Rattle.shared_network.specs.Calls.{HasNone, IsHopOf, Follows}
+use Rattle.shared_network.specs.Calls.{HasNone, Follows}
+use Rattle.setup_protocol.specs.Hops.{IsHopOf}
 use Rattle.shared_network.specs.Gathering.{AreAll}
 use Rattle.shared_network.specs.Planes.{IsPlanes}
 use Rattle.shared_network.specs.Ready.{MayStep, IsNew}
@@ -37,7 +38,7 @@ whole-splits shape xs links are = subst (Each SplitFits) are (Each-map SplitFits
 
 pub over-hops : (links : List Link) (l : ℕ) (shape : LinkShape) (route : List Hop) → IsLink links l (whole shape) → IsWorkedLink shape → Each (IsOverLink l) route → Each (IsHopOf links) route
 over-hops links l shape route is worked over =
-    Each-if (IsOverLink l) (IsHopOf links) route (λ hop on. record { link = whole shape; is_link = subst (λ n. IsLink links n (whole shape)) (sym on.link_is) is; bounds = on.bounds ∙ sym worked.bounds; prop = on.prop ∙ sym worked.prop }) over
+    Each-if (IsOverLink l) (IsHopOf links) route (λ hop on. record { link = whole shape; linked = subst (λ n. IsLink links n (whole shape)) (sym on.link_is) is; bounds = on.bounds ∙ sym worked.bounds; prop = on.prop ∙ sym worked.prop }) over
 
 numbered-owner : (k : ℕ) (found : Option ActorNo) (actor : ActorNo) → option_map (λ (a : ActorNo). actor_number a) found ≡ Some k → actor_number actor ≡ k → found ≡ Some actor
 numbered-owner k None actor is at = absurd (let clash : None ≡ Some k = is in cc)

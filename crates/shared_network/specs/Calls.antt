@@ -3,32 +3,25 @@
 -- count that the first hop has told.
 use Rattle.std.specs.Prelude.{◌≡◌, ◌≢◌, ℕ, nat_eq, Bool, Option, Some, List, [], ◌∷◌, ◌++◌, length, map}
 use Rattle.std.specs.List.{slice_get}
-use Rattle.net_units.specs.Numbers.{channel_number, link_number}
+use Rattle.net_units.specs.Numbers.{channel_number}
 use Rattle.net_units.specs.declared.numbers.ChanNo.{ChanNo}
 use Rattle.net_units.specs.declared.numbers.LinkNo.{LinkNo}
 use Rattle.hop_reservation.specs.Routes.{link_of}
 use Rattle.hop_reservation.specs.declared.route.Hop.{Hop}
 use Rattle.link_steps.specs.Lists.{Each}
 use Rattle.link_steps.specs.Reservation.{Reservation}
-use Rattle.link_steps.specs.Split.{Link}
 use Rattle.link_steps.specs.declared.asks.Ask.{Ask}
 use Rattle.link_steps.specs.declared.replies.Phase.TheVariants.{Committed}
 use Rattle.link_steps.specs.declared.replies.Reply.{Reply}
+use Rattle.setup_protocol.specs.Hops.{IsHopOf}
 use Rattle.setup_protocol.specs.Setup.{Outcome, next_ask, verdict_of}
 use Rattle.setup_protocol.specs.Teardown.{first_count, next_release}
 use Rattle.setup_protocol.specs.declared.request.Request.{Request}
 use Rattle.channel_laws.specs.Asks.{IsOff}
 use Rattle.link_ledger.specs.Own.{own_at}
-use Rattle.link_ledger.specs.Tokens.{Token, IsLink}
+use Rattle.link_ledger.specs.Tokens.{Token}
 use Rattle.link_ledger.specs.declared.entries.OwnEntry.{OwnEntry}
 use Rattle.shared_network.specs.Holds.{Hold, Holds, hold_of}
-
--- a hop over a link of the network, with its bounds and its propagation
-pub record IsHopOf (links : List Link) (hop : Hop) : Type 0 where
-  pub link : Link
-  pub is_link : IsLink links (link_number hop.link) link
-  pub bounds : hop.bounds ≡ link.shape.bounds
-  pub prop : hop.prop ≡ link.shape.prop
 
 -- no entry names the channel
 abbrev pub HasNone : ChanNo → List OwnEntry → Type 0

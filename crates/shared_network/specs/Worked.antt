@@ -10,7 +10,8 @@ use Rattle.link_steps.specs.declared.shape.LinkShape.{LinkShape}
 use Rattle.setup_protocol.specs.declared.request.Request.{Request}
 use Rattle.link_ledger.specs.Owners.{IsOwner}
 use Rattle.link_ledger.specs.Tokens.{Token}
-use Rattle.shared_network.specs.Calls.{HasNone, IsHopOf}
+use Rattle.shared_network.specs.Calls.{HasNone}
+use Rattle.setup_protocol.specs.Hops.{IsHopOf}
 use Rattle.shared_network.specs.Ready.{MayStep}
 
 pub record IsWorkedLink (shape : LinkShape) : Type 0 where

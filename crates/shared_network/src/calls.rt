@@ -7,7 +7,8 @@ ghost use Rattle.setup_protocol.specs.State.{outcome_of};
 ghost use Rattle.setup_protocol.specs.Teardown.{told_count};
 ghost use Rattle.link_ledger.specs.Owners.{IsOwner};
 ghost use Rattle.shared_network.specs.Added.{IsSamePass, IsLost};
-ghost use Rattle.shared_network.specs.Calls.{HasNone, IsHopOf, IsEstablished, OthersStay, SetsUp, TearsDown};
+ghost use Rattle.shared_network.specs.Calls.{HasNone, IsEstablished, OthersStay, SetsUp, TearsDown};
+ghost use Rattle.setup_protocol.specs.Hops.{IsHopOf};
 ghost use Rattle.shared_network.specs.Ready.{MayStep, PassGoesOn};
 
 use crate::network::Network;

@@ -8,7 +8,7 @@ ghost use Rattle.step_stamp.specs.Opening.{AreLinks, ArePasses};
 ghost use Rattle.step_stamp.specs.Seats.{stamps_table};
 ghost use Rattle.link_ledger.specs.Owners.{IsOwner};
 ghost use Rattle.tick_plane.specs.Planes.{plane_start};
-ghost use Rattle.shared_network.specs.Calls.{IsHopOf};
+ghost use Rattle.setup_protocol.specs.Hops.{IsHopOf};
 ghost use Rattle.shared_network.specs.Ready.{MayStep, PassGoesOn, IsNew};
 ghost use Rattle.shared_network.specs.Worked.{IsJob, IsOverLink, IsWorkedLink};
 
