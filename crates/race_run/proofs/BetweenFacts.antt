@@ -53,6 +53,19 @@ inside-of [] k x found = absurd (let clash : None ≡ Some x = found in cc)
 inside-of (y ∷ xs) zero x found = omega arith
 inside-of (y ∷ xs) (suc k) x found = (let less = inside-of xs k x found in omega (arith, less))
 
+-- the tasks of a caller at a place of its script
+pub caller-tasks : (parts : PlanParts) (caller place : ℕ) (pass : Token) (accepted : List Bool) (at : CallerIsAt parts caller place pass accepted)
+    → HasTasks (network_of parts) pass.actor (tasks_of (requests_of parts) (take place at.entry.ops) ++ tasks_of (requests_of parts) (drop place at.entry.ops))
+unfolding network_of
+caller-tasks parts caller place pass accepted at =
+    let requests = requests_of parts in
+    let entry = at.entry in
+    let all : tasks_of requests (take place entry.ops) ++ tasks_of requests (drop place entry.ops) ≡ tasks_of requests entry.ops = sym (tasks-append requests (take place entry.ops) (drop place entry.ops)) ∙ ap (tasks_of requests) (take-append-drop place entry.ops) in
+    record {
+      caller = ne_eqb (actor_number pass.actor) (length (map (script_of requests) parts.callers)) (λ clash. absurd (let low = inside-of parts.callers caller entry at.found in let number = at.is in let count = length-map parts.callers (script_of requests) in omega (arith, low, number, count, clash)));
+      found = ap (slice_get (map (script_of requests) parts.callers)) at.is ∙ slice_get-map (script_of requests) parts.callers caller ∙ ap (option_map (script_of requests)) at.found ∙ ap Some (sym all);
+    }
+
 -- the caller before an operation: what its script has before and after it, and that it goes on after it
 pub record Here (parts : PlanParts) (caller place : ℕ) (op : Op) (pass : Token) (accepted : List Bool) : Type 0 where
   pub front : List Task
@@ -73,14 +86,10 @@ here parts caller place op pass accepted at has =
     let task = task_of requests op in
     let after : tasks_of requests (drop place entry.ops) ≡ with_task task (tasks_of requests (drop (place + 1) entry.ops)) = ap (tasks_of requests) (left-at entry.ops place op inside is) ∙ tasks-one requests op (drop (place + 1) entry.ops) in
     let before : tasks_of requests (take (place + 1) entry.ops) ≡ tasks_of requests (take place entry.ops) ++ with_task task [] = ap (tasks_of requests) (before-at entry.ops place op inside is) ∙ tasks-append requests (take place entry.ops) (op ∷ []) ∙ ap (λ ts. tasks_of requests (take place entry.ops) ++ ts) (tasks-one requests op [] ∙ ap (with_task task) (tasks-none requests)) in
-    let all : tasks_of requests (take place entry.ops) ++ with_task task (tasks_of requests (drop (place + 1) entry.ops)) ≡ tasks_of requests entry.ops = ap (λ ts. tasks_of requests (take place entry.ops) ++ ts) (sym after) ∙ sym (tasks-append requests (take place entry.ops) (drop place entry.ops)) ∙ ap (tasks_of requests) (take-append-drop place entry.ops) in
     record {
       front = tasks_of requests (take place entry.ops);
       rest = tasks_of requests (drop (place + 1) entry.ops);
-      tasks = record {
-        caller = ne_eqb (actor_number pass.actor) (length (map (script_of requests) parts.callers)) (λ clash. absurd (let low = inside-of parts.callers caller entry at.found in let number = at.is in let count = length-map parts.callers (script_of requests) in omega (arith, low, number, count, clash)));
-        found = ap (slice_get (map (script_of requests) parts.callers)) at.is ∙ slice_get-map (script_of requests) parts.callers caller ∙ ap (option_map (script_of requests)) at.found ∙ ap Some (sym all);
-      };
+      tasks = subst (λ ts. HasTasks (network_of parts) pass.actor (tasks_of requests (take place entry.ops) ++ ts)) after (caller-tasks parts caller place pass accepted at);
       between = subst (λ rest. StandsBetween (network_of parts) (tasks_of requests (take place entry.ops)) rest pass accepted) after at.between;
       next = λ pass' accepted' by long between. record {
         entry = entry;

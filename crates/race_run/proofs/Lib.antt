@@ -8,3 +8,4 @@ mod ScriptFacts
 mod TaskFacts
 mod BetweenFacts
 mod OpFacts
+mod ScriptEnds

@@ -55,6 +55,12 @@ pub record HasLeft (parts : PlanParts) (caller place : ℕ) : Type 0 where
   pub found : slice_get parts.callers caller ≡ Some entry
   pub inside : place < length entry.ops
 
+-- it has `count` operations in all
+pub record HasOps (parts : PlanParts) (caller count : ℕ) : Type 0 where
+  pub entry : CallerEntry
+  pub found : slice_get parts.callers caller ≡ Some entry
+  pub all : length entry.ops ≡ count
+
 pub record HasOp (parts : PlanParts) (caller place : ℕ) (op : Op) : Type 0 where
   pub entry : CallerEntry
   pub found : slice_get parts.callers caller ≡ Some entry

@@ -1,0 +1,14 @@
+use Rattle.std.proofs.Common.{refl, arith}
+use Rattle.race_run.proofs.ScriptEnds.{script-ends}
+use Rattle.race_run.proofs.scripts.make_ops.Goals as goal
+
+pub loop-place-init : goal.loop-place-init
+loop-place-init g c = record { at = c.requires.at; ready = record { may_step = c.requires.pass; among = refl }; actor = refl }
+
+pub make_op-requires-clause-left : goal.make_op-requires-clause-left
+make_op-requires-clause-left g c =
+    let ops = c.requires.all in
+    record { entry = ops.entry; found = ops.found; inside = (let all = ops.all in let less = c.loop-place-test.true in omega (arith, all, less)) }
+
+pub returns-clause-made : goal.returns-clause-made
+returns-clause-made g c = script-ends c.args.plan.now c.args.all.0 c.loop-place.place c.args.all.1 c.loop-place.pass c.loop-place.accepted c.loop-place.invariant.at c.requires.all c.loop-place-test.false

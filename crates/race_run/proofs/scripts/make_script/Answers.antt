@@ -1,0 +1,13 @@
+use Rattle.std.proofs.Common.{◌≡◌, ◌<◌, false, Some, length, replicate, refl, sym, ap, ◌∙◌, arith}
+use Rattle.std.proofs.lemmas.Option.{slice_get_read}
+use Rattle.std.specs.List.{slice_get}
+use Rattle.race_run.proofs.ScriptEnds.{script-begins}
+use Rattle.race_run.proofs.scripts.make_script.Goals as goal
+
+pub make_ops-requires-clause-at : goal.make_ops-requires-clause-at
+make_ops-requires-clause-at g c =
+    let inside : c.args.caller < length c.callers.result.now = (let less = c.requires.is.0 in let same = ap length c.callers.ensures.value in omega (arith, less, same)) in
+    let found : slice_get c.args.plan.now.callers c.args.caller ≡ Some c.index-callers-caller.result =
+    ap (λ callers. slice_get callers c.args.caller) (sym c.callers.ensures.value) ∙ slice_get_read c.callers.result.now (length c.callers.result.now) c.args.caller c.index-callers-caller.result refl inside c.index-callers-caller.is in
+    let none : c.in_ok-accepted.accepted.items ≡ replicate (length c.requests.result.now) false = c.in_ok-accepted.ensures.items_if_clones_equal (λ y same. same) in
+    script-begins c.args.plan.now c.args.caller c.index-callers-caller.result c.args.pass.now c.deref_mut.result.now found c.requires.is.1 c.requires.new.0 (c.deref_mut.ensures.value ∙ none ∙ ap (λ requests. replicate (length requests) false) c.requests.ensures.value)
