@@ -9,3 +9,5 @@ mod TaskFacts
 mod BetweenFacts
 mod OpFacts
 mod ScriptEnds
+mod PlaneSteps
+mod RoundFacts

@@ -2,3 +2,4 @@ pub mod Whole
 pub mod Turns
 pub mod Merging
 pub mod Callers
+pub mod Rounds

@@ -7,6 +7,7 @@
 
 pub mod callers;
 pub mod merging;
+pub mod rounds;
 pub mod scripts;
 pub mod turns;
 pub mod weaving;

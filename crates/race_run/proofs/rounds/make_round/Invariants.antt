@@ -1,0 +1,19 @@
+use Rattle.std.proofs.Common.{◌≡◌, ◌+◌, ◌⊎◌}
+use Rattle.call_script.specs.Tasks.{network_of}
+use Rattle.interleave_core.specs.Turns.{plane_most}
+use Rattle.shared_network.specs.Ready.{PassGoesOn}
+use Rattle.race_run.specs.Rounds.{PlaneIsOn}
+use Rattle.race_run.proofs.rounds.make_round.Given as goal
+
+-- the plane is in the round, or has ended it
+abbrev pub invariant-loop-plane : goal.invariant-loop-plane
+invariant-loop-plane g l = record {
+  on : PlaneIsOn (network_of l.plan) l.plane l.pass;
+  round : (l.plane.at.round ≡ l.round) ⊎ ((l.plane.at.round ≡ l.round + 1) × (l.plane.at.ticked ≡ 0));
+  ready : PassGoesOn g.H.Home.table g.H.Home.owners g.H.Home.links l.fn.pass l.pass;
+  actor : l.pass.actor ≡ l.fn.pass.actor;
+}
+
+-- it has fewer steps left at most
+abbrev pub decreases-loop-plane : goal.decreases-loop-plane
+decreases-loop-plane g l = plane_most l.plane.links l.plane.rounds l.plane.at
