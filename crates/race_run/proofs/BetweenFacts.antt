@@ -1,12 +1,11 @@
 -- A caller between two operations goes on over one task: one that takes no step, and one that is made.
-use Rattle.std.proofs.Common.{◌≡◌, ◌≢◌, ℕ, zero, suc, ◌+◌, ◌<◌, ◌≤◌, Bool, true, false, List, [], ◌∷◌, ◌++◌, map, reverse, take, drop, set, get_or, length, Option, Some, None, refl, sym, ap, ◌∙◌, subst, inl, inr, arith}
-use Rattle.std.proofs.lemmas.Bool.{cases_Bool, ne_eqb, eq-eqb, eqb-true}
+use Rattle.std.proofs.Common.{◌≡◌, ℕ, zero, suc, ◌+◌, ◌<◌, Bool, true, false, List, [], ◌∷◌, ◌++◌, map, reverse, take, drop, get_or, length, Option, Some, None, refl, sym, ap, ◌∙◌, subst, arith}
+use Rattle.std.proofs.lemmas.Bool.{ne_eqb}
 use Rattle.std.proofs.lemmas.List.{append_assoc, append-nil, length-map, take-append-drop}
-use Rattle.std.proofs.lemmas.Option.{same_Some, slice_get-map, slice_get_past}
+use Rattle.std.proofs.lemmas.Option.{same_Some, slice_get-map}
 use Rattle.std.specs.List.{slice_get}
-use Rattle.std.specs.Prelude.{nat_eq, option_map}
+use Rattle.std.specs.Prelude.{option_map}
 use Rattle.net_units.specs.Numbers.{actor_number, channel_number}
-use Rattle.net_units.specs.declared.numbers.ActorNo.{ActorNo}
 use Rattle.net_units.specs.declared.numbers.ChanNo.{ChanNo}
 use Rattle.link_steps.specs.Lists.{Each}
 use Rattle.step_stamp.specs.Lists.{Has}
@@ -22,9 +21,8 @@ use Rattle.call_script.specs.Tasks.{Network, network_of, script_of, task_of, tas
 use Rattle.call_script.specs.declared.entries.CallerEntry.{CallerEntry}
 use Rattle.call_script.specs.declared.operations.Op.{Op}
 use Rattle.call_script.specs.declared.tasks.Task.{Task}
-use Rattle.call_script.specs.declared.tasks.Task.TheVariants.{Opens, Sends, Closes, Pours}
+use Rattle.call_script.specs.declared.tasks.Task.TheVariants.{Opens}
 use Rattle.call_script.proofs.Walks.{left-at, before-at, read-at}
-use Rattle.interleave_core.specs.Runs.{plane_no}
 use Rattle.race_run.specs.Callers.{StandsBetween, CallerIsAt, HasOp, LeavesOpen}
 use Rattle.race_run.proofs.ScriptFacts.{each-front, has-front}
 use Rattle.race_run.proofs.TaskFacts.{HasTasks, Past, task-made}

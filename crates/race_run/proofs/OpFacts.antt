@@ -4,7 +4,7 @@ use Rattle.std.proofs.lemmas.Bool.{eq-eqb, ne_eqb, cases_eq, lt-ltb}
 use Rattle.std.proofs.lemmas.List.{length-map, length-set, get_or-set_same, get_or-set_other}
 use Rattle.std.proofs.lemmas.Option.{same_Some, slice_get-map, slice_get_past}
 use Rattle.std.specs.List.{slice_get}
-use Rattle.std.specs.Prelude.{nat_eq, option_map}
+use Rattle.std.specs.Prelude.{option_map}
 use Rattle.net_units.specs.Numbers.{actor_number, channel_number, link_number}
 use Rattle.net_units.specs.declared.numbers.ActorNo.{ActorNo}
 use Rattle.net_units.specs.declared.numbers.ChanNo.{ChanNo}
@@ -22,8 +22,8 @@ use Rattle.net_units.specs.declared.numbers.LinkNo.{LinkNo}
 use Rattle.step_stamp.specs.Lists.{Has}
 use Rattle.step_stamp.proofs.ListFacts.{each_has, has_split}
 use Rattle.setup_protocol.specs.Laws.{is_accepted}
-use Rattle.setup_protocol.specs.Setup.{Outcome, Accepts, Denies, Progress, Settled, offers_in, after_offers, asked, asked_of, settled_in, progress_of, next_ask, verdict_of}
-use Rattle.setup_protocol.specs.Teardown.{next_release, first_count}
+use Rattle.setup_protocol.specs.Setup.{Outcome, Accepts, Denies, Progress, Settled, offers_in, after_offers, asked, asked_of, settled_in, progress_of, verdict_of}
+use Rattle.setup_protocol.specs.Teardown.{first_count}
 use Rattle.setup_protocol.specs.declared.request.Request.{Request}
 use Rattle.link_ledger.specs.Owners.{IsOwner}
 use Rattle.link_ledger.specs.Tokens.{Token}
@@ -31,13 +31,13 @@ use Rattle.link_ledger.specs.declared.entries.OwnEntry.{OwnEntry}
 use Rattle.shared_network.specs.Calls.{OthersStay, HasNone, IsEstablished, Follows, SetsUp, TearsDown, reply_in}
 use Rattle.setup_protocol.specs.Hops.{IsHopOf}
 use Rattle.shared_network.proofs.LinkNumbers.{same-actor}
-use Rattle.call_script.specs.Fits.{RequestFits, SendFits, PourFits, TaskFits}
-use Rattle.call_script.specs.Owners.{TaskOff, FullScript, OwnedFully}
+use Rattle.call_script.specs.Fits.{SendFits, PourFits, TaskFits}
+use Rattle.call_script.specs.Owners.{TaskOff, FullScript}
 use Rattle.call_script.specs.Parts.{PlanParts}
 use Rattle.call_script.specs.Plans.{IsPlan}
-use Rattle.call_script.specs.Scripts.{Opened, is_accepting, is_established, outcome_by, settled_as, submit_next, task_ask, takes_step}
+use Rattle.call_script.specs.Scripts.{Opened, is_accepting, is_established, outcome_by, settled_as, submit_next, task_ask}
 use Rattle.call_script.specs.Standing.{requests_of}
-use Rattle.call_script.specs.Tasks.{Network, network_of, request_of, entry_link, task_of, with_task}
+use Rattle.call_script.specs.Tasks.{network_of, request_of, entry_link, task_of, with_task}
 use Rattle.call_script.specs.declared.entries.RequestEntry.{RequestEntry}
 use Rattle.call_script.specs.declared.operations.Op.{Op}
 use Rattle.call_script.specs.declared.operations.Op.TheVariants.{Open, Send, Close, Pour}
@@ -45,9 +45,9 @@ use Rattle.call_script.specs.declared.tasks.Task.{Task}
 use Rattle.call_script.specs.declared.tasks.Task.TheVariants.{Opens, Sends, Closes, Pours}
 use Rattle.call_script.proofs.FitFacts.{request-fits, plan-fits}
 use Rattle.call_script.proofs.OwnerFacts.{owned-by}
-use Rattle.race_run.specs.Callers.{StandsBetween, CallerIsAt, HasOp, IsNetworkOf, LeavesOpen, caller_of}
-use Rattle.race_run.proofs.BetweenFacts.{Here, here, Leaves, between-none, between-skipped, between-made}
-use Rattle.race_run.proofs.ScriptFacts.{Names, AnOpen, ASend, AClose, Uses, BySend, ByClose, named-off, each-middle, each-front, has-front, opened-once, used-live}
+use Rattle.race_run.specs.Callers.{StandsBetween, CallerIsAt, HasOp, IsNetworkOf, caller_of}
+use Rattle.race_run.proofs.BetweenFacts.{here, Leaves, between-none, between-skipped, between-made}
+use Rattle.race_run.proofs.ScriptFacts.{Names, AnOpen, ASend, AClose, ByClose, named-off, each-middle, each-front, has-front, opened-once, used-live}
 use Rattle.race_run.proofs.TaskFacts.{HasTasks}
 use Rattle.race_run.proofs.Lists.{each-get}
 

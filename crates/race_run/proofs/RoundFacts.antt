@@ -1,19 +1,19 @@
 -- The plane with its pass: at the start, over a step, and once all rounds are made, when the pass has made all.
-use Rattle.std.proofs.Common.{◌≡◌, ℕ, zero, suc, ◌+◌, ◌*◌, ◌-◌, ◌^◌, ◌<◌, ◌≤◌, ◌⊎◌, true, false, Option, Some, None, List, [], ◌∷◌, ◌++◌, length, map, filter, reverse, refl, sym, ap, ◌∙◌, subst, inl, inr, arith}
+use Rattle.std.proofs.Common.{◌≡◌, ℕ, suc, ◌+◌, ◌-◌, ◌^◌, ◌<◌, ◌≤◌, ◌⊎◌, true, Option, Some, None, List, [], ◌∷◌, ◌++◌, length, map, reverse, refl, sym, ap, ◌∙◌, subst, inl, inr, arith}
 use Rattle.std.proofs.lemmas.Bool.{cases_Bool, eq-eqb, le-ltb, lt-ltb}
 use Rattle.std.proofs.lemmas.List.{append-nil, append_assoc, length-map, map-append}
 use Rattle.std.proofs.lemmas.List.Elements.{filter-append}
 use Rattle.std.proofs.lemmas.Nat.{mul-le}
-use Rattle.std.specs.Prelude.{nat_eq, nat_lt}
+use Rattle.std.specs.Prelude.{nat_eq}
 use Rattle.atomic_table.specs.Seated.{TableId}
-use Rattle.net_units.specs.Numbers.{actor_number, link_at}
+use Rattle.net_units.specs.Numbers.{actor_number}
 use Rattle.net_units.specs.declared.numbers.ActorNo.{ActorNo}
 use Rattle.net_units.specs.declared.numbers.LinkNo.{LinkNo}
 use Rattle.link_steps.specs.Split.{Link}
 use Rattle.link_steps.specs.declared.asks.Ask.{Ask}
 use Rattle.link_steps.specs.declared.replies.Reply.{Reply}
 use Rattle.tick_plane.specs.Kept.{KeptPlane}
-use Rattle.tick_plane.specs.Planes.{Plane, ask_due, next_due, plane_after, plane_ask, plane_of, plane_start, plane_with}
+use Rattle.tick_plane.specs.Planes.{Plane, ask_due, next_due, plane_ask, plane_of, plane_start, plane_with}
 use Rattle.tick_plane.specs.declared.flight.Flight.{Flight}
 use Rattle.link_ledger.specs.Own.{own_drawn}
 use Rattle.link_ledger.specs.Tokens.{Token}

@@ -1,7 +1,7 @@
 -- Where a caller stands between two operations of its script, by the own entries of its pass. These are what its tasks so far have
 -- asked, each after the replies before it. A channel that no task so far names has no entry. One that was accepted and not
 -- closed yet is established.
-use Rattle.std.specs.Prelude.{◌≡◌, ◌≢◌, ℕ, Bool, true, false, Some, List, [], ◌∷◌, ◌++◌, map, reverse, take, drop, get_or, length, ◌<◌}
+use Rattle.std.specs.Prelude.{◌≡◌, ◌≢◌, ℕ, Bool, true, false, Some, List, ◌++◌, map, reverse, take, drop, get_or, length, ◌<◌}
 use Rattle.std.specs.List.{slice_get}
 use Rattle.net_units.specs.Numbers.{actor_number, channel_number}
 use Rattle.net_units.specs.declared.numbers.ActorNo.{ActorNo}

@@ -1,5 +1,3 @@
-use Rattle.std.proofs.Common.{◌≡◌, Some}
-use Rattle.std.specs.List.{slice_get}
 use Rattle.net_units.specs.Numbers.{channel_number}
 use Rattle.setup_protocol.specs.State.{outcome_of}
 use Rattle.call_script.specs.declared.operations.Op.TheVariants.{Open}

@@ -1,4 +1,4 @@
-use Rattle.std.proofs.Common.{◌≡◌, Some, ap, sym, ◌∙◌, false, get_or}
+use Rattle.std.proofs.Common.{ap, sym, ◌∙◌, false, get_or}
 use Rattle.net_units.specs.Numbers.{channel_number}
 use Rattle.call_script.specs.declared.operations.Op.TheVariants.{Send}
 use Rattle.call_script.specs.declared.tasks.Task.TheVariants.{Sends}
