@@ -8,6 +8,7 @@ mod ScriptFacts
 mod TaskFacts
 mod BetweenFacts
 mod OpFacts
+mod OpsFew
 mod ScriptEnds
 mod PlaneSteps
 mod RoundFacts

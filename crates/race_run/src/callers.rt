@@ -1,5 +1,5 @@
 //! What a caller does over a shared network: its operations, one at a time.
-ghost use Rattle.std.specs.Prelude.{◌≡◌, ◌+◌, ◌<◌, ◌^◌, ◌-◌, OnOk, length};
+ghost use Rattle.std.specs.Prelude.{◌≡◌, ◌+◌, ◌*◌, ◌<◌, ◌≤◌, ◌^◌, ◌-◌, OnOk, length};
 ghost use Rattle.call_script.specs.declared.operations.Op.TheVariants.{Open, Send, Close, Pour};
 ghost use Rattle.setup_protocol.specs.Laws.{is_accepted};
 ghost use Rattle.setup_protocol.specs.State.{outcome_of};
@@ -15,17 +15,14 @@ use setup_protocol::Verdict;
 use shared_network::Network;
 use std::sync::Wait;
 
-// A pass draws fewer stamps than this. The operations of a plan take far fewer.
-const MOST_DRAWN: u64 = (1 << 40) - 64;
-
 /// Makes the operation of a caller at a place of its script, from 0 on, with its pass: an open sets its channel up, a send and a
 /// close of a channel that was accepted send and tear it down, and those of another channel make no step; a pour sends
 /// best-effort packets. `at` is the caller's number and the place.
 ///
 /// The network's links are the plan's, and its owners the callers of the plan's requests (`network`). The pass has made the
 /// operations before this one and no others; `accepted` tells of each channel, by its number, whether it was accepted so far, and
-/// is kept so (`at`). An `Err` comes for want of memory, or where the pass has drawn 2^40 - 64 stamps, as no plan's
-/// operations do; nothing further is claimed of the pass then. It may wait for each link.
+/// is kept so (`at`). Each operation draws 32 stamps at most (`few`, `drew`). An `Err` comes only for want of memory; nothing
+/// further is claimed of the pass then. It may wait for each link.
 pub fn make_op<H: Home, W: Wait, G: Gate>(
     rt: &W,
     network: &Network<LinkState, H>,
@@ -39,13 +36,12 @@ pub fn make_op<H: Home, W: Wait, G: Gate>(
     requires pass { MayStep H.table H.owners H.links pass.old }
     requires at { CallerIsAt plan.now at.0 at.1 pass.old accepted.old }
     requires left { HasLeft plan.now at.0 at.1 }
+    requires few { length pass.old.view.drawn ≤ 32 * at.1 }
     ensures at { OnOk result (CallerIsAt plan.now at.0 (at.1 + 1) pass.new accepted.new) }
+    ensures drew { OnOk result (length pass.new.view.drawn ≤ length pass.old.view.drawn + 32) }
     ensures ready { OnOk result (PassGoesOn H.table H.owners H.links pass.old pass.new) }
     ensures actor { OnOk result (pass.new.actor ≡ pass.old.actor) }
 {
-    if pass.drawn() >= MOST_DRAWN {
-        return Err(OutOfMemory);
-    }
     match plan.callers()[at.0].ops.as_slice()[at.1] {
         Op::Open(chan) => open_channel(rt, network, plan, gate, at, chan, pass, accepted),
         Op::Send {
@@ -87,6 +83,7 @@ fn open_channel<H: Home, W: Wait, G: Gate>(
     requires at { CallerIsAt plan.now at.0 at.1 pass.old accepted.old }
     requires op { HasOp plan.now at.0 at.1 (Open chan) }
     ensures at { OnOk result (CallerIsAt plan.now at.0 (at.1 + 1) pass.new accepted.new) }
+    ensures drew { OnOk result (length pass.new.view.drawn ≤ length pass.old.view.drawn + 32) }
     ensures ready { OnOk result (PassGoesOn H.table H.owners H.links pass.old pass.new) }
     ensures actor { OnOk result (pass.new.actor ≡ pass.old.actor) }
 {
@@ -125,6 +122,7 @@ fn send_on<H: Home, W: Wait, G: Gate>(
     requires at { CallerIsAt plan.now at.0 at.1 pass.old accepted.now }
     requires op { HasOp plan.now at.0 at.1 (Send packets.0 packets.1 packets.2 packets.3) }
     ensures at { OnOk result (CallerIsAt plan.now at.0 (at.1 + 1) pass.new accepted.now) }
+    ensures drew { OnOk result (length pass.new.view.drawn ≤ length pass.old.view.drawn + 32) }
     ensures ready { OnOk result (PassGoesOn H.table H.owners H.links pass.old pass.new) }
     ensures actor { OnOk result (pass.new.actor ≡ pass.old.actor) }
 {
@@ -165,6 +163,7 @@ fn close_channel<H: Home, W: Wait, G: Gate>(
     requires at { CallerIsAt plan.now at.0 at.1 pass.old accepted.now }
     requires op { HasOp plan.now at.0 at.1 (Close chan) }
     ensures at { OnOk result (CallerIsAt plan.now at.0 (at.1 + 1) pass.new accepted.now) }
+    ensures drew { OnOk result (length pass.new.view.drawn ≤ length pass.old.view.drawn + 32) }
     ensures ready { OnOk result (PassGoesOn H.table H.owners H.links pass.old pass.new) }
     ensures actor { OnOk result (pass.new.actor ≡ pass.old.actor) }
 {
@@ -198,6 +197,7 @@ fn pour<H: Home, W: Wait, G: Gate>(
     requires at { CallerIsAt plan.now at.0 at.1 pass.old accepted.now }
     requires op { HasOp plan.now at.0 at.1 (Pour packets.0 packets.1 packets.2 packets.3) }
     ensures at { OnOk result (CallerIsAt plan.now at.0 (at.1 + 1) pass.new accepted.now) }
+    ensures drew { OnOk result (length pass.new.view.drawn ≤ length pass.old.view.drawn + 32) }
     ensures ready { OnOk result (PassGoesOn H.table H.owners H.links pass.old pass.new) }
     ensures actor { OnOk result (pass.new.actor ≡ pass.old.actor) }
 {

@@ -19,8 +19,7 @@ use std::sync::Wait;
 /// caller's number, which is the pass's actor (`is`). The network's links are the plan's, and its owners the callers of the
 /// plan's requests (`network`).
 ///
-/// An `Err` comes for want of memory, or where the pass has drawn 2^40 - 64 stamps, as no plan's operations do; nothing further
-/// is claimed of the pass then. It may wait for each link.
+/// An `Err` comes only for want of memory, and nothing further is claimed of the pass then. It may wait for each link.
 pub(crate) fn make_script<H: Home, W: Wait, G: Gate>(
     rt: &W,
     alloc: Global,
@@ -62,6 +61,7 @@ fn make_ops<H: Home, W: Wait, G: Gate>(
 ) -> Result<(), OutOfMemory>
     requires network { IsNetworkOf plan.now H.links H.owners }
     requires pass { MayStep H.table H.owners H.links pass.old }
+    requires drawn { pass.old.view.drawn ≡ [] }
     requires all { HasOps plan.now all.0 all.1 }
     requires at { CallerIsAt plan.now all.0 0 pass.old accepted.old }
     ensures made { OnOk result (HasMadeAll (network_of plan.now) pass.new) }

@@ -1,4 +1,4 @@
-use Rattle.std.proofs.Common.{◌≡◌}
+use Rattle.std.proofs.Common.{◌≡◌, ◌*◌, ◌≤◌, length}
 use Rattle.race_run.specs.Callers.{CallerIsAt}
 use Rattle.shared_network.specs.Ready.{PassGoesOn}
 use Rattle.race_run.proofs.scripts.make_ops.Given as goal
@@ -7,6 +7,7 @@ use Rattle.race_run.proofs.scripts.make_ops.Given as goal
 abbrev pub invariant-loop-place : goal.invariant-loop-place
 invariant-loop-place g l = record {
   at : CallerIsAt l.plan l.all.0 l.place l.pass l.accepted;
+  few : length l.pass.view.drawn ≤ 32 * l.place;
   ready : PassGoesOn g.H.Home.table g.H.Home.owners g.H.Home.links l.fn.pass l.pass;
   actor : l.pass.actor ≡ l.fn.pass.actor;
 }
