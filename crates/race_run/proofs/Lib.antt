@@ -12,3 +12,7 @@ mod OpsFew
 mod ScriptEnds
 mod PlaneSteps
 mod RoundFacts
+mod PieceFacts
+mod GivenUp
+mod OpenFacts
+mod RaceFacts

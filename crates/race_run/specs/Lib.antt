@@ -3,3 +3,4 @@ pub mod Turns
 pub mod Merging
 pub mod Callers
 pub mod Rounds
+pub mod Pieces

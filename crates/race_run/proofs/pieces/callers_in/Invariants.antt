@@ -1,0 +1,9 @@
+use Rattle.std.proofs.Common.{◌≡◌, ◌++◌, Ok, map}
+use Rattle.std.specs.Vec.Iter.{into_iter_items}
+use Rattle.link_ledger.specs.Tokens.{Token}
+use Rattle.race_run.specs.declared.pieces.Piece.TheVariants.{Script}
+use Rattle.race_run.proofs.pieces.callers_in.Given as goal
+
+-- a pass for each piece that was taken
+abbrev pub invariant-loop-one : goal.invariant-loop-one
+invariant-loop-one l = map (λ (pass : Token). Ok (Script pass)) l.callers.items ++ into_iter_items l.one-iterator ≡ l.fn.made.items

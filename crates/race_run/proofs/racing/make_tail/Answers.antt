@@ -1,0 +1,13 @@
+use Rattle.std.proofs.Common.{arith}
+use Rattle.interleave_core.proofs.StepFacts.{has-few}
+use Rattle.race_run.proofs.RaceFacts.{tail-left, tail-made}
+use Rattle.race_run.proofs.racing.make_tail.Goals as goal
+
+pub overflow_add-all : goal.overflow_add-all
+overflow_add-all g c = (let few = (has-few c.args.plan.now c.rounds.ensures.valid).rounds in omega (arith, few, c.rounds.ensures.value, c.tail.ensures.value))
+
+pub make_rounds-requires-clause-until : goal.make_rounds-requires-clause-until
+make_rounds-requires-clause-until g c = tail-left c.args.plan.now c.args.plane c.args.pass c.rounds.result c.tail.result c.requires.at c.rounds.ensures.value c.tail.ensures.value
+
+pub returns-clause-made : goal.returns-clause-made
+returns-clause-made g c = tail-made c.args.plan.now c.make_rounds.new.plane c.make_rounds.new.pass c.rounds.result c.tail.result c.in_ok-make_rounds.ensures.stands c.in_ok-make_rounds.ensures.round c.rounds.ensures.value c.tail.ensures.value

@@ -1,0 +1,130 @@
+//! A race: a plan made over locked links, by threads.
+ghost use Rattle.std.specs.Prelude.{◌≡◌, ◌≤◌, suc, [], IfOk, OnOk, length, map};
+ghost use Rattle.link_steps.specs.Lists.{Each};
+ghost use Rattle.link_steps.specs.Split.{whole};
+ghost use Rattle.link_server.specs.State.{LinkStands};
+ghost use Rattle.step_stamp.specs.Lists.{up_to};
+ghost use Rattle.step_stamp.specs.Opening.{AreLinks, ArePasses};
+ghost use Rattle.step_stamp.specs.Seats.{stamps_table};
+ghost use Rattle.call_script.specs.Plans.{IsPlan};
+ghost use Rattle.call_script.specs.Tasks.{network_of};
+ghost use Rattle.interleave_core.specs.Runs.{plane_no};
+ghost use Rattle.shared_network.specs.Gathering.{AreAll, token_actor};
+ghost use Rattle.shared_network.specs.Ready.{MayStep, PassGoesOn};
+ghost use Rattle.race_run.specs.Callers.{IsNetworkOf};
+ghost use Rattle.race_run.specs.Pieces.{AreNew, IsAtRound};
+ghost use Rattle.race_run.specs.Whole.{HasMadeAll, IsWhole};
+
+use crate::opening::{links_of, owners_of, plane_of, stamps_of};
+use crate::pieces::{make_pieces, passes_of, pieces_of};
+use crate::rounds::make_rounds;
+use call_script::Plan;
+use link_ledger::{Home, Pass};
+use link_server::LinkState;
+use net_units::{ActorNo, Gate, OutOfMemory};
+use shared_network::{Closed, Network};
+use std::alloc::Global;
+use std::marker::Brand;
+use std::sync::Wait;
+use std::thread::Threads;
+use step_stamp::{LinkSeat, PassSeat, Stamps};
+use tick_plane::Plane;
+
+/// Makes the plan over a network of its links. The owners of its channels are the callers of the plan's requests. The callers'
+/// scripts and the plane's first `rounds` rounds run as pieces of one parallel call, each on a thread of its own where the
+/// machine can start one; the plane's last `tail` rounds follow once all have ended. Then the network is closed. Ok answers
+/// the journals of its links and the passes of its actors, which are whole for the plan.
+///
+/// The gate is called round each step. An `Err` comes for want of memory, after which the network is given up, or where a pass
+/// has drawn 2^40 - 64 stamps, as no plan's operations do. The call may wait.
+pub fn race<R: Threads + Wait + Sync, G: Gate + Sync>(
+    rt: &R,
+    alloc: Global,
+    plan: &Plan,
+    gate: &G,
+) -> Result<Closed, OutOfMemory>
+    ensures whole { IfOk result (λ closed. IsWhole (network_of plan.now) closed.passes.items closed.journals.items) }
+{
+    let links = links_of(alloc, plan)?;
+    let owners = owners_of(alloc, plan)?;
+    let opened = stamps_of(alloc, plan)?;
+    race_over::<Brand, R, G>(rt, alloc, plan, gate, opened, links, owners)
+}
+
+// The race over a network that is opened with these stamps and seats, links and owners.
+fn race_over<H: Home + Send + Sync, R: Threads + Wait + Sync, G: Gate + Sync>(
+    rt: &R,
+    alloc: Global,
+    plan: &Plan,
+    gate: &G,
+    opened: (Stamps, Vec<LinkSeat>, Vec<PassSeat>),
+    links: Vec<LinkState>,
+    owners: Vec<ActorNo>,
+) -> Result<Closed, OutOfMemory>
+    requires plan { IsPlan plan.now }
+    requires network { IsNetworkOf plan.now H.links H.owners }
+    requires table { stamps_table opened.0 ≡ H.table }
+    requires seats { AreLinks H.table (suc (length plan.now.callers)) (length plan.now.links) opened.1.items }
+    requires passes { ArePasses H.table (suc (length plan.now.callers)) (suc (length plan.now.callers)) opened.2.items }
+    requires links { map (λ link. whole link.shape) links.items ≡ H.links }
+    requires stand { Each (λ link. LinkStands link []) links.items }
+    requires owners { owners.items ≡ H.owners }
+    ensures { IfOk result (λ closed. IsWhole (network_of plan.now) closed.passes.items closed.journals.items) }
+{
+    let (network, passes) = Network::<LinkState, H>::open(alloc, opened, links, owners)?;
+    let passes = make_all(rt, alloc, &network, plan, gate, passes)?;
+    match network.close(alloc, passes) {
+        Ok(closed) => Ok(closed),
+        Err(_) => Err(OutOfMemory),
+    }
+}
+
+// All steps of all actors, by these passes, which are theirs in their order.
+fn make_all<H: Home + Send + Sync, R: Threads + Wait + Sync, G: Gate + Sync>(
+    rt: &R,
+    alloc: Global,
+    network: &Network<LinkState, H>,
+    plan: &Plan,
+    gate: &G,
+    passes: Vec<Pass>,
+) -> Result<Vec<Pass>, OutOfMemory>
+    requires network { IsNetworkOf plan.now H.links H.owners }
+    requires new { AreNew H.table H.owners H.links plan.now passes.items }
+    ensures all { IfOk result (λ made. AreAll H.table H.owners H.links made.items) }
+    ensures actors { IfOk result (λ made. map token_actor made.items ≡ up_to (suc (plane_no (network_of plan.now)))) }
+    ensures made { IfOk result (λ made. Each (HasMadeAll (network_of plan.now)) made.items) }
+{
+    let mut passes = passes;
+    let Some(last) = passes.pop() else {
+        unreachable!()
+    };
+    let plane = plane_of(alloc, plan)?;
+    let pieces = pieces_of(alloc, passes, plane, last)?;
+    let made = make_pieces(rt, alloc, network, plan, gate, pieces)?;
+    let (callers, plane, last) = passes_of(alloc, made)?;
+    let mut callers = callers;
+    callers.push(make_tail(rt, network, plan, gate, plane, last)?)?;
+    Ok(callers)
+}
+
+// The plane's rounds after the callers, with its pass.
+fn make_tail<H: Home, W: Wait, G: Gate>(
+    rt: &W,
+    network: &Network<LinkState, H>,
+    plan: &Plan,
+    gate: &G,
+    plane: Plane,
+    pass: Pass,
+) -> Result<Pass, OutOfMemory>
+    requires network { IsNetworkOf plan.now H.links H.owners }
+    requires may_step { MayStep H.table H.owners H.links pass }
+    requires at { IsAtRound plan.now plan.now.rounds plane pass }
+    ensures made { IfOk result (HasMadeAll (network_of plan.now)) }
+    ensures ready { IfOk result (PassGoesOn H.table H.owners H.links pass) }
+    ensures actor { IfOk result (λ made. made.actor ≡ pass.actor) }
+{
+    let (mut plane, mut pass) = (plane, pass);
+    let all = plan.rounds() + plan.tail();
+    make_rounds(rt, network, plan, gate, &mut plane, all, &mut pass)?;
+    Ok(pass)
+}
