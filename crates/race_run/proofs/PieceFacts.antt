@@ -21,7 +21,7 @@ use Rattle.tick_plane.specs.Kept.{KeptPlane}
 use Rattle.call_script.specs.Parts.{PlanParts}
 use Rattle.call_script.specs.Tasks.{network_of, script_of, request_of}
 use Rattle.interleave_core.specs.Runs.{plane_no}
-use Rattle.race_run.specs.Pieces.{AreNew, HasEnded, IsAtRound, IsMade, IsUnbegun, MayBegin, Pairwise, pass_of}
+use Rattle.race_run.specs.Pieces.{AreInOrder, AreNew, HasEnded, IsAtRound, IsMade, IsOfRounds, IsOfScript, MayBegin, Pairwise}
 use Rattle.race_run.specs.Whole.{HasMadeAll}
 use Rattle.race_run.specs.declared.pieces.Piece.{Piece}
 use Rattle.race_run.specs.declared.pieces.Piece.TheVariants.{Script, Rounds}
@@ -93,6 +93,36 @@ module _ (table : TableId) (owners : List ActorNo) (links : List Link) (parts : 
       Each-append (MayBegin table owners links parts) (map (λ (p : Token). Script p) callers) (Rounds plane last ∷ [])
       (Each-map (MayBegin table owners links parts) (λ (p : Token). Script p) callers (get-each (λ (p : Token). MayBegin table owners links parts (Script p)) callers caller-begins))
       (record { may_step = parted.1.0.may_step; begins = at }, tt)
+
+-- ---- the order
+
+pub in-order : (front : List (Result Piece OutOfMemory)) (last : Result Piece OutOfMemory) → AreInOrder (front ++ last ∷ []) → Each IsOfScript front × IsOfRounds last
+in-order [] last order = (tt, order)
+in-order (x ∷ []) last order = ((order.0, tt), order.1)
+in-order (x ∷ y ∷ front) last order = (let rest = in-order (y ∷ front) last order.1 in ((order.0, rest.0), rest.1))
+
+module _ (table : TableId) (owners : List ActorNo) (links : List Link) (parts : PlanParts) where
+  of-script : (pass : Token) (made : Result Piece OutOfMemory) → IsMade table owners links parts (Script pass) made → IsOfScript made
+  of-script pass (Ok (Script p)) ended = tt
+  of-script pass (Ok (Rounds plane p)) ended = ended.ends
+  of-script pass (Err wanted) ended = tt
+
+  of-rounds : (plane : KeptPlane) (pass : Token) (made : Result Piece OutOfMemory) → IsMade table owners links parts (Rounds plane pass) made → IsOfRounds made
+  of-rounds plane pass (Ok (Script p)) ended = ended.ends
+  of-rounds plane pass (Ok (Rounds plane' p)) ended = tt
+  of-rounds plane pass (Err wanted) ended = tt
+
+  by-pieces : (callers : List Token) (plane : KeptPlane) (last : Token) (made : List (Result Piece OutOfMemory)) → Pairwise (IsMade table owners links parts) (map (λ (p : Token). Script p) callers ++ Rounds plane last ∷ []) made → AreInOrder made
+  by-pieces [] plane last [] pairs = absurd pairs
+  by-pieces [] plane last (r ∷ []) pairs = of-rounds plane last r pairs.0
+  by-pieces [] plane last (r ∷ s ∷ made) pairs = absurd pairs.1
+  by-pieces (c ∷ cs) plane last [] pairs = absurd pairs
+  by-pieces (c ∷ []) plane last (r ∷ []) pairs = absurd pairs.1
+  by-pieces (c ∷ d ∷ cs) plane last (r ∷ []) pairs = absurd pairs.1
+  by-pieces (c ∷ cs) plane last (r ∷ s ∷ made) pairs = (of-script c r pairs.0, by-pieces cs plane last (s ∷ made) pairs.1)
+
+  pub made-in_order : (pieces : List Piece) (made : List (Result Piece OutOfMemory)) (callers : List Token) (plane : KeptPlane) (last : Token) → pieces ≡ map (λ (p : Token). Script p) callers ++ Rounds plane last ∷ [] → Pairwise (IsMade table owners links parts) pieces made → AreInOrder made
+  made-in_order pieces made callers plane last are pairs = by-pieces callers plane last made (subst (λ (ps : List Piece). Pairwise (IsMade table owners links parts) ps made) are pairs)
 
 -- ---- the end
 

@@ -2,7 +2,7 @@
 -- callers. A piece has the pass of its actor. It may begin where the pass may step the links and has made no step, or the plane
 -- stands before its first round. It has ended where the script is made to its end, or the plane has made these rounds. The
 -- pass is then the same actor's, and may go on.
-use Rattle.std.specs.Prelude.{◌≡◌, ℕ, suc, ◌<◌, Result, IfOk, List, [], ◌∷◌, length, map}
+use Rattle.std.specs.Prelude.{◌≡◌, ℕ, suc, ◌<◌, Result, Ok, Err, IfOk, List, [], ◌∷◌, length, map}
 use Rattle.atomic_table.specs.Seated.{TableId}
 use Rattle.net_units.specs.Numbers.{actor_number}
 use Rattle.net_units.specs.declared.numbers.ActorNo.{ActorNo}
@@ -70,6 +70,23 @@ abbrev pub IsMade : TableId → List ActorNo → List Link → PlanParts → Pie
 IsMade table owners links parts piece result = IfOk result (HasEnded table owners links parts piece)
 
 -- ---- all pieces
+
+-- what a script came to, and what the plane's rounds did
+abbrev pub IsOfScript : Result Piece OutOfMemory → Type 0
+IsOfScript (Ok (Script pass)) = Unit {0}
+IsOfScript (Ok (Rounds plane pass)) = ⊥
+IsOfScript (Err wanted) = Unit {0}
+
+abbrev pub IsOfRounds : Result Piece OutOfMemory → Type 0
+IsOfRounds (Ok (Script pass)) = ⊥
+IsOfRounds (Ok (Rounds plane pass)) = Unit {0}
+IsOfRounds (Err wanted) = Unit {0}
+
+-- the scripts stand before the plane's rounds
+abbrev pub AreInOrder : List (Result Piece OutOfMemory) → Type 0
+AreInOrder [] = ⊥
+AreInOrder (made ∷ []) = IsOfRounds made
+AreInOrder (made ∷ next ∷ rest) = IsOfScript made × AreInOrder (next ∷ rest)
 
 -- P holds of each element of the one list and that of the other at its place, and the lists are equally long
 abbrev pub Pairwise : {X Y : Type 0} → (X → Y → Type 0) → List X → List Y → Type 0

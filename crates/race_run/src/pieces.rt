@@ -3,7 +3,7 @@ ghost use Rattle.std.specs.Prelude.{◌≡◌, ◌++◌, ◌∷◌, [], Ok, IfOk
 ghost use Rattle.link_steps.specs.Lists.{Each};
 ghost use Rattle.race_run.specs.Callers.{IsNetworkOf};
 ghost use Rattle.race_run.specs.declared.pieces.Piece.TheVariants.{Script, Rounds};
-ghost use Rattle.race_run.specs.Pieces.{HasEnded, IsAtRound, IsMade, MayBegin, Pairwise};
+ghost use Rattle.race_run.specs.Pieces.{AreInOrder, IsMade, IsOfScript, MayBegin, Pairwise};
 ghost use Rattle.shared_network.specs.Ready.{MayStep, PassGoesOn};
 
 use crate::rounds::make_rounds;
@@ -99,32 +99,37 @@ pub(crate) fn make_pieces<H: Home + Send + Sync, R: Threads + Wait + Sync, G: Ga
     Ok(made)
 }
 
-/// The callers' passes, and the plane with its pass, out of pieces that have ended, in their order. An `Err` comes where one
-/// has wanted memory, or for want of memory.
+/// The callers' passes, and the plane with its pass, out of what their pieces came to, in the order of the pieces. An `Err`
+/// comes where a piece has wanted memory, or for want of memory.
 pub(crate) fn passes_of(
     alloc: Global,
     made: Vec<Result<Piece, OutOfMemory>>,
 ) -> Result<(Vec<Pass>, Plane, Pass), OutOfMemory>
+    requires { AreInOrder made.items }
     ensures { IfOk result (λ r. made.items ≡ map (λ pass. Ok (Script pass)) r.0.items ++ Ok (Rounds r.1 r.2) ∷ []) }
 {
     let mut made = made;
-    let Some(Ok(Piece::Rounds(plane, last))) = made.pop() else {
-        return Err(OutOfMemory);
+    let Some(ended) = made.pop() else {
+        unreachable!()
+    };
+    let Piece::Rounds(plane, last) = ended? else {
+        unreachable!()
     };
     Ok((callers_in(alloc, made)?, plane, last))
 }
 
-// The callers' passes out of their pieces.
+// The callers' passes out of what their pieces came to.
 fn callers_in(
     alloc: Global,
     made: Vec<Result<Piece, OutOfMemory>>,
 ) -> Result<Vec<Pass>, OutOfMemory>
+    requires { Each IsOfScript made.items }
     ensures { IfOk result (λ callers. made.items ≡ map (λ pass. Ok (Script pass)) callers.items) }
 {
     let mut callers = Vec::with_capacity(alloc, made.len())?;
     for one in made {
         let Piece::Script(pass) = one? else {
-            return Err(OutOfMemory);
+            unreachable!()
         };
         callers.push(pass)?;
     }

@@ -35,8 +35,8 @@ use tick_plane::Plane;
 /// machine can start one; the plane's last `tail` rounds follow once all have ended. Then the network is closed. Ok answers
 /// the journals of its links and the passes of its actors, which are whole for the plan.
 ///
-/// The gate is called round each step. An `Err` comes for want of memory, after which the network is given up, or where a pass
-/// has drawn 2^40 - 64 stamps, as no plan's operations do. The call may wait.
+/// The gate is called round each step. An `Err` comes only for want of memory, and the network is given up then. The call may
+/// wait.
 pub fn race<R: Threads + Wait + Sync, G: Gate + Sync>(
     rt: &R,
     alloc: Global,

@@ -8,7 +8,7 @@ use Rattle.call_script.specs.Tasks.{network_of}
 use Rattle.interleave_core.specs.Runs.{plane_no}
 use Rattle.race_run.specs.Pieces.{AreNew, MayBegin}
 use Rattle.race_run.specs.Whole.{HasMadeAll}
-use Rattle.race_run.proofs.PieceFacts.{all-begin, last-own, last-plane, made-actors, made-all, made-are_all, made-of}
+use Rattle.race_run.proofs.PieceFacts.{all-begin, last-own, last-plane, made-actors, made-all, made-are_all, made-in_order, made-of}
 use Rattle.race_run.proofs.RaceFacts.{plane-new}
 use Rattle.race_run.proofs.racing.make_all.Goals as goal
 
@@ -25,6 +25,9 @@ make_pieces-requires-clause-begin g c κs within =
     (plane-new c.args.plan.now c.in_ok-plane.plane c.in-Some.last c.in_ok-plane.ensures
     (last-own g.H.Home.table g.H.Home.owners g.H.Home.links c.args.plan.now c.pop.new.self.items c.in-Some.last all)
     (last-plane g.H.Home.table g.H.Home.owners g.H.Home.links c.args.plan.now c.pop.new.self.items c.in-Some.last all)))
+
+pub passes_of-requires : goal.passes_of-requires
+passes_of-requires g c = made-in_order g.H.Home.table g.H.Home.owners g.H.Home.links c.args.plan.now c.in_ok-pieces.pieces.items c.in_ok-made.made.items c.pop.new.self.items c.in_ok-plane.plane c.in-Some.last c.in_ok-pieces.ensures c.in_ok-made.ensures
 
 pub make_tail-requires-clause-may_step : goal.make_tail-requires-clause-may_step
 make_tail-requires-clause-may_step g c =
