@@ -1,0 +1,259 @@
+# Explains a refused line, for ./tenet: awk -v at=LINE -v cause=CAUSE -f refusal.awk SCENARIO prints the line, the field where it can
+# be told, and a sentence on the cause. It decides nothing: the program has refused the line, and this only looks for what to show.
+
+# ---- what a field has to be
+
+function is_name(field) {
+  return field ~ /^[A-Za-z][A-Za-z0-9_]*$/ && length(field) <= 16 && field != "contract" && field != "plane"
+}
+
+function is_number(field) {
+  return field ~ /^(0|[1-9][0-9]*)$/ && length(field) <= 18
+}
+
+# the place of a word in this line, or one place after its last field
+function place_of(word,    i) {
+  for (i = 2; i <= NF && $i != word; i++) { }
+  return i
+}
+
+# ---- the forms of lines: each place of a name or a number, from left to right
+
+function clear_form() {
+  places = 0
+}
+
+# the field at this place is a number from low to high
+function number(place, label, low, high) {
+  places++
+  at_place[places] = place
+  kind[places] = "number"
+  called[places] = label
+  least[places] = low
+  most[places] = high
+}
+
+# the field at this place is a name: a new one, one that is used, or a node
+function name(place, label, how, set) {
+  places++
+  at_place[places] = place
+  kind[places] = how
+  called[places] = label
+  names_in[places] = set
+}
+
+function link_form(    i, next_word) {
+  name(2, "the link's name", "new", "link")
+  name(3, "a node", "node", "")
+  name(4, "a node", "node", "")
+  number(6, "the rate", 1, 65536)
+  number(8, "cap", 1, 65536)
+  number(10, "prop", 0, 1048576)
+  number(12, "buffer", 0, 262144)
+  next_word = 13
+  if ($13 == "best") {
+    number(14, "best", 1, 1024)
+    next_word = 15
+  }
+  for (i = next_word + 1; i <= NF; i++) number(i, "the bound of level " i - next_word, 1, 1048576)
+}
+
+function open_form(    i, from) {
+  name(2, "the request's name", "new", "request")
+  from = place_of("contract")
+  for (i = 4; i < from; i++) name(i, "a link of the route", "used", "link")
+  number(from + 1, "XMIN", 1, 1048576)
+  number(from + 2, "XAVE", 1, 1048576)
+  number(from + 3, "I", 1, 16777216)
+  number(from + 4, "SMAX", 1, 65536)
+  number(from + 6, "the delay", 1, 67108864)
+  if ($(from + 7) == "jitter") number(from + 8, "the jitter", 1, 67108864)
+}
+
+function send_form(set, label) {
+  name(2, label, "used", set)
+  number(3, "COUNT", 1, 262144)
+  number(4, "GAP", 1, 1048576)
+  number(5, "SIZE", 1, 65536)
+}
+
+function form_of_line() {
+  clear_form()
+  if ($1 == "link") link_form()
+  if ($1 == "caller") name(2, "the caller's name", "new", "caller")
+  if ($1 == "open") open_form()
+  if ($1 == "send") send_form("own", "the request")
+  if ($1 == "pour") send_form("link", "the link")
+  if ($1 == "close") name(2, "the request", "used", "own")
+  if ($1 == "rounds" || $1 == "tail") number(2, "the rounds", 0, 524288)
+  if ($1 == "do") {
+    name(2, "the actor", "used", "actor")
+    number(3, "COUNT", 1, 1048576)
+  }
+}
+
+# ---- which field it is
+
+function is_known(set, field) {
+  if (set == "own") return (caller SUBSEP field) in own
+  if (set == "actor") return field == "plane" || ("caller" SUBSEP field) in known
+  return (set SUBSEP field) in known
+}
+
+# whether the field of this place of the form has the cause
+function has_cause(i,    field) {
+  field = $(at_place[i])
+  if (cause == "number") return kind[i] == "number" && !is_number(field)
+  if (cause == "range") return kind[i] == "number" && is_number(field) && (field + 0 < least[i] || field + 0 > most[i])
+  if (cause == "name") return kind[i] != "number" && !is_name(field) && !(names_in[i] == "actor" && field == "plane")
+  if (cause == "known") return kind[i] == "new" && is_known(names_in[i], field)
+  if (cause == "unknown") return kind[i] == "used" && !is_known(names_in[i], field)
+  return 0
+}
+
+function of_form(    i) {
+  form_of_line()
+  for (i = 1; i <= places; i++) if (has_cause(i)) {
+    tell_field(at_place[i], called[i])
+    if (cause == "range") print "  " called[i] " is from " least[i] " to " most[i]
+    return
+  }
+}
+
+function tell_field(place, label) {
+  print "  field " place ", " label ": " shown($place)
+}
+
+# a bound that doesn't rise, or a largest packet that takes longer than the first bound
+function of_levels(    i, from) {
+  from = place_of("levels")
+  for (i = from + 2; i <= NF; i++) if ($i + 0 <= $(i - 1) + 0) {
+    tell_field(i, "the bound of level " i - from)
+    print "  the bounds rise from level to level"
+    return
+  }
+  tell_field(from + 1, "the bound of level 1")
+  print "  the largest packet, cap, takes " int(($8 + $6 - 1) / $6) " ticks at this rate, and the bound of level 1 is at least that"
+}
+
+# a number of a contract
+function of_contract(    from) {
+  from = place_of("contract")
+  if ($(from + 1) + 0 > $(from + 2) + 0) tell_field(from + 1, "XMIN, which is at most XAVE")
+  else if ($(from + 2) + 0 > $(from + 3) + 0) tell_field(from + 2, "XAVE, which is at most I")
+  else tell_field(from + 3, "I, which is less than 257 times XAVE")
+}
+
+# a link of a route
+function of_route(    i, j, from) {
+  from = place_of("contract")
+  for (i = 4; i < from; i++) {
+    for (j = 4; j < i; j++) if ($j == $i) return tell_field(i, "a link that stands twice")
+    if (i > 4 && begins[$i] != ends[$(i - 1)]) {
+      tell_field(i, "a link that begins at node " begins[$i] ", and the one before it ends at node " ends[$(i - 1)])
+      return
+    }
+  }
+}
+
+# a byte or a space that may not stand there
+function of_shape() {
+  if ($0 ~ /\r$/) print "  it ends with a carriage return: tr -d '\\r' takes them out"
+  else if ($0 ~ /\t/) print "  it has a tab: exactly one space stands between two fields"
+  else if ($0 ~ /^ / || $0 ~ / $/) print "  it has a space at an end"
+  else if ($0 ~ /  /) print "  it has two spaces in a row"
+  else if ($0 ~ /[^ -~]/) print "  it has a byte that isn't a printable one of ASCII"
+  else print "  it has " NF " fields" (usual[$1] == "" ? "" : "; its form is: " usual[$1])
+}
+
+# ---- sentences
+
+function sentences() {
+  means["header"] = "the first line that isn't passed over is tenet 1, tenet 2 or tenet 3"
+  means["word"] = "this word may not stand here; the order is: the header, links, callers each with its operations, rounds, tail, schedule, do"
+  means["shape"] = "bytes, spaces, the number of fields or a fixed word aren't those of such a line"
+  means["name"] = "a name is a letter and then letters, digits and _, at most 16 in all, and neither contract nor plane"
+  means["number"] = "a number has decimal digits alone, at most 18, with no sign, point, comma or 0 in front"
+  means["known"] = "a link, a caller and a request each take a name that no other of their kind has"
+  means["unknown"] = "no link, request of this caller, or actor has this name above this line"
+  means["range"] = "the number is out of its range"
+  means["many"] = "a scenario has at most 32 links, 64 callers and 1,024 requests, and this is one more"
+  means["contract"] = "a contract has XMIN at most XAVE, XAVE at most I, and I / XAVE, rounded down, at most 256"
+  means["levels"] = "the bounds of a link rise, and its largest packet fits into the first"
+  means["route"] = "each link of a route is another one, and begins at the node where the one before it ends"
+  means["closed"] = "the request was closed above; after that nothing is sent on it and it isn't closed again"
+  means["load"] = "the COUNTs times the hops of all sends come to at most 262,144, and the rounds and the tail times the links to at most 524,288"
+  means["best"] = "a pour wants a link with best"
+  means["end"] = "the input ended before its tail line"
+  means["cut"] = "the input ended inside this line: its line feed is missing"
+  means["step"] = "this do line asks for a step of an actor that has none left at that point of the schedule; operations on a denied request take no steps"
+}
+
+function forms_of_lines() {
+  usual["link"] = "link NAME NODE NODE rate R cap C prop P buffer U levels D1 .. Dn"
+  usual["caller"] = "caller NAME"
+  usual["open"] = "open NAME route LINK1 .. LINKh contract XMIN XAVE I SMAX delay D rate, or with jitter J for rate"
+  usual["send"] = "send NAME COUNT GAP SIZE"
+  usual["close"] = "close NAME"
+  usual["pour"] = "pour LINK COUNT GAP SIZE"
+  usual["rounds"] = "rounds R"
+  usual["tail"] = "tail Q"
+  usual["schedule"] = "schedule"
+  usual["do"] = "do ACTOR COUNT"
+}
+
+# a text of which only what can be seen is shown, and no more than 160 of it
+function shown(text) {
+  gsub(/\t/, "\\t", text)
+  gsub(/\r/, "\\r", text)
+  gsub(/[^ -~]/, "?", text)
+  return length(text) > 160 ? substr(text, 1, 160) " .." : text
+}
+
+function tell() {
+  print "tenet: line " at " is refused: " shown($0)
+  if (cause == "shape") of_shape()
+  else if (cause == "levels") of_levels()
+  else if (cause == "contract") of_contract()
+  else if (cause == "route") of_route()
+  else if (cause == "header" || cause == "word") tell_field(1, "the first word")
+  else if (cause == "closed") tell_field(2, "the request")
+  else if (cause == "best") tell_field(2, "the link")
+  else if (cause == "step") tell_field(2, "the actor")
+  else of_form()
+  print "  " cause ": " means[cause]
+}
+
+BEGIN {
+  sentences()
+  forms_of_lines()
+}
+
+NR == at {
+  tell()
+  told = 1
+  exit
+}
+
+$1 == "link" {
+  known["link", $2] = 1
+  begins[$2] = $3
+  ends[$2] = $4
+}
+
+$1 == "caller" {
+  known["caller", $2] = 1
+  caller = $2
+}
+
+$1 == "open" {
+  known["request", $2] = 1
+  own[caller, $2] = 1
+}
+
+END {
+  if (!told) {
+    print "tenet: line " at " is missing"
+    print "  " cause ": " means[cause]
+  }
+}
