@@ -62,11 +62,11 @@ of-missing packets parts schedule fault line made answer written written' faults
 
 -- ---- what the bytes come to
 
-read-as : (left : Option (List ℕ)) (both : PlanParts × Schedule) → TellsReading (Ok both) left → BytesComeTo left (λ r. r ≡ PlanRead both.0 both.1)
+pub read-as : (left : Option (List ℕ)) (both : PlanParts × Schedule) → TellsReading (Ok both) left → BytesComeTo left (λ r. r ≡ PlanRead both.0 both.1)
 read-as None both told = tt
 read-as (Some bytes) both told = told
 
-due-as : (left : Option (List ℕ)) (parts : PlanParts) (schedule : Schedule) (P : Reading → Type 0) → BytesComeTo left (λ r. r ≡ PlanRead parts schedule) → P (PlanRead parts schedule) → BytesComeTo left P
+pub due-as : (left : Option (List ℕ)) (parts : PlanParts) (schedule : Schedule) (P : Reading → Type 0) → BytesComeTo left (λ r. r ≡ PlanRead parts schedule) → P (PlanRead parts schedule) → BytesComeTo left P
 due-as None parts schedule P read due = tt
 due-as (Some bytes) parts schedule P read due = subst P (sym read) due
 
@@ -100,7 +100,7 @@ plays-plan packets before after (status.Refused line why) both plan told ended a
 plays-plan packets before after status.TooLong both plan told ended answers = absurd answers
 
 -- a line was refused
-bad-as : (packets : Bool) (left : Option (List ℕ)) (line : ℕ) (why : Cause) (P : Reading → Type 0) → TellsReading (Err (refusal.Refused line why)) left → P (BadLine line why) → BytesComeTo left P
+pub bad-as : (packets : Bool) (left : Option (List ℕ)) (line : ℕ) (why : Cause) (P : Reading → Type 0) → TellsReading (Err (refusal.Refused line why)) left → P (BadLine line why) → BytesComeTo left P
 bad-as packets None line why P told due = tt
 bad-as packets (Some bytes) line why P told due = subst P (sym told) due
 

@@ -33,7 +33,7 @@ one-due packets TooManyBytes answer other text text_other one two = (one.0 ∙ s
 
 -- ---- an answer without a fault
 
-at-bytes : (left : Option (List ℕ)) (bytes : List ℕ) (P : Reading → Type 0) → left ≡ Some bytes → BytesComeTo left P → P (reading MOST_BYTES bytes)
+pub at-bytes : (left : Option (List ℕ)) (bytes : List ℕ) (P : Reading → Type 0) → left ≡ Some bytes → BytesComeTo left P → P (reading MOST_BYTES bytes)
 at-bytes left bytes P is come = subst (λ given. BytesComeTo given P) is come
 
 due-done : (packets : Bool) (before after : Ends) (bytes : List ℕ) → before.left ≡ Some bytes → PlaysDone packets before after → DueFor packets status.Done bytes

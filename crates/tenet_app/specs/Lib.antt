@@ -1,3 +1,4 @@
 pub mod Codes
 pub mod Playing
 pub mod Making
+pub mod Racing

@@ -9,6 +9,7 @@ ghost use Rattle.tenet_app.specs.declared.status.Status.TheVariants.{Memory, Wor
 pub mod laws;
 pub mod making;
 pub mod playing;
+pub mod racing;
 pub mod status;
 pub mod top;
 mod words;
@@ -28,15 +29,15 @@ fn main(rt: HostRuntime) -> ExitCode {
         Ok(words) => {
             let mut source = StdSource::new(rt.reader());
             let mut sink = StdSink::new(io::writer(&rt));
-            top(
+            let ended = top(
                 &rt,
                 rt.alloc(),
                 words_after_first(words.as_slice()),
                 &mut source,
                 &mut sink,
                 &NoGate,
-            )
-            .status
+            );
+            ended.status
         }
         Err(error) => unread_words(&error),
     };

@@ -73,7 +73,7 @@ fn report<K: Sink>(alloc: Global, packets: bool, plan: &Plan, run: &Record, sink
 }
 
 // Writes the line that tells which line is refused, and why.
-fn refuse<K: Sink>(alloc: Global, line: u64, cause: Cause, sink: &mut K) -> Status
+pub(crate) fn refuse<K: Sink>(alloc: Global, line: u64, cause: Cause, sink: &mut K) -> Status
     ensures tells { TellsRefusal line cause result (K.written sink.old) (K.written sink.new) (K.faults sink.old) (K.faults sink.new) }
     ensures counts { K.faults sink.old ≤ K.faults sink.new }
 {

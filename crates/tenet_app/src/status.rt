@@ -1,5 +1,6 @@
 //! How a run of the program ended.
 use scenario_reader::Cause;
+use shared_network::Closed;
 
 /// How a run of the program ended.
 #[derive(Clone, Copy, Debug, PartialEq, Eq)]
@@ -46,8 +47,10 @@ impl Status {
 }
 
 /// What `top` answers.
-#[derive(Clone, Copy, Debug, PartialEq, Eq)]
+#[derive(Drop)]
 pub struct Ended {
     /// How the run ended.
     pub status: Status,
+    /// The journals and passes of a race that was told.
+    pub raced: Option<Closed>,
 }

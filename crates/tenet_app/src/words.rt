@@ -2,6 +2,7 @@
 ghost use Rattle.std.specs.Prelude.{◌≡◌, ◌≤◌, IfSome, map, string_bytes};
 ghost use Rattle.tenet_app.specs.Making.{both_of, make_words, number_from};
 ghost use Rattle.tenet_app.specs.Playing.{are_both, is_this_word, play_words};
+ghost use Rattle.tenet_app.specs.Racing.{are_both_to_race, race_words};
 
 use scenario_reader::values::number;
 
@@ -39,6 +40,36 @@ fn are_both(first: &str, second: &str) -> bool
     ensures { result ≡ are_both first.now second.now }
 {
     is_word(first, "play") && is_word(second, "--packets")
+}
+
+// Whether the words ask to race, and then whether for the table of packets.
+pub(crate) fn to_race(words: &[String]) -> Option<bool>
+    ensures { result ≡ race_words (map string_bytes words.now) }
+{
+    match words {
+        [word] => {
+            if is_word(word.as_str(), "race") {
+                Some(false)
+            } else {
+                None
+            }
+        }
+        [first, second] => {
+            let (first, second) = (first.as_str(), second.as_str());
+            if are_both_to_race(first, second) || are_both_to_race(second, first) {
+                Some(true)
+            } else {
+                None
+            }
+        }
+        _ => None,
+    }
+}
+
+fn are_both_to_race(first: &str, second: &str) -> bool
+    ensures { result ≡ are_both_to_race first.now second.now }
+{
+    is_word(first, "race") && is_word(second, "--packets")
 }
 
 // The number and the size of the load that the words ask to make, if they do.
