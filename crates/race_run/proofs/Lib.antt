@@ -16,3 +16,4 @@ mod PieceFacts
 mod GivenUp
 mod OpenFacts
 mod RaceFacts
+mod WorkedFacts

@@ -4,3 +4,4 @@ pub mod Merging
 pub mod Callers
 pub mod Rounds
 pub mod Pieces
+pub mod Worked

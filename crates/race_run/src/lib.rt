@@ -19,3 +19,6 @@ pub mod weaving;
 pub use callers::make_op;
 pub use racing::race;
 pub use weaving::{Raced, woven};
+
+#[cfg(test)]
+mod tests;
