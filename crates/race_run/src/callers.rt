@@ -23,7 +23,7 @@ use std::sync::Wait;
 /// operations before this one and no others; `accepted` tells of each channel, by its number, whether it was accepted so far, and
 /// is kept so (`at`). Each operation draws 32 stamps at most (`few`, `drew`). An `Err` comes only for want of memory; nothing
 /// further is claimed of the pass then. It may wait for each link.
-pub fn make_op<H: Home, W: Wait, G: Gate>(
+pub(crate) fn make_op<H: Home, W: Wait, G: Gate>(
     rt: &W,
     network: &Network<LinkState, H>,
     plan: &Plan,

@@ -1,9 +1,8 @@
-//! What a race over the shared network has made, as one run.
+//! A race: the callers and the plane of a plan step its links at once, each on a thread of its own.
 //!
-//! A closed network hands back a journal for each link and a pass for each actor. [`woven`] merges the journals by their
-//! stamps into the record of the run that has happened, with the schedule that it followed. [`make_op`] makes one operation of a
-//! caller's script over a network, with the caller's pass. [`race`] makes a whole plan over a network: each caller and the
-//! plane on a thread of its own.
+//! [`race`] opens a network of a plan's links, lets its actors make all their steps, and closes it: that leaves a journal for each
+//! link and a pass for each actor. [`woven`] merges the journals by their stamps into the record of the run that has happened,
+//! with the schedule that it followed. Nothing is claimed of which order comes about, of waiting, fairness or deadlock.
 #![tactic(auto)]
 
 pub mod callers;
@@ -16,7 +15,6 @@ pub mod scripts;
 pub mod turns;
 pub mod weaving;
 
-pub use callers::make_op;
 pub use racing::race;
 pub use weaving::{Raced, woven};
 
