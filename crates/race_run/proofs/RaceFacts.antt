@@ -17,7 +17,7 @@ use Rattle.shared_network.specs.Gathering.{token_actor}
 use Rattle.shared_network.specs.Ready.{IsNew}
 use Rattle.shared_network.proofs.LinkNumbers.{numbered-length}
 use Rattle.tick_plane.specs.Kept.{KeptPlane}
-use Rattle.tick_plane.specs.Planes.{Plane, plane_start}
+use Rattle.tick_plane.specs.Planes.{plane_start}
 use Rattle.call_script.proofs.FitFacts.{plan-fits}
 use Rattle.call_script.specs.Parts.{PlanParts}
 use Rattle.call_script.specs.Plans.{IsPlan}

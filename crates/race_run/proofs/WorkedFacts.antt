@@ -4,7 +4,7 @@ use Rattle.std.proofs.lemmas.List.{length-map}
 use Rattle.std.proofs.lemmas.Option.{same_Some, slice_get-map}
 use Rattle.std.specs.List.{slice_get}
 use Rattle.std.specs.Prelude.{option_map}
-use Rattle.net_units.specs.Numbers.{link_number, actor_number, channel_number}
+use Rattle.net_units.specs.Numbers.{link_number}
 use Rattle.hop_reservation.specs.declared.route.Hop.{Hop}
 use Rattle.link_steps.specs.Journals.{JournalGoesOn}
 use Rattle.link_steps.specs.Legal.{AskFits}
@@ -17,7 +17,7 @@ use Rattle.link_ledger.specs.Tokens.{Token}
 use Rattle.link_ledger.specs.declared.entries.Entry.{Entry}
 use Rattle.link_ledger.specs.declared.entries.Journal.{Journal}
 use Rattle.call_script.specs.Tasks.{entry_link, network_of}
-use Rattle.call_script.specs.Parts.{PlanParts, ArePlanned, FollowsLink, Opening, opening_of, openings_of, parts_of}
+use Rattle.call_script.specs.Parts.{PlanParts, ArePlanned, FollowsLink, opening_of, openings_of, parts_of}
 use Rattle.call_script.specs.declared.entries.LinkEntry.{LinkEntry}
 use Rattle.call_script.specs.declared.entries.RequestEntry.{RequestEntry}
 use Rattle.call_script.specs.declared.entries.CallerEntry.{CallerEntry}

@@ -412,7 +412,7 @@ fn shuffled<R: Threads + Wait + Sync>(
 #[test]
 fn the_journals_of_many_races_replay(rt: HostRuntime) -> Result<(), Fail> {
     let alloc = rt.alloc();
-    let plan = plan(alloc, 4, 4, true, (3, 40))?;
+    let plan = plan(alloc, 4, 4, true, (2, 14))?;
     for state in 0..1_000 {
         assert!(rt; shuffled(&rt, alloc, &plan, state)?);
     }

@@ -1,11 +1,8 @@
 use Rattle.std.proofs.Common.{◌≡◌, suc, true, false, length, sym, subst, arith}
 use Rattle.link_steps.specs.Lists.{Each}
-use Rattle.link_ledger.specs.Tokens.{Token}
 use Rattle.shared_network.specs.Gathering.{AreAll, token_actor}
 use Rattle.shared_network.proofs.LinkNumbers.{numbered-length}
-use Rattle.step_stamp.specs.Lists.{up_to}
 use Rattle.call_script.specs.Tasks.{network_of}
-use Rattle.interleave_core.specs.Runs.{plane_no}
 use Rattle.race_run.specs.Pieces.{AreNew, MayBegin}
 use Rattle.race_run.specs.Whole.{HasMadeAll}
 use Rattle.race_run.proofs.PieceFacts.{all-begin, last-own, last-plane, made-actors, made-all, made-are_all, made-in_order, made-of}
