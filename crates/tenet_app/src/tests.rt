@@ -16,6 +16,7 @@ use std::thread::Threads;
 mod loads;
 mod many;
 mod networks;
+mod races;
 mod runs;
 mod voices;
 

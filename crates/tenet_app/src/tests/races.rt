@@ -1,0 +1,324 @@
+//! Races. Where one caller alone makes steps, or a gate orders them, what is printed is worked by hand. Elsewhere the printed schedule
+//! is played, and the report of that is the race's.
+use super::{Ends, FIRST, SOUND, ends_with, refused};
+use crate::status::Status;
+use crate::top::top;
+use byte_ends::{MemSink, MemSource};
+use net_units::{ActorNo, Gate, LinkNo, NoGate};
+use scenario_reader::Cause;
+use std::alloc::{AllocError, Global};
+use std::fmt::Write;
+use std::process::Abort;
+use std::sync::Wait;
+use std::sync::atomic::{AtomicBool, AtomicU64, Ordering};
+use std::test::Fail;
+use std::thread::Threads;
+use std::{str, thread};
+
+// ---- one order of steps
+
+const FIRST_RACE: &str = "schedule
+do k1 2
+report
+accept r1 delay 12 levels 1
+channel r1 offered 0 keeps delivered 0 least - worst - refused 0
+link A clock 0 sent 0 full 0
+end steps 2
+";
+
+const FIRST_TABLE: &str = "schedule
+do k1 2
+report
+accept r1 delay 12 levels 1
+channel r1 offered 0 keeps delivered 0 least - worst - refused 0
+link A clock 0 sent 0 full 0
+end steps 2
+channel,packet,hop,link,size,at,eligible,departed
+";
+
+const EMPTY: &str = "tenet 1
+link A n1 n2 rate 1 cap 4 prop 2 buffer 100 levels 10 20 40
+rounds 0
+tail 0
+";
+
+// A schedule that asks for a step that isn't left.
+const MISSING: &str = "tenet 1
+link A n1 n2 rate 1 cap 4 prop 2 buffer 100 levels 10 20 40
+caller k1
+open r1 route A contract 5 10 20 2 delay 12 rate
+rounds 0
+tail 0
+schedule
+do plane 1
+do k1 9
+";
+
+// The words, the scenario, and what is printed.
+const RACES: [(&[&str], &str, &str); 5] = [
+    (&["race"], FIRST, FIRST_RACE),
+    (&["race", "--packets"], FIRST, FIRST_TABLE),
+    (&["--packets", "race"], FIRST, FIRST_TABLE),
+    (
+        &["race"],
+        EMPTY,
+        "schedule\nreport\nlink A clock 0 sent 0 full 0\nend steps 0\n",
+    ),
+    (&["race"], MISSING, FIRST_RACE),
+];
+
+#[test]
+fn a_race_of_one_caller_has_one_order(rt: HostRuntime) -> Result<(), Fail> {
+    for (words, input, text) in RACES {
+        let told = (Status::Done, text);
+        ends_with(&rt, rt.alloc(), words, input.as_bytes(), SOUND, told)?;
+    }
+    Ok(())
+}
+
+#[test]
+fn a_race_that_stops_says_why(rt: HostRuntime) -> Result<(), Fail> {
+    let alloc = rt.alloc();
+    let short_sink = Ends {
+        piece: 4,
+        failing_write: 2,
+        ..SOUND
+    };
+    let failing_source = Ends {
+        failing_read: 1,
+        ..SOUND
+    };
+    let end = refused(1, Cause::End);
+    for (words, input, ends, told) in [
+        (["race"], FIRST, short_sink, (Status::WriteFault, "sche")),
+        (["race"], FIRST, failing_source, (Status::ReadFault, "")),
+        (["race"], "", SOUND, (end, "refused 1 end\n")),
+        (["races"], FIRST, SOUND, (Status::Words, "")),
+    ] {
+        ends_with(&rt, alloc, &words, input.as_bytes(), ends, told)?;
+    }
+    Ok(())
+}
+
+// ---- any order
+
+// What one word makes of a scenario, where nothing fails.
+fn written<R: Threads + Wait + Abort + Sync, G: Gate + Sync>(
+    rt: &R,
+    alloc: Global,
+    word: &str,
+    input: &str,
+    gate: &G,
+) -> Result<String, Fail> {
+    let mut words = Vec::new(alloc);
+    words.push(String::from_str(alloc, word)?)?;
+    let input = Vec::from_slice(alloc, input.as_bytes())?;
+    let mut source = MemSource::new(input, 65_536, Vec::new(alloc));
+    let mut sink = MemSink::new(alloc, 200_000, 65_536, Vec::new(alloc))?;
+    let ended = top(rt, alloc, words.as_slice(), &mut source, &mut sink, gate);
+    assert_eq!(rt; ended.status, Status::Done);
+    assert_eq!(rt; ended.raced.is_some(), word == "race");
+    let text = str::from_utf8(sink.bytes()).ok().ok_or("text")?;
+    Ok(String::from_str(alloc, text)?)
+}
+
+// A race's schedule, put after the scenario, is played to the report that the race has printed.
+fn replays<R: Threads + Wait + Abort + Sync, G: Gate + Sync>(
+    rt: &R,
+    alloc: Global,
+    input: &str,
+    gate: &G,
+) -> Result<(), Fail> {
+    let text = written(rt, alloc, "race", input, gate)?;
+    let (schedule, report) = text.as_str().split_once("report\n").ok_or("a report")?;
+    let again = format!(in alloc; "{input}{schedule}")?;
+    let played = written(rt, alloc, "play", again.as_str(), gate)?;
+    assert_eq!(rt; played.as_str(), report);
+    Ok(())
+}
+
+#[test]
+fn a_race_with_pours_is_the_run_of_its_schedule(rt: HostRuntime) -> Result<(), Fail> {
+    let input = "tenet 3
+link A n1 n2 rate 1 cap 4 prop 2 buffer 100 best 4 levels 10 20 40
+link B n2 n3 rate 1 cap 4 prop 2 buffer 100 best 4 levels 10 20 40
+caller k1
+open r1 route A B contract 5 10 20 2 delay 50 rate
+send r1 2 10 2
+pour A 5 1 3
+caller k2
+pour B 3 2 2
+pour A 2 1 4
+rounds 6
+tail 30
+";
+    replays(&rt, rt.alloc(), input, &NoGate)
+}
+
+// A chain of four links, and callers that each open a channel over it, send on it and close it.
+fn chain(alloc: Global, callers: u32) -> Result<String, AllocError> {
+    let mut text = String::new(alloc);
+    writeln!(text, "tenet 1")?;
+    for (name, from, to) in [("A", 1, 2), ("B", 2, 3), ("C", 3, 4), ("D", 4, 5)] {
+        writeln!(
+            text,
+            "link {name} n{from} n{to} rate 1 cap 4 prop 2 buffer 100 levels 10 20 40"
+        )?;
+    }
+    for caller in 1..=callers {
+        writeln!(
+            text,
+            "caller k{caller}\nopen r{caller} route A B C D contract 5 10 20 2 delay 100 rate\nsend r{caller} 2 10 2\nclose r{caller}"
+        )?;
+    }
+    writeln!(text, "rounds 100\ntail 200")?;
+    Ok(text)
+}
+
+// Lets each step last a number of turns that depends on the link and the actor, under the lock and after it.
+#[derive(Drop)]
+struct Turning {
+    watched: AtomicU64,
+}
+
+impl Turning {
+    fn turn(&self, link: LinkNo, actor: ActorNo) {
+        let turns = (u64::from(link.get()) * 7 + u64::from(actor.get()) * 13) % 17 * 1_000;
+        for _ in 0..turns {
+            self.watched.load(Ordering::SeqCst);
+        }
+    }
+}
+
+impl Gate for Turning {
+    fn within(&self, link: LinkNo, actor: ActorNo) {
+        self.turn(link, actor);
+    }
+
+    fn after(&self, link: LinkNo, actor: ActorNo) {
+        self.turn(link, actor);
+    }
+}
+
+#[test]
+fn a_race_of_eight_callers_is_the_run_of_its_schedule(rt: HostRuntime) -> Result<(), Fail> {
+    let input = chain(rt.alloc(), 8)?;
+    replays(&rt, rt.alloc(), input.as_str(), &NoGate)?;
+    let gate = Turning {
+        watched: AtomicU64::new(0),
+    };
+    replays(&rt, rt.alloc(), input.as_str(), &gate)
+}
+
+#[test]
+fn a_race_of_64_callers_is_the_run_of_its_schedule(rt: HostRuntime) -> Result<(), Fail> {
+    let input = chain(rt.alloc(), 64)?;
+    let gate = Turning {
+        watched: AtomicU64::new(0),
+    };
+    replays(&rt, rt.alloc(), input.as_str(), &gate)
+}
+
+// ---- an order by a gate
+
+// At its first step each of two callers, the one of link 0 and the one of link 1, waits until the other is at its own. Then the
+// one of the link `late` waits until the other has made two steps.
+#[derive(Drop)]
+struct Meeting {
+    late: u8,
+    first_came: AtomicBool,
+    second_came: AtomicBool,
+    met: AtomicU64,
+    early_steps: AtomicU64,
+}
+
+impl Meeting {
+    fn new(late: u8) -> Meeting {
+        Meeting {
+            late,
+            first_came: AtomicBool::new(false),
+            second_came: AtomicBool::new(false),
+            met: AtomicU64::new(0),
+            early_steps: AtomicU64::new(0),
+        }
+    }
+
+    // Waits until the other caller has come.
+    fn meet(&self, mine: &AtomicBool, other: &AtomicBool) {
+        if mine.swap(true, Ordering::SeqCst) {
+            return;
+        }
+        for _ in 0..10_000_000 {
+            if other.load(Ordering::SeqCst) {
+                self.met.fetch_add(1, Ordering::SeqCst);
+                return;
+            }
+            thread::yield_now();
+        }
+    }
+
+    // Waits until the caller that goes first has made two steps.
+    fn wait(&self) {
+        for _ in 0..10_000_000 {
+            if self.early_steps.load(Ordering::SeqCst) >= 2 {
+                return;
+            }
+            thread::yield_now();
+        }
+    }
+}
+
+impl Gate for Meeting {
+    fn within(&self, link: LinkNo, _actor: ActorNo) {
+        if link.get() == 0 {
+            self.meet(&self.first_came, &self.second_came);
+        } else {
+            self.meet(&self.second_came, &self.first_came);
+        }
+        if link.get() == self.late {
+            self.wait();
+        }
+    }
+
+    fn after(&self, link: LinkNo, _actor: ActorNo) {
+        if link.get() != self.late {
+            self.early_steps.fetch_add(1, Ordering::SeqCst);
+        }
+    }
+}
+
+const TWO_LINKS: &str = "tenet 1
+link A n1 n2 rate 1 cap 4 prop 2 buffer 100 levels 10 20 40
+link B n2 n3 rate 1 cap 4 prop 2 buffer 100 levels 10 20 40
+caller k1
+open r1 route A contract 5 10 20 2 delay 12 rate
+caller k2
+open r2 route B contract 5 10 20 2 delay 12 rate
+rounds 0
+tail 0
+";
+
+const TWO_LINKS_REPORT: &str = "report
+accept r1 delay 12 levels 1
+accept r2 delay 12 levels 1
+channel r1 offered 0 keeps delivered 0 least - worst - refused 0
+channel r2 offered 0 keeps delivered 0 least - worst - refused 0
+link A clock 0 sent 0 full 0
+link B clock 0 sent 0 full 0
+end steps 4
+";
+
+#[test]
+fn the_caller_that_waits_comes_last_in_the_schedule(rt: HostRuntime) -> Result<(), Fail> {
+    for (late, schedule) in [
+        (0, "schedule\ndo k2 2\ndo k1 2\n"),
+        (1, "schedule\ndo k1 2\ndo k2 2\n"),
+    ] {
+        let gate = Meeting::new(late);
+        let text = written(&rt, rt.alloc(), "race", TWO_LINKS, &gate)?;
+        assert_eq!(rt; gate.met.load(Ordering::SeqCst), 2);
+        let due = format!(in rt.alloc(); "{schedule}{TWO_LINKS_REPORT}")?;
+        assert_eq!(rt; text.as_str(), due.as_str());
+    }
+    Ok(())
+}
