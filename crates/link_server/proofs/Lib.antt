@@ -12,6 +12,7 @@ pub mod AccountFacts
 pub mod RoomFacts
 pub mod TickFacts
 pub mod HoldingFacts
+pub mod KeepingFacts
 pub mod ChosenFacts
 pub mod StoodFacts
 pub mod ExpiryFacts

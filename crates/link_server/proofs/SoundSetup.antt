@@ -123,6 +123,12 @@ relax-slots shape terms level up_bound valid within fits =
     let stay : stay_in terms.phase shape.bounds terms ≡ terms.up_reach + bound_at shape.bounds (level_number terms.reach) = ap (λ phase. stay_in phase shape.bounds terms) fits.phase in
     rw stay (most_in-mono terms.contract (up_bound + bound_at shape.bounds (level_number level)) (terms.up_reach + bound_at shape.bounds (level_number terms.reach)) valid (omega (arith, bound, fits.bound_most)))
 
+-- where the row of the channel is relaxed
+pub relaxed-slots : (shape : LinkShape) (room : ℕ) (k : Kept) (chan : ChanNo) (level : Level) (up_bound clock : ℕ) (row : KeptRow) → IsSound shape room k → find (is_kept_of chan) k.rows ≡ Some row → Is.Relaxed clock ≡ kept_reply (whole shape) k (Relax chan level up_bound) → slots_of shape.bounds (committed level up_bound row.terms) ≤ slots_of shape.bounds row.terms
+relaxed-slots shape room k chan level up_bound clock row sound found same =
+    let each = Each-find (IsSoundRow (length shape.bounds) k.clock k.taken) (is_kept_of chan) k.rows row sound.rows found in
+    relax-slots shape row.terms level up_bound each.contract each.reach_most (relax-tells k.clock row.terms level up_bound clock (same ∙ relax-found shape k chan level up_bound row found))
+
 pub sound-relax : (shape : LinkShape) (room : ℕ) (k : Kept) (chan : ChanNo) (level : Level) (up_bound : ℕ) (reply : Reply) → RelaxFits (length shape.bounds) (level_number level) up_bound → IsSound shape room k → reply ≡ kept_reply (whole shape) k (Relax chan level up_bound) → IsSound shape room (kept_after shape k (Relax chan level up_bound) reply)
 unfolding kept_after
 sound-relax shape room k chan level up_bound (Is.Relaxed clock) fits sound same =
@@ -137,9 +143,7 @@ sound-relax shape room k chan level up_bound (Is.Relaxed clock) fits sound same 
       lead_most = each.lead_most;
       ahead = each.ahead;
     })
-    (λ row found.
-    let each = Each-find (IsSoundRow (length shape.bounds) k.clock k.taken) (is_kept_of chan) k.rows row sound.rows found in
-    relax-slots shape row.terms level up_bound each.contract each.reach_most (relax-tells k.clock row.terms level up_bound clock (same ∙ relax-found shape k chan level up_bound row found)))
+    (λ row found. relaxed-slots shape room k chan level up_bound clock row sound found same)
 sound-relax shape room k chan level up_bound _ fits sound same = sound
 
 -- ---- a submit
@@ -194,7 +198,7 @@ unfolding kept_reply
 release-found shape k chan upstream row found = ap (kept_release upstream) found
 
 -- a closing reservation has the slots of the committed one
-release-slots : (bounds : List ℕ) (count : ℕ) (terms : Reservation) → terms.phase ≡ Committed → slots_of bounds (closing count terms) ≡ slots_of bounds terms
+pub release-slots : (bounds : List ℕ) (count : ℕ) (terms : Reservation) → terms.phase ≡ Committed → slots_of bounds (closing count terms) ≡ slots_of bounds terms
 unfolding slots_of
 release-slots bounds count terms phase = ap (most_in terms.contract) (ap (λ p. stay_in p bounds terms) (sym phase))
 

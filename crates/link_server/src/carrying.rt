@@ -141,7 +141,14 @@ impl LinkState {
         let shape = self.shape;
         let bounds = shape.bounds;
         let due = self.due;
-        expire(&mut self.rows, &mut self.sums, &bounds, due, clock);
+        expire(
+            &mut self.rows,
+            &mut self.sums,
+            &mut self.keeping,
+            &bounds,
+            due,
+            clock,
+        );
         let fits = self.packets.best_fits(&shape, clock);
         let full = take_source_packets(&mut self.rows, &mut self.packets, &bounds, due, clock);
         self.due = due_after(&self.rows, &bounds, due, clock);

@@ -13,6 +13,7 @@ mod held_packet;
 mod held_row;
 mod in_line;
 pub mod laws;
+mod keeping;
 mod line;
 mod link_state;
 mod packets;

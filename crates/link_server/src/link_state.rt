@@ -4,13 +4,15 @@ ghost use Rattle.rcsp_admission.specs.Sums.{AreAdmitted};
 ghost use Rattle.link_steps.specs.Legal.{AskFits};
 ghost use Rattle.link_steps.specs.Shape.{server_of};
 ghost use Rattle.link_server.specs.Account.{account};
-ghost use Rattle.link_server.specs.Rows.{row_in, summed, AreWithin};
+ghost use Rattle.link_server.specs.Keeping.{IsKeeping, IsKeeping-prop};
+ghost use Rattle.link_server.specs.Rows.{reservation_in, row_in, summed, AreWithin};
 ghost use Rattle.link_server.specs.Quiet.{AreQuiet, AreQuiet-prop};
 ghost use Rattle.link_server.specs.Sound.{IsSound};
 ghost use Rattle.link_server.specs.SoundProp.{IsSound-prop};
 ghost use Rattle.link_server.specs.Stood.{IsStood, IsStood-prop};
 
 use crate::held_row::HeldRow;
+use crate::keeping::Keeping;
 use crate::packets::Packets;
 use crate::served_row::{ServedRow, Wanted};
 use link_steps::{Ask, LinkShape, LinkStep, Reply};
@@ -28,6 +30,8 @@ pub struct LinkState {
     pub(crate) rows: Vec<ServedRow>,
     pub(crate) packets: Packets,
     pub(crate) sums: LevelSums,
+    // What the rows keep together.
+    pub(crate) keeping: Keeping,
     // How many packets there is room for at least: those of channels that are here, one in each free slot, one more a
     // row, and the best-effort packets that may be here.
     pub(crate) room: u64,
@@ -37,6 +41,7 @@ pub struct LinkState {
     ghost same_server: { sums.server ≡ server_of shape },
     ghost same_rows: { sums.rows ≡ map summed rows.items },
     ghost within: { AreWithin (length shape.bounds) rows.items },
+    ghost keeps: { IsKeeping shape.buffer shape.bounds keeping (map reservation_in rows.items) } by { IsKeeping-prop shape.buffer shape.bounds keeping (map reservation_in rows.items) },
     ghost sound: { IsSound shape room (account clock packets rows.items) } by { IsSound-prop shape room (account clock packets rows.items) },
     ghost quiet: { AreQuiet shape.bounds due (map row_in rows.items) } by { AreQuiet-prop shape.bounds due (map row_in rows.items) },
     ghost roomy: { room ≤ packets.room },
@@ -67,6 +72,7 @@ impl LinkState {
             shape,
             clock: 0,
             rows: Vec::new(alloc),
+            keeping: Keeping::new(shape.buffer),
             packets,
             room: u64::from(places),
             due: u64::MAX,

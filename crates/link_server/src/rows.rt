@@ -1,16 +1,12 @@
-//! The rows of a link together: where a channel's stands, what buffer they leave free, and how many packets they may
-//! bring; and the need and the reach of a new one.
-ghost use Rattle.std.specs.Prelude.{◌≡◌, ◌≤◌, ◌^◌, ◌<◌, IfNone, IfSome, length, map};
+//! The rows of a link together: where a channel's stands, and the need and the reach of a new one.
+ghost use Rattle.std.specs.Prelude.{◌≡◌, ◌≤◌, IfNone, IfSome, length};
 ghost use Rattle.net_units.specs.Numbers.{level_number};
 ghost use Rattle.net_units.specs.Limits.{most_bound};
 ghost use Rattle.net_units.specs.LevelBounds.{reach_of};
-ghost use Rattle.link_steps.specs.Buffer.{free_units, need_of};
-ghost use Rattle.traffic_contract.specs.Admission.{total};
-ghost use Rattle.link_server.specs.Sound.{all_places_of};
-ghost use Rattle.link_server.specs.Rows.{reservation_in, row_in, is_served_at_hop, NoRowPasses, IsFirstPlace, IsAbsent, IsPlaceOf, AreWithin};
+ghost use Rattle.link_steps.specs.Buffer.{need_of};
+ghost use Rattle.link_server.specs.Rows.{is_served_at_hop, NoRowPasses, IsFirstPlace, IsAbsent, IsPlaceOf};
 
 use crate::served_row::{ServedRow, units_for};
-use link_steps::LinkShape;
 use net_units::{Bounds, ChanNo, Level};
 use traffic_contract::Contract;
 
@@ -38,32 +34,6 @@ pub(crate) fn place_at_hop(rows: &[ServedRow], chan: ChanNo, first: bool) -> Opt
         }
     }
     None
-}
-
-// The units that the rows don't keep.
-pub(crate) fn free_units(shape: &LinkShape, rows: &[ServedRow]) -> u64
-    requires { AreWithin (length shape.now.bounds) rows.now }
-    ensures { result ≡ free_units shape.now (map reservation_in rows.now) }
-{
-    let mut free = u64::from(shape.buffer);
-    for row in rows {
-        free = free.saturating_sub(row.units(&shape.bounds));
-    }
-    free
-}
-
-// The places that packets of the rows may want: one for each slot, and one more a row.
-pub(crate) fn places_of(bounds: &Bounds, rows: &[ServedRow]) -> u64
-    requires within { AreWithin (length bounds.now) rows.now }
-    requires few { length rows.now < 2 ^ 32 }
-    ensures value { result ≡ total (all_places_of bounds.now) (map row_in rows.now) }
-    ensures small { result < 2 ^ 55 }
-{
-    let mut places = 0;
-    for row in rows {
-        places += 1 + row.slots(bounds);
-    }
-    places
 }
 
 // The units that a new reservation would keep.

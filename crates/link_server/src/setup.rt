@@ -21,7 +21,7 @@ ghost use Rattle.link_server.specs.State.{kept_in, LinkStands};
 ghost use Rattle.link_server.specs.Wants.{ask_for, offer_reply, MayHold};
 
 use crate::link_state::LinkState;
-use crate::rows::{free_units, need_of, place_of, places_of, reach_of};
+use crate::rows::{need_of, place_of, reach_of};
 use crate::served_row::{Offered, ServedRow, Wanted};
 use link_steps::{Ask, Refusal, Reply};
 use net_units::{ChanNo, Level, OutOfMemory};
@@ -119,7 +119,7 @@ impl LinkState {
             Ok(level) => {
                 let reach = reach_of(&self.shape.bounds, wanted.delay, level);
                 let need = need_of(&self.shape.bounds, &wanted.contract, wanted.up_reach, reach);
-                let free = free_units(&self.shape, &self.rows);
+                let free = self.keeping.budget.free();
                 if need > free {
                     return Err(Refusal::NoBuffer { need, free });
                 }
@@ -139,6 +139,8 @@ impl LinkState {
     {
         let row = ServedRow::new(self.alloc, wanted, offer)?;
         self.make_room(&row)?;
+        let bounds = self.shape.bounds;
+        self.keeping.hold(&row, &bounds);
         self.rows.push_reserved(row);
         self.sums
             .add(wanted.chan.get(), wanted.contract, offer.level);
@@ -156,11 +158,7 @@ impl LinkState {
         ensures packets_fit { OnOk result (most_places self.new.shape.bounds (here_in self.new.packets.here.items) (map row_in self.new.rows.items) + suc (slots_of self.new.shape.bounds (reservation_in row.now)) + suc self.new.shape.best ≤ self.new.room) }
     {
         let bounds = self.shape.bounds;
-        let places = places_of(&bounds, &self.rows)
-            + 1
-            + row.slots(&bounds)
-            + u64::from(self.shape.best)
-            + 1;
+        let places = self.keeping.places + 1 + row.slots(&bounds) + u64::from(self.shape.best) + 1;
         let room = self.packets.here.len() as u64 + places;
         self.rows.reserve(1)?;
         self.sums.reserve(1)?;
@@ -186,8 +184,11 @@ impl LinkState {
         if let Some(refusal) = self.rows[place].unfit(level, up_bound) {
             return Reply::Refused(refusal);
         }
+        let bounds = self.shape.bounds;
+        self.keeping.give_back(&self.rows[place], &bounds);
         self.sums.move_to(chan.get(), level);
         self.rows[place].commit(level, up_bound);
+        self.keeping.hold(&self.rows[place], &bounds);
         Reply::Relaxed { clock: self.clock }
     }
 
@@ -204,6 +205,8 @@ impl LinkState {
         if let Some(refusal) = self.rows[place].not_tentative() {
             return Reply::Refused(refusal);
         }
+        let bounds = self.shape.bounds;
+        self.keeping.give_back(&self.rows[place], &bounds);
         self.sums.remove(chan.get());
         self.rows.remove(place);
         Reply::Denied

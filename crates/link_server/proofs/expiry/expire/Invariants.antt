@@ -1,8 +1,10 @@
 use Rattle.std.proofs.Common.{◌≡◌, ◌≤◌, ◌-◌, length, map}
 use Rattle.std.specs.Prelude.{filter}
+use Rattle.buffer_budget.specs.Parts.{whole_of}
 use Rattle.rcsp_admission.specs.Sums.{AreAdmitted}
 use Rattle.link_steps.specs.Kept.{kept_stays}
-use Rattle.link_server.specs.Rows.{row_in, summed, AreWithin}
+use Rattle.link_server.specs.Keeping.{IsKeeping}
+use Rattle.link_server.specs.Rows.{reservation_in, row_in, summed, AreWithin}
 use Rattle.link_server.specs.Sources.{AreReady}
 use Rattle.link_server.proofs.ExpiryFacts.{staying}
 use Rattle.link_server.proofs.expiry.expire.Given as goal
@@ -18,6 +20,7 @@ invariant-loop-place l = record {
   server : l.sums.server ≡ l.fn.sums.server;
   same : l.sums.rows ≡ map summed l.rows.items;
   few : length l.rows.items ≤ length l.fn.rows.items;
+  keeps : IsKeeping (whole_of l.fn.keeping.budget) l.bounds l.keeping (map reservation_in l.rows.items);
 }
 
 -- each turn passes a row or takes one out

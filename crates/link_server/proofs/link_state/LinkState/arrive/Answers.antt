@@ -14,6 +14,7 @@ use Rattle.traffic_contract.specs.Eligible.{newest}
 use Rattle.link_server.specs.Account.{account}
 use Rattle.link_server.specs.Packets.{here_in}
 use Rattle.link_server.specs.Rows.{reservation_in, row_in, summed, IsAbsent, IsPlaceOf, IsWithinLevels}
+use Rattle.link_server.specs.Keeping.{IsKeeping}
 use Rattle.link_server.specs.Sound.{IsSound}
 use Rattle.link_server.specs.Sources.{IsReady}
 use Rattle.link_server.specs.State.{kept_in}
@@ -130,6 +131,9 @@ invariant_of-self-3 c =
           All-set (IsWithinLevels _) c.args.self.now.rows.items c.in-Some.place c.take-taken.new.self
           (within-same _ c.take-taken.new.self (get_or c.args.self.now.rows.items c.in-Some.place c.index_mut.result.now) (ap (λ row. row.terms) same) (c.args.self.now.within c.in-Some.place c.index_mut.result.now place.inside))
           c.args.self.now.within;
+      keeps =
+          subst (IsKeeping c.args.self.now.shape.buffer c.args.self.now.shape.bounds c.args.self.now.keeping)
+          (sym (map-set_same reservation_in c.args.self.now.rows.items c.in-Some.place c.take-taken.new.self c.index_mut.result.now (ap (λ row. row.terms) same))) c.args.self.now.keeps;
       sound = subst (IsSound c.args.self.now.shape c.args.self.now.room) (sym (kept (goal.at.invariant_of-self-3 c).After-push place)) after;
       quiet =
           quiet-changed c.args.self.now.shape.bounds c.args.self.now.due c.row_due.result c.min-self.result c.args.self.now.rows.items c.in-Some.place c.take-taken.new.self c.index-3.result.now c.args.self.now.quiet place.inside c.index-3.ensures c.row_due.ensures

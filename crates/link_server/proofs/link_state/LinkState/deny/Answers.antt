@@ -1,16 +1,19 @@
 -- The row of the channel is found, judged by its phase, and taken out of the rows and of the sums.
-use Rattle.std.proofs.Common.{◌≡◌, map, sym, ap, ◌∙◌, subst}
+use Rattle.std.proofs.Common.{◌≡◌, ◌≤◌, map, sym, ap, ◌∙◌, subst}
 use Rattle.net_units.specs.Numbers.{channel_number}
 use Rattle.rcsp_admission.specs.Sums.{Holds, without_key, IsDistinct}
 use Rattle.link_steps.specs.declared.replies.Phase.TheVariants.{Tentative}
+use Rattle.link_steps.specs.Buffer.{kept_units}
 use Rattle.link_steps.specs.Refusals.{not_in_phase}
 use Rattle.link_server.specs.Rows.{reservation_in, summed, IsAbsent, IsPlaceOf, IsWithinLevels}
 use Rattle.link_server.specs.Account.{account}
+use Rattle.link_server.specs.Keeping.{IsKeeping, places_for}
 use Rattle.link_server.specs.Sound.{IsSound}
 use Rattle.link_server.specs.Quiet.{IsQuiet}
 use Rattle.link_server.proofs.ExpiryFacts.{each-without}
 use Rattle.link_server.specs.State.{kept_in}
 use Rattle.link_steps.specs.declared.replies.Reply.TheVariants.{Denied}
+use Rattle.link_server.proofs.KeepingFacts.{keeps-removed, row-held, row-places}
 use Rattle.link_server.proofs.SoundSetup.{sound-deny}
 use Rattle.link_server.proofs.PlaceFacts.{all-without}
 use Rattle.link_server.proofs.SumsFacts.{place-holds, summed-without}
@@ -51,8 +54,8 @@ denied c =
     (subst (λ rows. IsPlaceOf c.args.chan rows c.in-Some.place) c.deref.ensures.value c.in-Some.ensures.some)
     (c.in_default-not_tentative.ensures ∙ ap (λ row. not_in_phase Tentative (reservation_in row)) c.index.ensures)
 
-pub invariant_of-self : goal.invariant_of-self
-invariant_of-self c =
+pub invariant_of-self-2 : goal.invariant_of-self-2
+invariant_of-self-2 c =
     let place = subst (λ rows. IsPlaceOf c.args.chan rows c.in-Some.place) c.deref.ensures.value c.in-Some.ensures.some in
     let distinct = subst IsDistinct c.args.self.now.same_rows c.args.self.now.admitted.distinct in
     let kept =
@@ -68,11 +71,14 @@ invariant_of-self c =
           ∙ summed-without c.args.chan c.args.self.now.rows.items c.in-Some.place distinct place
           ∙ ap (map summed) (sym c.remove-2.ensures.items);
       within = rw c.remove-2.ensures.items (all-without (IsWithinLevels _) c.args.self.now.rows.items c.in-Some.place c.args.self.now.within);
+      keeps =
+          subst (λ rows. IsKeeping c.args.self.now.shape.buffer c.args.self.now.shape.bounds c.give_back.new.self (map reservation_in rows)) (sym c.remove-2.ensures.items)
+          (keeps-removed c.args.self.now.shape.buffer c.args.self.now.shape.bounds c.args.self.now.keeping c.give_back.new.self c.args.self.now.rows.items c.in-Some.place c.index-2.result.now c.args.self.now.keeps place.inside c.index-2.ensures c.give_back.ensures.budget c.give_back.ensures.places);
       sound = subst (IsSound c.args.self.now.shape c.args.self.now.room) (sym kept) (sound-deny c.args.self.now.shape c.args.self.now.room (kept_in c.args.self.now) c.args.chan Denied c.args.self.now.sound);
       quiet = rw c.remove-2.ensures.items (each-without (IsQuiet c.args.self.now.shape.bounds c.args.self.now.due) c.args.self.now.rows.items c.in-Some.place c.args.self.now.quiet);
       roomy = c.args.self.now.roomy;
       looked = c.args.self.now.looked;
-      stood = still-stood c.args.self.now (Deny c.args.chan) Denied _ tt (denied (goal.at.invariant_of-self c).After-remove-2) kept;
+      stood = still-stood c.args.self.now (Deny c.args.chan) Denied _ tt (denied (goal.at.invariant_of-self-2 c).After-remove-2) kept;
     }
 
 pub returns-clause-reply : goal.returns-clause-reply
@@ -83,3 +89,15 @@ returns-clause-kept c =
     ap (account c.args.self.now.clock c.args.self.now.packets) c.remove-2.ensures.items
     ∙ deny-kept c.args.self.now.shape c.args.self.now.clock c.args.self.now.packets c.args.chan c.args.self.now.rows.items c.in-Some.place
     (subst (λ rows. IsPlaceOf c.args.chan rows c.in-Some.place) c.deref.ensures.value c.in-Some.ensures.some)
+
+pub give_back-requires-clause-held : goal.give_back-requires-clause-held
+give_back-requires-clause-held c =
+    let place = subst (λ rows. IsPlaceOf c.args.chan rows c.in-Some.place) c.deref.ensures.value c.in-Some.ensures.some in
+    subst (λ row. kept_units c.args.self.now.shape.bounds (reservation_in row) ≤ c.args.self.now.keeping.budget.held) (sym c.index-2.ensures)
+    (row-held c.args.self.now.shape.buffer c.args.self.now.shape.bounds c.args.self.now.keeping c.args.self.now.rows.items c.in-Some.place c.index-2.result.now c.args.self.now.keeps place.inside)
+
+pub give_back-requires-clause-places : goal.give_back-requires-clause-places
+give_back-requires-clause-places c =
+    let place = subst (λ rows. IsPlaceOf c.args.chan rows c.in-Some.place) c.deref.ensures.value c.in-Some.ensures.some in
+    subst (λ row. places_for c.args.self.now.shape.bounds (reservation_in row) ≤ c.args.self.now.keeping.places) (sym c.index-2.ensures)
+    (row-places c.args.self.now.shape.buffer c.args.self.now.shape.bounds c.args.self.now.keeping c.args.self.now.rows.items c.in-Some.place c.index-2.result.now c.args.self.now.keeps place.inside)

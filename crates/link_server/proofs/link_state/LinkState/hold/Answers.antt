@@ -1,19 +1,26 @@
 -- The channel had no row, so its number is new to the sums; the row is put at the end of both, and there is room for its
 -- packets.
-use Rattle.std.proofs.Common.{◌≡◌, map, refl, sym, ap, ◌∙◌, subst}
+use Rattle.std.proofs.Common.{◌≡◌, ◌≤◌, length, map, refl, sym, ap, ◌∙◌, subst, arith}
 use Rattle.link_steps.specs.declared.replies.Reply.TheVariants.{Offer}
-use Rattle.link_steps.specs.Kept.{kept_terms, kept_after}
+use Rattle.net_units.specs.Numbers.{level_number}
+use Rattle.link_steps.specs.Buffer.{kept_units, need_of, free_units}
+use Rattle.link_steps.specs.Kept.{kept_terms, kept_after, new_kept}
+use Rattle.link_steps.proofs.RuleFacts.{need-kept}
 use Rattle.link_steps.proofs.ReplyFacts.{may-reach}
 use Rattle.link_server.specs.Account.{account}
 use Rattle.link_server.specs.Held.{reservations_held}
-use Rattle.link_server.specs.Rows.{row_in, summed, AreWithin}
+use Rattle.link_server.specs.Rows.{reservation_in, row_in, summed, IsWithinLevels, AreWithin}
+use Rattle.link_server.specs.Keeping.{IsKeeping}
 use Rattle.link_server.specs.Sound.{IsSound}
 use Rattle.link_server.specs.Quiet.{IsQuiet, AreQuiet}
 use Rattle.link_server.specs.State.{kept_in}
 use Rattle.link_server.specs.Wants.{ask_for, MayHold}
 use Rattle.link_server.specs.declared.link_state.LinkState.{LinkState}
 use Rattle.link_server.specs.declared.served_row.Offered.{Offered}
+use Rattle.link_server.specs.declared.served_row.ServedRow.{ServedRow}
 use Rattle.link_server.specs.declared.served_row.Wanted.{Wanted}
+use Rattle.link_server.proofs.PlaceFacts.{terms-kept}
+use Rattle.link_server.proofs.KeepingFacts.{keeping-free, keeps-pushed, slots-units, places-few}
 use Rattle.link_server.proofs.SumsFacts.{within-reserved}
 use Rattle.link_server.proofs.AnswerFacts.{reserve-kept}
 use Rattle.link_server.proofs.HoldingFacts.{held_terms, sound-held, may-new, may-within, may-passes, summed-pushed, within-pushed}
@@ -28,6 +35,36 @@ use Rattle.link_server.proofs.link_state.LinkState.hold.Goals.{After-add}
 still-may : (old new : LinkState) (wanted : Wanted) (offer : Offered) → new.shape ≡ old.shape → kept_in new ≡ kept_in old → MayHold old.shape (reservations_held old) wanted offer → MayHold new.shape (reservations_held new) wanted offer
 still-may old new wanted offer shape kept may =
     subst (λ s. MayHold s (reservations_held new) wanted offer) (sym shape) (subst (λ k. MayHold old.shape (map kept_terms k.rows) wanted offer) (sym kept) may)
+
+-- its need is free
+fits-free : (link : LinkState) (wanted : Wanted) (offer : Offered) (row : ServedRow) → MayHold link.shape (reservations_held link) wanted offer → row_in row ≡ new_kept (held_terms wanted offer) → kept_units link.shape.bounds (reservation_in row) ≤ link.keeping.budget.free
+fits-free link wanted offer row may same =
+    let need : kept_units link.shape.bounds (reservation_in row) ≡ need_of link.shape.bounds wanted.contract wanted.up_reach (level_number offer.reach) =
+    ap (λ k. kept_units link.shape.bounds k.terms) same ∙ need-kept link.shape.bounds wanted.chan wanted.contract wanted.kind wanted.first wanted.next wanted.up_reach offer.level offer.reach in
+    let free = keeping-free link.shape link.keeping (map reservation_in link.rows.items) link.keeps ∙ ap (free_units link.shape) (sym (terms-kept link.rows.items)) in
+    let fits = may.free in
+    omega (arith, need, free, fits)
+
+pub hold-requires-clause-free : goal.hold-requires-clause-free
+hold-requires-clause-free c =
+    fits-free c.make_room.new.self c.args.wanted.now c.args.offer.now c.in_ok-row.row
+    (still-may c.args.self.now c.make_room.new.self c.args.wanted.now c.args.offer.now c.make_room.ensures.shape c.make_room.ensures.kept c.requires.may) c.in_ok-row.ensures
+
+pub hold-requires-clause-few : goal.hold-requires-clause-few
+hold-requires-clause-few c =
+    let fits = fits-free c.make_room.new.self c.args.wanted.now c.args.offer.now c.in_ok-row.row
+    (still-may c.args.self.now c.make_room.new.self c.args.wanted.now c.args.offer.now c.make_room.ensures.shape c.make_room.ensures.kept c.requires.may) c.in_ok-row.ensures in
+    let slots = slots-units c.make_room.new.self.shape.bounds (reservation_in c.in_ok-row.row) c.in_ok-row.row.is_contract in
+    let few = places-few c.make_room.new.self in
+    let whole = c.make_room.new.self.keeps.whole in
+    let buffer : c.make_room.new.self.shape.buffer ≤ 262144 = c.make_room.new.self.shape.buffer_most in
+    omega (arith, fits, slots, few, whole, buffer)
+
+pub hold-requires-clause-within : goal.hold-requires-clause-within
+hold-requires-clause-within c =
+    subst (λ shape. IsWithinLevels (length shape.bounds) c.in_ok-row.row) (sym c.make_room.ensures.shape)
+    (within-reserved _ c.in_ok-row.row (held_terms c.args.wanted.now c.args.offer.now) c.in_ok-row.ensures c.requires.may.level_most
+    (may-reach c.args.self.now.shape (reservations_held c.args.self.now) c.args.wanted.now.chan c.args.wanted.now.contract c.args.wanted.now.delay c.args.wanted.now.up_reach c.args.offer.now.level c.args.offer.now.reach c.requires.may))
 
 pub make_room-requires : goal.make_room-requires
 make_room-requires c =
@@ -70,6 +107,10 @@ invariant_of-self c =
           ∙ summed-pushed c.make_room.new.self.rows.items c.in_ok-row.row c.args.wanted.now c.args.offer.now c.get.result c.make_room.new.self.sums.rows c.in_ok-row.ensures c.get.ensures.value c.make_room.new.self.same_rows
           ∙ ap (map summed) (sym c.push_reserved.ensures.items);
       within = subst (AreWithin _) (sym c.push_reserved.ensures.items) (within-pushed _ c.make_room.new.self.rows.items c.in_ok-row.row c.make_room.new.self.within (within-reserved _ c.in_ok-row.row (held_terms c.args.wanted.now c.args.offer.now) c.in_ok-row.ensures may.level_most (may-reach c.make_room.new.self.shape (reservations_held c.make_room.new.self) c.args.wanted.now.chan c.args.wanted.now.contract c.args.wanted.now.delay c.args.wanted.now.up_reach c.args.offer.now.level c.args.offer.now.reach may)));
+      keeps =
+          subst (λ rows. IsKeeping c.make_room.new.self.shape.buffer c.make_room.new.self.shape.bounds c.hold.new.self (map reservation_in rows)) (sym c.push_reserved.ensures.items)
+          (keeps-pushed c.make_room.new.self.shape.buffer c.make_room.new.self.shape.bounds c.make_room.new.self.keeping c.hold.new.self c.make_room.new.self.rows.items c.in_ok-row.row c.make_room.new.self.keeps
+          (fits-free c.make_room.new.self c.args.wanted.now c.args.offer.now c.in_ok-row.row may c.in_ok-row.ensures) c.hold.ensures.budget c.hold.ensures.places);
       sound = subst (IsSound c.make_room.new.self.shape c.make_room.new.self.room) (sym (kept (goal.at.invariant_of-self c).After-add)) held;
       quiet = subst (λ rows. AreQuiet c.make_room.new.self.shape.bounds c.make_room.new.self.due (map row_in rows)) (sym c.push_reserved.ensures.items)
           (quiet-pushed c.make_room.new.self.shape.bounds c.make_room.new.self.due c.make_room.new.self.rows.items c.in_ok-row.row c.make_room.new.self.quiet

@@ -1,19 +1,17 @@
 -- The memory that is taken changes nothing that the link keeps.
-use Rattle.std.proofs.Common.{◌≡◌, ◌^◌, ◌<◌, map, length, sym, ap, ◌∙◌, subst, arith}
+use Rattle.std.proofs.Common.{◌≡◌, map, length, sym, ap, ◌∙◌, subst, arith}
 use Rattle.traffic_contract.specs.Admission.{total}
-use Rattle.link_server.specs.Rows.{row_in, summed, AreWithin}
+use Rattle.link_server.specs.Rows.{reservation_in, row_in, summed, AreWithin}
+use Rattle.link_server.specs.Keeping.{IsKeeping}
 use Rattle.link_server.specs.Sound.{all_places_of, IsSound}
 use Rattle.link_server.specs.Quiet.{AreQuiet}
 use Rattle.link_server.specs.State.{kept_in}
 use Rattle.link_server.proofs.AccountFacts.{account-same}
+use Rattle.link_server.proofs.KeepingFacts.{keeping-places}
 use Rattle.link_server.proofs.RoomFacts.{most_places-are}
 use Rattle.link_server.proofs.SoundSetup.{sound-larger}
 use Rattle.link_server.specs.Stood.{IsStood}
-use Rattle.link_server.proofs.StoodFacts.{rows-few}
 use Rattle.link_server.proofs.link_state.LinkState.make_room.Goals as goal
-
-pub places_of-requires-clause-few : goal.places_of-requires-clause-few
-places_of-requires-clause-few c = subst (λ rows. length rows < 2 ^ 32) (sym c.deref.ensures.value) (rows-few c.args.self.now)
 
 pub invariant_of-self-2 : goal.invariant_of-self-2
 invariant_of-self-2 c =
@@ -27,6 +25,7 @@ invariant_of-self-2 c =
       same_server = c.reserve-2.ensures.server ∙ c.args.self.now.same_server;
       same_rows = c.reserve-2.ensures.rows ∙ c.args.self.now.same_rows ∙ ap (map summed) (sym c.reserve.ensures.items);
       within = subst (AreWithin (length c.args.self.now.shape.bounds)) (sym c.reserve.ensures.items) c.args.self.now.within;
+      keeps = subst (λ rows. IsKeeping c.args.self.now.shape.buffer c.args.self.now.shape.bounds c.args.self.now.keeping (map reservation_in rows)) (sym c.reserve.ensures.items) c.args.self.now.keeps;
       sound = subst (IsSound c.args.self.now.shape c.max-self.result) (sym same) larger;
       quiet = subst (λ rows. AreQuiet c.args.self.now.shape.bounds c.args.self.now.due (map row_in rows)) (sym c.reserve.ensures.items) c.args.self.now.quiet;
       roomy = omega (arith, c.max-self.ensures, grows, roomy, taken, c.len.ensures, ap length c.reserve-3.ensures.here);
@@ -36,8 +35,8 @@ invariant_of-self-2 c =
 
 pub returns-clause-packets_fit : goal.returns-clause-packets_fit
 returns-clause-packets_fit c =
-    let places : c.places_of.result ≡ total (all_places_of c.args.self.now.shape.bounds) (map row_in c.reserve.new.self.items) =
-    c.places_of.ensures.value ∙ ap (λ rows. total (all_places_of c.args.self.now.shape.bounds) (map row_in rows)) (c.deref.ensures.value ∙ sym c.reserve.ensures.items) in
-    let all = most_places-are c.args.self.now.shape.bounds c.reserve-3.new.self.here.items c.reserve.new.self.items c.places_of.result places in
+    let places : c.args.self.now.keeping.places ≡ total (all_places_of c.args.self.now.shape.bounds) (map row_in c.reserve.new.self.items) =
+    keeping-places c.args.self.now.shape.buffer c.args.self.now.shape.bounds c.args.self.now.keeping c.args.self.now.rows.items c.args.self.now.keeps ∙ ap (λ rows. total (all_places_of c.args.self.now.shape.bounds) (map row_in rows)) (sym c.reserve.ensures.items) in
+    let all = most_places-are c.args.self.now.shape.bounds c.reserve-3.new.self.here.items c.reserve.new.self.items c.args.self.now.keeping.places places in
     let here = ap length c.reserve-3.ensures.here in
     omega (arith, all, here, c.len.ensures, c.slots.ensures.value, c.max-self.ensures)

@@ -13,6 +13,7 @@ use Rattle.link_steps.proofs.LevelFacts.{level_of-level}
 use Rattle.link_server.specs.Rows.{reservation_in, row_in, IsAbsent, IsPlaceOf}
 use Rattle.link_server.specs.State.{kept_in}
 use Rattle.link_server.proofs.PlaceFacts.{terms-kept, terms-found, terms-absent}
+use Rattle.link_server.proofs.KeepingFacts.{keeping-free}
 use Rattle.link_server.proofs.SumsFacts.{same-admission}
 use Rattle.link_server.proofs.AnswerFacts.{reserve-wide, reserve-twice, reserve-no_level, reserve-no_buffer, reserve-offer, reply-may}
 use Rattle.link_server.proofs.link_state.LinkState.offer.Goals as goal
@@ -52,8 +53,8 @@ returns-then-need-free-clause-reply c =
     let best = sym (same-admission (λ server rows. best_level server rows c.args.wanted.now.contract) c.args.self.now.sums c.args.self.now.shape c.args.self.now.rows.items c.args.self.now.same_server c.args.self.now.same_rows) ∙ c.in-Ok.ensures.level in
     let need : c.need_of-need.result ≡ need_of c.args.self.now.shape.bounds c.args.wanted.now.contract c.args.wanted.now.up_reach (reach_of c.args.self.now.shape.bounds c.args.wanted.now.delay (level_number c.in-Ok.level)) =
     c.need_of-need.ensures ∙ ap (need_of c.args.self.now.shape.bounds c.args.wanted.now.contract c.args.wanted.now.up_reach) c.reach_of-reach.ensures.value in
-    let free : c.free_units-free.result ≡ free_units c.args.self.now.shape (map kept_terms (map row_in c.args.self.now.rows.items)) =
-    c.free_units-free.ensures ∙ ap (λ rows. free_units c.args.self.now.shape (map reservation_in rows)) c.deref-in-Ok.ensures.value ∙ ap (free_units c.args.self.now.shape) (sym (terms-kept c.args.self.now.rows.items)) in
+    let free : c.free-free.result ≡ free_units c.args.self.now.shape (map kept_terms (map row_in c.args.self.now.rows.items)) =
+    c.free-free.ensures.value ∙ keeping-free c.args.self.now.shape c.args.self.now.keeping (map reservation_in c.args.self.now.rows.items) c.args.self.now.keeps ∙ ap (free_units c.args.self.now.shape) (sym (terms-kept c.args.self.now.rows.items)) in
     rw (need, free) (reserve-no_buffer c.args.self.now.shape (map kept_terms (map row_in c.args.self.now.rows.items)) c.args.wanted.now.chan c.args.wanted.now.contract c.args.wanted.now.delay c.args.wanted.now.up_reach (level_number c.in-Ok.level) wide absent best (lt-leb _ _ (omega (arith, need, free, c.if-need-free.true))))
 
 pub returns-else-need-free-clause-reply : goal.returns-else-need-free-clause-reply
@@ -64,8 +65,8 @@ returns-else-need-free-clause-reply c =
     let best = sym (same-admission (λ server rows. best_level server rows c.args.wanted.now.contract) c.args.self.now.sums c.args.self.now.shape c.args.self.now.rows.items c.args.self.now.same_server c.args.self.now.same_rows) ∙ c.in-Ok.ensures.level in
     let need : c.need_of-need.result ≡ need_of c.args.self.now.shape.bounds c.args.wanted.now.contract c.args.wanted.now.up_reach (reach_of c.args.self.now.shape.bounds c.args.wanted.now.delay (level_number c.in-Ok.level)) =
     c.need_of-need.ensures ∙ ap (need_of c.args.self.now.shape.bounds c.args.wanted.now.contract c.args.wanted.now.up_reach) c.reach_of-reach.ensures.value in
-    let free : c.free_units-free.result ≡ free_units c.args.self.now.shape (map kept_terms (map row_in c.args.self.now.rows.items)) =
-    c.free_units-free.ensures ∙ ap (λ rows. free_units c.args.self.now.shape (map reservation_in rows)) c.deref-in-Ok.ensures.value ∙ ap (free_units c.args.self.now.shape) (sym (terms-kept c.args.self.now.rows.items)) in
+    let free : c.free-free.result ≡ free_units c.args.self.now.shape (map kept_terms (map row_in c.args.self.now.rows.items)) =
+    c.free-free.ensures.value ∙ keeping-free c.args.self.now.shape c.args.self.now.keeping (map reservation_in c.args.self.now.rows.items) c.args.self.now.keeps ∙ ap (free_units c.args.self.now.shape) (sym (terms-kept c.args.self.now.rows.items)) in
     ap (λ level. Offer level c.reach_of-reach.result) (sym (level_of-level c.in-Ok.level))
     ∙ ap (Offer (level_of (level_number c.in-Ok.level))) (sym (level_of-level c.reach_of-reach.result) ∙ ap level_of c.reach_of-reach.ensures.value)
     ∙ reserve-offer c.args.self.now.shape (map kept_terms (map row_in c.args.self.now.rows.items)) c.args.wanted.now.chan c.args.wanted.now.contract c.args.wanted.now.delay c.args.wanted.now.up_reach (level_number c.in-Ok.level) wide absent best (le-leb _ _ (omega (arith, need, free, c.if-need-free.false)))

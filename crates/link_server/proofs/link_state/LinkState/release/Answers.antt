@@ -16,6 +16,7 @@ use Rattle.link_server.specs.Rows.{reservation_in, row_in, is_served_at_hop, sum
 use Rattle.link_server.specs.Sound.{IsSound}
 use Rattle.link_server.specs.State.{kept_in}
 use Rattle.link_server.proofs.CloseFacts.{names-is, release-absent, release-phase, release-closes, release-same, release-kept, summed-closed, within-closed}
+use Rattle.link_server.proofs.KeepingFacts.{keeps-closed}
 use Rattle.link_server.proofs.QuietFacts.{quiet-changed}
 use Rattle.link_server.proofs.PlaceFacts.{at-place}
 use Rattle.link_server.proofs.SoundSetup.{sound-release}
@@ -79,6 +80,9 @@ invariant_of-self c =
           All-set (IsWithinLevels _) c.args.self.now.rows.items c.in-Some.place c.close.new.self
           (within-closed _ c.close.new.self (get_or c.args.self.now.rows.items c.in-Some.place c.index_mut.result.now) c.count_at_release-count.result same (c.args.self.now.within c.in-Some.place c.index_mut.result.now place.inside))
           c.args.self.now.within;
+      keeps =
+          keeps-closed c.args.self.now.shape.buffer c.args.self.now.shape.bounds c.args.self.now.keeping c.args.self.now.rows.items c.in-Some.place c.close.new.self c.index_mut.result.now c.count_at_release-count.result c.args.self.now.keeps place.inside (ap (λ row. row.terms) same)
+          (c.in_default-not_committed.ensures ∙ ap (λ row. not_in_phase Committed (reservation_in row)) (at-place c.args.self.now.rows.items c.in-Some.place c.index.result.now c.index_mut.result.now c.index.ensures place.inside));
       sound = subst (IsSound c.args.self.now.shape c.args.self.now.room) (sym (kept close place)) (sound-release c.args.self.now.shape c.args.self.now.room (kept_in c.args.self.now) c.args.chan c.args.upstream (Closing c.count_at_release-count.result c.cancelled_at_release-cancelled.result) c.args.self.now.sound (replied close place));
       quiet =
           quiet-changed c.args.self.now.shape.bounds c.args.self.now.due c.row_due.result c.min-self.result c.args.self.now.rows.items c.in-Some.place c.close.new.self c.index-4.result.now c.args.self.now.quiet place.inside c.index-4.ensures c.row_due.ensures

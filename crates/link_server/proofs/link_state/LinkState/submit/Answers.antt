@@ -7,6 +7,7 @@ use Rattle.link_steps.specs.Kept.{kept_planned}
 use Rattle.link_steps.specs.Refusals.{not_in_phase, busy, too_big}
 use Rattle.link_server.specs.Planned.{left_in}
 use Rattle.link_server.specs.Rows.{reservation_in, row_in, is_served_at_hop, summed, NoRowPasses, IsFirstPlace, IsWithinLevels}
+use Rattle.link_server.specs.Keeping.{IsKeeping}
 use Rattle.link_server.specs.Sound.{IsSound}
 use Rattle.link_server.specs.State.{kept_in}
 use Rattle.link_steps.specs.declared.replies.Reply.TheVariants.{Planned}
@@ -87,6 +88,9 @@ invariant_of-self c =
           All-set (IsWithinLevels _) c.args.self.now.rows.items c.in-Some.place c.plan.new.self
           (within-same _ c.plan.new.self (get_or c.args.self.now.rows.items c.in-Some.place c.index_mut.result.now) (ap (λ row. row.terms) same) (c.args.self.now.within c.in-Some.place c.index_mut.result.now place.inside))
           c.args.self.now.within;
+      keeps =
+          subst (IsKeeping c.args.self.now.shape.buffer c.args.self.now.shape.bounds c.args.self.now.keeping)
+          (sym (map-set_same reservation_in c.args.self.now.rows.items c.in-Some.place c.plan.new.self c.index_mut.result.now (ap (λ row. row.terms) same))) c.args.self.now.keeps;
       sound = subst (IsSound c.args.self.now.shape c.args.self.now.room) (sym kept) (sound-submit c.args.self.now.shape c.args.self.now.room (kept_in c.args.self.now) c.args.chan c.args.count c.args.gap c.args.size (Planned c.args.self.now.clock) c.requires.fits c.args.self.now.sound reply);
       quiet =
           quiet-changed c.args.self.now.shape.bounds c.args.self.now.due c.row_due.result c.min-self.result c.args.self.now.rows.items c.in-Some.place c.plan.new.self c.index-4.result.now c.args.self.now.quiet place.inside c.index-4.ensures c.row_due.ensures

@@ -14,12 +14,14 @@ use Rattle.link_steps.specs.Kept.{held_rows, from_sources, kept_reply, kept_afte
 use Rattle.link_steps.specs.Split.{whole}
 use Rattle.link_server.specs.Account.{account}
 use Rattle.link_server.specs.Packets.{arrival_in, here_in, on_in}
-use Rattle.link_server.specs.Rows.{row_in, summed, AreWithin}
+use Rattle.link_server.specs.Rows.{reservation_in, row_in, summed, AreWithin}
 use Rattle.link_server.specs.Quiet.{AreQuiet}
 use Rattle.link_server.specs.Serving.{CanServe}
+use Rattle.link_server.specs.Keeping.{IsKeeping}
 use Rattle.link_server.specs.Sound.{IsSound}
 use Rattle.link_server.specs.State.{kept_in}
 use Rattle.link_server.proofs.SoundNumbers.{sources-room, best-room, brought-room, ahead-from, brought-small}
+use Rattle.link_server.proofs.KeepingFacts.{reservations-after}
 use Rattle.link_server.proofs.SoundServes.{sound-serves}
 use Rattle.link_server.proofs.SoundTick.{sound-tick}
 use Rattle.link_server.proofs.StoodFacts.{all-ready, rows-few, room-small, still-stood}
@@ -133,6 +135,12 @@ invariant_of-self c =
       same_server = c.expire.ensures.server ∙ c.args.self.now.same_server;
       same_rows = c.expire.ensures.same ∙ ap (map summed) (sym c.deref_mut.ensures.value) ∙ sym c.take_source_packets-full.ensures.summed ∙ ap (map summed) (sym rows);
       within = subst (AreWithin (length c.args.self.now.shape.bounds)) (sym rows) c.take_source_packets-full.ensures.levels;
+      keeps =
+          subst (IsKeeping c.args.self.now.shape.buffer c.args.self.now.shape.bounds c.expire.new.keeping)
+          (ap (map reservation_in) (sym c.deref_mut.ensures.value)
+          ∙ sym (reservations-after c.args.self.now.shape.bounds (here_in c.args.self.now.packets.here.items) c.args.self.now.clock c.args.self.now.packets.taken c.deref_mut.result.now c.take_source_packets-full.new.rows c.take_source_packets-full.ensures.rows)
+          ∙ ap (map reservation_in) (sym rows))
+          (subst (λ buffer. IsKeeping buffer c.args.self.now.shape.bounds c.expire.new.keeping (map reservation_in c.expire.new.rows.items)) c.args.self.now.keeps.whole c.expire.ensures.keeps);
       sound = subst (IsSound c.args.self.now.shape c.args.self.now.room) (sym after) (sound-tick c.args.self.now.shape c.args.self.now.room (kept_in c.args.self.now) (Ticked c.args.self.now.clock c.take_source_packets-full.result c.serve-left.result.sent c.serve-left.result.best_sent c.take_best-best_lost.result) c.args.self.now.sound);
       quiet = subst (λ all. AreQuiet c.args.self.now.shape.bounds c.due_after-self.result (map row_in all)) c.deref.ensures.value c.due_after-self.ensures;
       roomy = omega (arith, roomy, first, second, third);
@@ -146,3 +154,8 @@ returns-clause-reply c = replied (goal.at.returns-clause-reply c).After-serve-le
 pub returns-clause-kept : goal.returns-clause-kept
 returns-clause-kept c =
     ap (account (c.args.self.now.clock + 1) c.serve-left.new.self) (written (goal.at.returns-clause-kept c).After-serve-left) ∙ kept (goal.at.returns-clause-kept c).After-serve-left
+
+pub expire-requires-clause-keeps : goal.expire-requires-clause-keeps
+expire-requires-clause-keeps c =
+    let keeps = c.args.self.now.keeps in
+    subst (λ buffer. IsKeeping buffer c.args.self.now.shape.bounds c.args.self.now.keeping (map reservation_in c.args.self.now.rows.items)) (sym keeps.whole) keeps

@@ -12,6 +12,7 @@ invariant_of-link c =
       same_server = l.same_server;
       same_rows = l.same_rows;
       within = l.within;
+      keeps = l.keeps;
       sound = l.sound;
       quiet = quiet-at-once l.shape.bounds (map row_in l.rows.items);
       roomy = l.roomy;
