@@ -1,5 +1,5 @@
 -- The first in line of the packets here, from the ranks in line: it goes before all others that are eligible.
-use Rattle.std.proofs.Common.{◌≡◌, ◌≢◌, ℕ, ◌+◌, ◌<◌, ◌≤◌, Bool, true, false, not, ◌&&◌, ◌||◌, nat_eq, nat_lt, Option, Some, None, List, [], ◌∷◌, ◌++◌, length, refl, sym, ap, ◌∙◌, subst, arith, inl, inr}
+use Rattle.std.proofs.Common.{◌≡◌, ◌≢◌, ℕ, ◌+◌, ◌<◌, ◌≤◌, Bool, true, false, not, ◌&&◌, ◌||◌, nat_eq, Option, Some, None, List, [], ◌∷◌, ◌++◌, length, refl, sym, ap, ◌∙◌, subst, arith, inl, inr}
 use Rattle.std.proofs.lemmas.Bool.{cases_Bool, true≢false, and_parts, eqb-true, eqb-false, eq-eqb, ne_eqb, le-leb, lt-leb, leb-true, cond_both}
 use Rattle.std.proofs.lemmas.Bool.Decides.{nat_tests}
 use Rattle.std.proofs.lemmas.List.Sorted.{list_any-IsPermutation, length_permutation}
@@ -7,14 +7,14 @@ use Rattle.std.proofs.lemmas.Option.{same_Some}
 use Rattle.std.specs.List.{AllByRecursion, list_any}
 use Rattle.std.specs.List.Sorted.{IsPermutation}
 use Rattle.std.specs.Prelude.{filter, find}
-use Rattle.link_steps.specs.Kept.{is_eligible_by, is_other, served, start_at}
+use Rattle.link_steps.specs.Kept.{is_eligible_by, is_other, start_at}
 use Rattle.link_steps.specs.Lists.{Each}
 use Rattle.link_steps.specs.Service.{Arrival, Start, goes_before, sooner, first_in_line}
 use Rattle.link_steps.proofs.ListFacts.{Each-append, Each-if, Each-both, Each-filter, filter-none}
 use Rattle.link_steps.proofs.ServiceFacts.{first_in_line-fact}
 use Rattle.link_server.specs.declared.line.Rank.{Rank}
-use Rattle.link_server.specs.InLine.{is_rank_of, is_off, IsIn, AreIn, AreRising, HasRank, IsStale}
-use Rattle.link_server.specs.Line.{IsAfter, AreAfter, IsBehind, IsNext}
+use Rattle.link_server.specs.InLine.{is_rank_of, IsIn, AreIn, AreRising, HasRank, IsStale}
+use Rattle.link_server.specs.Line.{AreAfter, IsBehind, IsNext}
 use Rattle.link_server.specs.Rank.{stands_before}
 use Rattle.link_server.specs.Sound.{has_arrival_number}
 use Rattle.link_server.proofs.ServingFacts.{IsDue, are-due}

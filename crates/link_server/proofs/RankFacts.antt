@@ -1,7 +1,7 @@
 -- What a line's two heaps tell of the ranks in it.
-use Rattle.std.proofs.Common.{◌≡◌, Option, Some, None, subst, ℕ, ◌+◌, ◌<◌, ◌≤◌, Bool, true, false, cond, ◌&&◌, ◌||◌, nat_lt, nat_eq, List, [], ◌∷◌, ◌++◌, map, length, refl, sym, ap, ◌∙◌, arith, inl, inr}
+use Rattle.std.proofs.Common.{◌≡◌, Option, Some, None, subst, ℕ, ◌<◌, ◌≤◌, Bool, true, false, cond, ◌&&◌, ◌||◌, nat_lt, nat_eq, List, [], ◌∷◌, ◌++◌, map, length, refl, sym, ap, ◌∙◌, arith, inl, inr}
 use Rattle.std.proofs.lemmas.Bool.{cases_lt, true≢false, lt-ltb}
-use Rattle.std.proofs.lemmas.List.{length-map, length-append}
+use Rattle.std.proofs.lemmas.List.{length-append}
 use Rattle.std.proofs.lemmas.List.Sorted.{IsPermutation-append_left, IsPermutation-append_right, IsPermutation-map, IsPermutation-middle, IsPermutation-trans, IsPermutation-sym, length_permutation}
 use Rattle.std.proofs.Permutation.{every_shuffled}
 use Rattle.std.specs.List.{AllByRecursion}
@@ -13,7 +13,7 @@ use Rattle.std.specs.declared.cmp.Ordering.{Ordering}
 use Rattle.std.specs.declared.cmp.Ordering.TheVariants.{Less, Equal, Greater}
 use Rattle.link_server.specs.declared.line.Rank.{Rank}
 use Rattle.link_server.specs.Rank.{Later, Ready, later_rank, ready_rank, backwards, stands_before, IsBy, AreBy}
-use Rattle.link_server.specs.Line.{IsAfter, AreAfter, IsBehind, IsNext, IsDue}
+use Rattle.link_server.specs.Line.{AreAfter, IsBehind, IsNext, IsDue}
 
 -- ---- orders
 

@@ -1,8 +1,7 @@
 -- A link serves first the packet of the least level, of these the one that is eligible first, and of these the one that
 -- arrived first: the rank of a packet says where it stands by that. The line of a link keeps the ranks of the packets that
 -- haven't started in two parts: those that were eligible when it last looked, and the others, by the tick from which they are.
-use Rattle.std.specs.Prelude.{◌≡◌, ℕ, ◌<◌, ◌≤◌, Bool, false, true, nat_lt, nat_eq, ◌&&◌, ◌||◌, List}
-use Rattle.std.specs.Coded.{le_prop, Unit-prop, ×_prop}
+use Rattle.std.specs.Prelude.{ℕ, ◌≤◌, Bool, nat_lt, nat_eq, ◌&&◌, ◌||◌, List}
 use Rattle.std.specs.List.{AllByRecursion}
 use Rattle.std.specs.Ordering.{nat_cmp, ordering_then}
 use Rattle.std.specs.declared.cmp.Ordering.{Ordering}

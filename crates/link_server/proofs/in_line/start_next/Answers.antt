@@ -1,5 +1,5 @@
 -- The first rank in turn whose packet is here is that of the first in line.
-use Rattle.std.proofs.Common.{◌≡◌, ◌≤◌, None, length, sym, arith}
+use Rattle.std.proofs.Common.{None, arith}
 use Rattle.std.proofs.lemmas.List.Sorted.{length_permutation}
 use Rattle.link_server.specs.Line.{ranks_in}
 use Rattle.link_server.specs.Packets.{arrival_in, here_in}

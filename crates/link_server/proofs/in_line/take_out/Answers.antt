@@ -1,5 +1,5 @@
 -- The packet stands at its place, or isn't here.
-use Rattle.std.proofs.Common.{◌≡◌, ◌<◌, length, get_or, sym, ap, ◌∙◌, subst, arith}
+use Rattle.std.proofs.Common.{◌<◌, length, sym, ap, ◌∙◌, subst, arith}
 use Rattle.std.proofs.lemmas.List.{get_or_default}
 use Rattle.link_server.specs.Packets.{start_in, here_in}
 use Rattle.link_server.specs.Parting.{PartsAt}

@@ -1,9 +1,8 @@
 -- The packet of a rank is looked for at its place.
-use Rattle.std.proofs.Common.{◌≡◌, ◌<◌, false, length, get_or, sym, ap, ◌∙◌, subst, arith}
+use Rattle.std.proofs.Common.{sym, ap, ◌∙◌, arith}
 use Rattle.std.proofs.lemmas.List.{get_or_default}
-use Rattle.link_server.specs.InLine.{is_rank_of, HasRank}
-use Rattle.link_server.specs.Packets.{arrival_in, here_in}
-use Rattle.link_server.proofs.NextFacts.{place-told}
+use Rattle.link_server.specs.InLine.{is_rank_of}
+use Rattle.link_server.specs.Packets.{arrival_in}
 use Rattle.link_server.proofs.TurnFacts.{stale-here, rank-here}
 use Rattle.link_server.proofs.in_line.with_rank.Goals as goal
 use Rattle.link_server.proofs.in_line.with_rank.Goals.{else-index-packets-via-then-index-packets+else-is_rank_of, else-index-packets-via-else-index-packets}

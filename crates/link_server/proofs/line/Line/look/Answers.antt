@@ -1,5 +1,5 @@
 -- Each turn moves the rank that is due first, so the line has the same ranks all along.
-use Rattle.std.proofs.Common.{◌≡◌, ◌≤◌, ◌++◌, length, map, refl, sym, ap, ◌∙◌, subst, arith}
+use Rattle.std.proofs.Common.{◌≡◌, ◌++◌, length, map, sym, ap, ◌∙◌, subst, arith}
 use Rattle.std.specs.BinaryHeap.{heap_items, heap_capacity}
 use Rattle.std.specs.List.Sorted.{IsPermutation}
 use Rattle.link_server.specs.Line.{ranks_in, later_in, ready_in, room_in}

@@ -1,5 +1,5 @@
 -- The first of those that are ready is next, since those that aren't are eligible later.
-use Rattle.std.proofs.Common.{sym, ap, ◌∙◌, subst}
+use Rattle.std.proofs.Common.{subst}
 use Rattle.std.specs.BinaryHeap.{heap_items, heap_len}
 use Rattle.link_server.specs.Line.{ranks_in, later_in}
 use Rattle.link_server.specs.Rank.{AreBy}

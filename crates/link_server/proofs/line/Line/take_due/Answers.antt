@@ -1,5 +1,5 @@
 -- The first of a heap is no later than the others.
-use Rattle.std.proofs.Common.{◌≡◌, refl, sym, ap, ◌∙◌, subst, arith, rules}
+use Rattle.std.proofs.Common.{refl, arith, rules}
 use Rattle.std.specs.BinaryHeap.{heap_items}
 use Rattle.link_server.proofs.RankFacts.{upper-after, due-taken}
 use Rattle.link_server.proofs.line.Line.take_due.Goals as goal
