@@ -19,6 +19,7 @@ pub mod ExpiryFacts
 pub mod SourceFacts
 pub mod SourceRows
 pub mod LineFacts
+pub mod CountFacts
 pub mod ServingFacts
 pub mod SoundRows
 pub mod SoundPackets

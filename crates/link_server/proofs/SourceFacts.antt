@@ -1,7 +1,7 @@
 -- A row's step in a tick, by the packet that is planned for it and by whether a slot is free.
-use Rattle.std.proofs.Common.{◌≡◌, ℕ, suc, ◌+◌, ◌≤◌, Bool, true, false, List, [], ◌∷◌, ◌++◌, length, Option, Some, None, take, refl, sym, ap, ◌∙◌, arith}
+use Rattle.std.proofs.Common.{◌≡◌, ℕ, suc, ◌+◌, ◌≤◌, Bool, true, false, List, [], ◌∷◌, ◌++◌, length, Option, Some, None, refl, sym, ap, ◌∙◌, arith}
 use Rattle.std.proofs.lemmas.Option.{none-some}
-use Rattle.std.proofs.lemmas.List.{take-map, map_push}
+use Rattle.std.proofs.lemmas.List.{map_push}
 use Rattle.std.specs.Prelude.{find, unwrap_or}
 use Rattle.link_steps.specs.Buffer.{has_slot}
 use Rattle.link_steps.specs.Kept.{KeptRow, kept_step, kept_tick, kept_with, kept_packet, kept_after_step, past_tick}
@@ -54,12 +54,8 @@ lost_by-most Rests = omega arith
 lost_by-most Drops = omega arith
 
 -- the slots of a row whose packet for the tick is no longer left are those that it had
-pub slot-same : (bounds : List ℕ) (t before : ℕ) (shown items : List HeldPacket) (new old : ServedRow) → shown ≡ items → row_in new ≡ past_tick t (row_in old)
-    → has_slot bounds (reservation_in new) new.lead (here_in (take before shown)) ≡ has_slot bounds (reservation_in old) old.lead (take before (here_in items))
-slot-same bounds t before shown items new old all same =
-    ap (λ row. has_slot bounds row.terms row.lead (here_in (take before shown))) same
-    ∙ ap (λ packets. has_slot bounds (reservation_in old) old.lead (here_in (take before packets))) all
-    ∙ ap (has_slot bounds (reservation_in old) old.lead) (sym (take-map arrival_in before items))
+pub slot-same : (bounds : List ℕ) (t : ℕ) (here : List Arrival) (new old : ServedRow) → row_in new ≡ past_tick t (row_in old) → has_slot bounds (reservation_in new) new.lead here ≡ has_slot bounds (reservation_in old) old.lead here
+slot-same bounds t here new old same = ap (λ row. has_slot bounds row.terms row.lead here) same
 
 -- the packet that such a row takes, after those here
 pub brought-here : (t size taken place : ℕ) (items new_items : List HeldPacket) (packet : HeldPacket) (new old : ServedRow) → place ≡ taken + 1 → new_items ≡ items ++ packet ∷ [] → row_in new ≡ past_tick t (row_in old)

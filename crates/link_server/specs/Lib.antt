@@ -5,6 +5,7 @@ pub mod Sources
 pub mod Strays
 pub mod Wants
 pub mod Packets
+pub mod Counts
 pub mod Serving
 pub mod Asks
 pub mod Account

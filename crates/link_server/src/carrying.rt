@@ -86,7 +86,8 @@ impl LinkState {
             return Reply::Refused(refusal);
         }
         let bounds = self.shape.bounds;
-        if let Some(refusal) = self.rows[place].full(&bounds, &self.packets.here) {
+        let held = self.packets.held(self.rows[place].lead);
+        if let Some(refusal) = self.rows[place].full(&bounds, held) {
             return Reply::Refused(refusal);
         }
         let clock = self.clock;

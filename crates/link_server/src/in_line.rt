@@ -8,10 +8,13 @@ ghost use Rattle.link_steps.specs.Kept.{is_eligible_by, is_other, start_at, wait
 ghost use Rattle.link_steps.specs.Service.{first_in_line};
 ghost use Rattle.link_server.specs.Packets.{arrival_in, start_in, here_in};
 ghost use Rattle.link_server.specs.InLine.{is_rank_of, count_on, AreIn, AreRising, HasRank, IsStale};
+ghost use Rattle.link_server.specs.Counts.{AreCounts};
 ghost use Rattle.link_server.specs.Line.{ranks_in, room_in};
 ghost use Rattle.link_server.specs.Parting.{PartsAt};
 
+use crate::counts::lower;
 use crate::held_packet::{HeldPacket, Running};
+use crate::lead_count::Count;
 use crate::line::{Line, Rank};
 use net_units::Bounds;
 
@@ -93,17 +96,21 @@ fn place_in(packets: &[HeldPacket], place: u64) -> usize
     packets.partition_point(|packet| packet.place < place)
 }
 
-// Takes the packet that has been on the link out of those here.
-pub(crate) fn take_out(packets: &mut Vec<HeldPacket>, running: &Running)
-    requires { AreRising 0 (here_in packets.old.items) }
+// Takes the packet that has been on the link out of those here, and out of their counts.
+pub(crate) fn take_out(packets: &mut Vec<HeldPacket>, counts: &mut Vec<Count>, running: &Running)
+    requires rising { AreRising 0 (here_in packets.old.items) }
+    requires counts { AreCounts counts.old.items (here_in packets.old.items) }
     ensures others { here_in packets.new.items ≡ filter (is_other (start_in running.now)) (here_in packets.old.items) }
     ensures one { length packets.old.items ≤ length packets.new.items + 1 }
     ensures fewer { length packets.new.items ≤ length packets.old.items }
     ensures capacity { vec_capacity packets.new ≡ vec_capacity packets.old }
+    ensures counts { AreCounts counts.new.items (here_in packets.new.items) }
+    ensures counts_capacity { vec_capacity counts.new ≡ vec_capacity counts.old }
 {
     let place = running.packet.place;
     let index = place_in(packets, place);
     if index < packets.len() && packets[index].place == place {
+        lower(counts, packets[index].lead);
         packets.remove(index);
     }
 }

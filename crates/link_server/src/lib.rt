@@ -7,6 +7,7 @@
 
 mod best_effort;
 mod carrying;
+mod counts;
 mod due;
 mod expiry;
 mod held_packet;
@@ -14,6 +15,7 @@ mod held_row;
 mod in_line;
 pub mod laws;
 mod keeping;
+mod lead_count;
 mod line;
 mod link_state;
 mod packets;

@@ -2,14 +2,17 @@
 ghost use Rattle.std.specs.Prelude.{◌≡◌, ◌+◌, ◌^◌, ◌<◌, ◌≤◌, ◌∷◌, ◌++◌, [], suc, nat_eq, filter, find, length, IsTrue, IsOk, OnOk};
 ghost use Rattle.std.specs.Vec.{vec_capacity};
 ghost use Rattle.link_server.specs.InLine.{count_on, AreIn, AreIn-prop};
+ghost use Rattle.link_server.specs.Counts.{AreCounts, AreCounts-prop};
 ghost use Rattle.link_server.specs.Line.{ranks_in, room_in};
 ghost use Rattle.link_server.specs.Packets.{here_in, on_in};
 ghost use Rattle.link_server.specs.Sound.{AreNumberedWithin};
 ghost use Rattle.link_server.specs.SoundProp.{AreNumbered-prop};
 
 use crate::best_effort::best_packet;
+use crate::counts::{count_of, raise};
 use crate::held_packet::{HeldPacket, Running};
-use crate::in_line::{best_here, best_here_but, start_next, take_out};
+use crate::in_line::{best_here, best_here_but, held, start_next, take_out};
+use crate::lead_count::Count;
 use crate::line::{Line, Rank};
 use crate::planned::Planned;
 use link_steps::{LinkShape, Sent};
@@ -23,6 +26,8 @@ pub(crate) struct Packets {
     pub(crate) taken: u64,
     // In the order of their arrival.
     pub(crate) here: Vec<HeldPacket>,
+    // How many of them are of each reservation.
+    pub(crate) counts: Vec<Count>,
     // The ranks of those that haven't started.
     pub(crate) line: Line,
     // For how many packets there is room, those here included.
@@ -37,6 +42,8 @@ pub(crate) struct Packets {
     ghost fits: { length here.items ≤ room },
     ghost holds: { room ≤ vec_capacity here },
     ghost lines_up: { room ≤ room_in line },
+    ghost counts_are: { AreCounts counts.items (here_in here.items) } by { AreCounts-prop counts.items (here_in here.items) },
+    ghost counts_fit: { room ≤ vec_capacity counts },
 }
 
 // What leaves a link at the end of a tick: a packet of a channel, or a best-effort packet, if any.
@@ -47,7 +54,9 @@ pub(crate) struct Left {
 }
 
 impl Packets {
+    ghost use Rattle.std.specs.Prelude.{take};
     ghost use Rattle.link_steps.specs.BestEffort.{best_packet, best_step};
+    ghost use Rattle.link_steps.specs.Buffer.{held_packets};
     ghost use Rattle.link_steps.specs.Kept.{served, departs, best_departs, still_on, still_here, waits_here};
     ghost use Rattle.link_steps.specs.Rows.{is_for, left_at};
     ghost use Rattle.link_steps.specs.Sources.{source_step, taken_by, dropped_by};
@@ -65,6 +74,7 @@ impl Packets {
         Packets {
             taken: 0,
             here: Vec::new(alloc),
+            counts: Vec::new(alloc),
             line: Line::new(alloc),
             room: 0,
             on: None,
@@ -89,6 +99,7 @@ impl Packets {
         }
         self.here.reserve(more)?;
         self.line.reserve(room)?;
+        self.counts.reserve(room.saturating_sub(self.counts.len()))?;
         self.room = room;
         Ok(())
     }
@@ -110,8 +121,24 @@ impl Packets {
             eligible: packet.eligible,
             place: packet.place,
         });
+        raise(&mut self.counts, packet.lead);
         self.here.push_reserved(packet);
         self.taken += 1;
+    }
+
+    // How many of the packets here are of the reservation whose first packet had this place.
+    pub(crate) fn held(&self, lead: u64) -> u64
+        ensures { result ≡ held_packets lead (here_in self.now.here.items) }
+    {
+        count_of(&self.counts, lead)
+    }
+
+    // How many of the first `before` packets here are. It looks at those after them alone.
+    pub(crate) fn held_before(&self, before: usize, lead: u64) -> u64
+        requires { before ≤ length self.now.here.items }
+        ensures { result ≡ held_packets lead (take before (here_in self.now.here.items)) }
+    {
+        self.held(lead) - held(&self.here[before..], lead) as u64
     }
 
     // The packet that occupies the link in this tick: the one that did, or else the first in line of those here.
@@ -209,7 +236,7 @@ impl Packets {
             };
         }
         self.on = None;
-        take_out(&mut self.here, &running);
+        take_out(&mut self.here, &mut self.counts, &running);
         Left {
             sent: running.sent(shape),
             best_sent: running.is_best(&shape.bounds),

@@ -1,5 +1,5 @@
 //! A row of a link: a reservation that is held, its regulator, its planned packets, and the units that it keeps.
-ghost use Rattle.std.specs.Prelude.{◌≡◌, ◌+◌, ◌^◌, ◌<◌, ◌≤◌, suc, true, find, IfSome, IfOk, length};
+ghost use Rattle.std.specs.Prelude.{◌≡◌, ◌+◌, ◌^◌, ◌<◌, ◌≤◌, suc, true, nat_lt, find, IfSome, IfOk, length};
 ghost use Rattle.net_units.specs.Limits.{most_bound};
 ghost use Rattle.traffic_contract.specs.Contract.{IsContract};
 ghost use Rattle.traffic_contract.specs.Eligible.{newest};
@@ -8,7 +8,6 @@ ghost use Rattle.link_steps.specs.Refusals.{busy};
 ghost use Rattle.link_steps.specs.Sources.{lead_with};
 
 use crate::held_packet::HeldPacket;
-use crate::in_line::held;
 use crate::planned::Planned;
 use link_steps::{Packet, Phase, Refusal, Why};
 use net_units::{Bounds, ChanNo, Kind, Level, LinkNo, OutOfMemory};
@@ -66,7 +65,7 @@ pub(crate) struct ServedRow {
 }
 
 impl ServedRow {
-    ghost use Rattle.link_steps.specs.Buffer.{stay_of, slots_of, kept_units, has_slot, held_packets};
+    ghost use Rattle.link_steps.specs.Buffer.{stay_of, slots_of, kept_units};
     ghost use Rattle.link_steps.specs.declared.replies.Phase.TheVariants.{Tentative, Committed};
     ghost use Rattle.link_steps.specs.Refusals.{not_in_phase, unfit, too_big, full};
     ghost use Rattle.link_steps.specs.Kept.{new_kept, kept_relaxed, kept_planned, kept_closed, past_tick, kept_with};
@@ -76,7 +75,7 @@ impl ServedRow {
     ghost use Rattle.link_steps.specs.Reservation.{tentative};
     ghost use Rattle.link_steps.specs.Rows.{is_for};
     ghost use Rattle.link_steps.specs.Sources.{arrival_at};
-    ghost use Rattle.link_server.specs.Packets.{arrival_in, here_in};
+    ghost use Rattle.link_server.specs.Packets.{arrival_in};
     ghost use Rattle.link_server.specs.Planned.{left_in, size_of, IsPlannedAhead};
     ghost use Rattle.link_server.specs.Rows.{reservation_in, row_in, is_served_at_hop, IsWithinLevels};
     ghost use Rattle.link_server.specs.Strays.{stray};
@@ -248,12 +247,11 @@ impl ServedRow {
         Some(Refusal::Stray { why })
     }
 
-    // The refusal of a packet where each slot holds one.
-    pub(crate) fn full(&self, bounds: &Bounds, here: &[HeldPacket]) -> Option<Refusal>
+    // The refusal of a packet where each slot holds one, with `held` of its packets here.
+    pub(crate) fn full(&self, bounds: &Bounds, held: u64) -> Option<Refusal>
         requires { IsWithinLevels (length bounds.now) self.now }
-        ensures { result ≡ full (held_packets self.now.lead (here_in here.now)) (slots_of bounds.now (reservation_in self.now)) }
+        ensures { result ≡ full held (slots_of bounds.now (reservation_in self.now)) }
     {
-        let held = held(here, self.lead) as u64;
         let slots = self.slots(bounds);
         if held < slots {
             return None;
@@ -272,12 +270,12 @@ impl ServedRow {
         self.planned.take_at(clock)
     }
 
-    // Whether one of its slots is free, with these packets here.
-    pub(crate) fn has_slot(&self, bounds: &Bounds, here: &[HeldPacket]) -> bool
+    // Whether one of its slots is free, with `held` of its packets here.
+    pub(crate) fn has_slot(&self, bounds: &Bounds, held: u64) -> bool
         requires { IsWithinLevels (length bounds.now) self.now }
-        ensures { result ≡ has_slot bounds.now (reservation_in self.now) self.now.lead (here_in here.now) }
+        ensures { result ≡ nat_lt held (slots_of bounds.now (reservation_in self.now)) }
     {
-        (held(here, self.lead) as u64) < self.slots(bounds)
+        held < self.slots(bounds)
     }
 
     // Its slots.

@@ -79,7 +79,7 @@ fn take_source_packet(
     let Some(size) = row.next_planned(clock) else {
         return false;
     };
-    if !row.has_slot(bounds, &packets.here[..before]) {
+    if !row.has_slot(bounds, packets.held_before(before, row.lead)) {
         return true;
     }
     let packet = row.take(size, 0, packets.taken + 1, clock);

@@ -3,6 +3,8 @@ use Rattle.std.proofs.Common.{◌<◌, length, sym, ap, ◌∙◌, subst, arith}
 use Rattle.std.proofs.lemmas.List.{get_or_default}
 use Rattle.link_server.specs.Packets.{start_in, here_in}
 use Rattle.link_server.specs.Parting.{PartsAt}
+use Rattle.link_server.specs.Counts.{AreCounts}
+use Rattle.link_server.proofs.CountFacts.{counts-without, one-counted}
 use Rattle.link_server.proofs.TurnFacts.{removed-others, absent-others}
 use Rattle.link_server.proofs.in_line.take_out.Goals as goal
 use Rattle.link_server.proofs.in_line.take_out.Goals.{else-index-len-via-then-index-len+else-index-place, else-index-len-via-else-index-len}
@@ -13,7 +15,7 @@ returns-then-index-place-clause-others c =
     let parts = subst (λ packets. PartsAt c.args.running.now.packet.place packets c.place_in-index.result) c.deref.ensures.value c.place_in-index.ensures in
     let inside : c.place_in-index.result < length items = (let len = c.args.packets.now.ok in omega (arith, len, c.if-index-len.true, c.len.ensures)) in
     ap here_in c.remove.ensures.items
-    ∙ removed-others (start_in c.args.running.now) 0 items c.place_in-index.result c.index.result.now c.requires parts inside (ap (λ p. p.place) (sym c.index.ensures) ∙ c.if-index-place.true)
+    ∙ removed-others (start_in c.args.running.now) 0 items c.place_in-index.result c.index.result.now c.requires.rising parts inside (ap (λ p. p.place) (sym c.index.ensures) ∙ c.if-index-place.true)
 
 pub returns-else-index-len-clause-others : goal.returns-else-index-len-clause-others
 returns-else-index-len-clause-others c =
@@ -21,8 +23,19 @@ returns-else-index-len-clause-others c =
     let len = c.args.packets.now.ok in
     let parts = subst (λ packets. PartsAt c.args.running.now.packet.place packets c.place_in-index.result) c.deref.ensures.value c.place_in-index.ensures in
     elim c.else-index-len.branch [
-      | else-index-len-via-then-index-len+else-index-place w ↦ absent-others (start_in c.args.running.now) 0 items c.place_in-index.result c.requires parts
+      | else-index-len-via-then-index-len+else-index-place w ↦ absent-others (start_in c.args.running.now) 0 items c.place_in-index.result c.requires.rising parts
           (λ d inside same. w.if-index-place.false (ap (λ p. p.place) (w.index.ensures ∙ get_or_default items c.place_in-index.result w.index.result.now d inside) ∙ same))
-      | else-index-len-via-else-index-len w ↦ absent-others (start_in c.args.running.now) 0 items c.place_in-index.result c.requires parts
+      | else-index-len-via-else-index-len w ↦ absent-others (start_in c.args.running.now) 0 items c.place_in-index.result c.requires.rising parts
           (λ d inside same. absurd (omega (arith, len, inside, w.if-index-len.false, c.len.ensures)))
     ]
+
+pub lower-requires : goal.lower-requires
+lower-requires c =
+    let inside : c.place_in-index.result < length c.args.packets.now.items = (let len = c.args.packets.now.ok in omega (arith, len, c.if-index-len.true, c.len.ensures)) in
+    one-counted c.args.counts.now.items c.args.packets.now.items c.place_in-index.result c.index-then-index-place.result.now c.requires.counts inside c.index-then-index-place.ensures
+
+pub returns-then-index-place-clause-counts : goal.returns-then-index-place-clause-counts
+returns-then-index-place-clause-counts c =
+    let inside : c.place_in-index.result < length c.args.packets.now.items = (let len = c.args.packets.now.ok in omega (arith, len, c.if-index-len.true, c.len.ensures)) in
+    subst (λ packets. AreCounts c.lower.new.counts.items (here_in packets)) (sym c.remove.ensures.items)
+    (counts-without c.args.counts.now.items c.lower.new.counts.items c.args.packets.now.items c.place_in-index.result c.index-then-index-place.result.now c.requires.counts inside c.index-then-index-place.ensures c.lower.ensures.each c.lower.ensures.all)

@@ -2,10 +2,12 @@
 -- the account.
 use Rattle.std.proofs.Common.{◌≡◌, ◌+◌, take, true, refl, sym, ap, ◌∙◌, arith}
 use Rattle.std.proofs.lemmas.List.{append-nil}
+use Rattle.std.specs.Prelude.{nat_lt}
 use Rattle.link_steps.specs.Sources.{dropped_by, taken_by}
 use Rattle.link_steps.specs.Sources.SourceStep.{Rests, Brings, Drops}
 use Rattle.link_server.specs.Packets.{here_in}
-use Rattle.link_server.specs.Rows.{row_in}
+use Rattle.link_steps.specs.Buffer.{slots_of}
+use Rattle.link_server.specs.Rows.{reservation_in, row_in}
 use Rattle.link_server.specs.Sources.{step_in}
 use Rattle.link_server.proofs.SourceFacts.{step-rests, step-loses, step-brings, slot-same, brought-here, brought-row}
 use Rattle.link_server.proofs.sources.take_source_packet.Goals as goal
@@ -29,8 +31,8 @@ returns-in_default-clause-taken c = rw (rests c) (omega arith)
 loses : (c : goal.Then-not-has_slot) → step_in c.args.bounds.now (take c.args.before (here_in c.args.packets.now.here.items)) c.args.clock c.args.row.now ≡ Drops
 loses c =
     step-loses c.args.bounds.now (take c.args.before (here_in c.args.packets.now.here.items)) c.args.clock c.in-Some.size (row_in c.args.row.now) c.in-Some.ensures.size
-    (sym (slot-same c.args.bounds.now c.args.clock c.args.before c.deref.result.now c.args.packets.now.here.items c.next_planned.new.self c.args.row.now c.deref.ensures.value c.next_planned.ensures.row)
-    ∙ sym c.has_slot.ensures ∙ c.if-not-has_slot.true)
+    (sym (slot-same c.args.bounds.now c.args.clock (take c.args.before (here_in c.args.packets.now.here.items)) c.next_planned.new.self c.args.row.now c.next_planned.ensures.row)
+    ∙ sym (c.has_slot.ensures ∙ ap (λ n. nat_lt n (slots_of c.args.bounds.now (reservation_in c.next_planned.new.self))) c.held_before.ensures) ∙ c.if-not-has_slot.true)
 
 pub returns-then-not-has_slot-clause-lost : goal.returns-then-not-has_slot-clause-lost
 returns-then-not-has_slot-clause-lost c = ap dropped_by (sym (loses c))
@@ -47,8 +49,8 @@ returns-then-not-has_slot-clause-taken c = rw (loses c) (omega arith)
 brings : (c : After-has_slot) → c.has_slot.result ≡ true → step_in c.args.bounds.now (take c.args.before (here_in c.args.packets.now.here.items)) c.args.clock c.args.row.now ≡ Brings c.in-Some.size
 brings c free =
     step-brings c.args.bounds.now (take c.args.before (here_in c.args.packets.now.here.items)) c.args.clock c.in-Some.size (row_in c.args.row.now) c.in-Some.ensures.size
-    (sym (slot-same c.args.bounds.now c.args.clock c.args.before c.deref.result.now c.args.packets.now.here.items c.next_planned.new.self c.args.row.now c.deref.ensures.value c.next_planned.ensures.row)
-    ∙ sym c.has_slot.ensures ∙ free)
+    (sym (slot-same c.args.bounds.now c.args.clock (take c.args.before (here_in c.args.packets.now.here.items)) c.next_planned.new.self c.args.row.now c.next_planned.ensures.row)
+    ∙ sym (c.has_slot.ensures ∙ ap (λ n. nat_lt n (slots_of c.args.bounds.now (reservation_in c.next_planned.new.self))) c.held_before.ensures) ∙ free)
 
 pub overflow_add-packets : goal.overflow_add-packets
 overflow_add-packets c =

@@ -19,7 +19,7 @@ use Rattle.link_server.specs.Sound.{IsSound}
 use Rattle.link_server.specs.Sources.{IsReady}
 use Rattle.link_server.specs.State.{kept_in}
 use Rattle.link_server.specs.Strays.{stray}
-use Rattle.link_server.proofs.ArriveFacts.{arrive-absent, arrive-stray, arrive-full, arrive-taken, arrive-same, arrive-kept, next-number, slots-rule, arrive-room}
+use Rattle.link_server.proofs.ArriveFacts.{arrive-absent, arrive-stray, arrive-full, arrive-taken, arrive-same, arrive-kept, next-number, arrive-room}
 use Rattle.link_server.proofs.ExpiryFacts.{each-at}
 use Rattle.link_server.proofs.QuietFacts.{quiet-changed}
 use Rattle.link_server.proofs.PlaceFacts.{at-place}
@@ -61,8 +61,9 @@ returns-in-Some-full-clause-reply c =
     arrive-full c.args.self.now.shape c.args.self.now.clock c.args.self.now.packets c.args.packet.now c.args.self.now.rows.items c.in-Some.place c.index.result.now _ place
     (c.in_default-stray.ensures ∙ ap (λ row. stray c.args.packet.now (reservation_in row) row.taken) c.index.ensures)
     (c.in-Some-full.ensures
-    ∙ ap (λ items. full (held_packets c.index-2.result.now.lead (here_in items)) (slots_of c.args.self.now.shape.bounds (reservation_in c.index-2.result.now))) c.deref-2.ensures.value
-    ∙ ap (λ row. slots-rule c.args.self.now.shape c.args.self.now.packets.here.items row) (at-place c.args.self.now.rows.items c.in-Some.place c.index-2.result.now c.index.result.now c.index-2.ensures place.inside))
+    ∙ ap (λ row. full c.held-held.result (slots_of c.args.self.now.shape.bounds (reservation_in row))) (at-place c.args.self.now.rows.items c.in-Some.place c.index-3.result.now c.index.result.now c.index-3.ensures place.inside)
+    ∙ ap (λ n. full n (slots_of c.args.self.now.shape.bounds (reservation_in (get_or c.args.self.now.rows.items c.in-Some.place c.index.result.now))))
+    (c.held-held.ensures ∙ ap (λ row. held_packets row.lead (here_in c.args.self.now.packets.here.items)) (at-place c.args.self.now.rows.items c.in-Some.place c.index-2.result.now c.index.result.now c.index-2.ensures place.inside)))
 
 pub returns-in-Some-full-clause-kept : goal.returns-in-Some-full-clause-kept
 returns-in-Some-full-clause-kept c = arrive-same c.args.self.now.shape _ c.args.packet.now _
@@ -85,8 +86,9 @@ replied c place =
     arrive-taken c.args.self.now.shape c.args.self.now.clock c.args.self.now.packets c.args.packet.now c.args.self.now.rows.items c.in-Some.place c.index.result.now c.take-taken.result.eligible place
     (c.in_default-stray.ensures ∙ ap (λ row. stray c.args.packet.now (reservation_in row) row.taken) c.index.ensures)
     (c.in_default-full.ensures
-    ∙ ap (λ items. full (held_packets c.index-2.result.now.lead (here_in items)) (slots_of c.args.self.now.shape.bounds (reservation_in c.index-2.result.now))) c.deref-2.ensures.value
-    ∙ ap (λ row. slots-rule c.args.self.now.shape c.args.self.now.packets.here.items row) (at-place c.args.self.now.rows.items c.in-Some.place c.index-2.result.now c.index.result.now c.index-2.ensures place.inside))
+    ∙ ap (λ row. full c.held-held.result (slots_of c.args.self.now.shape.bounds (reservation_in row))) (at-place c.args.self.now.rows.items c.in-Some.place c.index-3.result.now c.index.result.now c.index-3.ensures place.inside)
+    ∙ ap (λ n. full n (slots_of c.args.self.now.shape.bounds (reservation_in (get_or c.args.self.now.rows.items c.in-Some.place c.index.result.now))))
+    (c.held-held.ensures ∙ ap (λ row. held_packets row.lead (here_in c.args.self.now.packets.here.items)) (at-place c.args.self.now.rows.items c.in-Some.place c.index-2.result.now c.index.result.now c.index-2.ensures place.inside)))
     (ap (λ p. p.eligible) c.take-taken.ensures.packet
     ∙ ap (λ row. eligible_next (reservation_in row) (row_in row).recent c.args.self.now.clock c.args.packet.now.due) (at-place c.args.self.now.rows.items c.in-Some.place c.index_mut.result.now c.index.result.now c.index_mut.ensures.value place.inside))
 
@@ -114,10 +116,10 @@ kept c place =
     (c.take-taken.ensures.packet ∙ ap (λ row. arrival_at (reservation_in row) row.lead (c.args.self.now.packets.taken + 1) (suc row.taken) c.args.packet.now.size c.args.self.now.clock (eligible_next (reservation_in row) (row_in row).recent c.args.self.now.clock c.args.packet.now.due)) c.index_mut.ensures.value)
     c.push.ensures.taken c.push.ensures.here c.push.ensures.on c.push.ensures.best
 
-pub invariant_of-self-3 : goal.invariant_of-self-3
-invariant_of-self-3 c =
-    let place = placed (goal.at.invariant_of-self-3 c).In-Some in
-    let after = sound (goal.at.invariant_of-self-3 c).After-take-taken place in
+pub invariant_of-self-2 : goal.invariant_of-self-2
+invariant_of-self-2 c =
+    let place = placed (goal.at.invariant_of-self-2 c).In-Some in
+    let after = sound (goal.at.invariant_of-self-2 c).After-take-taken place in
     let same = c.take-taken.ensures.row ∙ ap (λ row. kept_with (c.args.self.now.packets.taken + 1) (eligible_next (reservation_in row) (row_in row).recent c.args.self.now.clock c.args.packet.now.due) (row_in row)) c.index_mut.ensures.value in
     let roomy = c.args.self.now.roomy in
     record {
@@ -134,13 +136,13 @@ invariant_of-self-3 c =
       keeps =
           subst (IsKeeping c.args.self.now.shape.buffer c.args.self.now.shape.bounds c.args.self.now.keeping)
           (sym (map-set_same reservation_in c.args.self.now.rows.items c.in-Some.place c.take-taken.new.self c.index_mut.result.now (ap (λ row. row.terms) same))) c.args.self.now.keeps;
-      sound = subst (IsSound c.args.self.now.shape c.args.self.now.room) (sym (kept (goal.at.invariant_of-self-3 c).After-push place)) after;
+      sound = subst (IsSound c.args.self.now.shape c.args.self.now.room) (sym (kept (goal.at.invariant_of-self-2 c).After-push place)) after;
       quiet =
-          quiet-changed c.args.self.now.shape.bounds c.args.self.now.due c.row_due.result c.min-self.result c.args.self.now.rows.items c.in-Some.place c.take-taken.new.self c.index-3.result.now c.args.self.now.quiet place.inside c.index-3.ensures c.row_due.ensures
+          quiet-changed c.args.self.now.shape.bounds c.args.self.now.due c.row_due.result c.min-self.result c.args.self.now.rows.items c.in-Some.place c.take-taken.new.self c.index-4.result.now c.args.self.now.quiet place.inside c.index-4.ensures c.row_due.ensures
           (omega (arith, c.min-self.ensures)) (omega (arith, c.min-self.ensures));
       roomy = omega (arith, roomy, c.push.ensures.room);
       looked = (let looked = c.args.self.now.looked in omega (arith, looked, c.push.ensures.looked));
-      stood = still-stood c.args.self.now (Arrive c.args.packet.now) (Taken c.args.self.now.clock c.take-taken.result.eligible) _ c.requires.fits (replied (goal.at.invariant_of-self-3 c).After-take-taken place) (kept (goal.at.invariant_of-self-3 c).After-push place);
+      stood = still-stood c.args.self.now (Arrive c.args.packet.now) (Taken c.args.self.now.clock c.take-taken.result.eligible) _ c.requires.fits (replied (goal.at.invariant_of-self-2 c).After-take-taken place) (kept (goal.at.invariant_of-self-2 c).After-push place);
     }
 
 pub returns-clause-reply : goal.returns-clause-reply

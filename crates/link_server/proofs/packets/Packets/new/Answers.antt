@@ -1,8 +1,16 @@
 -- None are planned.
-use Rattle.std.proofs.Common.{refl}
+use Rattle.std.proofs.Common.{◌≡◌, length, refl, ap, arith}
 use Rattle.link_steps.specs.Rows.{planned_from}
+use Rattle.link_server.specs.Line.{ranks_in}
+use Rattle.link_server.proofs.CountFacts.{none-counted}
 use Rattle.link_server.proofs.packets.Packets.new.Goals as goal
 
 pub returns-clause-best : goal.returns-clause-best
 unfolding planned_from
 returns-clause-best c = refl
+
+pub invariant_of-result-2-clause-counts_are : goal.invariant_of-result-2-clause-counts_are
+invariant_of-result-2-clause-counts_are c = rw (c.new.ensures.items, c.new-2.ensures.items) none-counted
+
+pub invariant_of-result-2-clause-few : goal.invariant_of-result-2-clause-few
+invariant_of-result-2-clause-few c = (let none : length (ranks_in c.new-3.result) ≡ 0 = ap length c.new-3.ensures.ranks in omega (arith, none))

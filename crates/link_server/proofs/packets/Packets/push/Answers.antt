@@ -1,6 +1,9 @@
 -- The packet comes after those here, and its rank is put in line.
 use Rattle.std.proofs.Common.{◌≡◌, ◌+◌, ◌++◌, ◌∷◌, [], length, sym, ap, ◌∙◌, subst, arith}
-use Rattle.std.proofs.lemmas.List.{map_push, length-append}
+use Rattle.std.proofs.lemmas.List.{map_push, length-append, length-map}
+use Rattle.link_steps.specs.Buffer.{held_packets}
+use Rattle.link_server.specs.Counts.{one_of}
+use Rattle.link_server.proofs.CountFacts.{held-pushed}
 use Rattle.std.proofs.lemmas.List.Sorted.{length_permutation}
 use Rattle.link_server.specs.InLine.{AreIn}
 use Rattle.link_server.specs.Line.{ranks_in}
@@ -15,6 +18,14 @@ push-requires c =
     let few = c.args.self.now.few in
     let room = c.args.self.now.lines_up in
     record { room = omega (arith, few, room, c.requires.room) }
+
+pub raise-requires : goal.raise-requires
+raise-requires c =
+    let all = c.args.self.now.counts_are.all in
+    let long = length-map c.args.self.now.here.items arrival_in in
+    let fit = c.args.self.now.counts_fit in
+    let small = c.args.self.now.here.small in
+    record { room = omega (arith, all, long, fit, c.requires.room); small = omega (arith, all, long, small) }
 
 pub invariant_of-self : goal.invariant_of-self
 invariant_of-self c =
@@ -35,4 +46,11 @@ invariant_of-self c =
       fits = omega (arith, longer, c.requires.room);
       holds = omega (arith, holds, c.push_reserved.ensures.capacity);
       lines_up = omega (arith, lines_up, c.push.ensures.room);
+      counts_are = record {
+        each = λ lead.
+            c.raise.ensures.each lead ∙ ap (λ n. n + one_of c.args.packet.lead lead) (c.args.self.now.counts_are.each lead)
+            ∙ sym (held-pushed lead (here_in c.args.self.now.here.items) (arrival_in c.args.packet)) ∙ ap (held_packets lead) (sym one);
+        all = (let all = c.args.self.now.counts_are.all in let now = ap length one in let parts = length-append (here_in c.args.self.now.here.items) (arrival_in c.args.packet ∷ []) in omega (arith, all, now, parts, c.raise.ensures.all));
+      };
+      counts_fit = (let fit = c.args.self.now.counts_fit in omega (arith, fit, c.raise.ensures.capacity));
     }

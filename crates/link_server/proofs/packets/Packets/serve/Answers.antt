@@ -26,8 +26,8 @@ returns-clause-best_sent c =
     let goes = running-goes-on c.args.shape.now c.args.clock _ _ _ _ c.requires.serves c.occupant.ensures.occupant c.in-Some.is in
     best-departs-now c.args.shape.now c.args.clock _ _ _ c.is_best.result goes c.occupant.ensures.occupant c.in-Some.is (omega (arith, c.leaves_at.ensures.value, c.if-leaves_at-clock.false)) c.is_best.ensures
 
-pub take_out-requires : goal.take_out-requires
-take_out-requires c = numbered-rising 0 (here_in c.occupant.new.self.here.items) c.occupant.new.self.taken c.occupant.new.self.numbered
+pub take_out-requires-clause-rising : goal.take_out-requires-clause-rising
+take_out-requires-clause-rising c = numbered-rising 0 (here_in c.occupant.new.self.here.items) c.occupant.new.self.taken c.occupant.new.self.numbered
 
 pub invariant_of-self : goal.invariant_of-self
 invariant_of-self c =
@@ -43,4 +43,6 @@ invariant_of-self c =
       fits = omega (arith, fits, c.take_out.ensures.fewer);
       holds = omega (arith, holds, c.take_out.ensures.capacity);
       lines_up = o.lines_up;
+      counts_are = c.take_out.ensures.counts;
+      counts_fit = (let fit = o.counts_fit in omega (arith, fit, c.take_out.ensures.counts_capacity));
     }

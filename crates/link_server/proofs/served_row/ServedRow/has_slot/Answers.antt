@@ -1,6 +1,6 @@
--- The packets of the row that are here are counted.
+-- A slot is free where the slots are more than the packets that hold one.
 use Rattle.std.proofs.Common.{refl}
 use Rattle.link_server.proofs.served_row.ServedRow.has_slot.Goals as goal
 
 pub returns : goal.returns
-returns c = rw (c.held.ensures, c.slots.ensures.value) refl
+returns c = rw (c.slots.ensures.value) refl

@@ -1,0 +1,189 @@
+-- What a packet more, and one less, make of the counts.
+use Rattle.std.proofs.Common.{◌≡◌, ℕ, zero, suc, ◌+◌, ◌<◌, ◌≤◌, Bool, true, false, List, [], ◌∷◌, ◌++◌, length, get_or, set, take, drop, ⊎_elim, refl, sym, ap, ◌∙◌, arith}
+use Rattle.std.proofs.lemmas.Bool.{cases_Bool, eq-eqb, eqb-true}
+use Rattle.std.proofs.lemmas.List.{take_more, length-map}
+use Rattle.std.proofs.lemmas.List.Edits.{length-remove}
+use Rattle.std.specs.List.{remove}
+use Rattle.std.specs.Prelude.{filter, nat_eq, if◌then◌else◌}
+use Rattle.traffic_contract.specs.Admission.{total}
+use Rattle.traffic_contract.proofs.AdmissionFacts.{total-push}
+use Rattle.link_steps.specs.Buffer.{has_lead, held_packets}
+use Rattle.link_steps.specs.Service.{Arrival}
+use Rattle.link_server.specs.declared.lead_count.Count.{Count}
+use Rattle.link_server.specs.declared.held_packet.HeldPacket.{HeldPacket}
+use Rattle.link_server.specs.Counts.{is_count_of, share_of, counted, packets_in, all_counted, one_of, IsCountAt, IsUncounted, AreCounts}
+use Rattle.link_server.specs.Packets.{arrival_in, here_in}
+
+-- ---- sums over counts
+
+pub total-at : (f : Count → ℕ) (xs : List Count) (i : ℕ) (d : Count) → i < length xs → f (get_or xs i d) ≤ total f xs
+total-at f [] i d inside = absurd (omega arith)
+total-at f (x ∷ xs) zero d inside = omega arith
+total-at f (x ∷ xs) (suc i) d inside = (let rest = total-at f xs i d (omega (arith, inside)) in omega (arith, rest))
+
+total-removed : (f : Count → ℕ) (xs : List Count) (i : ℕ) (d : Count) → i < length xs → total f (remove xs i) + f (get_or xs i d) ≡ total f xs
+total-removed f [] i d inside = absurd (omega arith)
+total-removed f (x ∷ xs) zero d inside = omega arith
+total-removed f (x ∷ xs) (suc i) d inside = (let rest = total-removed f xs i d (omega (arith, inside)) in omega (arith, rest))
+
+total-set : (f : Count → ℕ) (xs : List Count) (i : ℕ) (new d : Count) → i < length xs → total f (set xs i new) + f (get_or xs i d) ≡ total f xs + f new
+total-set f [] i new d inside = absurd (omega arith)
+total-set f (x ∷ xs) zero new d inside = omega arith
+total-set f (x ∷ xs) (suc i) new d inside = (let rest = total-set f xs i new d (omega (arith, inside)) in omega (arith, rest))
+
+pub total-more : (f : Count → ℕ) (xs : List Count) (i : ℕ) (x : Count) → i < length xs → x ≡ get_or xs i x → total f (take (i + 1) xs) ≡ total f (take i xs) + f x
+total-more f xs i x inside is =
+    ap (total f) (take_more xs i x inside) ∙ total-push f (take i xs) (get_or xs i x) ∙ ap (λ y. total f (take i xs) + f y) (sym is)
+
+-- the first so many counts, with the next one, have no more packets than all
+pub share-within : (lead : ℕ) (xs : List Count) (i : ℕ) (d : Count) → i < length xs → total (share_of lead) (take i xs) + (get_or xs i d).packets ≤ total packets_in xs
+share-within lead [] i d inside = absurd (omega arith)
+share-within lead (x ∷ xs) zero d inside = omega arith
+share-within lead (x ∷ xs) (suc i) d inside =
+    let rest = share-within lead xs i d (omega (arith, inside)) in
+    let own = share-upto (is_count_of lead x) x.packets in
+    omega (arith, rest, own) where
+      share-upto : (b : Bool) (n : ℕ) → (if b then n else 0) ≤ n
+      share-upto true n = omega arith
+      share-upto false n = omega arith
+
+-- each count has a packet, so there are no more counts than packets
+pub counts-few : (xs : List Count) → length xs ≤ all_counted xs
+counts-few [] = omega arith
+counts-few (x ∷ xs) = (let some = x.some in omega (arith, some, counts-few xs))
+
+-- where no count is of the lead none of its packets is counted
+pub uncounted-none : (lead : ℕ) (xs : List Count) → IsUncounted lead xs → counted lead xs ≡ 0
+uncounted-none lead [] none = refl
+uncounted-none lead (x ∷ xs) none =
+    let rest = uncounted-none lead xs (λ k d inside. none (suc k) d (omega (arith, inside))) in
+    rw (none 0 x (omega arith)) (omega (arith, rest))
+
+-- where no packet is here nothing is counted
+pub none-counted : AreCounts [] []
+unfolding held_packets
+none-counted = record { each = λ lead. refl; all = refl }
+
+-- ---- one more, one less
+
+share-more : (b : Bool) (n : ℕ) → (if b then n + 1 else 0) ≡ (if b then n else 0) + (if b then 1 else 0)
+share-more true n = refl
+share-more false n = refl
+
+-- a count of the lead with one packet more
+pub counted-raised : (lead other : ℕ) (xs : List Count) (i : ℕ) (new d : Count) → IsCountAt lead xs i → new.lead ≡ lead → new.packets ≡ (get_or xs i d).packets + 1 → counted other (set xs i new) ≡ counted other xs + one_of lead other
+counted-raised lead other xs i new d at own more =
+    let same = eqb-true (get_or xs i d).lead lead (at.here d) in
+    let sum = total-set (share_of other) xs i new d at.inside in
+    let was : share_of other (get_or xs i d) ≡ (if nat_eq lead other then (get_or xs i d).packets else 0) = ap (λ n. if nat_eq n other then (get_or xs i d).packets else 0) same in
+    let now : share_of other new ≡ (if nat_eq lead other then (get_or xs i d).packets + 1 else 0) = ap (λ n. if nat_eq n other then new.packets else 0) own ∙ ap (λ n. if nat_eq lead other then n else 0) more in
+    let step = share-more (nat_eq lead other) (get_or xs i d).packets in
+    omega (arith, sum, was, now, step)
+
+pub all-raised : (xs : List Count) (i : ℕ) (new d : Count) → i < length xs → new.packets ≡ (get_or xs i d).packets + 1 → all_counted (set xs i new) ≡ all_counted xs + 1
+all-raised xs i new d inside more = (let sum = total-set packets_in xs i new d inside in omega (arith, sum, more))
+
+-- with one less
+pub counted-lowered : (lead other : ℕ) (xs : List Count) (i : ℕ) (new d : Count) → IsCountAt lead xs i → new.lead ≡ lead → new.packets + 1 ≡ (get_or xs i d).packets → counted other (set xs i new) + one_of lead other ≡ counted other xs
+counted-lowered lead other xs i new d at own less =
+    let same = eqb-true (get_or xs i d).lead lead (at.here d) in
+    let sum = total-set (share_of other) xs i new d at.inside in
+    let was : share_of other (get_or xs i d) ≡ (if nat_eq lead other then new.packets + 1 else 0) = ap (λ n. if nat_eq n other then (get_or xs i d).packets else 0) same ∙ ap (λ n. if nat_eq lead other then n else 0) (sym less) in
+    let now : share_of other new ≡ (if nat_eq lead other then new.packets else 0) = ap (λ n. if nat_eq n other then new.packets else 0) own in
+    let step = share-more (nat_eq lead other) new.packets in
+    omega (arith, sum, was, now, step)
+
+pub all-lowered : (xs : List Count) (i : ℕ) (new d : Count) → i < length xs → new.packets + 1 ≡ (get_or xs i d).packets → all_counted (set xs i new) + 1 ≡ all_counted xs
+all-lowered xs i new d inside less = (let sum = total-set packets_in xs i new d inside in omega (arith, sum, less))
+
+-- and the last one of its lead taken out
+pub counted-removed : (lead other : ℕ) (xs : List Count) (i : ℕ) (d : Count) → IsCountAt lead xs i → (get_or xs i d).packets ≡ 1 → counted other (remove xs i) + one_of lead other ≡ counted other xs
+counted-removed lead other xs i d at one =
+    let same = eqb-true (get_or xs i d).lead lead (at.here d) in
+    let sum = total-removed (share_of other) xs i d at.inside in
+    let was : share_of other (get_or xs i d) ≡ (if nat_eq lead other then 1 else 0) = ap (λ n. if nat_eq n other then (get_or xs i d).packets else 0) same ∙ ap (λ n. if nat_eq lead other then n else 0) one in
+    omega (arith, sum, was)
+
+pub all-removed : (xs : List Count) (i : ℕ) (d : Count) → i < length xs → (get_or xs i d).packets ≡ 1 → all_counted (remove xs i) + 1 ≡ all_counted xs
+all-removed xs i d inside one = (let sum = total-removed packets_in xs i d inside in omega (arith, sum, one))
+
+-- a new count
+pub counted-pushed : (lead other : ℕ) (xs : List Count) (new : Count) → new.lead ≡ lead → new.packets ≡ 1 → counted other (xs ++ new ∷ []) ≡ counted other xs + one_of lead other
+counted-pushed lead other xs new own one =
+    total-push (share_of other) xs new
+    ∙ ap (λ n. counted other xs + n) (ap (λ n. if nat_eq n other then new.packets else 0) own ∙ ap (λ n. if nat_eq lead other then n else 0) one)
+
+pub all-pushed : (xs : List Count) (new : Count) → new.packets ≡ 1 → all_counted (xs ++ new ∷ []) ≡ all_counted xs + 1
+all-pushed xs new one = total-push packets_in xs new ∙ ap (λ n. all_counted xs + n) one
+
+-- ---- packets
+
+length-push : (test : Arrival → Bool) (here : List Arrival) (p : Arrival) → length (filter test (here ++ p ∷ [])) ≡ length (filter test here) + (if test p then 1 else 0)
+length-push test [] p = ⊎_elim (λ (yes : test p ≡ true). rw yes refl) (λ (no : test p ≡ false). rw no refl) (cases_Bool (test p))
+length-push test (q ∷ here) p =
+    let rest = length-push test here p in
+    ⊎_elim (λ (yes : test q ≡ true). rw yes (omega (arith, rest))) (λ (no : test q ≡ false). rw no rest) (cases_Bool (test q))
+
+-- one more
+pub held-pushed : (lead : ℕ) (here : List Arrival) (p : Arrival) → held_packets lead (here ++ p ∷ []) ≡ held_packets lead here + one_of p.lead lead
+unfolding held_packets
+held-pushed lead here p = length-push (has_lead lead) here p
+
+length-removed : (test : Arrival → Bool) (items : List HeldPacket) (i : ℕ) (d : HeldPacket) → i < length items → length (filter test (here_in (remove items i))) + (if test (arrival_in (get_or items i d)) then 1 else 0) ≡ length (filter test (here_in items))
+length-removed test [] i d inside = absurd (omega arith)
+length-removed test (q ∷ items) zero d inside =
+    ⊎_elim (λ (yes : test (arrival_in q) ≡ true). rw yes (omega arith)) (λ (no : test (arrival_in q) ≡ false). rw no (omega arith)) (cases_Bool (test (arrival_in q)))
+length-removed test (q ∷ items) (suc i) d inside =
+    let rest = length-removed test items i d (omega (arith, inside)) in
+    ⊎_elim (λ (yes : test (arrival_in q) ≡ true). rw yes (omega (arith, rest))) (λ (no : test (arrival_in q) ≡ false). rw no rest) (cases_Bool (test (arrival_in q)))
+
+-- one less
+pub held-removed : (lead : ℕ) (items : List HeldPacket) (i : ℕ) (d : HeldPacket) → i < length items → held_packets lead (here_in (remove items i)) + one_of (get_or items i d).lead lead ≡ held_packets lead (here_in items)
+unfolding held_packets
+held-removed lead items i d inside = length-removed (has_lead lead) items i d inside
+
+-- a packet is one of its own reservation
+pub one-own : (lead : ℕ) → one_of lead lead ≡ 1
+one-own lead = rw (eq-eqb lead lead refl) refl
+
+-- the counts without the packet at a place are those of the others
+pub counts-without : (old new : List Count) (items : List HeldPacket) (i : ℕ) (packet : HeldPacket) → AreCounts old (here_in items) → i < length items → packet ≡ get_or items i packet
+    → ((lead : ℕ) → counted lead new + one_of packet.lead lead ≡ counted lead old) → all_counted new + 1 ≡ all_counted old → AreCounts new (here_in (remove items i))
+counts-without old new items i packet are inside is each all = record {
+  each = λ lead.
+      let gone = held-removed lead items i packet inside in
+      let same = ap (λ p. one_of p.lead lead) is in
+      let was = are.each lead in
+      let now = each lead in
+      omega (arith, gone, same, was, now);
+  all =
+      let was = are.all in
+      let fewer = length-remove items i inside in
+      let long = length-map items arrival_in in
+      let short = length-map (remove items i) arrival_in in
+      omega (arith, was, all, fewer, long, short, inside);
+}
+
+-- and it was counted
+pub one-counted : (counts : List Count) (items : List HeldPacket) (i : ℕ) (packet : HeldPacket) → AreCounts counts (here_in items) → i < length items → packet ≡ get_or items i packet → 1 ≤ counted packet.lead counts
+one-counted counts items i packet are inside is =
+    let gone = held-removed packet.lead items i packet inside in
+    let own = sym (ap (λ p. one_of p.lead packet.lead) is) ∙ one-own packet.lead in
+    let was = are.each packet.lead in
+    omega (arith, gone, own, was)
+
+-- those before a place, and those from it on
+length-parts : (test : Arrival → Bool) (items : List HeldPacket) (i : ℕ) → length (filter test (take i (here_in items))) + length (filter test (here_in (drop i items))) ≡ length (filter test (here_in items))
+length-parts test [] zero = refl
+length-parts test [] (suc i) = refl
+length-parts test (q ∷ items) zero =
+    let none : length (filter test (take 0 (here_in (q ∷ items)))) ≡ 0 = refl in
+    let all : length (filter test (here_in (drop 0 (q ∷ items)))) ≡ length (filter test (here_in (q ∷ items))) = refl in
+    omega (arith, none, all)
+length-parts test (q ∷ items) (suc i) =
+    let rest = length-parts test items i in
+    ⊎_elim (λ (yes : test (arrival_in q) ≡ true). rw yes (omega (arith, rest))) (λ (no : test (arrival_in q) ≡ false). rw no rest) (cases_Bool (test (arrival_in q)))
+
+pub held-parts : (lead : ℕ) (items : List HeldPacket) (i : ℕ) → held_packets lead (take i (here_in items)) + held_packets lead (here_in (drop i items)) ≡ held_packets lead (here_in items)
+unfolding held_packets
+held-parts lead items i = length-parts (has_lead lead) items i
