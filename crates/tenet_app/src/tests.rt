@@ -13,6 +13,7 @@ use std::sync::Wait;
 use std::test::Fail;
 use std::thread::Threads;
 
+mod faults;
 mod loads;
 mod many;
 mod networks;
@@ -249,14 +250,7 @@ fn a_run_that_stops_says_why(rt: HostRuntime) -> Result<(), Fail> {
         ..failing_end
     };
     let told = (refused(1, Cause::Header), "refused 1 header\n");
-    ends_with(
-        &rt,
-        alloc,
-        &["play"],
-        b"tenet 9\nlink",
-        failing_after,
-        told,
-    )?;
+    ends_with(&rt, alloc, &["play"], b"tenet 9\nlink", failing_after, told)?;
     let told = (Status::Words, "");
     ends_with(&rt, alloc, &[], first, SOUND, told)?;
     ends_with(&rt, alloc, &["fly"], first, SOUND, told)?;

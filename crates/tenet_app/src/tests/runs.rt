@@ -12,7 +12,7 @@ struct Case {
     report: &'static str,
 }
 
-const CASES: [Case; 12] = [
+const CASES: [Case; 13] = [
     // Each packet starts as it comes.
     Case {
         buffer: 100,
@@ -211,6 +211,26 @@ channel r1 offered 0 keeps delivered 0 least - worst - refused 0
 channel r3 offered 1 keeps delivered 1 least 4 worst 4 refused 0
 link A clock 3 sent 1 full 0
 end steps 11
+",
+    },
+    // A flood: r1 keeps two slots, and its regulator lets two packets go in 20 ticks. At 0 it takes one and at 1 another, eligible at
+    // 5; then each that departs makes room for one more. The packets of r2 wait for one of r1 at most.
+    Case {
+        buffer: 100,
+        script: "caller k1
+open r1 route A contract 5 10 20 2 delay 12 rate
+open r2 route A contract 5 10 20 2 delay 22 rate
+send r1 100 1 2
+send r2 3 10 2
+rounds 200
+tail 0
+",
+        report: "accept r1 delay 12 levels 1
+accept r2 delay 22 levels 2
+channel r1 offered 100 breaks delivered 12 least 4 worst 22 refused 0
+channel r2 offered 3 keeps delivered 3 least 4 worst 6 refused 0
+link A clock 200 sent 15 full 88
+end steps 206
 ",
     },
 ];
