@@ -35,6 +35,12 @@ unfoldable pub Follows : (List Reply → Option (LinkNo × Ask)) → List Reply 
 Follows next replies [] = Unit {0}
 Follows next replies (e ∷ entries) = (next replies ≡ Some (e.link, e.ask)) × Follows next (replies ++ e.reply ∷ []) entries
 
+-- after want of memory the steps made before stand: the pass has its own entries and then those that the protocol has asked so far
+pub record StepsStand (next : List Reply → Option (LinkNo × Ask)) (pass pass' : Token) : Type 0 where
+  pub entries : List OwnEntry
+  pub own : pass'.own ≡ pass.own ++ entries
+  pub follows : Follows next [] entries
+
 -- a setup has come to this
 pub record SetsUp (request : Request) (pass pass' : Token) (outcome : Outcome) : Type 0 where
   pub entries : List OwnEntry

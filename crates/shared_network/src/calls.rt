@@ -2,13 +2,14 @@
 ghost use Rattle.std.specs.Prelude.{◌≡◌, ℕ, ◌^◌, ◌+◌, ◌<◌, ◌≤◌, ◌-◌, length, IfOk, OnOk, OnErr, true};
 ghost use Rattle.net_units.specs.Numbers.{channel_number};
 ghost use Rattle.link_steps.specs.Lists.{Each};
+ghost use Rattle.setup_protocol.specs.Hops.{IsHopOf};
 ghost use Rattle.setup_protocol.specs.Laws.{is_accepted};
 ghost use Rattle.setup_protocol.specs.State.{outcome_of};
-ghost use Rattle.setup_protocol.specs.Teardown.{told_count};
+ghost use Rattle.setup_protocol.specs.Setup.{next_ask};
+ghost use Rattle.setup_protocol.specs.Teardown.{next_release, told_count};
 ghost use Rattle.link_ledger.specs.Owners.{IsOwner};
 ghost use Rattle.shared_network.specs.Added.{IsSamePass, IsLost};
-ghost use Rattle.shared_network.specs.Calls.{HasNone, IsEstablished, OthersStay, SetsUp, TearsDown};
-ghost use Rattle.setup_protocol.specs.Hops.{IsHopOf};
+ghost use Rattle.shared_network.specs.Calls.{HasNone, IsEstablished, OthersStay, SetsUp, StepsStand, TearsDown};
 ghost use Rattle.shared_network.specs.Ready.{MayStep, PassGoesOn};
 
 use crate::network::Network;
@@ -25,7 +26,8 @@ impl<L: LinkStep + Send, H: Home> Network<L, H> {
     /// one of the pass is as it was. It may wait for each link.
     ///
     /// The pass has its seat, isn't spent (`pass`) and has drawn fewer than 2^40 - 64 stamps. After want of memory it is
-    /// spent, the steps made so far stand in the journals, and nothing further is claimed of the channel.
+    /// spent, the steps made so far stand in the journals and among its own entries (`stand`), and nothing further is claimed of
+    /// the channel.
     pub fn setup<W: Wait, G: Gate>(
         &self,
         rt: &W,
@@ -44,6 +46,7 @@ impl<L: LinkStep + Send, H: Home> Network<L, H> {
         ensures drew { OnOk result (length pass.new.view.drawn ≤ length pass.old.view.drawn + 32) }
         ensures ready { OnOk result (PassGoesOn H.table H.owners H.links pass.old pass.new) }
         ensures lost { OnErr result (IsLost pass.new) }
+        ensures stand { OnErr result (StepsStand (next_ask request.now) pass.old pass.new) }
         ensures same { IsSamePass pass.old pass.new }
     {
         // Read for what they say of every contract and route.
@@ -66,7 +69,8 @@ impl<L: LinkStep + Send, H: Home> Network<L, H> {
     /// and it hasn't torn it down (`established`). Each other channel of the pass stays as it was. It may wait for each link.
     ///
     /// The pass has its seat, isn't spent (`pass`) and has drawn fewer than 2^40 - 64 stamps. After want of memory it is
-    /// spent, the steps made so far stand in the journals, and nothing further is claimed of the channel.
+    /// spent, the steps made so far stand in the journals and among its own entries (`stand`), and nothing further is claimed of
+    /// the channel.
     pub fn teardown<W: Wait, G: Gate>(
         &self,
         rt: &W,
@@ -84,6 +88,7 @@ impl<L: LinkStep + Send, H: Home> Network<L, H> {
         ensures drew { OnOk result (length pass.new.view.drawn ≤ length pass.old.view.drawn + 16) }
         ensures ready { OnOk result (PassGoesOn H.table H.owners H.links pass.old pass.new) }
         ensures lost { OnErr result (IsLost pass.new) }
+        ensures stand { OnErr result (StepsStand (next_release request.now.chan request.now.route) pass.old pass.new) }
         ensures same { IsSamePass pass.old pass.new }
     {
         // Read for what it says of every route.
