@@ -246,7 +246,7 @@ clocks-next network past done fits stands next n inside =
 
 -- ---- the flights
 
-ticked-with : (links : ℕ) (plane : Plane) (found : Option Flight) (reply : Reply) → 1 ≤ links → plane.ticked < links → (plane_with links plane found reply).ticked < links
+pub ticked-with : (links : ℕ) (plane : Plane) (found : Option Flight) (reply : Reply) → 1 ≤ links → plane.ticked < links → (plane_with links plane found reply).ticked < links
 ticked-with links plane (Some flight) reply some within = within
 ticked-with links plane None reply some within =
     elim (cases_Bool (nat_eq (suc plane.ticked) links)) [

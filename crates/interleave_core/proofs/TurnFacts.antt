@@ -162,7 +162,7 @@ ends-fewer all next links ticked flights new both round within few are = omega (
 goes-fewer : (all next links ticked flights new both : ℕ) → all ≡ next + links → ticked < links → new ≤ 1 → both ≡ flights + new → 2 * (all - suc ticked) + both < 2 * (all - ticked) + flights
 goes-fewer all next links ticked flights new both round within few are = omega (arith, round, within, few, are)
 
-with-fewer : (links rounds : ℕ) (plane : Plane) (found : Option Flight) (reply : Reply) → next_due plane ≡ found → plane.ticked < links → plane.round < rounds → plane_most links rounds (plane_with links plane found reply) < plane_most links rounds plane
+pub with-fewer : (links rounds : ℕ) (plane : Plane) (found : Option Flight) (reply : Reply) → next_due plane ≡ found → plane.ticked < links → plane.round < rounds → plane_most links rounds (plane_with links plane found reply) < plane_most links rounds plane
 with-fewer links rounds plane (Some flight) reply due within early = (let one = without-fewer (is_due plane.round) plane.flights flight due in omega (arith, one))
 with-fewer links rounds plane None reply due within early =
     let round = round-more rounds plane.round links early in

@@ -29,7 +29,8 @@ use Rattle.interleave_core.specs.Runs.{plane_no}
 use Rattle.interleave_core.specs.Turns.{plane_most}
 use Rattle.race_run.specs.Rounds.{PlaneIsOn, PlaneIsAt, IsStepped}
 use Rattle.race_run.specs.Whole.{HasMadeAll, own_done}
-use Rattle.race_run.proofs.PlaneSteps.{asks-early, steps-few, ticked-within, with-fewer}
+use Rattle.race_run.proofs.PlaneSteps.{asks-early, steps-few, ticked-within}
+use Rattle.interleave_core.proofs.TurnFacts.{with-fewer}
 use Rattle.race_run.proofs.TaskFacts.{asked-more}
 
 -- ---- at the start
