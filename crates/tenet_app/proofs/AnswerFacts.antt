@@ -1,8 +1,7 @@
 -- What is written for a plan or for a refused line, and what the status then says.
-use Rattle.std.proofs.Common.{◌≡◌, ◌⊎◌, inl, inr, refl, ℕ, ◌<◌, Bool, List, [], ◌∷◌, ◌++◌, length, take, drop, Option, Some, None, Ok, Err, IfSome, subst, sym, ◌∙◌, ap, reverse}
+use Rattle.std.proofs.Common.{◌≡◌, inl, inr, refl, ℕ, Bool, List, take, drop, Option, Some, None, Ok, Err, subst, sym, ◌∙◌, ap, reverse}
 use Rattle.std.proofs.lemmas.List.{reverse-reverse, take-append-drop}
-use Rattle.std.specs.Io.KnownBytes.{Appends, Keeps, IsAtEnd}
-use Rattle.byte_ends.specs.Faults.{FaultsRise}
+use Rattle.std.specs.Io.KnownBytes.{Appends, IsAtEnd}
 use Rattle.byte_ends.specs.Writing.{WritesFront}
 use Rattle.call_script.specs.Parts.{PlanParts}
 use Rattle.call_script.specs.Plans.{IsPlan}
@@ -13,15 +12,13 @@ use Rattle.interleave_core.specs.declared.playing.PlayFault.{PlayFault}
 use Rattle.interleave_core.specs.declared.playing.PlayFault.TheVariants.{Step}
 use Rattle.interleave_core.specs.Standing.{IsGuaranteedRun}
 use Rattle.run_record.specs.declared.done.Done.{Done}
-use Rattle.tenet_app.specs.Playing.{Ends, refusal_line, DueOfPlan, Reports, Misses, IsDueFor, BytesComeTo, FrontOfDue, FrontOfPlan, ReportsRun, TellsMissing, AnswersPlan, WritesReport, ReportWritten, FrontWritten, LacksMemory, TellsRefusal, RefusalTold, FrontTold, NotTold, Plays}
-use Rattle.scenario_reader.specs.Reading.{Reading, PlanRead, BadLine, TooManyBytes, reading}
+use Rattle.tenet_app.specs.Playing.{Ends, refusal_line, Reports, Misses, IsDueFor, BytesComeTo, FrontOfDue, FrontOfPlan, AnswersPlan, WritesReport, ReportWritten, FrontWritten, LacksMemory, TellsRefusal, RefusalTold, FrontTold, NotTold, Plays}
+use Rattle.scenario_reader.specs.Reading.{Reading, PlanRead, BadLine}
 use Rattle.scenario_reader.specs.ReadSteps.{TellsReading}
 use Rattle.byte_ends.specs.Gathering.{WritesPart}
-use Rattle.channel_report.specs.Telling.{WritesText}
 use Rattle.channel_report.specs.Report.{report_of}
 use Rattle.scenario_reader.specs.declared.reader.ReadRefusal.{ReadRefusal}
 use Rattle.scenario_reader.specs.declared.reader.ReadRefusal.TheVariants as refusal
-use Rattle.scenario_reader.specs.declared.reader.TheConstants.{MOST_BYTES}
 use Rattle.scenario_reader.specs.declared.cause.Cause.{Cause}
 use Rattle.scenario_reader.specs.declared.cause.Cause.TheVariants as cause
 use Rattle.tenet_app.specs.declared.status.Status.{Status}

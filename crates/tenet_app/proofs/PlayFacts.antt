@@ -1,14 +1,11 @@
 -- What is due for the bytes is one status and one text, and an answer without a fault is due for them.
-use Rattle.std.proofs.Common.{◌≡◌, ◌⊎◌, inl, inr, refl, ℕ, ◌≤◌, Bool, List, [], ◌∷◌, Option, Some, None, IfSome, subst, sym, ◌∙◌, ap, reverse}
-use Rattle.std.specs.Io.KnownBytes.{Appends, Keeps, IsAtEnd}
+use Rattle.std.proofs.Common.{◌≡◌, ◌⊎◌, inl, inr, refl, ℕ, Bool, List, [], Option, Some, subst, sym, ◌∙◌, ap, reverse}
 use Rattle.call_script.specs.Parts.{PlanParts}
 use Rattle.call_script.specs.Tasks.{network_of}
 use Rattle.call_script.specs.declared.schedule.Schedule.{Schedule}
 use Rattle.channel_report.specs.Report.{report_of}
 use Rattle.interleave_core.proofs.ScheduleFacts.{one-end}
-use Rattle.run_record.specs.declared.done.Done.{Done}
 use Rattle.scenario_reader.specs.Reading.{Reading, PlanRead, BadLine, TooManyBytes, reading}
-use Rattle.scenario_reader.specs.declared.cause.Cause.{Cause}
 use Rattle.scenario_reader.specs.declared.cause.Cause.TheVariants as cause
 use Rattle.scenario_reader.specs.declared.reader.TheConstants.{MOST_BYTES}
 use Rattle.tenet_app.specs.Playing.{Ends, refusal_line, DueOfPlan, Reports, Misses, IsDueFor, BytesComeTo, PlaysDone, Plays, MeetsNoFault, DueFor, BytesDetermine}

@@ -1,20 +1,19 @@
 -- What is read and written for a race, and what its status then says.
 use Rattle.std.proofs.Common.{◌≡◌, inl, inr, refl, ℕ, Bool, true, List, Option, Some, None, Ok, Err, subst, sym}
-use Rattle.std.specs.Io.KnownBytes.{Appends, Keeps, IsAtEnd}
-use Rattle.byte_ends.specs.Faults.{FaultsRise}
+use Rattle.std.specs.Io.KnownBytes.{IsAtEnd}
 use Rattle.byte_ends.specs.Gathering.{WritesPart}
 use Rattle.call_script.specs.Parts.{PlanParts}
 use Rattle.call_script.specs.Plans.{IsPlan}
 use Rattle.call_script.specs.declared.schedule.Schedule.{Schedule}
 use Rattle.run_record.specs.declared.done.Done.{Done}
-use Rattle.scenario_reader.specs.Reading.{Reading, PlanRead, BadLine}
+use Rattle.scenario_reader.specs.Reading.{PlanRead, BadLine}
 use Rattle.scenario_reader.specs.ReadSteps.{TellsReading}
 use Rattle.scenario_reader.specs.declared.cause.Cause.{Cause}
 use Rattle.scenario_reader.specs.declared.reader.ReadRefusal.{ReadRefusal}
 use Rattle.scenario_reader.specs.declared.reader.ReadRefusal.TheVariants as refusal
 use Rattle.shared_network.specs.declared.closing.Closed.{Closed}
 use Rattle.tenet_app.specs.Playing.{Ends, refusal_line, BytesComeTo, TellsRefusal, RefusalTold, FrontTold, NotTold}
-use Rattle.tenet_app.specs.Racing.{IsRaceOf, race_text, IsDueForRace, FrontOfRace, FrontOfAnyRace, Races, ReadsPlan, FrontOfRefusal, StopsReading, TellsRace, FrontOfPlansRace, AnswersRace}
+use Rattle.tenet_app.specs.Racing.{IsRaceOf, race_text, IsDueForRace, FrontOfRace, FrontOfAnyRace, Races, ReadsPlan, FrontOfRefusal, StopsReading, FrontOfPlansRace, AnswersRace}
 use Rattle.tenet_app.specs.declared.status.Status.{Status}
 use Rattle.tenet_app.specs.declared.status.Status.TheVariants as status
 use Rattle.tenet_app.proofs.AnswerFacts.{read-as, due-as, bad-as}

@@ -1,4 +1,4 @@
-use Rattle.std.proofs.Common.{subst, sym}
+use Rattle.std.proofs.Common.{subst}
 use Rattle.call_script.specs.Plans.{IsPlan}
 use Rattle.tenet_app.proofs.AnswerFacts.{plays-plan, plays-refused}
 use Rattle.tenet_app.proofs.playing.play.Goals as goal
