@@ -1,44 +1,18 @@
--- What is read and written for a race, and what its status then says.
-use Rattle.std.proofs.Common.{◌≡◌, inl, inr, refl, ℕ, Bool, true, List, Option, Some, None, Ok, Err, subst, sym}
+-- What is written for a race, and what its status then says.
+use Rattle.std.proofs.Common.{◌≡◌, inl, inr, refl, ℕ, Bool, List, Option, Some, None, subst, sym}
 use Rattle.std.specs.Io.KnownBytes.{IsAtEnd}
 use Rattle.byte_ends.specs.Gathering.{WritesPart}
 use Rattle.call_script.specs.Parts.{PlanParts}
 use Rattle.call_script.specs.Plans.{IsPlan}
 use Rattle.call_script.specs.declared.schedule.Schedule.{Schedule}
 use Rattle.run_record.specs.declared.done.Done.{Done}
-use Rattle.scenario_reader.specs.Reading.{PlanRead, BadLine}
-use Rattle.scenario_reader.specs.ReadSteps.{TellsReading}
-use Rattle.scenario_reader.specs.declared.cause.Cause.{Cause}
-use Rattle.scenario_reader.specs.declared.reader.ReadRefusal.{ReadRefusal}
-use Rattle.scenario_reader.specs.declared.reader.ReadRefusal.TheVariants as refusal
+use Rattle.scenario_reader.specs.Reading.{PlanRead}
 use Rattle.shared_network.specs.declared.closing.Closed.{Closed}
-use Rattle.tenet_app.specs.Playing.{Ends, refusal_line, BytesComeTo, TellsRefusal, RefusalTold, FrontTold, NotTold}
-use Rattle.tenet_app.specs.Racing.{IsRaceOf, race_text, IsDueForRace, FrontOfRace, FrontOfAnyRace, Races, ReadsPlan, FrontOfRefusal, StopsReading, FrontOfPlansRace, AnswersRace}
+use Rattle.tenet_app.specs.Playing.{Ends, refusal_line, BytesComeTo}
+use Rattle.tenet_app.specs.Racing.{IsRaceOf, race_text, IsDueForRace, FrontOfRace, FrontOfAnyRace, Races, FrontOfRefusal, StopsReading, FrontOfPlansRace, AnswersRace}
 use Rattle.tenet_app.specs.declared.status.Status.{Status}
 use Rattle.tenet_app.specs.declared.status.Status.TheVariants as status
-use Rattle.tenet_app.proofs.AnswerFacts.{read-as, due-as, bad-as}
-
--- ---- reading
-
--- a plan was read
-pub plan-is-read : (before after : Ends) (both : PlanParts × Schedule) → IsPlan both.0 → TellsReading (Ok both) before.left → IsAtEnd after.left → ReadsPlan both.0 before after
-plan-is-read before after both plan told ended = record { unused = both.1; plan = plan; read = read-as before.left both told; ended = ended }
-
-bad-line : (left : Option (List ℕ)) (line : ℕ) (why : Cause) → TellsReading (Err (refusal.Refused line why)) left → BytesComeTo left (λ r. r ≡ BadLine line why)
-bad-line left line why told = bad-as true left line why (λ r. r ≡ BadLine line why) told refl
-
-line-stops : (before after : Ends) (answer : Status) (line : ℕ) (why : Cause) → TellsReading (Err (refusal.Refused line why)) before.left → TellsRefusal line why answer before.written after.written before.write_faults after.write_faults → StopsReading answer before after
-line-stops before after answer line why told (RefusalTold is appends) =
-    subst (λ a. StopsReading a before after) (sym is) (record { due = bad-line before.left line why told; written = appends })
-line-stops before after answer line why told (FrontTold is rises part) =
-    subst (λ a. StopsReading a before after) (sym is)
-    (rises, bad-as true before.left line why (FrontOfRefusal before.written after.written) told (record { line = line; why = why; bad = refl; front = part }))
-line-stops before after answer line why told (NotTold is keeps) = subst (λ a. StopsReading a before after) (sym is) keeps
-
--- a line was refused
-pub refusal-stops : (before after : Ends) (answer : Status) (why_not : ReadRefusal) (line : ℕ) (why : Cause) → why_not ≡ refusal.Refused line why → TellsReading (Err why_not) before.left → TellsRefusal line why answer before.written after.written before.write_faults after.write_faults
-    → StopsReading answer before after
-refusal-stops before after answer why_not line why is told tells = line-stops before after answer line why (subst (λ r. TellsReading (Err r) before.left) is told) tells
+use Rattle.tenet_app.proofs.AnswerFacts.{due-as}
 
 -- ---- a race that was told
 
@@ -97,6 +71,3 @@ none-raced packets before after status.ReadFault stops = stops
 none-raced packets before after status.WriteFault stops = record { rises = stops.0; written = front-of-refusal packets before.left before.written after.written stops.1 }
 none-raced packets before after (status.Refused line told) stops = stops
 none-raced packets before after status.TooLong stops = stops
-
-pub stopped-undone : (before after : Ends) (answer : Status) → StopsReading answer before after → answer ≡ status.Done → ⊥
-stopped-undone before after answer stops done = subst (λ a. StopsReading a before after) done stops
