@@ -178,6 +178,7 @@ fn ticked(clock: u64, full: u32, sent: Option<Sent>) -> Reply {
 mod best_effort;
 mod chosen;
 mod generated;
+mod plain;
 mod releases;
 mod setup;
 mod ticks;

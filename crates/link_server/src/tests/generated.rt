@@ -1,19 +1,20 @@
-//! Generated lists of asks: a link that remembers until when nothing is due replies as one that forgets it before each ask,
-//! and so looks at all its rows in each tick.
-use super::{LinkState, deny, open, pour, relax, release, reserve, step, submit, tick, voice};
-use link_steps::{Ask, Packet, Reply};
-use net_units::{ChanNo, Kind};
+//! Generated lists of asks: a link replies to each as one that is plain lists does.
+ghost use Rattle.std.specs.Prelude.{◌<◌, IfOk};
+ghost use Rattle.traffic_contract.specs.Contract.{IsContract};
+ghost use Rattle.link_steps.specs.Legal.{AskFits, SubmitFits};
+ghost use Rattle.link_steps.specs.declared.shape.LinkShape.{LinkShape as Shape};
+
+use super::plain::PlainLink;
+use super::{LinkState, open, step};
+use link_steps::{Ask, LinkStep, Packet};
+use net_units::{ChanNo, Kind, Level};
 use std::test::Fail;
+use traffic_contract::Contract;
 
 // How many lists there are, and how many asks each has.
 const LISTS: u64 = 200;
 
 const ASKS: u64 = 120;
-
-// Forgets until when nothing is due.
-fn forget(link: &mut LinkState) {
-    link.due = 0;
-}
 
 // The next number, of a linear congruence.
 fn next(number: u64) -> u64 {
@@ -22,82 +23,135 @@ fn next(number: u64) -> u64 {
         .wrapping_add(1_442_695_040_888_963_407)
 }
 
-// The ask that a number names, of one of four channels. More than a third are ticks.
-fn ask(link: &mut LinkState, number: u64) -> Result<Reply, Fail> {
+// The contract that a number names: one of three, of which the last is too wide for the link.
+fn contract(number: u64) -> Result<Contract, Fail>
+    ensures { IfOk result IsContract }
+{
+    let smax = match number % 16 {
+        0..=7 => 2,
+        8..=14 => 4,
+        _ => 5,
+    };
+    Ok(Contract::new(5, 10, 20, smax)?)
+}
+
+// The ask that a number names, of one of four channels. A third are ticks.
+fn ask(link: &LinkState, number: u64) -> Result<Ask, Fail>
+    ensures { IfOk result (AskFits link.now.shape) }
+{
     let kind = number >> 59;
-    let chan = (number >> 57) as u32 % 4;
+    let chan = ChanNo::new((number >> 57) as u32 % 4).ok_or("channel")?;
     let some = (number >> 40) % 65_536;
     match kind {
-        0 | 1 => reserve(link, chan, &voice()?, 12 + some % 30),
-        2 | 3 => reserve_at_later_hop(link, chan),
+        0 | 1 => Ok(reserve(chan, some)?),
+        2 | 3 => Ok(reserve_at_later_hop(chan, some)?),
         4..=7 => relax(link, chan, 1 + (some % 3) as u8),
-        8 => deny(link, chan),
-        9..=12 => submit(
-            link,
+        8 => Ok(Ask::Deny { chan }),
+        9..=12 => Ok(Ask::Submit {
             chan,
-            1 + some % 4,
-            1 + some % 9,
-            1 + (some % 2) as u32,
-        ),
-        13 => release(link, chan),
-        14 => release_told(link, chan, some % 4),
-        15 | 16 => arrive(link, chan, 1 + some % 3, some % 128),
-        17 => pour(link, 1 + some % 3, 1 + some % 5, 1 + (some % 4) as u32),
-        _ => tick(link),
+            count: 1 + some % 4,
+            gap: 1 + some % 9,
+            size: 1 + (some % 3) as u32,
+        }),
+        13 => Ok(Ask::Release {
+            chan,
+            upstream: None,
+        }),
+        14 => Ok(Ask::Release {
+            chan,
+            upstream: Some(some % 4),
+        }),
+        15..=19 => Ok(arrive(link, chan, 1 + some % 3, some % 128)?),
+        20 => pour(link, 1 + some % 3, 1 + some % 5, 1 + (some % 4) as u32),
+        _ => Ok(Ask::Tick),
     }
 }
 
+// A reserve at the first hop.
+fn reserve(chan: ChanNo, number: u64) -> Result<Ask, Fail>
+    ensures { (shape : Shape) → IfOk result (AskFits shape) }
+{
+    Ok(Ask::Reserve {
+        chan,
+        contract: contract(number)?,
+        kind: Kind::Rate,
+        delay: 12 + number % 30,
+        up_reach: 0,
+        first: true,
+        next: None,
+    })
+}
+
 // A reserve at a hop that isn't the first.
-fn reserve_at_later_hop(link: &mut LinkState, chan: u32) -> Result<Reply, Fail> {
-    let contract = voice()?;
-    let ask = Ask::Reserve {
-        chan: ChanNo::new(chan).ok_or("channel")?,
-        contract,
+fn reserve_at_later_hop(chan: ChanNo, number: u64) -> Result<Ask, Fail>
+    ensures { (shape : Shape) → IfOk result (AskFits shape) }
+{
+    Ok(Ask::Reserve {
+        chan,
+        contract: contract(number)?,
         kind: Kind::Jitter,
         delay: 20,
         up_reach: 5,
         first: false,
         next: None,
-    };
-    step(link, &ask)
+    })
 }
 
-// A release that is told a count.
-fn release_told(link: &mut LinkState, chan: u32, count: u64) -> Result<Reply, Fail> {
-    let ask = Ask::Release {
-        chan: ChanNo::new(chan).ok_or("channel")?,
-        upstream: Some(count),
-    };
-    step(link, &ask)
+// A relax to one of the link's levels.
+fn relax(link: &LinkState, chan: ChanNo, level: u8) -> Result<Ask, Fail>
+    ensures { IfOk result (AskFits link.now.shape) }
+{
+    if level > link.shape().bounds.len() {
+        return Err(Fail::from("the link has no such level"));
+    }
+    Ok(Ask::Relax {
+        chan,
+        level: Level::new(level).ok_or("level")?,
+        up_bound: 0,
+    })
 }
 
-// A packet of this number, due so many ticks after the clock.
-fn arrive(link: &mut LinkState, chan: u32, number: u64, due: u64) -> Result<Reply, Fail> {
-    let chan = ChanNo::new(chan).ok_or("channel")?;
-    let clock = link.clock;
-    if clock >= 1 << 61 || due >= 128 {
+// A packet of this number, of up to three units, due so many ticks after the clock.
+fn arrive(link: &LinkState, chan: ChanNo, number: u64, due: u64) -> Result<Ask, Fail>
+    requires { due < 128 }
+    ensures { (shape : Shape) → IfOk result (AskFits shape) }
+{
+    let clock = link.clock();
+    if clock >= 1 << 61 {
         return Err(Fail::from("the packet is due too late"));
     }
     let packet = Packet {
         chan,
         number,
-        size: 2,
+        size: 1 + due as u32 % 3,
         due: clock + due,
     };
-    step(link, &Ask::Arrive { packet })
+    Ok(Ask::Arrive { packet })
+}
+
+// Best-effort packets, where the link has a place for them.
+fn pour(link: &LinkState, count: u64, gap: u64, size: u32) -> Result<Ask, Fail>
+    requires { SubmitFits count gap size }
+    ensures { IfOk result (AskFits link.now.shape) }
+{
+    if link.shape().best == 0 {
+        return Err(Fail::from("the link has no place for best-effort packets"));
+    }
+    Ok(Ask::Pour { count, gap, size })
 }
 
 #[test]
-fn what_is_remembered_changes_no_reply(rt: HostRuntime) -> Result<(), Fail> {
+fn a_link_replies_as_plain_lists_do(rt: HostRuntime) -> Result<(), Fail> {
     for list in 0..LISTS {
-        let mut link = open(rt.alloc(), 20)?;
-        let mut plain = open(rt.alloc(), 20)?;
+        let buffer = if list % 2 == 0 { 20 } else { 100 };
+        let mut link = open(rt.alloc(), buffer)?;
+        let mut plain = PlainLink::new(rt.alloc(), link.shape(), [10, 20, 40]);
         let mut number = list;
         for turn in 0..ASKS {
             number = next(number);
-            forget(&mut plain);
-            let reply = ask(&mut link, number)?;
-            assert_eq!(rt; ask(&mut plain, number)?, reply, "list {list}, ask {turn}");
+            let ask = ask(&link, number)?;
+            let reply = step(&mut link, &ask)?;
+            assert_eq!(rt; reply, plain.answer(&ask)?, "list {list}, ask {turn}");
         }
     }
     Ok(())
