@@ -1,0 +1,114 @@
+//! A link that does its work, ask by ask.
+ghost use Rattle.link_steps.specs.Legal.{AskFits};
+
+use crate::work::{Made, Work};
+use link_server::LinkState;
+use link_steps::{Ask, LinkStep, Reply};
+use net_units::{ChanNo, Kind, Level};
+use std::alloc::Global;
+
+/// What a new link makes of the work with so many channels. None where it has no memory for a row.
+pub fn work_through(alloc: Global, work: &Work, channels: u32) -> Option<Made> {
+    let mut link = LinkState::new(alloc, work.shape()?).ok()?;
+    let accepted = open_all(&mut link, work, channels)?;
+    let departed = make_ticks(&mut link, work.ticks())?;
+    Some(Made { accepted, departed })
+}
+
+// Opens the channels, and lets them send. It answers how many the link accepts.
+fn open_all(link: &mut LinkState, work: &Work, channels: u32) -> Option<u64> {
+    let mut accepted = 0_u64;
+    for number in 0..channels {
+        let chan = ChanNo::new(number)?;
+        if !open(link, work, chan)? {
+            continue;
+        }
+        accepted = accepted.saturating_add(1);
+        send(link, work, chan)?;
+        if work.releases(number) {
+            let upstream = None;
+            step(link, &Ask::Release { chan, upstream })?;
+        }
+    }
+    Some(accepted)
+}
+
+// Makes so many ticks. It answers how many packets depart.
+fn make_ticks(link: &mut LinkState, ticks: u32) -> Option<u64> {
+    let mut departed = 0_u64;
+    for _ in 0..ticks {
+        let reply = step(link, &Ask::Tick)?;
+        if let Reply::Ticked { sent: Some(_), .. } = reply {
+            departed = departed.saturating_add(1);
+        }
+    }
+    Some(departed)
+}
+
+// One step; None where it has no memory.
+fn step(link: &mut LinkState, ask: &Ask) -> Option<Reply>
+    requires { AskFits link.old.shape ask.now }
+{
+    if link.clock() >= 1 << 61 {
+        return None;
+    }
+    link.step(ask).ok()
+}
+
+// Reserves and relaxes a channel at the only hop of its route. It answers whether the link has offered a level.
+fn open(link: &mut LinkState, work: &Work, chan: ChanNo) -> Option<bool> {
+    let contract = work.contract()?;
+    // `smax` tells that the four numbers are a contract's, as the ask wants.
+    let _smax = contract.smax();
+    let reserve = Ask::Reserve {
+        chan,
+        contract,
+        kind: Kind::Rate,
+        delay: work.delay(),
+        up_reach: 0,
+        first: true,
+        next: None,
+    };
+    let Reply::Offer { reach, .. } = step(link, &reserve)? else {
+        return Some(false);
+    };
+    relax(link, chan, reach)?;
+    Some(true)
+}
+
+// Commits it at a level of the link.
+fn relax(link: &mut LinkState, chan: ChanNo, level: Level) -> Option<Reply> {
+    if level.get() > link.shape().bounds.len() {
+        return None;
+    }
+    let up_bound = 0;
+    step(
+        link,
+        &Ask::Relax {
+            chan,
+            level,
+            up_bound,
+        },
+    )
+}
+
+// Plans the packets that its source sends, if any.
+fn send(link: &mut LinkState, work: &Work, chan: ChanNo) -> Option<()> {
+    let ask = match work {
+        Work::Voice => Ask::Submit {
+            chan,
+            count: 50,
+            gap: 2_000,
+            size: 200,
+        },
+        Work::Waiting => Ask::Submit {
+            chan,
+            count: 1_024,
+            gap: 50,
+            size: 40,
+        },
+        Work::Requests | Work::Closed | Work::Idle => return Some(()),
+    };
+    step(link, &ask)?;
+    Some(())
+}
