@@ -1,3 +1,4 @@
 pub mod BoundFacts
 pub mod NameFacts
+pub mod NumberFacts
 mod Worked
