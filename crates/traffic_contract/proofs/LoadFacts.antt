@@ -42,7 +42,7 @@ ceil-most a rate some =
     (cases_lt a (ceil_quotient a rate))
 
 -- a window of a tick or more lets a packet in
-most_in-some : (c : Traffic) (w : ℕ) → IsContract c → 1 ≤ w → 1 ≤ most_in c w
+pub most_in-some : (c : Traffic) (w : ℕ) → IsContract c → 1 ≤ w → 1 ≤ most_in c w
 unfolding most_in
 most_in-some c w valid some =
     let first : most_in c 1 ≤ most_in c w = most_in-mono c 1 w valid some in
