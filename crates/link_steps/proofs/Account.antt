@@ -31,6 +31,7 @@ use Rattle.link_steps.proofs.AccountOfRows.{RowHasContract, left-left, eligible-
 use Rattle.link_steps.proofs.AccountOfService.{IsUpTo, IsAbove, waiting-kept, ShowsTick, here_at-append, shows-tick-append}
 use Rattle.link_steps.proofs.ListFacts.{find-filter, Each-append, Each-filter, Each-if, Each-find, Each-mapped, find-map, map-change_first, map-without_first}
 use Rattle.link_steps.proofs.ServiceFacts.{IsFrom, starts_below-append}
+use Rattle.link_steps.proofs.NewPackets.{best-from}
 
 -- ---- arrival numbers
 
@@ -57,11 +58,6 @@ best-above : (bounds : List ℕ) (t n place : ℕ) (step : SourceStep) → n < p
 best-above bounds t n place Rests above = tt
 best-above bounds t n place Drops above = tt
 best-above bounds t n place (Brings size) above = (omega (arith, above), tt)
-
-best-from : (bounds : List ℕ) (t place : ℕ) (step : SourceStep) → Each (IsFrom t) (best_packet step bounds place t)
-best-from bounds t place Rests = tt
-best-from bounds t place Drops = tt
-best-from bounds t place (Brings size) = (omega arith, tt)
 
 numbered-after : (shape : LinkShape) (t : ℕ) (scan : Scan) (ask : Ask) (reply : Reply) → IsNumbered scan → IsNumbered (after shape t scan ask reply)
 unfolding after after_tick with_best with_sources without_expired
@@ -175,9 +171,9 @@ after-tick shape t scan each numbered =
 -- ---- the other asks
 
 -- what the other asks find in the account is what they find in the scan
-terms-kept : (t : ℕ) (rows : List Row) → map kept_terms (map (kept_row t) rows) ≡ map row_terms rows
-terms-kept t [] = refl
-terms-kept t (row ∷ rows) = ap (λ all. row.terms ∷ all) (terms-kept t rows)
+pub terms-scanned : (t : ℕ) (rows : List Row) → map kept_terms (map (kept_row t) rows) ≡ map row_terms rows
+terms-scanned t [] = refl
+terms-scanned t (row ∷ rows) = ap (λ all. row.terms ∷ all) (terms-scanned t rows)
 
 find-kept : (t : ℕ) (chan : ChanNo) (rows : List Row) → find (is_kept_of chan) (map (kept_row t) rows) ≡ option_map (kept_row t) (find (is_row_of chan) rows)
 find-kept t chan rows = find-map (kept_row t) (is_row_of chan) (is_kept_of chan) (λ row. refl) rows
@@ -202,9 +198,9 @@ arrive-kept shape t packets packet (Some row) each =
 -- the reply of the scan is that of the account
 reply-at : (link : Link) (t : ℕ) (scan : Scan) (ask : Ask) → HaveContracts scan → IsNumbered scan → reply_at link t scan ask ≡ kept_reply link (kept_at link.shape t scan) ask
 unfolding reply_at kept_reply kept_at
-reply-at link t scan (Reserve chan contract kind delay up_reach first next) each numbered = rw (terms-kept t scan.rows) refl
-reply-at link t scan (Relax chan level up_bound) each numbered = rw (terms-kept t scan.rows) refl
-reply-at link t scan (Deny chan) each numbered = rw (terms-kept t scan.rows) refl
+reply-at link t scan (Reserve chan contract kind delay up_reach first next) each numbered = rw (terms-scanned t scan.rows) refl
+reply-at link t scan (Relax chan level up_bound) each numbered = rw (terms-scanned t scan.rows) refl
+reply-at link t scan (Deny chan) each numbered = rw (terms-scanned t scan.rows) refl
 reply-at link t scan (Submit chan count gap size) each numbered = rw (find-kept-hop t chan true scan.rows) (submit-kept t size (find (is_row_at_hop chan true) scan.rows))
 reply-at link t scan (Release chan upstream) each numbered =
     rw (find-kept-hop t chan (names_first_hop upstream) scan.rows) (release-kept t upstream (find (is_row_at_hop chan (names_first_hop upstream)) scan.rows))

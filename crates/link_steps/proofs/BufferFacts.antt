@@ -41,7 +41,7 @@ use Rattle.link_steps.proofs.RowPackets.{IsHeld, RowsStand, stand-sources}
 use Rattle.link_steps.proofs.RowsStanding.{stand-if, stand-expired, stand-reserved, stand-denied, stand-changed, stand-arrives}
 use Rattle.link_steps.proofs.SlotsHeld.{slots-held}
 use Rattle.link_steps.proofs.SourceHistory.{stand-best}
-use Rattle.link_steps.proofs.TogetherHeld.{Among-reverse}
+use Rattle.link_steps.proofs.ListParts.{Among-reverse}
 use Rattle.link_steps.proofs.UnitsHeld.{units-held}
 
 -- ---- no packet is larger than its row's contract allows

@@ -44,7 +44,7 @@ apart-push n (m ∷ ns) apart other = (Each-append _ ns (n ∷ []) apart.0 ((λ 
 abbrev pub DifferInChannel : List Row → Type 0
 DifferInChannel rows = AreApart (map channel_of rows)
 
-differ-filter : (test : Row → Bool) (rows : List Row) → DifferInChannel rows → DifferInChannel (filter test rows)
+pub differ-filter : (test : Row → Bool) (rows : List Row) → DifferInChannel rows → DifferInChannel (filter test rows)
 differ-filter test [] differ = tt
 differ-filter test (row ∷ rows) differ =
     cond_both (test row) (row ∷ filter test rows) (filter test rows) DifferInChannel

@@ -12,6 +12,8 @@ pub mod WorkedShares
 pub mod WorkedQuotas
 pub mod LevelFacts
 pub mod ListFacts
+pub mod ListParts
+pub mod ClockFacts
 pub mod RefusalFacts
 pub mod ReplyFacts
 pub mod TickFacts

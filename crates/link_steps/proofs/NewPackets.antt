@@ -47,7 +47,7 @@ adds-arrival t packet scan (Some row) = record {
 }
 
 -- a best-effort packet is eligible in its tick
-best-from : (bounds : List ℕ) (t place : ℕ) (step : SourceStep) → Each (IsFrom t) (best_packet step bounds place t)
+pub best-from : (bounds : List ℕ) (t place : ℕ) (step : SourceStep) → Each (IsFrom t) (best_packet step bounds place t)
 best-from bounds t place Rests = tt
 best-from bounds t place Drops = tt
 best-from bounds t place (Brings size) = (omega arith, tt)

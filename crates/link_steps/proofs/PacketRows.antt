@@ -111,7 +111,7 @@ Among-some x (y ∷ ys) among = omega arith
 -- ---- one packet more
 
 -- a row that has packets keeps its lead
-lead-kept : (lead place : ℕ) → 1 ≤ lead → lead_with lead place ≡ lead
+pub lead-kept : (lead place : ℕ) → 1 ≤ lead → lead_with lead place ≡ lead
 lead-kept lead place some =
     ⊎_elim
     (λ (new : (lead ≡ 0) × (lead_with lead place ≡ place)). absurd (omega (arith, some, new.0)))

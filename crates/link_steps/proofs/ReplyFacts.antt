@@ -171,6 +171,9 @@ submit-tells t size terms left clock same =
     let small = kept-rule (too_big terms size) _ (Is.Planned clock) tt free.1 in
     (phase-is terms.phase Committed (unless-none _ _ phase.0), eqb-true left 0 (unless-none (nat_eq left 0) _ free.0), leb-true size terms.contract.smax (unless-none _ _ small.0))
 
+pub closing-count : (a b c d : ℕ) → Is.Closing a b ≡ Is.Closing c d → a ≡ c
+closing-count a b c d same = cc
+
 -- a release finds a committed reservation, and counts at least the packets taken
 pub release-tells : (upstream : Option ℕ) (terms : Reservation) (taken left count cancelled : ℕ) → Is.Closing count cancelled ≡ release_reply upstream terms taken left → (terms.phase ≡ Committed) × (taken ≤ count)
 unfolding release_reply
@@ -179,9 +182,6 @@ release-tells upstream terms taken left count cancelled same =
     let counts : count ≡ count_at_release upstream taken = closing-count count cancelled _ _ phase.1 in
     let most = most-at-release upstream in
     (phase-is terms.phase Committed (unless-none _ _ phase.0), omega (arith, counts, most)) where
-      closing-count : (a b c d : ℕ) → Is.Closing a b ≡ Is.Closing c d → a ≡ c
-      closing-count a b c d same = cc
-
       most-at-release : (upstream : Option ℕ) → taken ≤ count_at_release upstream taken
       most-at-release None = omega arith
       most-at-release (Some told) = omega arith

@@ -1,5 +1,5 @@
 -- In an admissible history no row has more packets here than slots.
-use Rattle.std.proofs.Common.{◌≡◌, ℕ, suc, ◌<◌, ◌≤◌, Bool, true, false, not, cond, List, [], ◌∷◌, ◌++◌, length, map, Option, Some, None, inl, inr, refl, sym, ap, ◌∙◌, subst, arith, append-nil, length-append}
+use Rattle.std.proofs.Common.{◌≡◌, ℕ, suc, ◌<◌, ◌≤◌, Bool, true, false, not, cond, List, [], ◌∷◌, ◌++◌, length, Option, Some, None, inl, inr, refl, sym, ap, ◌∙◌, subst, arith, append-nil, length-append}
 use Rattle.std.proofs.lemmas.Bool.{cases_Bool, ltb-true}
 use Rattle.std.proofs.lemmas.List.Elements.{filter-append}
 use Rattle.std.specs.Option.{option_map}
@@ -14,7 +14,7 @@ use Rattle.link_steps.specs.declared.replies.Reply.{Reply}
 use Rattle.link_steps.specs.declared.replies.Reply.TheVariants as Is
 use Rattle.link_steps.specs.declared.shape.LinkShape.{LinkShape}
 use Rattle.link_steps.specs.Admissible.{MayAnswer, IsAdmissible}
-use Rattle.link_steps.specs.Belonging.{own_packets, eligible_of}
+use Rattle.link_steps.specs.Belonging.{own_packets}
 use Rattle.link_steps.specs.Buffer.{has_slot, held_packets, slots_of}
 use Rattle.link_steps.specs.Hold.{expires, stays}
 use Rattle.link_steps.specs.Lists.{change_first, Each}
@@ -36,7 +36,7 @@ use Rattle.link_steps.proofs.ReplyFacts.{relax-tells, release-tells, arrive-tell
 use Rattle.link_steps.proofs.RowPackets.{IsHeld, RowsStand, stand-sources}
 use Rattle.link_steps.proofs.RowsStanding.{stand-if, stand-expired, stand-reserved, stand-denied, stand-changed, stand-arrives}
 use Rattle.link_steps.proofs.ServiceFacts.{starts_below-append}
-use Rattle.link_steps.proofs.SourceHistory.{held-here, stand-best, ScanServed, legal-served}
+use Rattle.link_steps.proofs.SourceHistory.{no-packets, held-here, stand-best, ScanServed, legal-served}
 use Rattle.link_steps.proofs.SourcesServed.{HasSource}
 
 -- of the row's packets no more than its slots haven't departed by t
@@ -52,13 +52,8 @@ record IsCounted (shape : LinkShape) (starts : List Start) (here : List Arrival)
 abbrev pub ScanFits : LinkShape → ℕ → Scan → Type 0
 ScanFits shape t scan = RowsStand (IsFew shape (starts_below shape.rate scan.packets t) t) (IsFew shape (starts_below shape.rate scan.packets t) t) scan.packets scan.gone scan.rows
 
--- a row without eligible ticks has no packets
-no-packets : (own : List Arrival) → map eligible_of own ≡ [] → own ≡ []
-no-packets [] none = refl
-no-packets (p ∷ own) none = cc
-
 -- a committed row has as many slots as a closing one
-slots-closed : (bounds : List ℕ) (count : ℕ) (terms : Reservation) → terms.phase ≡ Committed → slots_of bounds (closing count terms) ≡ slots_of bounds terms
+pub slots-closed : (bounds : List ℕ) (count : ℕ) (terms : Reservation) → terms.phase ≡ Committed → slots_of bounds (closing count terms) ≡ slots_of bounds terms
 unfolding slots_of
 slots-closed bounds count terms is = rw is refl
 

@@ -111,6 +111,11 @@ source-new t terms = record {
   served = λ kept. record { none_dropped = refl; as_offered = refl; at_once = tt };
 }
 
+-- a row without eligible ticks has no packets
+pub no-packets : (own : List Arrival) → map eligible_of own ≡ [] → own ≡ []
+no-packets [] none = refl
+no-packets (p ∷ own) none = cc
+
 -- a relax of a row without packets
 source-relaxed : (t up_bound : ℕ) (level : Level) (row : Row) (own : List Arrival) → row.ticks ≡ [] → HasSource t row own → HasSource t (relax_row level up_bound row) own
 source-relaxed t up_bound level row own none source = record {
@@ -118,10 +123,7 @@ source-relaxed t up_bound level row own none source = record {
   levels = subst (Each (λ p. p.level ≡ level_number level)) (sym (no-packets own (sym source.eligible ∙ ap reverse none))) tt;
   rises = source.rises;
   served = served-same t t row (relax_row level up_bound row) own refl refl refl refl refl source.served;
-} where
-  no-packets : (own : List Arrival) → map eligible_of own ≡ [] → own ≡ []
-  no-packets [] none = refl
-  no-packets (p ∷ own) none = cc
+}
 
 -- a submit where nothing is left
 source-planned : (t count gap size : ℕ) (row : Row) (own : List Arrival) → 1 ≤ gap → length (left_at t row.plan) ≡ 0 → HasSource t row own → HasSource t (plan_row t count gap size row) own

@@ -31,7 +31,7 @@ use Rattle.link_steps.specs.Lists.{Each}
 use Rattle.link_steps.specs.Regulator.{waits_until, eligible_next}
 use Rattle.link_steps.specs.Reservation.{Reservation, tentative}
 use Rattle.link_steps.specs.Rows.{Row, row_terms, new_row}
-use Rattle.link_steps.specs.Scan.{Scan, clock_with, clock_of, is_row_of, is_row_at_hop, names_first_hop, relax_row, plan_row, close_row, arrived_packet, arrived_row, with_arrival, without_expired, with_sources, with_best, best_step_at, after_tick, after, scan_of}
+use Rattle.link_steps.specs.Scan.{Scan, clock_of, is_row_of, is_row_at_hop, names_first_hop, relax_row, plan_row, close_row, arrived_packet, arrived_row, with_arrival, without_expired, with_sources, with_best, best_step_at, after_tick, after, scan_of}
 use Rattle.link_steps.specs.Service.{Arrival, starts_below, here_at, is_here, is_start_of, has_departed}
 use Rattle.link_steps.specs.Slots.{HasSlots, IsSoon, HasSoonTicks, TicksAreSoon}
 use Rattle.link_steps.specs.Sources.{SourceStep, Rests, Brings, Drops, step_of, packet_of, row_after}
@@ -48,6 +48,7 @@ use Rattle.link_steps.proofs.ServiceFacts.{HasBegun, starts-begun, starts-fact}
 use Rattle.link_steps.proofs.SlotsHeld.{filter-fewer, slots-held}
 use Rattle.link_steps.proofs.SourceHistory.{held-here, stand-best}
 use Rattle.link_steps.proofs.UnitsHeld.{units-held}
+use Rattle.link_steps.proofs.ClockFacts.{clock_with-later}
 
 -- ---- one more eligible tick
 
@@ -141,21 +142,11 @@ paced-after shape t scan _ _ soon fits stand = stand
 
 -- ---- every entry
 
-clock-before : (ask : Ask) (t : ℕ) → t ≤ clock_with ask t
-clock-before Tick t = omega arith
-clock-before (Reserve chan contract kind delay up_reach first next) t = omega arith
-clock-before (Relax chan level up_bound) t = omega arith
-clock-before (Deny chan) t = omega arith
-clock-before (Submit chan count gap size) t = omega arith
-clock-before (Release chan upstream) t = omega arith
-clock-before (Arrive packet) t = omega arith
-clock-before (Pour count gap size) t = omega arith
-
 rows-paced : (shape : LinkShape) (h : List Entry) → clock_of h ≤ 2 ^ 62 → IsAdmissible shape h → RowsStand IsPaced IsPaced (scan_of shape h).packets (scan_of shape h).gone (scan_of shape h).rows
 unfolding IsAdmissible scan_of clock_of
 rows-paced shape [] soon legal = record { leads = tt; beside = tt; held = tt; apart = tt }
 rows-paced shape (e ∷ past) soon legal =
-    let before : clock_of past ≤ 2 ^ 62 = (let h = clock-before e.ask (clock_of past) in omega (arith, h, soon)) in
+    let before : clock_of past ≤ 2 ^ 62 = (let h = clock_with-later e.ask (clock_of past) in omega (arith, h, soon)) in
     paced-after shape (clock_of past) (scan_of shape past) e.ask e.reply before legal.1.fits (rows-paced shape past before legal.0)
 
 -- ---- a late packet is here

@@ -1,8 +1,7 @@
 -- The rows that bring packets into a window as long as the bound of its level stand together in one list that passes.
-use Rattle.std.proofs.Common.{◌≡◌, ℕ, ◌+◌, ◌<◌, ◌≤◌, true, List, [], ◌∷◌, ◌++◌, length, map, ⊎_elim, inl, inr, refl, sym, ap, subst, arith}
+use Rattle.std.proofs.Common.{◌≡◌, ℕ, ◌+◌, ◌<◌, ◌≤◌, true, List, [], ◌∷◌, length, ⊎_elim, inl, inr, refl, sym, ap, subst, arith}
 use Rattle.std.proofs.lemmas.Bool.{cases_lt, leb-true, ltb-true, eq-eqb, and_parts}
-use Rattle.std.proofs.lemmas.List.{reverse-append}
-use Rattle.std.specs.Prelude.{reverse, nat_le, nat_lt, ◌&&◌}
+use Rattle.std.specs.Prelude.{nat_le, nat_lt, ◌&&◌}
 use Rattle.net_units.proofs.BoundFacts.{bound_at-rising}
 use Rattle.net_units.specs.LevelBounds.{bound_at, last_bound}
 use Rattle.link_steps.specs.declared.replies.Entry.{Entry}
@@ -23,7 +22,8 @@ use Rattle.link_steps.proofs.ListFacts.{Each-append, Each-if, Among, Each-among}
 use Rattle.link_steps.proofs.NewPackets.{packets-after}
 use Rattle.link_steps.proofs.PacketRows.{Among-passes, packets-have_rows}
 use Rattle.link_steps.proofs.ServiceFacts.{IsFrom}
-use Rattle.link_steps.proofs.WindowFits.{clock_with-most}
+use Rattle.link_steps.proofs.ClockFacts.{clock_with-most}
+use Rattle.link_steps.proofs.ListParts.{Among-map, Among-reverse}
 
 -- ---- a row tells its packets
 
@@ -31,24 +31,6 @@ Any-among : {X : Type 0} (x : X) (xs : List X) → Among x xs → Any (λ y. y �
 Any-among x [] among = absurd among
 Any-among x (y ∷ ys) (inl same) = inl (sym same)
 Any-among x (y ∷ ys) (inr among) = inr (Any-among x ys among)
-
-Among-map : {X Y : Type 0} (f : X → Y) (x : X) (xs : List X) → Among x xs → Among (f x) (map f xs)
-Among-map f x [] among = absurd among
-Among-map f x (y ∷ ys) (inl same) = inl (ap f same)
-Among-map f x (y ∷ ys) (inr among) = inr (Among-map f x ys among)
-
-Among-last : {X : Type 0} (x y : X) (xs : List X) → Among x (xs ++ y ∷ []) → Among x (y ∷ xs)
-Among-last x y [] (inl same) = inl same
-Among-last x y [] (inr none) = absurd none
-Among-last x y (z ∷ zs) (inl same) = inr (inl same)
-Among-last x y (z ∷ zs) (inr among) = ⊎_elim (λ (last : x ≡ y). inl last) (λ (front : Among x zs). inr (inr front)) (Among-last x y zs among)
-
--- an element of a list turned round is one of the list
-pub Among-reverse : {X : Type 0} (x : X) (xs : List X) → Among x (reverse xs) → Among x xs
-Among-reverse x [] among = absurd among
-Among-reverse x (y ∷ ys) among =
-    ⊎_elim (λ (last : x ≡ y). inl last) (λ (front : Among x (reverse ys)). inr (Among-reverse x ys front))
-    (Among-last x y (reverse ys) (subst (Among x) (reverse-append (y ∷ []) ys) among))
 
 -- the row of a packet brings it
 brings : (packets : List Arrival) (p : Arrival) (row : Row) → Among p packets → TellsPackets packets row → IsRowOf p row → BringsPacket p row

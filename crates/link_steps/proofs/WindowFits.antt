@@ -1,7 +1,7 @@
 -- In an admissible history the packets of the levels up to m that are eligible in a window as long as the bound of m leave
 -- room for the blocking. For the rows with such a packet stand together in one list that passes the admission test: a
 -- row expires only when its last packet has been eligible for as long as the largest bound.
-use Rattle.std.proofs.Common.{◌≡◌, ℕ, suc, ◌+◌, ◌<◌, ◌≤◌, Bool, true, false, cond, ◌&&◌, List, [], ◌∷◌, length, ⊎_elim, refl, ap, arith}
+use Rattle.std.proofs.Common.{◌≡◌, ℕ, ◌+◌, ◌<◌, ◌≤◌, Bool, true, false, cond, ◌&&◌, List, [], ◌∷◌, length, ⊎_elim, refl, ap, arith}
 use Rattle.std.proofs.lemmas.Bool.{cases_lt, lt-leb, le-ltb}
 use Rattle.std.specs.Prelude.{nat_le}
 use Rattle.net_units.proofs.BoundFacts.{bound_least, bound_at-rising}
@@ -11,7 +11,6 @@ use Rattle.traffic_contract.specs.Window.{count_in}
 use Rattle.traffic_contract.proofs.AdmissionFacts.{total-append, window-of, counts-within}
 use Rattle.traffic_contract.proofs.LongerWindows.{ceil_quotient-mono}
 use Rattle.link_steps.specs.declared.asks.Ask.{Ask}
-use Rattle.link_steps.specs.declared.asks.Ask.TheVariants.{Tick}
 use Rattle.link_steps.specs.declared.replies.Entry.{Entry}
 use Rattle.link_steps.specs.declared.replies.Reply.{Reply}
 use Rattle.link_steps.specs.declared.shape.LinkShape.{LinkShape}
@@ -30,6 +29,7 @@ use Rattle.link_steps.proofs.NewPackets.{packets-after}
 use Rattle.link_steps.proofs.ServiceFacts.{IsFrom}
 use Rattle.traffic_contract.proofs.LoadFacts.{ceil_quotient-some}
 use Rattle.link_steps.proofs.WindowWork.{row_work, row_work-none, row_work-admitted, legal-work}
+use Rattle.link_steps.proofs.ClockFacts.{clock_with-most}
 
 -- ---- each packet has work
 
@@ -124,11 +124,6 @@ same-after shape m u w t scan ask reply past =
     let more = total-append (window_work shape.rate m u w) scan.packets adds.new in
     let none = windows-past shape.rate m u w t adds.new past adds.from in
     omega (arith, all, more, none)
-
--- an entry makes a tick at most
-pub clock_with-most : (ask : Ask) (t : ℕ) → clock_with ask t ≤ suc t
-clock_with-most Tick t = omega arith
-clock_with-most _ t = omega arith
 
 -- a window that the clock has passed has the work that it had before
 pub window-fits : (shape : LinkShape) (h : List Entry) (m u : ℕ) → IsAdmissible shape h → 1 ≤ m → m ≤ length shape.bounds → LeavesRoom shape m u (scan_of shape h).packets
