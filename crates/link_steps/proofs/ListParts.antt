@@ -1,9 +1,10 @@
--- Facts on lists: what holds of each element of a list's parts, of the list turned round and at each place; and what stands in
--- two lists put together, in a list turned round and at a place.
-use Rattle.std.proofs.Common.{◌≡◌, ℕ, zero, suc, List, [], ◌∷◌, ◌++◌, map, reverse, Some, None, inl, inr, ⊎_elim, refl, sym, ap, subst}
+-- Facts on lists: what holds of each element of a list's parts, of the list turned round and at each place; what stands at a
+-- place of a list seen through a map; and what stands in two lists put together, in a list turned round and at a place.
+use Rattle.std.proofs.Common.{◌≡◌, ℕ, zero, suc, List, [], ◌∷◌, ◌++◌, map, reverse, Some, None, inl, inr, ⊎_elim, refl, sym, ap, ◌∙◌, subst}
 use Rattle.std.proofs.lemmas.List.{reverse-append, reverse-reverse}
-use Rattle.std.proofs.lemmas.Option.{same_Some}
+use Rattle.std.proofs.lemmas.Option.{same_Some, slice_get-map}
 use Rattle.std.specs.List.{slice_get}
+use Rattle.std.specs.Option.{option_map}
 use Rattle.link_steps.specs.Lists.{Each}
 use Rattle.link_steps.proofs.ListFacts.{Among, Each-append}
 
@@ -27,6 +28,23 @@ Each-at P (y ∷ xs) (suc i) x each found = Each-at P xs i x each.1 found
 pub Each-by_place : {X : Type 0} (P : X → Type 0) (xs : List X) → ((i : ℕ) (x : X) → slice_get xs i ≡ Some x → P x) → Each P xs
 Each-by_place P [] all = tt
 Each-by_place P (x ∷ xs) all = (all 0 x refl, Each-by_place P xs (λ i y found. all (suc i) y found))
+
+-- ---- a list seen through a map
+
+-- the image of the element at a place stands there
+pub mapped-at : {X Y : Type 0} (f : X → Y) (xs : List X) (i : ℕ) (x : X) → slice_get xs i ≡ Some x → slice_get (map f xs) i ≡ Some (f x)
+mapped-at f xs i x found = slice_get-map f xs i ∙ ap (option_map f) found
+
+-- what stands at a place of the images is the image of what stands there
+pub record ComesFrom {X Y : Type 0} (f : X → Y) (xs : List X) (i : ℕ) (y : Y) : Type 0 where
+  pub from : X
+  pub found : slice_get xs i ≡ Some from
+  pub is : f from ≡ y
+
+pub comes-from : {X Y : Type 0} (f : X → Y) (xs : List X) (i : ℕ) (y : Y) → slice_get (map f xs) i ≡ Some y → ComesFrom f xs i y
+comes-from f [] i y found = absurd (let clash : None ≡ Some y = found in cc)
+comes-from f (x ∷ xs) zero y found = record { from = x; found = refl; is = same_Some (f x) y found }
+comes-from f (x ∷ xs) (suc i) y found = (let rest = comes-from f xs i y found in record { from = rest.from; found = rest.found; is = rest.is })
 
 -- ---- membership
 

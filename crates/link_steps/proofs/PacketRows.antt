@@ -111,8 +111,8 @@ Among-some x (y ∷ ys) among = omega arith
 -- ---- one packet more
 
 -- a row that has packets keeps its lead
-pub lead-kept : (lead place : ℕ) → 1 ≤ lead → lead_with lead place ≡ lead
-lead-kept lead place some =
+pub lead_with-later : (lead place : ℕ) → 1 ≤ lead → lead_with lead place ≡ lead
+lead_with-later lead place some =
     ⊎_elim
     (λ (new : (lead ≡ 0) × (lead_with lead place ≡ place)). absurd (omega (arith, some, new.0)))
     (λ (old : (1 ≤ lead) × (lead_with lead place ≡ lead)). old.1)
@@ -120,7 +120,7 @@ lead-kept lead place some =
 
 -- the row of a packet stays its row with one packet more
 row-kept : (p : Arrival) (row after : Row) (place : ℕ) → 1 ≤ p.lead → after.lead ≡ lead_with row.lead place → IsRowOf p row → IsRowOf p after
-row-kept p row after place some lead is = lead ∙ lead-kept row.lead place (omega (arith, some, is)) ∙ is
+row-kept p row after place some lead is = lead ∙ lead_with-later row.lead place (omega (arith, some, is)) ∙ is
 
 -- ---- the sources of a tick
 

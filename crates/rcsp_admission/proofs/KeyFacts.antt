@@ -9,8 +9,8 @@ use Rattle.rcsp_admission.specs.Sums.{Held, key_of, admitted_rows, has_key, Hold
 use Rattle.rcsp_admission.proofs.SumsFacts.{held_later}
 
 -- the rows after the first differ from each other
-pub distinct-rest : (held : Held) (rows : List Held) → IsDistinct (held ∷ rows) → IsDistinct rows
-distinct-rest held rows distinct = record { apart = λ i j d before within. distinct.apart (suc i) (suc j) d (omega arith) (omega arith) }
+pub distinct-later : (held : Held) (rows : List Held) → IsDistinct (held ∷ rows) → IsDistinct rows
+distinct-later held rows distinct = record { apart = λ i j d before within. distinct.apart (suc i) (suc j) d (omega arith) (omega arith) }
 
 -- and from it
 pub others-differ : (held : Held) (rows : List Held) (key : ℕ) → IsDistinct (held ∷ rows) → held.key ≡ key → (k : ℕ) (d : Held) → k < length rows → (get_or rows k d).key ≢ key
@@ -46,7 +46,7 @@ total-without f (held ∷ rows) key found distinct at =
     let rest = without-others rows key (others-differ held rows key distinct (eqb-true held.key key mine)) in
     rw (mine, rest, same) (omega arith))
     (λ (other : eqb held.key key ≡ false).
-    let rest = total-without f rows key found (distinct-rest held rows distinct) (found-later held rows key found other at) in
+    let rest = total-without f rows key found (distinct-later held rows distinct) (found-later held rows key found other at) in
     rw other (omega (arith, rest)))
     (cases_Bool (eqb held.key key))
 
@@ -59,7 +59,7 @@ total-moved f (held ∷ rows) key level found distinct at =
     let rest = moved-others rows key level (others-differ held rows key distinct (eqb-true held.key key mine)) in
     rw (mine, rest, same) (omega arith))
     (λ (other : eqb held.key key ≡ false).
-    let rest = total-moved f rows key level found (distinct-rest held rows distinct) (found-later held rows key found other at) in
+    let rest = total-moved f rows key level found (distinct-later held rows distinct) (found-later held rows key found other at) in
     rw other (omega (arith, rest)))
     (cases_Bool (eqb held.key key))
 
