@@ -1,6 +1,6 @@
 -- A reserve at a chosen level: every admissible history that the link stands for goes on with its offer, and the offer is
 -- the legal reply exactly where the level is the best.
-use Rattle.std.proofs.Common.{◌≡◌, ℕ, ◌<◌, ◌≤◌, max, ⊎_elim, List, [], ◌∷◌, length, map, get_or, Option, Some, None, refl, sym, ap, ◌∙◌, subst, arith}
+use Rattle.std.proofs.Common.{◌≡◌, ℕ, ◌<◌, ◌≤◌, max, ⊎_elim, List, ◌∷◌, length, map, get_or, Option, Some, None, refl, sym, ap, ◌∙◌, subst, arith}
 use Rattle.std.specs.Prelude.{◌↔◌, option_map, slice_get}
 use Rattle.std.proofs.lemmas.Option.{slice_get-map, slice_get_read, slice_get_past}
 use Rattle.std.proofs.lemmas.Bool.{cases_lt, le-leb}
@@ -19,18 +19,18 @@ use Rattle.link_steps.specs.declared.replies.Reply.TheVariants.{Offer}
 use Rattle.link_steps.specs.declared.shape.LinkShape.{LinkShape}
 use Rattle.link_steps.specs.Admissible.{MayOffer, MayAnswer, IsAdmissible}
 use Rattle.link_steps.specs.Buffer.{need_of, free_units}
-use Rattle.link_steps.specs.Kept.{HasContract, StandsFor, Kept, kept_at, kept_row, kept_terms, kept_reply}
+use Rattle.link_steps.specs.Kept.{HasContract, StandsFor, Kept, kept_at, kept_terms, kept_reply}
 use Rattle.link_steps.specs.Legal.{AskFits, ReserveFits}
 use Rattle.link_steps.specs.Levels.{level_of}
 use Rattle.link_steps.specs.Lists.{Each}
 use Rattle.link_steps.specs.Replies.{reserve_reply, reply_to}
 use Rattle.link_steps.specs.Reservation.{Reservation, admitted}
 use Rattle.link_steps.specs.Room.{room_of, whole_room}
-use Rattle.link_steps.specs.Rows.{Row, row_terms}
+use Rattle.link_steps.specs.Rows.{row_terms}
 use Rattle.link_steps.specs.Scan.{clock_of, scan_of}
 use Rattle.link_steps.specs.Shape.{server_of}
 use Rattle.link_steps.specs.Split.{whole}
-use Rattle.link_steps.proofs.Account.{stands-reply}
+use Rattle.link_steps.proofs.Account.{stands-reply, terms-scanned}
 use Rattle.link_steps.proofs.LevelFacts.{level_of-number, level_of-level}
 use Rattle.link_steps.proofs.ReplyFacts.{offer-best, offer-numbers}
 use Rattle.link_server.specs.Held.{seen, seen_at, reach_at, MayReserve, IsBestFor}
@@ -44,10 +44,6 @@ use Rattle.link_server.proofs.AnswerFacts.{reserve-offer}
 use Rattle.link_server.proofs.PlaceFacts.{terms-kept}
 
 -- ---- the rows held
-
-terms-scanned : (t : ℕ) (rows : List Row) → map kept_terms (map (kept_row t) rows) ≡ map row_terms rows
-terms-scanned t [] = refl
-terms-scanned t (row ∷ rows) = ap (λ all. row_terms row ∷ all) (terms-scanned t rows)
 
 -- the reservations of the account are those of every history that it stands for
 pub terms-stand : (shape : LinkShape) (k : Kept) (h : List Entry) → StandsFor shape k h → map kept_terms k.rows ≡ map row_terms (scan_of shape h).rows

@@ -11,7 +11,7 @@ use Rattle.link_steps.specs.Kept.{KeptRow, kept_stays}
 use Rattle.link_steps.specs.Lists.{Each}
 use Rattle.link_server.specs.Rows.{reservation_in, row_in, is_served_row_of, summed, IsPlaceOf}
 use Rattle.link_server.specs.declared.served_row.ServedRow.{ServedRow}
-use Rattle.link_server.proofs.SumsFacts.{distinct-later}
+use Rattle.rcsp_admission.proofs.KeyFacts.{distinct-later}
 
 -- the row at a place is its channel's, and the only one
 pub place-distinct : (rows : List ServedRow) (i : ℕ) (d : ServedRow) → IsDistinct (map summed rows) → i < length rows → IsPlaceOf (get_or rows i d).chan rows i

@@ -1,16 +1,16 @@
 -- The rule by which a row expires agrees with the end of a hold by all eligible ticks.
-use Rattle.std.proofs.Common.{◌≡◌, ℕ, ◌+◌, ◌≤◌, Bool, true, false, ◌&&◌, ◌||◌, inl, inr, List, [], ◌∷◌, length, refl, sym, ap}
+use Rattle.std.proofs.Common.{◌≡◌, ℕ, ◌+◌, ◌≤◌, Bool, true, ◌&&◌, ◌||◌, inl, inr, List, [], ◌∷◌, length, refl, sym, ap}
 use Rattle.std.proofs.lemmas.Bool.{cases_Bool, eqb-false, leb-true, ne_eqb}
 use Rattle.std.specs.List.{list_all}
 use Rattle.std.specs.Prelude.{nat_eq, nat_le, All}
 use Rattle.net_units.specs.LevelBounds.{last_bound}
 use Rattle.traffic_contract.specs.Eligible.{newest}
-use Rattle.release_hold.specs.Hold.{has_passed, is_over}
+use Rattle.release_hold.specs.Hold.{has_passed}
 use Rattle.release_hold.proofs.HoldLemmas.{all_passed}
 use Rattle.link_steps.specs.declared.replies.Phase.TheVariants.{Closing}
 use Rattle.link_steps.specs.Hold.{hold_ended}
-use Rattle.link_steps.specs.Reservation.{Reservation, is_phase}
-use Rattle.link_server.specs.HoldsAgree.{HoldsAgree, NewestIsLast}
+use Rattle.link_steps.specs.Reservation.{is_phase}
+use Rattle.link_server.specs.HoldsAgree.{HoldsAgree}
 
 -- without a tick, a hold is over where no packet is to come
 over-without : (count : ℕ) (passed : Bool) → (nat_eq count 0 || (nat_eq 0 count && passed)) ≡ (nat_eq count 0 || (nat_eq 0 count && true))

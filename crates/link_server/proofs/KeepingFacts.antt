@@ -17,7 +17,7 @@ use Rattle.link_steps.proofs.RefusalFacts.{unless-none}
 use Rattle.link_steps.proofs.ReplyFacts.{phase-is}
 use Rattle.link_server.specs.declared.link_state.LinkState.{LinkState}
 use Rattle.link_server.specs.State.{kept_in}
-use Rattle.link_server.proofs.SoundSetup.{relaxed-slots, release-slots}
+use Rattle.link_server.proofs.SoundSetup.{relaxed-slots}
 use Rattle.link_server.proofs.StoodFacts.{rows-few}
 use Rattle.std.specs.List.{remove}
 use Rattle.buffer_budget.specs.Parts.{with_held, with_freed}
@@ -36,6 +36,7 @@ use Rattle.link_server.specs.Keeping.{places_for, IsKeeping}
 use Rattle.link_server.specs.Rows.{reservation_in, row_in, is_served_row_of, IsPlaceOf}
 use Rattle.link_server.specs.Sound.{all_places_of, IsSoundRow, IsSound}
 use Rattle.link_server.proofs.PlaceFacts.{kept-found, terms-kept}
+use Rattle.link_steps.proofs.SlotsHeld.{slots-closed}
 
 -- ---- sums over rows
 
@@ -208,7 +209,7 @@ keeps-closed buffer bounds keeping rows i changed d count keeps inside same phas
     let is = phase-is terms.phase Committed (unless-none (is_phase terms.phase Committed) (NotInPhase terms.phase) (sym phase)) in
     keeps-swapped buffer bounds keeping rows i changed d keeps inside
     (ap (kept_units bounds) same ∙ closed-units bounds count terms is)
-    (ap (slots_of bounds) same ∙ release-slots bounds count terms is)
+    (ap (slots_of bounds) same ∙ slots-closed bounds count terms is)
 
 -- what the rows hold leaves room to count their places
 pub places-least : (levels : ℕ) (shape : LinkShape) (clock taken : ℕ) (rows : List KeptRow) → Each (IsSoundRow levels clock taken) rows → total (all_places_of shape.bounds) rows ≤ length rows + total (kept_units shape.bounds) (map kept_terms rows)

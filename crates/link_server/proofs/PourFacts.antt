@@ -1,8 +1,7 @@
 -- The answers to a pour, case by case, and the best-effort packet of a tick.
-use Rattle.std.proofs.Common.{◌≡◌, ℕ, suc, ◌<◌, ◌≤◌, Bool, true, false, List, length, Option, Some, None, refl, sym, ap, ◌∙◌, subst}
+use Rattle.std.proofs.Common.{◌≡◌, ℕ, suc, ◌<◌, ◌≤◌, Bool, true, false, List, length, Option, Some, None, refl, sym, ap, ◌∙◌}
 use Rattle.std.proofs.lemmas.Bool.{lt-leb, le-leb}
 use Rattle.std.specs.Prelude.{find, filter, nat_lt}
-use Rattle.std.specs.Coded.{le_prop}
 use Rattle.net_units.specs.Numbers.{channel_number}
 use Rattle.net_units.specs.declared.numbers.ChanNo.{ChanNo}
 use Rattle.link_steps.specs.Service.{Arrival}
@@ -23,6 +22,7 @@ use Rattle.link_server.specs.Planned.{left_in, size_of}
 use Rattle.link_server.specs.declared.served_row.ServedRow.{ServedRow}
 use Rattle.link_server.specs.declared.packets.Packets.{Packets}
 use Rattle.link_server.proofs.PlanFacts.{planned-length, after-none, none-left}
+use Rattle.net_units.proofs.NumberFacts.{same-channel}
 
 pub left-counted : (packets : Packets) → length (left_in packets.best) ≡ packets.best.count
 left-counted packets = planned-length packets.best.tick packets.best.gap packets.best.size packets.best.count
@@ -87,18 +87,9 @@ waiting-is shape k = refl
 
 -- ---- the channel that a best-effort packet names
 
-abbrev chan-of : (n : ℕ) → n < 1048576 → ChanNo
-chan-of n small = record { number = n; small = small }
-
-same-number : (n m most : ℕ) → n ≡ m → (p : n < 1048576) (q : m < 1048576) → chan-of n p ≡ chan-of m q
-same-number n m most e p = subst (λ k. (q : k < 1048576) → chan-of n p ≡ chan-of k q) e (λ q. ap (chan-of n) (le_prop p q))
-
-pub same-chan : (a b : ChanNo) → channel_number a ≡ channel_number b → a ≡ b
-same-chan a b e = same-number a.number b.number 0 e a.small b.small
-
 pub best-made : (bounds : List ℕ) (place size t level : ℕ) (chan : ChanNo) → channel_number chan ≡ 0 → level ≡ suc (length bounds)
     → record { place = place; lead = place; chan = chan; number = 0; size = size; at = t; eligible = t; level = level; next = None } ≡ best_arrival bounds place size t
 best-made bounds place size t level chan none below =
-    ap (λ n. made n chan) below ∙ ap (made (suc (length bounds))) (same-chan chan (best_arrival bounds place size t).chan none) where
+    ap (λ n. made n chan) below ∙ ap (made (suc (length bounds))) (same-channel chan (best_arrival bounds place size t).chan none) where
       made : ℕ → ChanNo → Arrival
       made n c = record { place = place; lead = place; chan = c; number = 0; size = size; at = t; eligible = t; level = n; next = None }

@@ -9,7 +9,7 @@ use Rattle.link_steps.specs.Service.{Arrival}
 use Rattle.link_steps.specs.Sources.{lead_with}
 use Rattle.link_steps.proofs.ListFacts.{Each-if, filter-none}
 use Rattle.link_server.specs.Sound.{AreNumberedWithin, IsSoundPacket}
-use Rattle.link_server.proofs.SoundRows.{lead_with-later}
+use Rattle.link_steps.proofs.PacketRows.{lead_with-later}
 
 -- ---- arrival numbers
 

@@ -1,6 +1,6 @@
 -- Rows of a sound account: leads that are apart, planned packets that lie ahead, and what keeps a row sound.
 use Rattle.std.proofs.Common.{◌≡◌, ℕ, zero, suc, ◌+◌, ◌<◌, ◌≤◌, Bool, List, [], ◌∷◌, ◌++◌, ⊎_elim, refl, sym, subst, arith}
-use Rattle.std.proofs.lemmas.Bool.{cases_eq, cond_both, leb-true, eq-eqb, ne_eqb}
+use Rattle.std.proofs.lemmas.Bool.{cases_eq, cond_both, leb-true, eq-eqb}
 use Rattle.std.specs.Prelude.{filter}
 use Rattle.link_steps.specs.Kept.{KeptRow}
 use Rattle.link_steps.specs.Lists.{change_first, without_first, Each}
@@ -8,6 +8,7 @@ use Rattle.link_steps.specs.Rows.{SourcePacket, planned_from, is_from, left_at}
 use Rattle.link_steps.specs.Sources.{lead_with}
 use Rattle.link_steps.proofs.ListFacts.{Each-append, Each-filter, Each-if, Each-change_first, Each-without_first}
 use Rattle.link_server.specs.Sound.{HasSize, AreAhead, IsApartFrom, HaveOwnLeads}
+use Rattle.link_steps.proofs.PacketRows.{lead_with-later}
 
 -- ---- leads
 
@@ -45,9 +46,6 @@ AreApart-changed test change same (row ∷ rows) apart =
 -- the lead of a row is that of its first packet
 pub lead_with-first : (lead place : ℕ) → lead ≡ 0 → lead_with lead place ≡ place
 lead_with-first lead place none = rw (eq-eqb lead 0 none) refl
-
-pub lead_with-later : (lead place : ℕ) → 1 ≤ lead → lead_with lead place ≡ lead
-lead_with-later lead place some = rw (ne_eqb lead 0 (λ same. absurd (omega (arith, same)))) refl
 
 -- one above all leads is another than each of them
 pub apart-lead_with : (place lead : ℕ) (rows : List KeptRow) → Each (λ row. row.lead < place) rows → Each (IsApartFrom lead) rows → Each (IsApartFrom (lead_with lead place)) rows

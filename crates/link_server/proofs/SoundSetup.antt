@@ -1,5 +1,5 @@
 -- A sound account stays sound through a reserve, a relax, a deny, a submit and a release.
-use Rattle.std.proofs.Common.{◌≡◌, ℕ, suc, ◌+◌, ◌≤◌, Bool, true, List, [], ◌∷◌, ◌++◌, length, map, Option, Some, refl, sym, ap, ◌∙◌, arith}
+use Rattle.std.proofs.Common.{◌≡◌, ℕ, suc, ◌+◌, ◌≤◌, Bool, true, List, [], ◌∷◌, ◌++◌, length, map, Option, Some, refl, ap, ◌∙◌, arith}
 use Rattle.std.specs.Prelude.{find}
 use Rattle.std.specs.Option.{option_map}
 use Rattle.net_units.proofs.BoundFacts.{bound_at-rising}
@@ -11,9 +11,8 @@ use Rattle.net_units.specs.declared.numbers.Level.{Level}
 use Rattle.net_units.specs.declared.numbers.LinkNo.{LinkNo}
 use Rattle.traffic_contract.proofs.AdmissionFacts.{total-le}
 use Rattle.traffic_contract.proofs.LongerWindows.{most_in-mono}
-use Rattle.traffic_contract.specs.Contract.{Traffic, IsContract, most_in}
+use Rattle.traffic_contract.specs.Contract.{Traffic, IsContract}
 use Rattle.link_steps.specs.declared.asks.Ask.TheVariants.{Relax, Deny, Submit, Release, Pour}
-use Rattle.link_steps.specs.declared.replies.Phase.TheVariants.{Committed}
 use Rattle.link_steps.specs.declared.replies.Reply.{Reply}
 use Rattle.link_steps.specs.declared.replies.Reply.TheVariants as Is
 use Rattle.link_steps.specs.declared.shape.LinkShape.{LinkShape}
@@ -24,7 +23,7 @@ use Rattle.link_steps.specs.Kept.{Kept, KeptRow, nothing_kept, with_kept_rows, k
 use Rattle.link_steps.specs.Legal.{ReserveFits, RelaxFits, SubmitFits}
 use Rattle.link_steps.specs.Lists.{change_first, without_first, Each}
 use Rattle.link_steps.specs.Replies.{relax_reply, submit_reply, release_reply}
-use Rattle.link_steps.specs.Reservation.{Reservation, tentative, committed, closing, is_of}
+use Rattle.link_steps.specs.Reservation.{Reservation, tentative, committed, is_of}
 use Rattle.link_steps.specs.Rows.{SourcePacket, planned_from}
 use Rattle.link_steps.specs.Scan.{names_first_hop}
 use Rattle.link_steps.specs.Service.{Arrival}
@@ -34,6 +33,7 @@ use Rattle.link_steps.proofs.ReplyFacts.{may-reach, FitsOffer, relax-tells, subm
 use Rattle.link_server.specs.Sound.{of_channels, best_count, places_of, all_places_of, places, most_places, AreAhead, HaveOwnLeads, IsSoundRow, IsSound}
 use Rattle.link_server.proofs.SoundBest.{both-count}
 use Rattle.link_server.proofs.SoundRows.{AreApart-without_first, AreApart-push, AreApart-changed, planned-ahead}
+use Rattle.link_steps.proofs.SlotsHeld.{slots-closed}
 
 -- ---- nothing, and more room
 
@@ -197,11 +197,6 @@ release-found : (shape : LinkShape) (k : Kept) (chan : ChanNo) (upstream : Optio
 unfolding kept_reply
 release-found shape k chan upstream row found = ap (kept_release upstream) found
 
--- a closing reservation has the slots of the committed one
-pub release-slots : (bounds : List ℕ) (count : ℕ) (terms : Reservation) → terms.phase ≡ Committed → slots_of bounds (closing count terms) ≡ slots_of bounds terms
-unfolding slots_of
-release-slots bounds count terms phase = ap (most_in terms.contract) (ap (λ p. stay_in p bounds terms) (sym phase))
-
 pub sound-release : (shape : LinkShape) (room : ℕ) (k : Kept) (chan : ChanNo) (upstream : Option ℕ) (reply : Reply) → IsSound shape room k → reply ≡ kept_reply (whole shape) k (Release chan upstream) → IsSound shape room (kept_after shape k (Release chan upstream) reply)
 unfolding kept_after
 sound-release shape room k chan upstream (Is.Closing count cancelled) sound same =
@@ -217,7 +212,7 @@ sound-release shape room k chan upstream (Is.Closing count cancelled) sound same
       ahead = tt;
     })
     (λ row found.
-    let e = release-slots shape.bounds count row.terms (release-tells upstream row.terms row.taken (length row.left) count cancelled (same ∙ release-found shape k chan upstream row found)).0 in
+    let e = slots-closed shape.bounds count row.terms (release-tells upstream row.terms row.taken (length row.left) count cancelled (same ∙ release-found shape k chan upstream row found)).0 in
     omega (arith, e))
 sound-release shape room k chan upstream _ sound same = sound
 

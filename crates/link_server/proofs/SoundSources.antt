@@ -16,9 +16,10 @@ use Rattle.link_steps.proofs.ListFacts.{Each-append, Each-filter, Each-find, Eac
 use Rattle.link_server.specs.Sound.{places_of, places, of_channels, best_count, AreNumberedWithin, HasSize, AreAhead, IsApartFrom, HaveOwnLeads, IsSoundPacket, IsSoundRow, IsSound, with_brought}
 use Rattle.link_server.proofs.SoundPackets.{HasLead, packets-lead, numbered-append, held-more, held-taken}
 use Rattle.link_server.proofs.SoundBest.{IsChannels, held-channels, channels-more, channels-lead, best-more, kept_best-is, best-numbered, best-sound, best-channels, best-upto, best-fits}
-use Rattle.link_server.proofs.SoundRows.{AreApart-filter, apart-lead_with, lead_with-first, lead_with-later, ahead-earlier, ahead-sizes, left-ahead}
+use Rattle.link_server.proofs.SoundRows.{AreApart-filter, apart-lead_with, lead_with-first, ahead-earlier, ahead-sizes, left-ahead}
 use Rattle.link_server.proofs.SourceFacts.{packet-length}
 use Rattle.link_server.proofs.SoundTaking.{lead_with-most, taken-sound, more-sound, packets-more, packet-sound, places-taken, running-more}
+use Rattle.link_steps.proofs.PacketRows.{lead_with-later}
 
 -- ---- one row
 

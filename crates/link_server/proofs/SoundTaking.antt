@@ -26,7 +26,8 @@ use Rattle.link_steps.proofs.ReplyFacts.{arrive-tells}
 use Rattle.link_server.specs.Sound.{places_of, places, of_channels, IsSoundPacket, has_arrival_number, IsRunning, IsSoundRow, IsSound}
 use Rattle.link_server.proofs.SoundPackets.{packets-lead, numbered-append, held-more, held-taken}
 use Rattle.link_server.proofs.SoundBest.{held-channels, channels-more, channels-lead, best-more}
-use Rattle.link_server.proofs.SoundRows.{AreApart-taken, lead_with-first, lead_with-later}
+use Rattle.link_server.proofs.SoundRows.{AreApart-taken, lead_with-first}
+use Rattle.link_steps.proofs.PacketRows.{lead_with-later}
 
 -- ---- leads
 

@@ -1,17 +1,14 @@
 -- A state of a link stands for an admissible history from its beginning on, and so its numbers have the bounds that these
 -- promise.
-use Rattle.std.proofs.Common.{◌≡◌, ℕ, zero, suc, ◌*◌, ◌/◌, ◌%◌, ◌^◌, ◌<◌, ◌≤◌, List, [], ◌∷◌, length, map, take, ⊎_elim, refl, sym, ap, subst, arith}
-use Rattle.std.proofs.Math.Nat.{mul-le-mul_right, mod-eq_of_lt}
+use Rattle.std.proofs.Common.{◌≡◌, ℕ, zero, suc, ◌*◌, ◌^◌, ◌<◌, ◌≤◌, List, [], ◌∷◌, length, map, take, ⊎_elim, sym, ap, subst, arith}
+use Rattle.std.proofs.Math.Nat.{mul-le-mul_right}
 use Rattle.std.proofs.lemmas.Bool.{cases_lt}
 use Rattle.std.proofs.lemmas.List.{length-map}
 use Rattle.net_units.proofs.BoundFacts.{bound_least}
 use Rattle.net_units.specs.Numbers.{level_number}
-use Rattle.net_units.specs.Quotient.{ceil_quotient}
-use Rattle.traffic_contract.proofs.ContractFacts.{burst-least}
-use Rattle.traffic_contract.proofs.LoadFacts.{ceil_quotient-some}
-use Rattle.traffic_contract.proofs.LongerWindows.{most_in-mono}
+use Rattle.traffic_contract.proofs.LoadFacts.{most_in-some}
 use Rattle.traffic_contract.specs.Admission.{total}
-use Rattle.traffic_contract.specs.Contract.{Traffic, IsContract, most_in, burst_of}
+use Rattle.traffic_contract.specs.Contract.{IsContract, most_in, burst_of}
 use Rattle.traffic_contract.specs.Eligible.{newest}
 use Rattle.link_steps.specs.declared.asks.Ask.{Ask}
 use Rattle.link_steps.specs.declared.replies.Entry.{Entry}
@@ -116,28 +113,11 @@ stay-some shape terms Tentative level reach = omega (arith, bound_least shape.bo
 stay-some shape terms Committed level reach = omega (arith, bound_least shape.bounds (level_number terms.level) shape.bounds_rise terms.level.least level)
 stay-some shape terms Closing level reach = omega (arith, bound_least shape.bounds (level_number terms.level) shape.bounds_rise terms.level.least level)
 
--- a window of a tick or more lets a packet in
-window-some : (c : Traffic) (w : ℕ) → IsContract c → 1 ≤ w → 1 ≤ most_in c w
-unfolding most_in
-window-some c w valid some =
-    let first : most_in c 1 ≤ most_in c w = most_in-mono c 1 w valid some in
-    let burst = burst-least c valid in
-    ⊎_elim
-    (λ (one : c.interval < 2).
-    let e : 1 / c.interval ≡ 1 = (let i : c.interval ≡ 1 = omega (arith, one, valid.xmin_least, valid.xave_least, valid.interval_least) in rw i refl) in
-    let whole : 1 / c.interval * burst_of c ≡ burst_of c = rw e (omega arith) in
-    omega (arith, first, whole, burst))
-    (λ (more : 2 ≤ c.interval).
-    let e : 1 % c.interval ≡ 1 = mod-eq_of_lt more in
-    let rest : 1 ≤ ceil_quotient (1 % c.interval) c.xmin = rw e (ceil_quotient-some 1 c.xmin valid.xmin_least (omega arith)) in
-    omega (arith, first, burst, rest))
-    (cases_lt c.interval 2)
-
 -- so a reservation keeps a unit
 units-some : (shape : LinkShape) (terms : Reservation) → IsContract terms.contract → level_number terms.level ≤ length shape.bounds → level_number terms.reach ≤ length shape.bounds → 1 ≤ kept_units shape.bounds terms
 unfolding kept_units
 units-some shape terms valid level reach =
-    let packets = window-some terms.contract (stay_of shape.bounds terms) valid (stay-some shape terms terms.phase level reach) in
+    let packets = most_in-some terms.contract (stay_of shape.bounds terms) valid (stay-some shape terms terms.phase level reach) in
     let e : 1 * terms.contract.smax ≤ most_in terms.contract (stay_of shape.bounds terms) * terms.contract.smax = mul-le-mul_right terms.contract.smax packets in
     omega (arith, e, valid.smax_least)
 

@@ -15,15 +15,12 @@ use Rattle.link_steps.specs.Shape.{server_of}
 use Rattle.link_server.specs.declared.served_row.ServedRow.{ServedRow}
 use Rattle.link_server.specs.Rows.{reservation_in, row_in, is_served_row_of, summed, IsAbsent, IsPlaceOf, IsWithinLevels}
 use Rattle.link_server.proofs.PlaceFacts.{place-later, terms-kept}
+use Rattle.rcsp_admission.proofs.KeyFacts.{distinct-later}
 
 -- the admission test sees the reservations
 summed-rows : (rows : List ServedRow) → admitted_rows (map summed rows) ≡ map admitted (map reservation_in rows)
 summed-rows [] = refl
 summed-rows (row ∷ rows) = ap (λ all. admitted (reservation_in row) ∷ all) (summed-rows rows)
-
--- keys of the rows after one
-pub distinct-later : (held : Held) (rows : List Held) → IsDistinct (held ∷ rows) → IsDistinct rows
-distinct-later held rows distinct = record { apart = λ i j d before within. distinct.apart (suc i) (suc j) d (omega arith) (omega arith) }
 
 others-apart : (key : ℕ) (rows : List Held) → ((k : ℕ) (d : Held) → k < length rows → (get_or rows k d).key ≡ key → ⊥) → Each (λ held. has_key key held ≡ false) rows
 others-apart key [] other = tt
