@@ -22,9 +22,10 @@ use Rattle.call_script.specs.declared.operations.Op.{Op}
 use Rattle.call_script.specs.declared.operations.Op.TheVariants.{Open, Send, Close, Pour}
 use Rattle.call_script.specs.declared.version.Version.{Version}
 use Rattle.call_script.proofs.FitFacts.{each-by}
-use Rattle.call_script.proofs.GrowthFacts.{all-more, after-more, get-before, get-more, total-more, added-all, added-after, added-names, added-length, added-total, added-openings, added-opens-none, new-opens-none}
+use Rattle.call_script.proofs.GrowthFacts.{all-more, after-more, get-before, get-more, added-all, added-after, added-names, added-length, added-total, added-openings, added-opens-none, new-opens-none}
 use Rattle.call_script.proofs.OpeningFacts.{opened-has}
 use Rattle.call_script.proofs.OwnerFacts.{any-later, twice-not}
+use Rattle.traffic_contract.proofs.AdmissionFacts.{total-push}
 
 -- ---- the rules on names and numbers, in their parts
 
@@ -109,7 +110,7 @@ few-from parts are =
     (le-leb (length parts.requests) 1024 are.requests)
 
 -- one more
-length-more : {X : Type 0} (xs : List X) (x : X) → length (xs ++ x ∷ []) ≡ suc (length xs)
+pub length-more : {X : Type 0} (xs : List X) (x : X) → length (xs ++ x ∷ []) ≡ suc (length xs)
 length-more xs x = (let both : length (xs ++ x ∷ []) ≡ length xs + 1 = length-append xs (x ∷ []) in omega arith)
 
 names-more : (names : List (List ℕ)) (name : List ℕ) → are_distinct names ≡ true → is_new names name ≡ true → are_distinct (names ++ name ∷ []) ≡ true
@@ -195,7 +196,7 @@ caller-keeps parts name keep may =
     let few = few-in parts keep.few in
     let version = and_parts (list_all (link_has_version parts.version) parts.links) (list_all (λ (c : CallerEntry). list_all (op_has_version parts.version) c.ops) parts.callers) keep.version in
     let longer = length-more parts.callers (new_caller name) in
-    let load : load_in parts.requests (parts.callers ++ new_caller name ∷ []) ≡ load_in parts.requests parts.callers + 0 = total-more (λ (c : CallerEntry). total (load_of parts.requests) c.ops) parts.callers (new_caller name) in
+    let load : load_in parts.requests (parts.callers ++ new_caller name ∷ []) ≡ load_in parts.requests parts.callers + 0 = total-push (λ (c : CallerEntry). total (load_of parts.requests) c.ops) parts.callers (new_caller name) in
     record {
       version = and_from (list_all (link_has_version parts.version) parts.links) (list_all (λ (c : CallerEntry). list_all (op_has_version parts.version) c.ops) (parts.callers ++ new_caller name ∷ [])) version.0 (calm (list_all (op_has_version parts.version)) refl version.1);
       names = names-from (with_caller name parts) (record {

@@ -6,9 +6,9 @@ use Rattle.std.proofs.lemmas.List.Folds.{list_all-append}
 use Rattle.std.proofs.lemmas.Option.{same_Some}
 use Rattle.std.specs.List.{list_all, slice_get}
 use Rattle.std.specs.Prelude.{◌&&◌}
-use Rattle.traffic_contract.proofs.AdmissionFacts.{total-append}
+use Rattle.traffic_contract.proofs.AdmissionFacts.{total-push}
 use Rattle.traffic_contract.specs.Admission.{total}
-use Rattle.call_script.specs.Growing.{add_op, last_ops, new_caller}
+use Rattle.call_script.specs.Growing.{add_op, last_ops, new_caller, with_its_op}
 use Rattle.call_script.specs.Parts.{Opening, opened_by, openings_in, openings_of}
 use Rattle.call_script.specs.Rules.{each_after, caller_names}
 use Rattle.call_script.specs.declared.entries.CallerEntry.{CallerEntry}
@@ -42,10 +42,18 @@ get-more (z ∷ xs) x (suc n) y found = by (get-more xs x n y found) where
   by (inl old) = inl old
   by (inr new) = inr (ap suc new.0, new.1)
 
-pub total-more : {X : Type 0} (f : X → ℕ) (xs : List X) (x : X) → total f (xs ++ x ∷ []) ≡ total f xs + f x
-total-more f xs x = (let both : total f (xs ++ x ∷ []) ≡ total f xs + (f x + 0) = total-append f xs (x ∷ []) in omega arith)
-
 -- ---- one operation more
+
+-- of the last caller of a list
+pub added-last : (op : Op) (before : List CallerEntry) (caller : CallerEntry) → add_op op (before ++ caller ∷ []) ≡ before ++ with_its_op op caller ∷ []
+added-last op [] caller = refl
+added-last op (first ∷ []) caller = refl
+added-last op (first ∷ next ∷ before) caller = ap (λ (callers : List CallerEntry). first ∷ callers) (added-last op (next ∷ before) caller)
+
+pub last-of : (before : List CallerEntry) (caller : CallerEntry) → last_ops (before ++ caller ∷ []) ≡ caller.ops
+last-of [] caller = refl
+last-of (first ∷ []) caller = refl
+last-of (first ∷ next ∷ before) caller = last-of (next ∷ before) caller
 
 -- what the operations of each caller pass, those of the last caller pass
 pub last-passes : (test : List Op → Bool) (callers : List CallerEntry) → test [] ≡ true → list_all (λ (c : CallerEntry). test c.ops) callers ≡ true → test (last_ops callers) ≡ true
@@ -81,7 +89,7 @@ added-length op (caller ∷ next ∷ callers) = ap suc (added-length op (next �
 
 pub added-total : (load : Op → ℕ) (op : Op) (callers : List CallerEntry) → total (λ (c : CallerEntry). total load c.ops) (add_op op callers) ≤ total (λ (c : CallerEntry). total load c.ops) callers + load op
 added-total load op [] = omega arith
-added-total load op (caller ∷ []) = (let more : total load (caller.ops ++ op ∷ []) ≡ total load caller.ops + load op = total-more load caller.ops op in omega arith)
+added-total load op (caller ∷ []) = (let more : total load (caller.ops ++ op ∷ []) ≡ total load caller.ops + load op = total-push load caller.ops op in omega arith)
 added-total load op (caller ∷ next ∷ callers) = (let rest = added-total load op (next ∷ callers) in omega (arith, rest))
 
 -- ---- what is opened

@@ -1,29 +1,18 @@
 -- What the callers of a plan open: each request once, by its caller, in the order of the requests. So a caller's openings have
 -- numbers one after the other, and a channel that is opened has a request of the caller that opens it.
-use Rattle.std.proofs.Common.{◌≡◌, ◌≢◌, ℕ, zero, suc, ◌+◌, ◌<◌, ◌⊎◌, Bool, true, false, Option, Some, None, List, [], ◌∷◌, ◌++◌, length, map, refl, sym, ap, ◌∙◌, subst, inl, inr, nat_eq, arith}
+use Rattle.std.proofs.Common.{◌≡◌, ℕ, zero, suc, ◌+◌, ◌<◌, ◌⊎◌, true, Some, List, [], ◌∷◌, ◌++◌, length, map, refl, sym, ap, ◌∙◌, subst, inl, inr, nat_eq, arith}
 use Rattle.std.proofs.lemmas.Bool.{cases_Bool, eqb-true}
 use Rattle.std.proofs.lemmas.Option.{same_Some}
 use Rattle.std.specs.List.{list_any, slice_get}
-use Rattle.std.specs.Prelude.{◌||◌}
 use Rattle.net_units.specs.Numbers.{actor_number, channel_number}
 use Rattle.link_steps.proofs.ListFacts.{Among}
-use Rattle.call_script.specs.Parts.{PlanParts, Opening, opened_by, openings_in, openings_of, opening_of, ArePlanned}
+use Rattle.call_script.specs.Parts.{PlanParts, Opening, openings_in, openings_of, opening_of, ArePlanned}
 use Rattle.call_script.specs.Rules.{opens}
 use Rattle.call_script.specs.declared.entries.CallerEntry.{CallerEntry}
 use Rattle.call_script.specs.declared.entries.RequestEntry.{RequestEntry}
 use Rattle.call_script.specs.declared.operations.Op.{Op}
 use Rattle.call_script.specs.declared.operations.Op.TheVariants.{Open, Send, Close, Pour}
-
--- ---- members
-
-among-left : {X : Type 0} (x : X) (xs ys : List X) → Among x xs → Among x (xs ++ ys)
-among-left x [] ys among = absurd among
-among-left x (y ∷ xs) ys (inl same) = inl same
-among-left x (y ∷ xs) ys (inr rest) = inr (among-left x xs ys rest)
-
-among-right : {X : Type 0} (x : X) (xs ys : List X) → Among x ys → Among x (xs ++ ys)
-among-right x [] ys among = among
-among-right x (y ∷ xs) ys among = inr (among-right x xs ys among)
+use Rattle.link_steps.proofs.ListParts.{Among-left, Among-right}
 
 -- ---- openings with numbers one after the other
 
@@ -81,10 +70,10 @@ unfolding openings_of
 caller-among first [] n at caller opening found same among = cc
 caller-among first (c ∷ callers) zero at caller opening found same among =
     let here : at ≡ first = omega (arith, same) in
-    among-left opening (openings_in first c.ops) (openings_of (suc first) callers)
+    Among-left opening (openings_in first c.ops) (openings_of (suc first) callers)
     (subst (λ k. Among opening (openings_in k c.ops)) here (subst (λ ops. Among opening (openings_in at ops)) (ap (λ (e : CallerEntry). e.ops) (sym (same_Some c caller found))) among))
 caller-among first (c ∷ callers) (suc n) at caller opening found same among =
-    among-right opening (openings_in first c.ops) (openings_of (suc first) callers) (caller-among (suc first) callers n at caller opening found (omega (arith, same)) among)
+    Among-right opening (openings_in first c.ops) (openings_of (suc first) callers) (caller-among (suc first) callers n at caller opening found (omega (arith, same)) among)
 
 -- a request that is to be opened so
 record HasOpening (requests : List RequestEntry) (opening : Opening) : Type 0 where

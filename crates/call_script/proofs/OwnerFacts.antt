@@ -1,6 +1,6 @@
 -- Each channel of a plan has one owner: one caller opens its request, sends on it and then may close it, and no other caller
 -- names it.
-use Rattle.std.proofs.Common.{◌≡◌, ◌≢◌, ℕ, suc, ◌<◌, ◌⊎◌, Bool, true, false, not, Option, Some, None, List, [], ◌∷◌, ◌++◌, length, map, refl, sym, ap, ◌∙◌, subst, inl, inr, nat_eq, option_map, arith}
+use Rattle.std.proofs.Common.{◌≡◌, ◌≢◌, ℕ, suc, ◌<◌, ◌⊎◌, Bool, true, false, not, Option, Some, None, List, [], ◌∷◌, ◌++◌, map, refl, sym, ap, ◌∙◌, subst, inl, inr, nat_eq, option_map, arith}
 use Rattle.std.proofs.lemmas.Bool.{cases_Bool, eqb-true, eqb-false, eq-eqb, ne_eqb}
 use Rattle.std.proofs.lemmas.List.{append_assoc, length-map}
 use Rattle.std.proofs.lemmas.List.Folds.{list_any-append}
@@ -10,7 +10,7 @@ use Rattle.std.specs.Prelude.{◌||◌, ◌&&◌}
 use Rattle.net_units.specs.Numbers.{actor_number, channel_number}
 use Rattle.link_steps.specs.Lists.{Each}
 use Rattle.setup_protocol.specs.declared.request.Request.{Request}
-use Rattle.call_script.specs.Owners.{TaskOff, IsSendOn, SendsOnce, FullScript, OwnedFully, IsOwned, IsUnnamed, AllOwned}
+use Rattle.call_script.specs.Owners.{TaskOff, SendsOnce, FullScript, OwnedFully, IsOwned, IsUnnamed, AllOwned}
 use Rattle.call_script.specs.Parts.{PlanParts, openings_in, ArePlanned}
 use Rattle.call_script.specs.Plans.{IsPlan}
 use Rattle.call_script.specs.Rules.{each_after, opens, is_opened, closes, is_unclosed, are_opened, are_there, are_unclosed, route_is_there, pour_is_there}
@@ -20,10 +20,11 @@ use Rattle.call_script.specs.declared.entries.RequestEntry.{RequestEntry}
 use Rattle.call_script.specs.declared.operations.Op.{Op}
 use Rattle.call_script.specs.declared.operations.Op.TheVariants.{Open, Send, Close, Pour}
 use Rattle.call_script.specs.declared.tasks.Task.{Task}
-use Rattle.call_script.specs.declared.tasks.Task.TheVariants.{Opens, Sends, Closes, Pours}
+use Rattle.call_script.specs.declared.tasks.Task.TheVariants.{Opens, Sends, Closes}
 use Rattle.call_script.proofs.FitFacts.{each-at, comes-from, request-fits}
 use Rattle.call_script.proofs.OpeningFacts.{AreNumbered, caller-numbered, IsOpenedBy, opened-has, owner-inside}
 use Rattle.call_script.proofs.RuleFacts.{both, not-true, each-of, keeps-rules}
+use Rattle.std.proofs.Math.Bool.{or-true}
 
 -- ---- operations of another channel
 
@@ -86,10 +87,7 @@ pub any-later : (test : Op → Bool) (above rest : List Op) → list_any test ab
 any-later test above rest any = list_any-append test above rest ∙ ap (λ b. b || list_any test rest) any
 
 any-here : (test : Op → Bool) (above : List Op) (op : Op) (rest : List Op) → test op ≡ true → list_any test (above ++ op ∷ rest) ≡ true
-any-here test above op rest holds = list_any-append test above (op ∷ rest) ∙ ap (λ b. list_any test above || (b || list_any test rest)) holds ∙ by (list_any test above) where
-  by : (b : Bool) → (b || true) ≡ true
-  by true = refl
-  by false = refl
+any-here test above op rest holds = list_any-append test above (op ∷ rest) ∙ ap (λ b. list_any test above || (b || list_any test rest)) holds ∙ or-true (list_any test above)
 
 -- a script whose channels are all others names another channel in each operation
 ops-off : (c : ℕ) (requests : List Request) (above ops : List Op) → AreInOrder requests → each_after is_opened above ops ≡ true → ((chan : ℕ) → list_any (opens chan) (above ++ ops) ≡ true → chan ≢ c) → Each (TaskOff c) (tasks_of requests ops)
