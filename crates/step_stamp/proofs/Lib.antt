@@ -1,6 +1,6 @@
 pub mod ListFacts
 pub mod MarkFacts
-mod ShelfFacts
+pub mod ShelfFacts
 mod PlacingFacts
 mod ViewFacts
 mod Learning

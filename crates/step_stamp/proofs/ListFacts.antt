@@ -1,9 +1,11 @@
--- Facts on lists: what stands in a list, in two put together and in what a filter passes, and beginnings of a list.
-use Rattle.std.proofs.Common.{◌≡◌, ◌⊎◌, ℕ, suc, ◌≤◌, Bool, true, List, [], ◌∷◌, ◌++◌, length, refl, sym, ap, ◌∙◌, subst, inl, inr, ⊎_elim, arith, append_assoc, length-append}
+-- Facts on lists: what stands in a list, in two put together and in what a filter passes, at which place,
+-- and beginnings of a list.
+use Rattle.std.proofs.Common.{◌≡◌, ◌⊎◌, ℕ, zero, suc, ◌≤◌, Bool, true, List, [], ◌∷◌, ◌++◌, length, Some, None, refl, sym, ap, ◌∙◌, subst, inl, inr, ⊎_elim, arith, append_assoc, length-append}
 use Rattle.std.specs.Prelude.{take}
 use Rattle.std.proofs.lemmas.Bool.{cond_both}
 use Rattle.std.proofs.lemmas.List.{append-nil}
-use Rattle.std.specs.List.{filter}
+use Rattle.std.proofs.lemmas.Option.{same_Some}
+use Rattle.std.specs.List.{filter, slice_get}
 use mathlib.Core.List.{IsPrefix}
 use Rattle.link_steps.specs.Lists.{Each}
 use Rattle.step_stamp.specs.Lists.{Has}
@@ -60,6 +62,17 @@ module _ {X : Type 0} where
 pub has_split : {X : Type 0} (x : X) (xs ys : List X) → Has x (xs ++ ys) → Has x xs ⊎ Has x ys
 has_split x [] ys h = inr h
 has_split x (y ∷ xs) ys h = ⊎_elim (λ (e : y ≡ x). inl (inl e)) (λ t. ⊎_elim (λ in_xs. inl (inr in_xs)) (λ in_ys. inr in_ys) (has_split x xs ys t)) h
+
+-- an element at a place stands in the list, and one that stands there has a place
+pub get-has : {X : Type 0} (xs : List X) (k : ℕ) (x : X) → slice_get xs k ≡ Some x → Has x xs
+get-has [] k x found = absurd (let clash : None ≡ Some x = found in cc)
+get-has (y ∷ xs) zero x found = inl (same_Some y x found)
+get-has (y ∷ xs) (suc k) x found = inr (get-has xs k x found)
+
+pub has-get : {X : Type 0} (xs : List X) (x : X) → Has x xs → (k : ℕ) × (slice_get xs k ≡ Some x)
+has-get [] x has = absurd has
+has-get (y ∷ xs) x (inl is) = (0, ap Some is)
+has-get (y ∷ xs) x (inr has) = (let rest = has-get xs x has in (suc rest.0, rest.1))
 
 pub passes_test : {X : Type 0} (p : X → Bool) (x : X) (xs : List X) → Has x (filter p xs) → p x ≡ true
 passes_test p x [] = λ h. absurd h

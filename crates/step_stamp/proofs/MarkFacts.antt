@@ -20,6 +20,11 @@ pub rises-append : (low top : ℕ) (ms : List Mark) (m : Mark) → RisesFrom low
 rises-append low top [] m rises most le lt = (omega arith, tt)
 rises-append low top (x ∷ ms) m rises most le lt = (rises.0, rises-append x.stamp top ms m rises.1 most.1 most.0 lt)
 
+-- rising stamps of at most `top` are at most so many
+pub rises-length : (low top : ℕ) (ms : List Mark) → RisesFrom low ms → Each (λ (m : Mark). m.stamp ≤ top) ms → low ≤ top → low + length ms ≤ top
+rises-length low top [] rises most le = omega arith
+rises-length low top (m ∷ ms) rises most le = let rest = rises-length m.stamp top ms rises.1 most.1 most.0 in let first = rises.0 in omega (arith, rest, first)
+
 -- a list that rises from a number rises from a lower one, and so does what a filter passes
 rises_lower : (low high : ℕ) (ms : List Mark) → low ≤ high → RisesFrom high ms → RisesFrom low ms
 rises_lower low high [] le rises = tt
