@@ -1,20 +1,19 @@
 -- Journals: one entry more, how many ticks they have at most, and that the marks of a legal journal tell the whole of it.
-use Rattle.std.proofs.Common.{◌≡◌, ℕ, suc, ◌≤◌, List, [], ◌∷◌, ◌++◌, map, length, refl, ap, ◌∙◌, subst, arith}
+use Rattle.std.proofs.Common.{◌≡◌, ◌≤◌, List, [], ◌∷◌, ◌++◌, map, length, refl, ap, ◌∙◌, subst, arith}
 use Rattle.std.proofs.lemmas.List.{map-append, reverse-append, length-reverse, length-map}
 use Rattle.std.specs.Prelude.{reverse}
 use Rattle.link_steps.specs.Journals.{JournalGoesOn}
 use Rattle.link_steps.specs.Legal.{IsLegal}
 use Rattle.link_steps.specs.Replies.{reply_to}
-use Rattle.link_steps.specs.Scan.{clock_of, clock_with}
+use Rattle.link_steps.specs.Scan.{clock_of}
 use Rattle.link_steps.specs.Split.{Link}
-use Rattle.link_steps.specs.declared.asks.Ask.{Ask}
-use Rattle.link_steps.specs.declared.asks.Ask.TheVariants.{Reserve, Relax, Deny, Submit, Release, Arrive, Tick, Pour}
 use Rattle.link_steps.specs.declared.replies.Entry.{Entry as Done}
 use Rattle.link_steps.specs.declared.replies.Reply.{Reply}
 use Rattle.link_steps.proofs.JournalFacts.{journals-are-histories}
 use Rattle.step_stamp.specs.declared.marks.Mark.{Mark}
 use Rattle.link_ledger.specs.Journals.{mark_in, done_in, marks_in, history_in, journal_entry_of, history_entry_of, told_after, journal_of}
 use Rattle.link_ledger.specs.declared.entries.Entry.{Entry}
+use Rattle.link_steps.proofs.ClockFacts.{clock_of-most}
 
 -- ---- one entry more
 
@@ -26,25 +25,9 @@ marks-more entries e = map-append mark_in entries (e ∷ [])
 
 -- ---- the clock of a history
 
-clock_with-most : (ask : Ask) (t : ℕ) → clock_with ask t ≤ suc t
-clock_with-most (Reserve a b c d e f g) t = omega arith
-clock_with-most (Relax a b c) t = omega arith
-clock_with-most (Deny a) t = omega arith
-clock_with-most (Submit a b c d) t = omega arith
-clock_with-most (Release a b) t = omega arith
-clock_with-most (Arrive a) t = omega arith
-clock_with-most Tick t = omega arith
-clock_with-most (Pour a b c) t = omega arith
-
-clock-most : (h : List Done) → clock_of h ≤ length h
-unfolding clock_of
-clock-most [] = omega arith
-clock-most (e ∷ past) = let rest = clock-most past in let here = clock_with-most e.ask (clock_of past) in omega (arith, rest, here)
-
--- it is at most the number of the entries
 pub journal-clock-most : (entries : List Entry) → clock_of (history_in entries) ≤ length entries
 journal-clock-most entries =
-    let most = clock-most (history_in entries) in
+    let most = clock_of-most (history_in entries) in
     let turned = length-reverse (map done_in entries) in
     let mapped = length-map entries done_in in
     omega (arith, most, turned, mapped)

@@ -3,7 +3,6 @@ use Rattle.std.proofs.Common.{◌≡◌, ℕ, ◌+◌, ◌*◌, ◌^◌, ◌<◌
 use Rattle.std.proofs.lemmas.List.{length-map}
 use Rattle.net_units.specs.declared.numbers.ActorNo.{ActorNo}
 use Rattle.link_steps.specs.Legal.{IsLegal, AskFits}
-use Rattle.link_steps.specs.Lists.{Each}
 use Rattle.link_steps.specs.Replies.{reply_to}
 use Rattle.link_steps.specs.Scan.{clock_of}
 use Rattle.link_steps.specs.Split.{SplitFits}
@@ -11,19 +10,13 @@ use Rattle.link_steps.specs.declared.replies.Entry.{Entry as Done}
 use Rattle.link_steps.proofs.HopHolds.{hop-guarantee}
 use Rattle.link_steps.proofs.LegalAdmissible.{legal-admissible}
 use Rattle.link_steps.proofs.ListFacts.{Each-if, Each-append}
-use Rattle.step_stamp.specs.Marks.{RisesFrom}
 use Rattle.step_stamp.specs.declared.marks.Mark.{Mark}
-use Rattle.step_stamp.proofs.MarkFacts.{rises-append}
+use Rattle.step_stamp.proofs.MarkFacts.{rises-append, rises-length}
 use Rattle.link_ledger.specs.Journals.{mark_in, done_in, history_in}
 use Rattle.link_ledger.specs.Order.{HeldLink, IsInOrder, AreInOrder, IsOrdered}
 use Rattle.link_ledger.specs.Owners.{OwnsAsk, NextBelow}
 use Rattle.link_ledger.specs.declared.entries.Entry.{Entry}
 use Rattle.link_ledger.proofs.JournalFacts.{history-more, marks-more, journal-clock-most}
-
--- rising stamps of at most `top` are at most so many
-rises-length : (low top : ℕ) (ms : List Mark) → RisesFrom low ms → Each (λ (m : Mark). m.stamp ≤ top) ms → low ≤ top → low + length ms ≤ top
-rises-length low top [] rises most le = omega arith
-rises-length low top (m ∷ ms) rises most le = let rest = rises-length m.stamp top ms rises.1 most.1 most.0 in let first = rises.0 in omega (arith, rest, first)
 
 -- the journal is as long as its list
 pub order-length : (stands : List Done → Type 0) (owners : List ActorNo) (links : ℕ) (held : HeldLink) → IsInOrder stands owners links held → length held.entries ≡ length held.list
