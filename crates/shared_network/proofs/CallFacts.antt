@@ -62,7 +62,7 @@ use Rattle.setup_protocol.specs.Hops.{IsHopOf}
 use Rattle.shared_network.specs.Holds.{Hold, Free, Untold, reserved, hold_relaxed, denied, hold_with, hold_from, hold_of}
 use Rattle.shared_network.specs.Sight.{FitsAt, IsSend}
 use Rattle.shared_network.proofs.HoldSteps.{AnswersOf, answers}
-use Rattle.shared_network.proofs.LinkNumbers.{same-link}
+use Rattle.net_units.proofs.NumberFacts.{same-link}
 use Rattle.shared_network.proofs.SetupGoes.{hold-elsewhere, hold-here, setup-goes}
 use Rattle.shared_network.proofs.SetupHolds.{HopStands, IsComm}
 

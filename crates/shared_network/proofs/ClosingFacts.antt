@@ -2,9 +2,8 @@
 -- which begins the journal. Stamps rise and stand once, so entries and own entries go together one by one.
 use Rattle.std.proofs.Common.{◌≡◌, ◌≢◌, ℕ, zero, suc, eqb, ◌-◌, ◌<◌, ◌≤◌, List, [], ◌∷◌, length, map, Some, None, refl, sym, ap, ◌∙◌, subst, inl, inr, ⊎_elim, arith}
 use Rattle.std.proofs.lemmas.Bool.{eq-eqb}
-use Rattle.std.proofs.lemmas.Option.{same_Some, slice_get-map, slice_get_within}
+use Rattle.std.proofs.lemmas.Option.{same_Some, slice_get_within}
 use Rattle.std.specs.List.{slice_get}
-use Rattle.std.specs.Prelude.{option_map}
 use mathlib.Core.List.{IsPrefix}
 use Rattle.atomic_table.specs.Seated.{TableId}
 use Rattle.net_units.specs.Numbers.{actor_number, link_number}
@@ -22,7 +21,7 @@ use Rattle.step_stamp.specs.Views.{known_of}
 use Rattle.step_stamp.specs.declared.marks.Drawn.{Drawn}
 use Rattle.step_stamp.specs.declared.marks.Mark.{Mark}
 use Rattle.step_stamp.specs.declared.views.View.{View}
-use Rattle.step_stamp.proofs.ListFacts.{each_has, has_each, has_split, has_kept, has_passed}
+use Rattle.step_stamp.proofs.ListFacts.{each_has, has_each, has_split, has_kept, has_passed, get-has, has-get}
 use Rattle.link_ledger.specs.Journals.{mark_in, done_in, history_entry_of, marks_in, history_in, told_after, journal_of}
 use Rattle.link_ledger.specs.Own.{own_mark, own_drawn, own_entry, own_at, IsAtPlace}
 use Rattle.link_ledger.specs.Tokens.{Token}
@@ -36,19 +35,9 @@ use Rattle.shared_network.specs.Gathering.{token_actor, all_drawn, IsPartOf, Are
 use Rattle.shared_network.specs.Ready.{MayStep}
 use Rattle.shared_network.proofs.GatherFacts.{prefix-then}
 use Rattle.shared_network.proofs.LinkNumbers.{numbered-at, numbered-length}
+use Rattle.link_steps.proofs.ListParts.{mapped-at, Each-at, comes-from}
 
 -- ---- lists
-
--- an element at a place stands in the list, and one that stands there has a place
-get-has : {X : Type 0} (xs : List X) (k : ℕ) (x : X) → slice_get xs k ≡ Some x → Has x xs
-get-has [] k x found = absurd (let clash : None ≡ Some x = found in cc)
-get-has (y ∷ xs) zero x found = inl (same_Some y x found)
-get-has (y ∷ xs) (suc k) x found = inr (get-has xs k x found)
-
-has-get : {X : Type 0} (xs : List X) (x : X) → Has x xs → (k : ℕ) × (slice_get xs k ≡ Some x)
-has-get [] x has = absurd has
-has-get (y ∷ xs) x (inl is) = (0, ap (λ z. Some z) is)
-has-get (y ∷ xs) x (inr has) = (let rest = has-get xs x has in (suc rest.0, rest.1))
 
 -- an element of an image
 has-map : {X Y : Type 0} (f : X → Y) (xs : List X) (y : Y) → Has y (map f xs) → (x : X) × Has x xs × (f x ≡ y)
@@ -60,18 +49,6 @@ pub map-has : {X Y : Type 0} (f : X → Y) (xs : List X) (x : X) → Has x xs �
 map-has f [] x has = absurd has
 map-has f (y ∷ xs) x (inl is) = inl (ap f is)
 map-has f (y ∷ xs) x (inr has) = inr (map-has f xs x has)
-
-get-map : {X Y : Type 0} (f : X → Y) (xs : List X) (k : ℕ) (y : Y) → slice_get (map f xs) k ≡ Some y → (x : X) × (slice_get xs k ≡ Some x) × (f x ≡ y)
-get-map f [] k y found = absurd (let clash : None ≡ Some y = found in cc)
-get-map f (x ∷ xs) zero y found = (x, refl, same_Some (f x) y found)
-get-map f (x ∷ xs) (suc k) y found = get-map f xs k y found
-
-map-get : {X Y : Type 0} (f : X → Y) (xs : List X) (k : ℕ) (x : X) → slice_get xs k ≡ Some x → slice_get (map f xs) k ≡ Some (f x)
-map-get f xs k x found = slice_get-map f xs k ∙ ap (option_map f) found
-
--- what holds of each element holds of the one at a place
-each-get : {X : Type 0} (P : X → Type 0) (xs : List X) (k : ℕ) (x : X) → Each P xs → slice_get xs k ≡ Some x → P x
-each-get P xs k x each found = each_has P x xs each (get-has xs k x found)
 
 -- one inside
 get-within : {X : Type 0} (xs : List X) (k : ℕ) → k < length xs → (x : X) × (slice_get xs k ≡ Some x)
@@ -99,7 +76,7 @@ same-own : (actor : ActorNo) (own : List OwnEntry) (e o : OwnEntry) → StampsRi
 same-own actor own e o rises one other same =
     let at_e = has-get own e one in
     let at_o = has-get own o other in
-    let place : at_e.0 ≡ at_o.0 = place-told 0 (map (own_mark actor) own) at_e.0 at_o.0 (own_mark actor e) (own_mark actor o) rises (map-get (own_mark actor) own at_e.0 e at_e.1) (map-get (own_mark actor) own at_o.0 o at_o.1) same in
+    let place : at_e.0 ≡ at_o.0 = place-told 0 (map (own_mark actor) own) at_e.0 at_o.0 (own_mark actor e) (own_mark actor o) rises (mapped-at (own_mark actor) own at_e.0 e at_e.1) (mapped-at (own_mark actor) own at_o.0 o at_o.1) same in
     same_Some e o (sym at_e.1 ∙ ap (slice_get own) place ∙ at_o.1)
 
 -- no stamp stands twice
@@ -140,12 +117,12 @@ module _ (table : TableId) (owners : List ActorNo) (links : List Link) (passes :
       let within = slice_get_within journals l journal found in
       let long = numbered-length number_of journals (length links) settled.numbers in
       let below : l < length links = omega (arith, within, long) in
-      (each-get (IsSettled links v) journals l journal settled.settled found, numbered-at number_of journals (length links) l journal settled.numbers below found, below)
+      (Each-at (IsSettled links v) journals l journal settled.settled found, numbered-at number_of journals (length links) l journal settled.numbers below found, below)
 
   -- the own entry stands in its journal
   stands-in : (i : ℕ) (pass : Token) (e : OwnEntry) → slice_get passes i ≡ Some pass → Has e pass.own → StandsIn journals pass.actor e
   stands-in i pass e found has =
-      let may = each-get (MayStep table owners links) passes i pass all.may_step found in
+      let may = Each-at (MayStep table owners links) passes i pass all.may_step found in
       let l : ℕ = link_number e.link in
       let below : l < length links = each_has (λ (o : OwnEntry). link_number o.link < length links) e pass.own may.linked has in
       let at_link = get-within links l below in
@@ -157,16 +134,16 @@ module _ (table : TableId) (owners : List ActorNo) (links : List Link) (passes :
       let there = settled-at l journal at_journal.1 in
       let knew = may.knows l link at_link.1 in
       let placed = each_has (IsAtPlace pass.actor pass.view) e pass.own may.exact.placed has in
-      let part = each-get (IsPartOf v) passes i pass so.parts found in
+      let part = Each-at (IsPartOf v) passes i pass so.parts found in
       let legal : IsLegal link (history_in entries) = (journals-are-histories link (map done_in entries)).0 (there.0.legal link (ap (λ k. slice_get links k) there.1 ∙ at_link.1)) in
       let begins : IsPrefix (known_of l pass.view) (marks_in entries) = prefix-then (known_of l pass.view) (known_of l v) (marks_in entries) (part l) (subst (λ k. IsPrefix (known_of k v) (marks_in entries)) there.1 there.0.begins) in
       let told = journal-begins link (known_of l pass.view) entries legal begins in
-      let at_mark = get-map mark_in (journal_of link (known_of l pass.view)) (e.place - 1) (own_mark pass.actor e) (ap (λ ms. slice_get ms (e.place - 1)) (told-marks link [] (known_of l pass.view)) ∙ placed.here) in
-      let x : Entry = at_mark.0 in
-      let at_entry : slice_get entries (e.place - 1) ≡ Some x = ap (λ es. slice_get es (e.place - 1)) (sym told.1) ∙ get-left (journal_of link (known_of l pass.view)) told.0 (e.place - 1) x at_mark.1 in
-      let mine : Has x (map (own_entry pass.actor) (own_at l pass.own)) = subst (Has x) knew.owns (has_passed (λ (y : Entry). eqb (actor_number y.actor) (actor_number pass.actor)) x (journal_of link (known_of l pass.view)) (eq-eqb (actor_number x.actor) (actor_number pass.actor) (ap (λ (m : Mark). actor_number m.actor) at_mark.2)) (get-has (journal_of link (known_of l pass.view)) (e.place - 1) x at_mark.1)) in
+      let at_mark = comes-from mark_in (journal_of link (known_of l pass.view)) (e.place - 1) (own_mark pass.actor e) (ap (λ ms. slice_get ms (e.place - 1)) (told-marks link [] (known_of l pass.view)) ∙ placed.here) in
+      let x : Entry = at_mark.from in
+      let at_entry : slice_get entries (e.place - 1) ≡ Some x = ap (λ es. slice_get es (e.place - 1)) (sym told.1) ∙ get-left (journal_of link (known_of l pass.view)) told.0 (e.place - 1) x at_mark.found in
+      let mine : Has x (map (own_entry pass.actor) (own_at l pass.own)) = subst (Has x) knew.owns (has_passed (λ (y : Entry). eqb (actor_number y.actor) (actor_number pass.actor)) x (journal_of link (known_of l pass.view)) (eq-eqb (actor_number x.actor) (actor_number pass.actor) (ap (λ (m : Mark). actor_number m.actor) at_mark.is)) (get-has (journal_of link (known_of l pass.view)) (e.place - 1) x at_mark.found)) in
       let own = has-map (own_entry pass.actor) (own_at l pass.own) x mine in
-      let same : own.0 ≡ e = same-own pass.actor pass.own own.0 e may.rises (has_kept (λ (o : OwnEntry). eqb (link_number o.link) l) own.0 pass.own own.1) has (ap (λ (y : Entry). y.stamp) own.2 ∙ ap (λ (m : Mark). m.stamp) at_mark.2) in
+      let same : own.0 ≡ e = same-own pass.actor pass.own own.0 e may.rises (has_kept (λ (o : OwnEntry). eqb (link_number o.link) l) own.0 pass.own own.1) has (ap (λ (y : Entry). y.stamp) own.2 ∙ ap (λ (m : Mark). m.stamp) at_mark.is) in
       record { journal = journal; found = at_journal.1; least = placed.least; here = at_entry ∙ ap (λ z. Some z) (sym own.2 ∙ ap (own_entry pass.actor) same) }
 
   -- the entry at a place of a journal was asked by a pass
@@ -174,10 +151,10 @@ module _ (table : TableId) (owners : List ActorNo) (links : List Link) (passes :
   of-one l k journal x at_journal at_entry =
       let there = settled-at l journal at_journal in
       let entries : List Entry = journal.entries.items in
-      let at_mark = map-get mark_in entries k x at_entry in
+      let at_mark = mapped-at mark_in entries k x at_entry in
       let drawn : Has (drawn_for l (mark_in x)) v.drawn = subst (λ n. Has (drawn_for n (mark_in x)) v.drawn) there.1 (there.0.drawn (mark_in x) (get-has (marks_in entries) k (mark_in x) at_mark)) in
       let it = drew-it passes (drawn_for l (mark_in x)) (subst (Has (drawn_for l (mark_in x))) so.drawn drawn) in
-      let may = each-get (MayStep table owners links) passes it.index it.pass all.may_step it.found in
+      let may = Each-at (MayStep table owners links) passes it.index it.pass all.may_step it.found in
       let own = has-map (own_drawn it.pass.actor) it.pass.own (drawn_for l (mark_in x)) (subst (Has (drawn_for l (mark_in x))) may.exact.drawn it.has) in
       let e : OwnEntry = own.0 in
       let link : link_number e.link ≡ l = ap (λ (d : Drawn). d.link) own.2 in
@@ -188,7 +165,7 @@ module _ (table : TableId) (owners : List ActorNo) (links : List Link) (passes :
       (stands.least, ap (λ (y : Journal). slice_get y.entries.items (o.place - 1)) (sym journal_is) ∙ stands.here)) in
       let stands = in_place it.index it.pass e it.found own.1 link in
       let least = stands.0 in
-      let place : e.place - 1 ≡ k = place-told 0 (marks_in entries) (e.place - 1) k (own_mark it.pass.actor e) (mark_in x) there.0.rises (map-get mark_in entries (e.place - 1) (own_entry it.pass.actor e) stands.1) at_mark (ap (λ (m : Mark). m.stamp) mark) in
+      let place : e.place - 1 ≡ k = place-told 0 (marks_in entries) (e.place - 1) k (own_mark it.pass.actor e) (mark_in x) there.0.rises (mapped-at mark_in entries (e.place - 1) (own_entry it.pass.actor e) stands.1) at_mark (ap (λ (m : Mark). m.stamp) mark) in
       record {
         index = it.index;
         pass = it.pass;

@@ -1,13 +1,11 @@
 -- What a link holds of a channel goes with the owner's entries there: the entries of others leave it, and each own entry makes of it
 -- what it tells.
-use Rattle.std.proofs.Common.{◌≡◌, ◌≢◌, ℕ, ◌<◌, eqb, Bool, true, false, cond, Option, Some, None, List, [], ◌∷◌, ◌++◌, refl, sym, ap, ◌∙◌, subst}
-use Rattle.std.proofs.Math.Bridge.{le_prop}
+use Rattle.std.proofs.Common.{◌≡◌, ◌≢◌, ℕ, eqb, Bool, true, false, cond, Option, Some, None, List, [], ◌∷◌, ◌++◌, refl, sym, ap, ◌∙◌, subst}
 use Rattle.std.proofs.lemmas.Bool.{cond_both, eqb-true, eqb-false}
 use Rattle.std.proofs.lemmas.List.{append-nil}
 use Rattle.std.proofs.lemmas.Option.{same_Some}
 use Rattle.std.specs.List.{slice_get}
 use Rattle.std.specs.Option.{option_map}
-use mathlib.Core.HLevel.{is_prop→PathP}
 use Rattle.net_units.specs.Numbers.{actor_number, channel_number}
 use Rattle.net_units.specs.declared.numbers.ActorNo.{ActorNo}
 use Rattle.net_units.specs.declared.Kind.{Kind}
@@ -42,6 +40,7 @@ use Rattle.link_ledger.specs.declared.entries.OwnEntry.{OwnEntry}
 use Rattle.link_ledger.proofs.AnswerFacts.{past-told}
 use Rattle.link_ledger.proofs.JournalFacts.{past_after}
 use Rattle.shared_network.specs.Holds.{Hold, Free, Holds, Untold, reserved, hold_relaxed, denied, hold_with, hold_from, IsHeld}
+use Rattle.net_units.proofs.NumberFacts.{same-channel}
 
 -- ---- own entries
 
@@ -49,9 +48,6 @@ pub hold-more : (c : ℕ) (hold : Hold) (own : List OwnEntry) (e : OwnEntry) →
 unfolding hold_from
 hold-more c hold [] e = refl
 hold-more c hold (o ∷ own) e = hold-more c (hold_with c hold o.ask o.reply) own e
-
-same-chan : (a b : ChanNo) → channel_number a ≡ channel_number b → a ≡ b
-same-chan a b same = λ i. record { number = same i; small = is_prop→PathP (λ j. same j < 1048576) (λ j. le_prop) a.small b.small i }
 
 -- ---- one entry
 
@@ -115,15 +111,15 @@ module _ (shape : LinkShape) (chan : ChanNo) (t : ℕ) (scan : Scan) (differ : D
   pub held-next : (hold : Hold) (ask : Ask) (reply : Reply) → IsHeld hold now → IsHeld (hold_with c hold ask reply) (later ask reply)
   held-next hold (Reserve chan' contract kind delay up_reach first next) reply is =
       cond_both (eqb (channel_number chan') c) (reserved hold (λ level reach. tentative chan' contract kind first next up_reach level reach) reply) hold (λ h. IsHeld h (later (Reserve chan' contract kind delay up_reach first next) reply))
-      (λ on. subst (λ (x : ChanNo). IsHeld (reserved hold (λ level reach. tentative x contract kind first next up_reach level reach) reply) (later (Reserve x contract kind delay up_reach first next) reply)) (sym (same-chan chan' chan (eqb-true (channel_number chan') c on))) (held-reserved hold contract kind delay up_reach first next reply is))
+      (λ on. subst (λ (x : ChanNo). IsHeld (reserved hold (λ level reach. tentative x contract kind first next up_reach level reach) reply) (later (Reserve x contract kind delay up_reach first next) reply)) (sym (same-channel chan' chan (eqb-true (channel_number chan') c on))) (held-reserved hold contract kind delay up_reach first next reply is))
       (λ off. held-other hold (Reserve chan' contract kind delay up_reach first next) reply (eqb-false (channel_number chan') c off) is)
   held-next hold (Relax chan' level up_bound) reply is =
       cond_both (eqb (channel_number chan') c) (hold_relaxed hold (committed level up_bound) reply) hold (λ h. IsHeld h (later (Relax chan' level up_bound) reply))
-      (λ on. subst (λ (x : ChanNo). IsHeld (hold_relaxed hold (committed level up_bound) reply) (later (Relax x level up_bound) reply)) (sym (same-chan chan' chan (eqb-true (channel_number chan') c on))) (held-settled hold level up_bound reply is))
+      (λ on. subst (λ (x : ChanNo). IsHeld (hold_relaxed hold (committed level up_bound) reply) (later (Relax x level up_bound) reply)) (sym (same-channel chan' chan (eqb-true (channel_number chan') c on))) (held-settled hold level up_bound reply is))
       (λ off. held-other hold (Relax chan' level up_bound) reply (eqb-false (channel_number chan') c off) is)
   held-next hold (Deny chan') reply is =
       cond_both (eqb (channel_number chan') c) (denied hold reply) hold (λ h. IsHeld h (later (Deny chan') reply))
-      (λ on. subst (λ (x : ChanNo). IsHeld (denied hold reply) (later (Deny x) reply)) (sym (same-chan chan' chan (eqb-true (channel_number chan') c on))) (held-freed hold reply is))
+      (λ on. subst (λ (x : ChanNo). IsHeld (denied hold reply) (later (Deny x) reply)) (sym (same-channel chan' chan (eqb-true (channel_number chan') c on))) (held-freed hold reply is))
       (λ off. held-other hold (Deny chan') reply (eqb-false (channel_number chan') c off) is)
   held-next hold (Release chan' upstream) reply is =
       cond_both (eqb (channel_number chan') c) Untold hold (λ h. IsHeld h (later (Release chan' upstream) reply)) (λ on. tt) (λ off. held-other hold (Release chan' upstream) reply (eqb-false (channel_number chan') c off) is)

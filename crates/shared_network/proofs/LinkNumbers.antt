@@ -2,13 +2,8 @@
 use Rattle.std.proofs.Common.{◌≡◌, ℕ, ◌<◌, Some, None, Option, List, length, map, refl, sym, ap, ◌∙◌, subst}
 use Rattle.std.proofs.lemmas.Option.{same_Some, slice_get-map}
 use Rattle.std.proofs.lemmas.List.{length-map}
-use Rattle.std.proofs.Math.Bridge.{le_prop}
-use mathlib.Core.HLevel.{is_prop→PathP}
 use Rattle.std.specs.List.{slice_get}
 use Rattle.std.specs.Prelude.{option_map, Result, Ok, Err, IfOk, OnOk}
-use Rattle.net_units.specs.Numbers.{actor_number, link_number}
-use Rattle.net_units.specs.declared.numbers.ActorNo.{ActorNo}
-use Rattle.net_units.specs.declared.numbers.LinkNo.{LinkNo}
 use Rattle.link_steps.specs.Legal.{AskFits}
 use Rattle.link_steps.specs.Split.{Link}
 use Rattle.link_steps.specs.declared.asks.Ask.{Ask}
@@ -17,9 +12,6 @@ use Rattle.step_stamp.specs.Lists.{up_to}
 use Rattle.link_ledger.specs.Tokens.{shape_at}
 use Rattle.shared_network.specs.Sight.{FitsAt}
 use Rattle.shared_network.proofs.CountFacts.{up_to-get, up_to-length}
-
-pub same-link : (a b : LinkNo) → link_number a ≡ link_number b → a ≡ b
-same-link a b same = λ i. record { number = same i; small = is_prop→PathP (λ j. same j < 32) (λ j. le_prop) a.small b.small i }
 
 -- as many elements as numbers
 pub numbered-length : {X : Type 0} (number : X → ℕ) (xs : List X) (n : ℕ) → map number xs ≡ up_to n → length xs ≡ n
@@ -44,9 +36,6 @@ fits-shape links l shape ask is fits =
 pub both-ok : {T E : Type 0} (P Q : T → Type 0) (R : Type 0) (r : Result T E) → ((x : T) → P x → Q x → R) → IfOk r P → IfOk r Q → OnOk r R
 both-ok P Q R (Ok x) follows p q = follows x p q
 both-ok P Q R (Err e) follows p q = p
-
-pub same-actor : (a b : ActorNo) → actor_number a ≡ actor_number b → a ≡ b
-same-actor a b same = λ i. record { number = same i; small = is_prop→PathP (λ j. same j < 65) (λ j. le_prop) a.small b.small i }
 
 pub ok-then : {T E : Type 0} (P : T → Type 0) (R : Type 0) (r : Result T E) → ((x : T) → P x → R) → IfOk r P → OnOk r R
 ok-then P R (Ok x) follows p = follows x p

@@ -24,6 +24,7 @@ use Rattle.shared_network.specs.Holds.{hold_from}
 use Rattle.shared_network.specs.Ready.{KnowsLink, MayStep, IsNew}
 use Rattle.shared_network.specs.Sight.{IsUnusedLink}
 use Rattle.shared_network.proofs.CountFacts.{up_to-length, up_to-next, get-after}
+use Rattle.step_stamp.proofs.ShelfFacts.{no_known}
 
 -- ---- locking the links
 
@@ -116,10 +117,6 @@ module _ (table : TableId) (owners : List ActorNo) (links : List Link) (n : ℕ)
         among = ap (λ (v : View). v.among) view_is;
       }
 
-nothing-known : (l : ℕ) → (shelf_of l []).known ≡ []
-unfolding shelf_of
-nothing-known l = refl
-
 -- its seat knows nothing
 pub new-knows : (table : TableId) (n : ℕ) (seat : PassSeat) → IsNewPass table n seat → (l : ℕ) → marks_of (seat_actor seat) (knows_of seat l) ≡ []
-new-knows table n seat new l = ap (λ (v : View). marks_of (seat_actor seat) (known_of l v)) new.view_is ∙ ap (marks_of (seat_actor seat)) (nothing-known l)
+new-knows table n seat new l = ap (λ (v : View). marks_of (seat_actor seat) (known_of l v)) new.view_is ∙ ap (marks_of (seat_actor seat)) (no_known l)

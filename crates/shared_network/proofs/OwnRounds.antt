@@ -1,6 +1,6 @@
 -- Each own entry of a pass stands in the journal that the pass knows of its link, so its reply is the legal one after a history of
 -- that link. So the packets that the replies to a plane's ticks set on their way fly to links of the network.
-use Rattle.std.proofs.Common.{◌≡◌, ℕ, zero, suc, ◌+◌, ◌*◌, ◌^◌, ◌<◌, ◌≤◌, true, eqb, List, [], ◌∷◌, length, map, refl, sym, ap, subst, inl, inr, arith}
+use Rattle.std.proofs.Common.{◌≡◌, ℕ, zero, suc, ◌*◌, ◌^◌, ◌<◌, ◌≤◌, true, eqb, List, [], ◌∷◌, length, map, refl, sym, ap, subst, inl, inr, arith}
 use Rattle.std.proofs.lemmas.Bool.{eq-eqb}
 use Rattle.std.proofs.lemmas.List.{length-map, length-reverse, reverse-append}
 use Rattle.std.specs.Prelude.{reverse}
@@ -10,17 +10,14 @@ use Rattle.net_units.specs.declared.numbers.ActorNo.{ActorNo}
 use Rattle.link_steps.specs.Legal.{IsLegal}
 use Rattle.link_steps.specs.Lists.{Each}
 use Rattle.link_steps.specs.Replies.{reply_to}
-use Rattle.link_steps.specs.Scan.{clock_of, clock_with}
+use Rattle.link_steps.specs.Scan.{clock_of}
 use Rattle.link_steps.specs.Split.{Link, SplitFits}
-use Rattle.link_steps.specs.declared.asks.Ask.{Ask}
-use Rattle.link_steps.specs.declared.asks.Ask.TheVariants.{Reserve, Relax, Deny, Submit, Release, Arrive, Tick, Pour}
 use Rattle.link_steps.specs.declared.replies.Entry.{Entry as Done}
 use Rattle.link_steps.specs.declared.replies.Reply.{Reply}
 use Rattle.link_steps.proofs.ChangeFacts.{Each-passes}
-use Rattle.link_steps.proofs.ListFacts.{Each-append, Each-both, Each-filter, Each-if, Each-map, Each-mapped}
+use Rattle.link_steps.proofs.ListFacts.{Each-both, Each-filter, Each-if, Each-map, Each-mapped}
 use Rattle.channel_laws.proofs.Places.{Each-at}
 use Rattle.step_stamp.specs.Lists.{Has}
-use Rattle.step_stamp.specs.Marks.{RisesFrom}
 use Rattle.step_stamp.specs.Views.{known_of}
 use Rattle.step_stamp.specs.declared.marks.Mark.{Mark}
 use Rattle.step_stamp.proofs.ListFacts.{each_has, has_left, has_right, has_each, has_kept, has_passed}
@@ -37,6 +34,9 @@ use Rattle.shared_network.specs.Ready.{KnowsLink, MayStep}
 use Rattle.shared_network.proofs.ClosingFacts.{map-has}
 use Rattle.shared_network.proofs.NextLinks.{AsksBelow}
 use Rattle.shared_network.proofs.RoundReplies.{MayFly, round-flies}
+use Rattle.link_steps.proofs.ListParts.{Each-reverse}
+use Rattle.link_steps.proofs.ClockFacts.{clock_of-most}
+use Rattle.step_stamp.proofs.MarkFacts.{rises-length}
 
 -- ---- lists turned round
 
@@ -45,10 +45,6 @@ has-reverse x [] has = absurd has
 has-reverse x (y ∷ xs) (inl same) = subst (Has x) (sym (reverse-append (y ∷ []) xs)) (has_right x (reverse xs) (y ∷ []) (inl same))
 has-reverse x (y ∷ xs) (inr has) = subst (Has x) (sym (reverse-append (y ∷ []) xs)) (has_left x (reverse xs) (y ∷ []) (has-reverse x xs has))
 
-pub each-reverse : {X : Type 0} (P : X → Type 0) (xs : List X) → Each P xs → Each P (reverse xs)
-each-reverse P [] each = tt
-each-reverse P (x ∷ xs) each = subst (Each P) (sym (reverse-append (x ∷ []) xs)) (Each-append P (reverse xs) (x ∷ []) (each-reverse P xs each.1) (each.0, tt))
-
 -- ---- a known journal
 
 link-at : (links : List Link) (l : ℕ) → l < length links → (link : Link) × IsLink links l link
@@ -56,31 +52,11 @@ link-at [] l within = absurd (omega (arith, within))
 link-at (link ∷ links) zero within = (link, refl)
 link-at (link ∷ links) (suc l) within = link-at links l (omega (arith, within))
 
--- marks that rise to at most `top` are at most so many
-rising-length : (low top : ℕ) (ms : List Mark) → RisesFrom low ms → Each (λ (m : Mark). m.stamp ≤ top) ms → low ≤ top → low + length ms ≤ top
-rising-length low top [] rises most le = omega arith
-rising-length low top (m ∷ ms) rises most le = let rest = rising-length m.stamp top ms rises.1 most.1 most.0 in let first = rises.0 in omega (arith, rest, first)
-
 -- the marks of the journal that marks tell are these
 marks-told : (link : Link) (ms : List Mark) (past : List Done) → marks_in (told_after link past ms) ≡ ms
 unfolding told_after
 marks-told link [] past = refl
 marks-told link (m ∷ ms) past = ap (λ rest. m ∷ rest) (marks-told link ms (history_entry_of m (reply_to link past m.ask) ∷ past))
-
-clock-one : (ask : Ask) (t : ℕ) → clock_with ask t ≤ suc t
-clock-one (Reserve a b c d e f g) t = omega arith
-clock-one (Relax a b c) t = omega arith
-clock-one (Deny a) t = omega arith
-clock-one (Submit a b c d) t = omega arith
-clock-one (Release a b) t = omega arith
-clock-one (Arrive a) t = omega arith
-clock-one Tick t = omega arith
-clock-one (Pour a b c) t = omega arith
-
-clock-within : (h : List Done) → clock_of h ≤ length h
-unfolding clock_of
-clock-within [] = omega arith
-clock-within (e ∷ past) = let rest = clock-within past in let here = clock-one e.ask (clock_of past) in omega (arith, rest, here)
 
 -- an entry of a legal history, and the history before it
 record Answers (link : Link) (n : ℕ) (d : Done) : Type 0 where
@@ -97,7 +73,7 @@ answers-in link n d (e ∷ past) legal below few (inl same) = record {
   past = past;
   legal = legal.0;
   below = below.1;
-  early = (let most = clock-within past in omega (arith, most, few));
+  early = (let most = clock_of-most past in omega (arith, most, few));
   answered = subst (λ (x : Done). x.reply ≡ reply_to link past x.ask) same legal.1.answered;
 }
 answers-in link n d (e ∷ past) legal below few (inr has) = answers-in link n d past legal.0 below.1 (omega (arith, few)) has
@@ -116,7 +92,7 @@ module _ (table : TableId) (owners : List ActorNo) (links : List Link) (pass : T
     asks-below : Each (AsksBelow (length links)) (history_in journal)
     asks-below =
         let marked : Each (λ (m : Mark). NextBelow (length links) m.ask) (map mark_in journal) = subst (Each (λ (m : Mark). NextBelow (length links) m.ask)) (sym marks-are) knew.order.next in
-        each-reverse (AsksBelow (length links)) (map done_in journal) (Each-map (AsksBelow (length links)) done_in journal (Each-mapped (λ (m : Mark). NextBelow (length links) m.ask) mark_in journal marked))
+        Each-reverse (AsksBelow (length links)) (map done_in journal) (Each-map (AsksBelow (length links)) done_in journal (Each-mapped (λ (m : Mark). NextBelow (length links) m.ask) mark_in journal marked))
 
     few-entries : length (history_in journal) ≤ 65 * 2 ^ 40
     few-entries =
@@ -124,7 +100,7 @@ module _ (table : TableId) (owners : List ActorNo) (links : List Link) (pass : T
         let mapped = length-map journal done_in in
         let marked = length-map journal mark_in in
         let same = ap length marks-are in
-        let few = rising-length 0 (65 * 2 ^ 40) (known_of l pass.view) knew.order.rises knew.order.most (omega arith) in
+        let few = rises-length 0 (65 * 2 ^ 40) (known_of l pass.view) knew.order.rises knew.order.most (omega arith) in
         omega (arith, turned, mapped, marked, same, few)
 
     own-answers : (e : OwnEntry) → Has e pass.own → link_number e.link ≡ l → Answers link (length links) (record { ask = e.ask; reply = e.reply })

@@ -20,15 +20,16 @@ use Rattle.shared_network.specs.Calls.{Follows, reply_in}
 use Rattle.shared_network.specs.Planes.{is_round, rounds_in, next_round, IsPlanes, MakesRound}
 use Rattle.shared_network.specs.Ready.{MayStep}
 use Rattle.shared_network.proofs.CallFacts.{follows-more}
-use Rattle.shared_network.proofs.LinkNumbers.{same-link}
-use Rattle.shared_network.proofs.OwnRounds.{each-reverse, rounds-fly}
+use Rattle.net_units.proofs.NumberFacts.{same-link}
+use Rattle.shared_network.proofs.OwnRounds.{rounds-fly}
 use Rattle.shared_network.proofs.RoundReplies.{MayFly, MayAsk, plane-flights, plane-may, plane-expected}
 use Rattle.shared_network.proofs.StepFacts.{adds-one}
+use Rattle.link_steps.proofs.ListParts.{Each-reverse}
 
 module _ (table : TableId) (owners : List ActorNo) (links : List Link) (pass : Token) (plane : KeptPlane) (splits : Each SplitFits links) (may : MayStep table owners links pass) (links_are : plane.links ≡ length links) (within : plane.at.ticked < plane.links) (is : IsPlanes (length links) plane pass.own) (to : LinkNo) (ask : Ask) (asks : plane_ask plane.rounds plane.at ≡ Some (to, ask)) where
   flies : Each (MayFly (length links)) plane.at.flights
   flies = subst (λ p. Each (MayFly (length links)) p.flights) (sym is.stands)
-      (plane-flights (MayFly (length links)) (length links) (reverse (map reply_in (rounds_in pass.own))) (each-reverse _ (map reply_in (rounds_in pass.own)) (rounds-fly table owners links pass splits may)))
+      (plane-flights (MayFly (length links)) (length links) (reverse (map reply_in (rounds_in pass.own))) (Each-reverse _ (map reply_in (rounds_in pass.own)) (rounds-fly table owners links pass splits may)))
 
   pub may-ask : MayAsk (length links) to ask
   may-ask = plane-may (length links) plane.rounds plane.at to ask (subst (λ n. plane.at.ticked < n) links_are within) flies asks

@@ -33,7 +33,7 @@ use Rattle.shared_network.specs.Holds.{hold_of, IsHeld}
 use Rattle.shared_network.specs.Added.{Adds}
 use Rattle.shared_network.specs.Ready.{KnowsLink, MayStep, PassGoesOn}
 use Rattle.shared_network.proofs.HoldSteps.{hold-after}
-use Rattle.shared_network.proofs.LinkNumbers.{same-link}
+use Rattle.net_units.proofs.NumberFacts.{same-link}
 
 module _ (table : TableId) (owners : List ActorNo) (links : List Link) (l : ℕ) (ask : Ask) (pass pass' : Token) (reply : Reply) (splits : Each SplitFits links) (may : MayStep table owners links pass) (steps : Steps links l ask pass pass' reply) (order : AreInOrder owners (length links) (known_of l pass'.view)) (actor : pass'.actor ≡ pass.actor) (from : pass'.table ≡ pass.table) where
   abbrev a : ActorNo

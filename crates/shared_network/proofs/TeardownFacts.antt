@@ -41,7 +41,7 @@ use Rattle.shared_network.specs.Ready.{MayStep, PassGoesOn}
 use Rattle.shared_network.specs.Sight.{FitsAt}
 use Rattle.shared_network.proofs.CallFacts.{follows-more}
 use Rattle.shared_network.proofs.HoldSteps.{AnswersOf, answers}
-use Rattle.shared_network.proofs.LinkNumbers.{same-link}
+use Rattle.net_units.proofs.NumberFacts.{same-link}
 use Rattle.shared_network.proofs.SetupGoes.{hold-elsewhere, index-apart}
 
 pub record TearingDown (table : TableId) (owners : List ActorNo) (links : List Link) (request : Request) (pass pass' : Token) (teardown : Teardown) (count : Option ℕ) : Type 0 where

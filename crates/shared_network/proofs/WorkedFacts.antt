@@ -31,7 +31,8 @@ use Rattle.shared_network.specs.Gathering.{AreAll}
 use Rattle.shared_network.specs.Planes.{IsPlanes}
 use Rattle.shared_network.specs.Ready.{MayStep, IsNew}
 use Rattle.shared_network.specs.Worked.{IsWorkedLink, IsOverLink, IsJob}
-use Rattle.shared_network.proofs.LinkNumbers.{numbered-at, numbered-length, same-actor}
+use Rattle.shared_network.proofs.LinkNumbers.{numbered-at, numbered-length}
+use Rattle.net_units.proofs.NumberFacts.{same-actor}
 
 pub whole-splits : {X : Type 0} (shape : X → LinkShape) (xs : List X) (links : List Link) → map (λ x. whole (shape x)) xs ≡ links → Each SplitFits links
 whole-splits shape xs links are = subst (Each SplitFits) are (Each-map SplitFits (λ x. whole (shape x)) xs (Each-from (λ x. SplitFits (whole (shape x))) xs (λ x. whole-fits (shape x))))

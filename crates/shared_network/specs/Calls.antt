@@ -13,7 +13,6 @@ use Rattle.link_steps.specs.Reservation.{Reservation}
 use Rattle.link_steps.specs.declared.asks.Ask.{Ask}
 use Rattle.link_steps.specs.declared.replies.Phase.TheVariants.{Committed}
 use Rattle.link_steps.specs.declared.replies.Reply.{Reply}
-use Rattle.setup_protocol.specs.Hops.{IsHopOf}
 use Rattle.setup_protocol.specs.Setup.{Outcome, next_ask, verdict_of}
 use Rattle.setup_protocol.specs.Teardown.{first_count, next_release}
 use Rattle.setup_protocol.specs.declared.request.Request.{Request}
