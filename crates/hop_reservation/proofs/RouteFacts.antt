@@ -1,12 +1,13 @@
--- Hops by different links are a route, and no others; how the search for a link that stood before goes on; and a filled
--- array.
+-- Hops by different links are a route, and no others; two hops of a route over one link are the same; how the search for a
+-- link that stood before goes on; and a filled array.
 use Rattle.std.proofs.Common.{◌≡◌, ◌≢◌, ℕ, suc, ◌+◌, ◌-◌, ◌<◌, ◌≤◌, true, false, Some, None, List, [], ◌∷◌, ◌++◌, length, take, drop, replicate, get_or, inl, inr, ap, sym, subst, refl, ◌∙◌, ltb, arith}
 use Rattle.std.specs.List.{slice_get, list_any, AllPairs}
 use Rattle.std.proofs.Math.Seq.{drop-cons, take-suc, take-append_seam, get_or-append_seam}
-use Rattle.std.proofs.lemmas.Bool.{cases_Bool, eq-eqb, ne_eqb, ltb-false, le-ltb}
+use Rattle.std.proofs.lemmas.Bool.{cases_Bool, cases_lt, eq-eqb, ne_eqb, ltb-false, le-ltb}
 use Rattle.std.proofs.lemmas.List.{append_assoc, append-nil, drop-replicate, get_or_append_left, length-take-le, drop_all}
 use Rattle.std.proofs.lemmas.List.Folds.{list_any_at, list_any_none}
 use Rattle.std.proofs.lemmas.List.Quantifiers.{all_pairs_push}
+use Rattle.std.proofs.lemmas.Option.{slice_get_within, get_or_from_slice_get}
 use Rattle.hop_reservation.specs.declared.route.Hop.{Hop}
 use Rattle.hop_reservation.specs.Routes.{link_of, is_over_link, stands_among, repeated_from, repeated_in, fault_in, IsRoute, filled, IsFilled}
 
@@ -100,6 +101,21 @@ route-from_none (hop ∷ hops) none =
 pub none-from_route : (hops : List Hop) → IsRoute hops → fault_in hops ≡ None
 none-from_route [] is = absurd (omega (arith, is.least))
 none-from_route (hop ∷ hops) is = rw (le-ltb 16 (length (hop ∷ hops)) is.most) (none-from_apart [] (hop ∷ hops) is.apart)
+
+-- a route goes over each link once: two of its hops over the same link are the same hop
+pub index-apart : (hops : List Hop) (a b : ℕ) (one other : Hop) → IsRoute hops → slice_get hops a ≡ Some one → slice_get hops b ≡ Some other → link_of one ≡ link_of other → a ≡ b
+index-apart hops a b one other route first second same =
+    elim (cases_lt a b) [
+      | inl less ↦ absurd (clash a b one other less first second same)
+      | inr more ↦ elim (cases_lt b a) [
+        | inl less ↦ absurd (clash b a other one less second first (sym same))
+        | inr equal ↦ omega arith
+      ]
+    ] where
+      clash : (i j : ℕ) (x y : Hop) → i < j → slice_get hops i ≡ Some x → slice_get hops j ≡ Some y → link_of x ≡ link_of y → ⊥
+      clash i j x y less fx fy e =
+          route.apart i j x less (slice_get_within hops j y fy)
+          (ap link_of (get_or_from_slice_get hops i x x fx) ∙ e ∙ ap link_of (sym (get_or_from_slice_get hops j y x fy)))
 
 -- ---- a filled array
 

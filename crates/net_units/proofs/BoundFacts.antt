@@ -1,8 +1,9 @@
 -- What the test of a link's bounds gives: each is from 1 to 1,048,576 and no larger than those of higher levels, and
 -- those within x ticks are the first ones.
-use Rattle.std.proofs.Common.{◌≡◌, ℕ, zero, suc, ◌-◌, ◌<◌, ◌≤◌, true, false, cond, List, [], ◌∷◌, length, get_or, ltb, leb, inl, inr, arith}
+use Rattle.std.proofs.Common.{◌≡◌, ℕ, zero, suc, ◌-◌, ◌<◌, ◌≤◌, true, false, cond, List, [], ◌∷◌, length, get_or, ltb, leb, inl, inr, refl, arith}
+use Rattle.std.proofs.lemmas.List.{get_or_past}
 use Rattle.std.proofs.lemmas.List.Sums.{AllPass-from_list_all}
-use Rattle.std.proofs.lemmas.Bool.{ltb-true, leb-true, leb-false, and_parts, cases_Bool}
+use Rattle.std.proofs.lemmas.Bool.{ltb-true, leb-true, leb-false, and_parts, cases_Bool, cases_lt}
 use Rattle.net_units.specs.Limits.{most_bound}
 use Rattle.net_units.specs.LevelBounds.{rises_above, are_bounds, bound_at, levels_within}
 
@@ -88,6 +89,14 @@ bounds_parts bs h =
 pub bound_least : (bs : List ℕ) (level : ℕ) → are_bounds bs ≡ true → 1 ≤ level → level ≤ length bs → 1 ≤ bound_at bs level
 bound_least bs level h one within = ((bounds_parts bs h).each (level - 1) (omega arith)).0
 
+-- no bound is over its limit, and there is none where there is no level
+pub bound_at-most : (bs : List ℕ) (level : ℕ) → are_bounds bs ≡ true → bound_at bs level ≤ 1048576
+bound_at-most bs level are =
+    elim (cases_lt (level - 1) (length bs)) [
+      | inl within ↦ ((bounds_parts bs are).each (level - 1) within).1
+      | inr past ↦ (let none = get_or_past bs (level - 1) 0 past in omega (arith, none))
+    ]
+
 -- a higher level has no smaller bound
 pub bound_at-rising : (bs : List ℕ) (level higher : ℕ) → are_bounds bs ≡ true → 1 ≤ level → level ≤ higher → higher ≤ length bs → bound_at bs level ≤ bound_at bs higher
 bound_at-rising bs level higher h one order within =
@@ -105,3 +114,21 @@ level_fits bs x level e one = within_below bs x (level - 1) (omega arith)
 pub level_largest : (bs : List ℕ) (x level other : ℕ) → are_bounds bs ≡ true → level ≡ levels_within bs x → level < other → other ≤ length bs → x < bound_at bs other
 level_largest bs x level other h e past within =
     over_above 0 bs x (other - 1) (bounds_parts bs h).rising (omega arith) (omega arith)
+
+-- the largest level within x, which is no smaller than one whose bound is within x
+pub record IsLargest (bs : List ℕ) (level x largest : ℕ) : Type 0 where
+  pub least : level ≤ largest
+  pub most : largest ≤ length bs
+  pub fits : bound_at bs largest ≤ x
+
+pub largest_within : (bs : List ℕ) (level x : ℕ) → are_bounds bs ≡ true → 1 ≤ level → level ≤ length bs → bound_at bs level ≤ x → IsLargest bs level x (levels_within bs x)
+largest_within bs level x are one upto fits =
+    let least : level ≤ levels_within bs x = elim (cases_lt (levels_within bs x) level) [
+      | inl below ↦ absurd (let over = level_largest bs x (levels_within bs x) level are refl below upto in omega (arith, over, fits))
+      | inr above ↦ above
+    ] in
+    record {
+      least = least;
+      most = within_count bs x;
+      fits = level_fits bs x (levels_within bs x) refl (omega (arith, least, one));
+    }

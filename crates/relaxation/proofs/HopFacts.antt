@@ -1,9 +1,8 @@
 -- What a hop gets: a level no smaller than the one that it has offered, whose bound is within the offered one and the share.
-use Rattle.std.proofs.Common.{◌≡◌, ℕ, ◌+◌, ◌≤◌, true, Option, Some, None, List, length, inl, inr, refl, arith}
+use Rattle.std.proofs.Common.{◌≡◌, ℕ, ◌+◌, ◌≤◌, true, Option, Some, None, refl, arith}
 use Rattle.std.proofs.Math.Nat.{min-le_left, min-le_right}
-use Rattle.std.proofs.lemmas.Bool.{cases_lt}
 use Rattle.net_units.specs.LevelBounds.{are_bounds, bound_at, levels_within}
-use Rattle.net_units.proofs.BoundFacts.{bound_at-rising, within_count, level_fits, level_largest}
+use Rattle.net_units.proofs.BoundFacts.{bound_at-rising, largest_within}
 use Rattle.hop_reservation.specs.declared.route.Hop.{Hop}
 use Rattle.hop_reservation.specs.Offers.{IsLevelOf}
 use Rattle.relaxation.specs.Allotment.{capped, relaxed, IsWithin}
@@ -20,24 +19,6 @@ up_to-most (Some most) x = min-le_right most x
 pub up_to-within : (limit : Option ℕ) (x : ℕ) → IsWithin limit (capped limit x)
 up_to-within None x most is = absurd (let clash : None ≡ Some most = is in cc)
 up_to-within (Some limit) x most is = (let same : limit ≡ most = cc in omega (arith, min-le_left limit x, same))
-
--- a level no smaller than one whose bound is within x, whose own bound is within x
-pub record IsLargest (bs : List ℕ) (level x largest : ℕ) : Type 0 where
-  pub least : level ≤ largest
-  pub most : largest ≤ length bs
-  pub fits : bound_at bs largest ≤ x
-
-pub largest_within : (bs : List ℕ) (level x : ℕ) → are_bounds bs ≡ true → 1 ≤ level → level ≤ length bs → bound_at bs level ≤ x → IsLargest bs level x (levels_within bs x)
-largest_within bs level x are one upto fits =
-    let least : level ≤ levels_within bs x = elim (cases_lt (levels_within bs x) level) [
-      | inl below ↦ absurd (let over = level_largest bs x (levels_within bs x) level are refl below upto in omega (arith, over, fits))
-      | inr above ↦ above
-    ] in
-    record {
-      least = least;
-      most = within_count bs x;
-      fits = level_fits bs x (levels_within bs x) refl (omega (arith, least, one));
-    }
 
 -- the level that a hop gets
 pub record IsRelaxed (limit : Option ℕ) (hop : Hop) (offer share level : ℕ) : Type 0 where

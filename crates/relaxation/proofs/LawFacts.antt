@@ -1,14 +1,17 @@
 -- What the allotment of a route keeps: no hop falls below its offer or goes beyond its offer and the whole slack, what the
 -- hops get beyond their offers is what is gone from the slack, and the last hop stays within the limit.
-use Rattle.std.proofs.Common.{◌≡◌, ℕ, suc, ◌+◌, ◌-◌, ◌/◌, ◌≤◌, Option, Some, None, List, [], ◌∷◌, max, inl, inr, ap, subst, sym, refl, ltb, arith}
+use Rattle.std.proofs.Common.{◌≡◌, ℕ, zero, suc, ◌+◌, ◌-◌, ◌/◌, ◌<◌, ◌≤◌, Option, Some, None, List, [], ◌∷◌, length, get_or, max, inl, inr, ap, subst, sym, refl, ltb, arith}
 use Rattle.std.proofs.Math.Nat.{div-le_self}
 use Rattle.std.proofs.lemmas.Bool.{cases_Bool, ltb-false}
+use Rattle.std.proofs.lemmas.Option.{same_Some}
+use Rattle.std.specs.List.{slice_get}
 use Rattle.net_units.specs.LevelBounds.{bound_at}
+use Rattle.net_units.proofs.BoundFacts.{largest_within}
 use Rattle.hop_reservation.specs.declared.route.Hop.{Hop}
 use Rattle.hop_reservation.specs.Offers.{delay_over, IsLevelOf, AreLevels}
 use Rattle.relaxation.specs.Allotment.{bound_at_end, jitter_denial, denial_of, relaxed, allotment, allotted, IsWithin}
-use Rattle.relaxation.specs.Laws.{HaveBounds, AreWithinReach, AllottedLevelsFit}
-use Rattle.relaxation.proofs.HopFacts.{IsRelaxed, relaxed_level, largest_within}
+use Rattle.relaxation.specs.Laws.{HaveBounds, IsWithinReach, AreWithinReach, AllottedLevelsFit}
+use Rattle.relaxation.proofs.HopFacts.{IsRelaxed, relaxed_level}
 use Rattle.relaxation.proofs.ShareFacts.{allotment-empty, bound_at_end-none}
 
 -- a level from the offered one on, whose bound is within the offered one and the slack
@@ -137,3 +140,12 @@ allotted-fit hops offers delay jitter bounds are none =
       shares-reach delay slack hops offers (allotted hops offers delay jitter) bounds is.shares (omega (arith, tests.0)),
       record { in_time = omega (arith, is.sum, tests.0); in_jitter = is.last },
     )
+
+-- the level of a hop that has offered is within its reach
+pub AreWithinReach-at : (delay : ℕ) (hops : List Hop) (offers levels : List ℕ) (i : ℕ) (hop : Hop) → AreWithinReach delay hops offers levels → slice_get hops i ≡ Some hop → i < length offers → IsWithinReach hop delay (get_or offers i 0) (get_or levels i 0)
+unfolding AreWithinReach
+AreWithinReach-at delay hops [] levels i hop are found less = absurd (omega arith)
+AreWithinReach-at delay hops (offer ∷ offers) [] i hop are found less = absurd are
+AreWithinReach-at delay [] (offer ∷ offers) (level ∷ levels) i hop are found less = absurd are
+AreWithinReach-at delay (first ∷ hops) (offer ∷ offers) (level ∷ levels) zero hop are found less = subst (λ h. IsWithinReach h delay offer level) (same_Some first hop found) are.0
+AreWithinReach-at delay (first ∷ hops) (offer ∷ offers) (level ∷ levels) (suc i) hop are found less = AreWithinReach-at delay hops offers levels i hop are.1 found (omega arith)
