@@ -12,7 +12,7 @@ use Rattle.link_steps.specs.Reservation.{Reservation}
 use Rattle.link_steps.specs.Rows.{Row}
 use Rattle.link_steps.specs.Service.{Arrival, here_at}
 use Rattle.channel_laws.specs.Reservations.{IsArriveReply}
-use Rattle.channel_laws.proofs.RuleCases.{rules-fact, unless-some}
+use Rattle.link_steps.proofs.RuleCases.{rules-fact, unless-some}
 
 of-own : (own refusal : Refusal) → refusal ≡ own → IsArriveReply (Is.Refused own) → IsArriveReply (Is.Refused refusal)
 of-own own refusal same is = subst (λ r. IsArriveReply (Is.Refused r)) (sym same) is

@@ -2,7 +2,6 @@ pub mod OfferAnswers
 pub mod SentFacts
 pub mod ChannelRows
 pub mod TermsAfter
-pub mod RuleCases
 pub mod SendReplies
 pub mod ArriveReplies
 pub mod EntryLaws

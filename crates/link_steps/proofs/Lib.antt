@@ -15,6 +15,7 @@ pub mod ListFacts
 pub mod ListParts
 pub mod ClockFacts
 pub mod RefusalFacts
+pub mod RuleCases
 pub mod ReplyFacts
 pub mod TickFacts
 pub mod AdmissionHolds

@@ -23,7 +23,7 @@ use Rattle.link_steps.specs.Split.{Link}
 use Rattle.link_steps.specs.Reservation.{Reservation, is_of}
 use Rattle.link_steps.proofs.LevelFacts.{level_of-number}
 use Rattle.link_steps.proofs.ReplyFacts.{may-reach}
-use Rattle.channel_laws.proofs.RuleCases.{rules-fact, unless-some}
+use Rattle.link_steps.proofs.RuleCases.{rules-fact, unless-some}
 use Rattle.setup_protocol.specs.Setup.{is_reserve_refusal}
 
 -- ---- a reserve where none of the channel is held
