@@ -2,11 +2,10 @@
 use Rattle.std.proofs.Common.{◌≡◌, ℕ, zero, suc, ◌-◌, ◌≤◌, true, Option, Some, None, List, [], ◌∷◌, length, get_or, inl, inr, ap, subst, sym, refl, arith}
 use Rattle.std.specs.List.{slice_get}
 use Rattle.std.proofs.lemmas.Bool.{cases_Bool, cases_lt, eqb-true}
-use Rattle.std.proofs.lemmas.List.{get_or_past}
-use Rattle.std.proofs.lemmas.Option.{same_Some, slice_get_within}
+use Rattle.std.proofs.lemmas.Option.{slice_get_within}
 use Rattle.net_units.specs.LevelBounds.{are_bounds, bound_at}
 use Rattle.net_units.specs.declared.numbers.LinkNo.{LinkNo}
-use Rattle.net_units.proofs.BoundFacts.{bounds_parts}
+use Rattle.net_units.proofs.BoundFacts.{bounds_parts, bound_at-most}
 use Rattle.traffic_contract.specs.Contract.{IsContract}
 use Rattle.hop_reservation.specs.Offers.{AreLevels, IsLevelOf}
 use Rattle.hop_reservation.specs.declared.route.Hop.{Hop}
@@ -26,18 +25,11 @@ use Rattle.setup_protocol.specs.Laws.{AsksHop, EverySetupAskFits}
 use Rattle.setup_protocol.specs.Setup.{is_offer, reach_in, offers_in, after_offers, reach_after, undoing, relaxing, on_the_way, after_test, asked, asked_of, reserve_of, relax_of, bound_if, bound_given}
 use Rattle.setup_protocol.specs.declared.request.Request.{Request}
 use Rattle.setup_protocol.specs.declared.verdict.Deny.{Deny}
+use Rattle.setup_protocol.proofs.HopAsks.{asked-at}
 use Rattle.setup_protocol.proofs.ProgressFacts.{progress-on_the_way, progress-tested}
 use Rattle.setup_protocol.proofs.RouteFacts.{reach-have}
 
 -- ---- bounds of a route
-
--- no bound is over its limit, and there is none where there is no level
-bound-most : (bs : List ℕ) (level : ℕ) → are_bounds bs ≡ true → bound_at bs level ≤ 1048576
-bound-most bs level are =
-    elim (cases_lt (level - 1) (length bs)) [
-      | inl within ↦ ((bounds_parts bs are).each (level - 1) within).1
-      | inr past ↦ (let none = get_or_past bs (level - 1) 0 past in omega (arith, none))
-    ]
 
 -- each hop of a route has bounds
 pub HaveBounds-at : (hops : List Hop) (i : ℕ) (hop : Hop) → HaveBounds hops → slice_get hops i ≡ Some hop → are_bounds hop.bounds ≡ true
@@ -53,7 +45,7 @@ reach-most before hops [] bounds most = most
 reach-most before [] (reply ∷ replies) bounds most = most
 reach-most before (hop ∷ hops) (reply ∷ replies) bounds most =
     elim (cases_Bool (is_offer reply)) [
-      | inl offer ↦ rw offer (reach-most (bound_at hop.bounds (reach_in reply)) hops replies bounds.1 (bound-most hop.bounds (reach_in reply) bounds.0))
+      | inl offer ↦ rw offer (reach-most (bound_at hop.bounds (reach_in reply)) hops replies bounds.1 (bound_at-most hop.bounds (reach_in reply) bounds.0))
       | inr plain ↦ rw plain most
     ]
 
@@ -73,36 +65,33 @@ given-most hops levels zero bounds = omega arith
 given-most hops levels (suc i) bounds = go (slice_get hops i) refl where
   go : (found : Option Hop) → slice_get hops i ≡ found → bound_if found (get_or levels i 0) ≤ 1048576
   go None none = omega arith
-  go (Some hop) found = bound-most hop.bounds (get_or levels i 0) (HaveBounds-at hops i hop bounds found)
+  go (Some hop) found = bound_at-most hop.bounds (get_or levels i 0) (HaveBounds-at hops i hop bounds found)
 
 -- ---- one ask
 
 -- an ask of the hop at an index
-of-hop : (request : Request) (index : ℕ) (found : Option Hop) (to : LinkNo) (ask : Ask) (own : Ask) → slice_get request.route index ≡ found → asked_of found (λ hop. own) ≡ Some (to, ask)
-    → ((hop : Hop) → found ≡ Some hop → (shape : LinkShape) → shape.bounds ≡ hop.bounds → AskFits shape own) → AsksHop request to ask
-of-hop request index None to ask own found is fits = absurd (let clash : None ≡ Some (to, ask) = is in cc)
-of-hop request index (Some hop) to ask own found is fits =
-    let both = same_Some (hop.link, own) (to, ask) is in
-    let link : hop.link ≡ to = ap (λ pair. pair.0) both in
-    let same : own ≡ ask = ap (λ pair. pair.1) both in
+of-place : (request : Request) (index : ℕ) (own : Ask) (to : LinkNo) (ask : Ask) → asked_of (slice_get request.route index) (λ hop. own) ≡ Some (to, ask)
+    → ((hop : Hop) → slice_get request.route index ≡ Some hop → (shape : LinkShape) → shape.bounds ≡ hop.bounds → AskFits shape own) → AsksHop request to ask
+of-place request index own to ask asks fits =
+    let at = asked-at request.route index (λ hop. own) to ask asks in
     record {
       index = index;
-      hop = hop;
-      stands = found;
-      is_asked = sym link;
-      fits = λ shape bounds. subst (AskFits shape) same (fits hop refl shape bounds);
+      hop = at.hop;
+      stands = at.stands;
+      is_asked = at.at;
+      fits = λ shape bounds. subst (AskFits shape) (sym at.is) (fits at.hop at.stands shape bounds);
     }
 
 -- a deny
 undone-fits : (request : Request) (left : ℕ) (deny : Deny) (to : LinkNo) (ask : Ask) → asked request (undoing left deny) ≡ Some (to, ask) → AsksHop request to ask
 undone-fits request zero deny to ask is = absurd (let clash : None ≡ Some (to, ask) = is in cc)
-undone-fits request (suc left) deny to ask is = of-hop request (suc left - 1) (slice_get request.route (suc left - 1)) to ask (GiveBack request.chan) refl is (λ hop found shape bounds. tt)
+undone-fits request (suc left) deny to ask is = of-place request (suc left - 1) (GiveBack request.chan) to ask is (λ hop found shape bounds. tt)
 
 -- a reserve
 reserve-fits : (request : Request) (replies : List Reply) (to : LinkNo) (ask : Ask) → IsContract request.contract → HaveBounds request.route → after_offers replies ≡ []
     → asked_of (slice_get request.route (length (offers_in replies))) (λ hop. reserve_of request (offers_in replies) (reach_after 0 request.route replies)) ≡ Some (to, ask) → AsksHop request to ask
 reserve-fits request replies to ask contract bounds alone is =
-    of-hop request (length (offers_in replies)) (slice_get request.route (length (offers_in replies))) to ask (reserve_of request (offers_in replies) (reach_after 0 request.route replies)) refl is
+    of-place request (length (offers_in replies)) (reserve_of request (offers_in replies) (reach_after 0 request.route replies)) to ask is
     (λ hop found shape same. record {
       is_contract = contract;
       reach_most = reach-most 0 request.route replies bounds (omega arith);
@@ -114,7 +103,7 @@ relax-fits : (request : Request) (levels : List ℕ) (left : ℕ) (to : LinkNo) 
     → asked request (relaxing request.route left levels) ≡ Some (to, ask) → AsksHop request to ask
 relax-fits request levels zero to ask bounds are whole is = absurd (let clash : None ≡ Some (to, ask) = is in cc)
 relax-fits request levels (suc left) to ask bounds are whole is =
-    of-hop request (suc left - 1) (slice_get request.route (suc left - 1)) to ask (relax_of request levels (suc left)) refl is
+    of-place request (suc left - 1) (relax_of request levels (suc left)) to ask is
     (λ hop found shape same.
     let within = slice_get_within request.route (suc left - 1) hop found in
     let own : IsLevelOf hop (get_or levels (suc left - 1) 0) = AreLevels-at request.route levels (suc left - 1) hop are found (omega (arith, within, whole)) in

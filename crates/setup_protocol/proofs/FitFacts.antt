@@ -25,10 +25,11 @@ use Rattle.relaxation.proofs.LawFacts.{allotted-fit}
 use Rattle.setup_protocol.specs.Requests.{jitter_of}
 use Rattle.setup_protocol.specs.Setup.{is_offer, level_in, reach_in, offers_in, after_offers, reach_after, undoing, relaxing, on_the_way, after_test, asked, asked_of, reserve_of, relax_of, bound_if, bound_given, next_ask}
 use Rattle.setup_protocol.specs.Teardown.{first_count}
-use Rattle.setup_protocol.specs.WayBack.{TellReaches, IsFitRelax, EveryRelaxIsFit, IsReleaseOfHop, EveryReleaseGoesToItsHop}
+use Rattle.setup_protocol.specs.WayBack.{TellReaches, IsFitRelax, EveryRelaxIsFit, EveryReleaseGoesToItsHop}
 use Rattle.setup_protocol.specs.declared.request.Request.{Request}
 use Rattle.setup_protocol.specs.declared.verdict.Deny.{Deny}
 use Rattle.setup_protocol.proofs.AskFacts.{HaveBounds-at}
+use Rattle.setup_protocol.proofs.HopAsks.{asked-at}
 use Rattle.setup_protocol.proofs.ProgressFacts.{progress-on_the_way, progress-tested}
 use Rattle.setup_protocol.proofs.RouteFacts.{reach-have}
 
@@ -206,16 +207,12 @@ relax-fit request replies to chan level up_bound bounds are tell is =
 -- ---- each release goes to its hop
 
 pub release-at : EveryReleaseGoesToItsHop
-release-at chan route replies to ask is = go (slice_get route (length replies)) refl is where
-  go : (found : Option Hop) → slice_get route (length replies) ≡ found → asked_of found (λ h. Release chan (first_count replies)) ≡ Some (to, ask) → IsReleaseOfHop chan route replies to ask
-  go None at is = absurd (let clash : None ≡ Some (to, ask) = is in cc)
-  go (Some hop) at is =
-      let both = same_Some (hop.link, Release chan (first_count replies)) (to, ask) is in
-      let same : Release chan (first_count replies) ≡ ask = ap (λ pair. pair.1) both in
-      record {
-        hop = hop;
-        stands = at;
-        is_asked = sym (ap (λ pair. pair.0) both);
-        releases = sym same;
-        fits = λ shape. subst (AskFits shape) same tt;
-      }
+release-at chan route replies to ask is =
+    let own = asked-at route (length replies) (λ hop. Release chan (first_count replies)) to ask is in
+    record {
+      hop = own.hop;
+      stands = own.stands;
+      is_asked = own.at;
+      releases = own.is;
+      fits = λ shape. subst (AskFits shape) (sym own.is) tt;
+    }

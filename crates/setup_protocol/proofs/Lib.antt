@@ -1,6 +1,10 @@
 pub mod AskFacts
+pub mod HopAsks
 pub mod LawFacts
 pub mod ProgressFacts
 pub mod RouteFacts
-mod WayBackFacts
-mod FitFacts
+pub mod SetupReplies
+pub mod WayBackFacts
+pub mod FitFacts
+pub mod HopHolds
+pub mod StepHolds

@@ -10,7 +10,7 @@ use Rattle.link_steps.specs.declared.replies.Reply.TheVariants.{Offer, Relaxed, 
 use Rattle.relaxation.specs.Allotment.{denial_of, allotted}
 use Rattle.relaxation.specs.declared.EndDenial.{EndDenial}
 use Rattle.setup_protocol.specs.Requests.{jitter_of}
-use Rattle.setup_protocol.specs.Setup.{Reserving, is_offer, level_in, reach_in, offers_in, after_offers, reach_after, undoing, relaxing, on_the_way, after_test, at_destination, progress_of, is_expected, refusal_in, answers_reserve, answers_deny, answers_relax}
+use Rattle.setup_protocol.specs.Setup.{Reserving, is_offer, level_in, reach_in, offers_in, after_offers, reach_after, undoing, relaxing, on_the_way, after_test, at_destination, progress_of, settled_in, verdict_of, is_expected, refusal_in, answers_reserve, answers_deny, answers_relax}
 use Rattle.setup_protocol.specs.State.{after_reserve, advance}
 use Rattle.setup_protocol.specs.declared.verdict.Deny.{Deny}
 use Rattle.setup_protocol.specs.declared.verdict.Deny.TheVariants.{Hop as AtHop, End}
@@ -193,3 +193,7 @@ progress-advances request replies reply expected =
 pub progress-none : (request : Request) → 1 ≤ length request.route → progress_of request [] ≡ Reserving [] 0
 unfolding offers_in after_offers reach_after
 progress-none request some = rw (lt-ltb 0 (length request.route) (omega (arith, some))) refl
+
+-- so it hasn't settled yet
+pub none-settled : (request : Request) → 1 ≤ length request.route → verdict_of request [] ≡ None
+none-settled request some = ap settled_in (progress-none request some)

@@ -1,13 +1,14 @@
--- The legal replies to the asks of a setup, where the link holds what the setup counts on.
-use Rattle.std.proofs.Common.{◌≡◌, ℕ, ◌≤◌, true, List, length, Option, Some, None, refl, sym, ap, ◌∙◌, subst, inl, inr, arith}
-use Rattle.std.proofs.lemmas.Bool.{cases_lt, le-leb}
+-- The legal replies to the asks of a setup, where the link holds what the setup counts on. A reserve is answered by an offer,
+-- or refused as no more than a reserve may be; a deny and a relax of a tentative reservation are not refused.
+use Rattle.std.proofs.Common.{◌≡◌, ℕ, ◌≤◌, true, List, length, Option, Some, None, refl, sym, ap, ◌∙◌, subst, arith}
+use Rattle.std.proofs.lemmas.Bool.{le-leb}
 use Rattle.std.proofs.lemmas.Option.{same_Some}
 use Rattle.std.specs.Prelude.{find, max}
-use Rattle.net_units.specs.LevelBounds.{are_bounds, bound_at, levels_within}
+use Rattle.net_units.specs.LevelBounds.{bound_at, levels_within}
 use Rattle.net_units.specs.Numbers.{level_number}
 use Rattle.net_units.specs.declared.numbers.ChanNo.{ChanNo}
 use Rattle.net_units.specs.declared.numbers.Level.{Level}
-use Rattle.net_units.proofs.BoundFacts.{bounds_parts, within_count, level_largest}
+use Rattle.net_units.proofs.BoundFacts.{bounds_parts, within_count, largest_within}
 use Rattle.traffic_contract.specs.Contract.{Traffic}
 use Rattle.link_steps.specs.declared.replies.Phase.TheVariants.{Tentative}
 use Rattle.link_steps.specs.declared.replies.Refusal.{Refusal}
@@ -23,11 +24,12 @@ use Rattle.link_steps.specs.Split.{Link}
 use Rattle.link_steps.specs.Reservation.{Reservation, is_of}
 use Rattle.link_steps.proofs.LevelFacts.{level_of-number}
 use Rattle.link_steps.proofs.ReplyFacts.{may-reach}
-use Rattle.channel_laws.proofs.RuleCases.{rules-fact, unless-some}
+use Rattle.link_steps.proofs.RuleCases.{rules-fact, unless-some}
 use Rattle.setup_protocol.specs.Setup.{is_reserve_refusal}
 
 -- ---- a reserve where none of the channel is held
 
+-- an offer, or a refusal of a reserve
 abbrev IsUsual : Reply → Type 0
 IsUsual (Is.Offer level reach) = Unit {0}
 IsUsual (Is.Refused refusal) = is_reserve_refusal refusal ≡ true
@@ -56,33 +58,27 @@ usual-in shape held chan contract delay up_reach room none =
       ),
     ) tt
 
--- a level whose bound is within x is no larger than the largest such level
-largest-from : (bs : List ℕ) (level x : ℕ) → are_bounds bs ≡ true → 1 ≤ level → level ≤ length bs → bound_at bs level ≤ x → level ≤ levels_within bs x
-largest-from bs level x are one upto fits = elim (cases_lt (levels_within bs x) level) [
-  | inl below ↦ absurd (let over = level_largest bs x (levels_within bs x) level are refl below upto in omega (arith, over, fits))
-  | inr above ↦ above
-]
+-- the offer of a link with these bounds tells the reach of its level; a refusal is one of a reserve
+abbrev pub IsReserved : List ℕ → ℕ → Reply → Type 0
+IsReserved bounds delay (Is.Offer level reach) = (level_number reach ≡ levels_within bounds (max delay (bound_at bounds (level_number level)))) × (level_number level ≤ length bounds) × (level_number reach ≤ length bounds)
+IsReserved bounds delay (Is.Refused refusal) = is_reserve_refusal refusal ≡ true
+IsReserved bounds delay _ = ⊥
 
-abbrev pub IsReserved : LinkShape → ℕ → Reply → Type 0
-IsReserved shape delay (Is.Offer level reach) = (level_number reach ≡ levels_within shape.bounds (max delay (bound_at shape.bounds (level_number level)))) × (level_number level ≤ length shape.bounds) × (level_number reach ≤ length shape.bounds)
-IsReserved shape delay (Is.Refused refusal) = is_reserve_refusal refusal ≡ true
-IsReserved shape delay _ = ⊥
-
-offer-reserved : (shape : LinkShape) (held : List Reservation) (chan : ChanNo) (contract : Traffic) (delay up_reach : ℕ) (level reach : Level) → MayOffer shape held chan contract delay up_reach level reach → IsReserved shape delay (Is.Offer level reach)
+offer-reserved : (shape : LinkShape) (held : List Reservation) (chan : ChanNo) (contract : Traffic) (delay up_reach : ℕ) (level reach : Level) → MayOffer shape held chan contract delay up_reach level reach → IsReserved shape.bounds delay (Is.Offer level reach)
 offer-reserved shape held chan contract delay up_reach level reach may =
     let parts = bounds_parts shape.bounds shape.bounds_rise in
     let few = parts.most in
     let from : 1 ≤ level_number level = level.least in
     let upto = may.level_most in
-    let least = largest-from shape.bounds (level_number level) (max delay (bound_at shape.bounds (level_number level))) shape.bounds_rise from upto (omega arith) in
+    let least = (largest_within shape.bounds (level_number level) (max delay (bound_at shape.bounds (level_number level))) shape.bounds_rise from upto (omega arith)).least in
     let most = within_count shape.bounds (max delay (bound_at shape.bounds (level_number level))) in
     let reached : level_number reach ≡ levels_within shape.bounds (max delay (bound_at shape.bounds (level_number level))) = ap level_number may.reach_is ∙ level_of-number (levels_within shape.bounds (max delay (bound_at shape.bounds (level_number level)))) (omega (arith, least, from)) (omega (arith, most, few)) in
     (reached, upto, may-reach shape held chan contract delay up_reach level reach may)
 
-pub reserve-reply : (link : Link) (held : List Reservation) (chan : ChanNo) (contract : Traffic) (delay up_reach : ℕ) (reply : Reply) → find (is_of chan) held ≡ None → reply ≡ reserve_reply link held chan contract delay up_reach → MayReply link.shape held chan contract delay up_reach reply → IsReserved link.shape delay reply
+pub reserve-reply : (link : Link) (held : List Reservation) (chan : ChanNo) (contract : Traffic) (delay up_reach : ℕ) (reply : Reply) → find (is_of chan) held ≡ None → reply ≡ reserve_reply link held chan contract delay up_reach → MayReply link.shape held chan contract delay up_reach reply → IsReserved link.shape.bounds delay reply
 unfolding reserve_reply
 reserve-reply link held chan contract delay up_reach reply none same may = by-reply reply may (subst IsUsual (sym same) (usual-in link.shape held chan contract delay up_reach (room_of link held chan contract) none)) where
-  by-reply : (r : Reply) → MayReply link.shape held chan contract delay up_reach r → IsUsual r → IsReserved link.shape delay r
+  by-reply : (r : Reply) → MayReply link.shape held chan contract delay up_reach r → IsUsual r → IsReserved link.shape.bounds delay r
   by-reply (Is.Offer level reach) offer usual = offer-reserved link.shape held chan contract delay up_reach level reach offer
   by-reply (Is.Refused refusal) any usual = usual
   by-reply (Is.Relaxed clock) any usual = usual
