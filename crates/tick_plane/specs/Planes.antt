@@ -2,9 +2,7 @@
 -- departed, and then each link makes one tick, in the order of the links. A flight is a packet that has left a link and
 -- has a next one; it is due in the round in which it reaches that link. What the plane asks next follows from the replies
 -- that it has got.
-use Rattle.std.specs.Prelude.{ℕ, suc, min, Bool, true, false, nat_eq, nat_lt, if◌then◌else◌, Option, Some, None, List, [], ◌∷◌, ◌++◌, find}
-use Rattle.std.proofs.Common.{lit<}
-use Rattle.std.proofs.Math.Nat.{min-le_left, lt_of_le_of_lt}
+use Rattle.std.specs.Prelude.{ℕ, suc, Bool, true, false, nat_eq, nat_lt, if◌then◌else◌, Option, Some, None, List, [], ◌∷◌, ◌++◌, find}
 use Rattle.net_units.specs.declared.numbers.LinkNo.{LinkNo}
 use Rattle.net_units.specs.Numbers.{link_at}
 use Rattle.link_steps.specs.declared.asks.Ask.{Ask}
