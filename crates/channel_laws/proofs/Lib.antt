@@ -16,3 +16,4 @@ pub mod DepartedCount
 pub mod SizeLaw
 pub mod FirstSource
 pub mod HoldFates
+pub mod NextLinks

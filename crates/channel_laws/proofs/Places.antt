@@ -1,22 +1,15 @@
--- The places of packets in a list: a fact of each at an index, the eligible tick at an index, and the place of a packet among
--- those of its row, which its number tells.
+-- The places of packets in a list: the eligible tick at an index, and the place of a packet among those of its row, which its
+-- number tells.
 use Rattle.std.proofs.Common.{◌≡◌, ℕ, zero, suc, ◌+◌, ◌<◌, List, [], ◌∷◌, length, map, get_or, Some, None, sym, ap, subst, inl, inr, arith}
 use Rattle.std.proofs.lemmas.Option.{same_Some}
 use Rattle.std.specs.List.{slice_get}
 use Rattle.traffic_contract.specs.Keeping.{Keeps}
 use Rattle.traffic_contract.proofs.ContractFacts.{burst-least}
 use Rattle.traffic_contract.proofs.NewestFirst.{Decides-keeps_newest_first}
-use Rattle.link_steps.specs.Lists.{Each}
 use Rattle.link_steps.specs.Rows.{Row}
 use Rattle.link_steps.specs.Service.{Arrival}
 use Rattle.link_steps.proofs.ListFacts.{Among}
 use Rattle.channel_laws.specs.Channels.{HopTerms, AreNumberedAfter, RowTells, tick_of_packet}
-
--- a fact of each is one of the element at an index
-pub Each-at : {X : Type 0} (P : X → Type 0) (xs : List X) (i : ℕ) (x : X) → Each P xs → slice_get xs i ≡ Some x → P x
-Each-at P [] i x each found = absurd (let clash : None ≡ Some x = found in cc)
-Each-at P (y ∷ xs) zero x each found = subst P (same_Some y x found) each.0
-Each-at P (y ∷ xs) (suc i) x each found = Each-at P xs i x each.1 found
 
 -- the eligible tick of the packet at an index
 pub tick-at : (qs : List Arrival) (k : ℕ) (q : Arrival) → slice_get qs k ≡ Some q → (k < length (map tick_of_packet qs)) × (get_or (map tick_of_packet qs) k 0 ≡ q.eligible)

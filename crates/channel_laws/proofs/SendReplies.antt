@@ -6,6 +6,8 @@ use Rattle.std.proofs.lemmas.Option.{same_Some}
 use Rattle.std.specs.Prelude.{find, nat_eq, nat_le}
 use Rattle.net_units.specs.declared.numbers.ChanNo.{ChanNo}
 use Rattle.link_steps.specs.declared.replies.Phase.TheVariants.{Committed}
+use Rattle.link_steps.specs.declared.replies.Reply.{Reply}
+use Rattle.link_steps.specs.declared.replies.Reply.TheVariants as Is
 use Rattle.link_steps.specs.Replies.{submit_reply, release_reply, submit_to, release_to, pour_reply}
 use Rattle.link_steps.specs.Reservation.{Reservation, is_of, is_same}
 use Rattle.link_steps.specs.Rows.{Row, left_at}
@@ -56,6 +58,11 @@ pub release-committed : (t : ℕ) (upstream : Option ℕ) (chan : ChanNo) (rows 
 release-committed t upstream chan rows terms held first phase =
     let found = found-at-hop chan (names_first_hop upstream) rows terms held first in
     subst (λ f. IsReleased (release_to t upstream f)) (sym found.1) (releases upstream found.0.terms (length found.0.ticks) (length (left_at t found.0.plan)) (ap (λ x. x.phase) found.2 ∙ phase))
+
+-- what holds of every closing holds of the reply
+pub of-released : (P : Reply → Type 0) (reply : Reply) → ((count cancelled : ℕ) → P (Is.Closing count cancelled)) → IsReleased reply → P reply
+of-released P (Is.Closing count cancelled) closing is = closing count cancelled
+of-released P _ closing is = absurd is
 
 -- a pour
 pub pour-answered : (t cap size left : ℕ) → IsSendReply (pour_reply t cap size left)

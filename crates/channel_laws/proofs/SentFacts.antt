@@ -1,9 +1,11 @@
 -- A packet that leaves in a tick of a legal history has a size within the limits, was eligible before the tick's end, and
--- left within the bound of its level.
-use Rattle.std.proofs.Common.{◌≡◌, ℕ, suc, ◌<◌, ◌≤◌, Bool, List, [], ◌∷◌, length, Option, Some, None, refl, inl, inr, arith}
+-- left within the bound of its level; so it may arrive at its next link.
+use Rattle.std.proofs.Common.{◌≡◌, ℕ, suc, ◌^◌, ◌<◌, ◌≤◌, Bool, List, [], ◌∷◌, length, Option, Some, None, refl, sym, subst, inl, inr, arith}
 use Rattle.std.proofs.lemmas.Bool.{cases_Bool, eqb-true, ltb-false}
 use Rattle.std.proofs.lemmas.Option.{same_Some}
 use Rattle.std.specs.Prelude.{nat_eq}
+use Rattle.net_units.specs.LevelBounds.{bound_at}
+use Rattle.net_units.proofs.BoundFacts.{bound_at-most}
 use Rattle.link_steps.specs.declared.replies.Entry.{Entry}
 use Rattle.link_steps.specs.declared.replies.Reply.TheVariants.{Ticked}
 use Rattle.link_steps.specs.declared.replies.Sent.{Sent}
@@ -11,6 +13,7 @@ use Rattle.link_steps.specs.declared.shape.LinkShape.{LinkShape}
 use Rattle.link_steps.specs.HopGuarantee.{LeavesInTime, deadline_of}
 use Rattle.link_steps.specs.Admissible.{MayAnswer, IsAdmissible}
 use Rattle.link_steps.specs.BestEffort.{is_best}
+use Rattle.link_steps.specs.Legal.{PacketFits}
 use Rattle.link_steps.specs.Lists.{Each}
 use Rattle.link_steps.specs.Replies.{sent_of, sent_at, tick_reply, reply_at}
 use Rattle.link_steps.specs.Scan.{clock_of, scan_of, after, starts_of}
@@ -37,7 +40,7 @@ first-sent shape t (start ∷ earlier) sent carried leave same =
       | inr later ↦ absurd (let none : Some sent ≡ None = rw later at same in cc)
     ]
 
-ticked-sent : (clock clock' full full' : ℕ) (sent sent' : Option Sent) (best_sent best_sent' best_lost best_lost' : Bool) → Ticked clock full sent best_sent best_lost ≡ Ticked clock' full' sent' best_sent' best_lost' → sent ≡ sent'
+pub ticked-sent : (clock clock' full full' : ℕ) (sent sent' : Option Sent) (best_sent best_sent' best_lost best_lost' : Bool) → Ticked clock full sent best_sent best_lost ≡ Ticked clock' full' sent' best_sent' best_lost' → sent ≡ sent'
 ticked-sent clock clock' full full' sent sent' best_sent best_sent' best_lost best_lost' same = cc
 
 pub sent-facts : (shape : LinkShape) (h : List Entry) (clock full : ℕ) (sent : Sent) (best_sent best_lost : Bool) → IsAdmissible shape h → Ticked clock full (Some sent) best_sent best_lost ≡ tick_reply shape (clock_of h) (scan_of shape h) → IsSent shape h sent
@@ -49,3 +52,13 @@ sent-facts shape h clock full sent best_sent best_lost may same =
     let carried = starts-fact (IsCarried shape) shape.rate (scan_of shape (ticked shape h)).packets (clock_of (ticked shape h)) order.carried in
     let found = first-sent shape (suc (clock_of h)) (starts_of shape (ticked shape h)) sent carried hop.departed (ticked-sent _ _ _ _ _ _ _ _ _ _ same) in
     record { start = found.0; earlier = found.1; head = found.2; among = found.3; leaves = found.4; is = found.5; level = found.6; size_least = found.7.size_least; size_most = found.7.size_most; level_least = found.7.level_least; after = found.8; within = found.9 }
+
+-- so it meets the conditions on a packet that arrives, where the clock is far from its end
+pub sent-fits : (shape : LinkShape) (h : List Entry) (sent : Sent) → clock_of h < 2 ^ 61 → IsSent shape h sent → PacketFits sent.packet
+sent-fits shape h sent early is = subst (λ s. PacketFits s.packet) (sym is.is)
+    (let bound : bound_at shape.bounds is.start.packet.level ≤ 1048576 = bound_at-most shape.bounds is.start.packet.level shape.bounds_rise in
+    record {
+      size_least = is.size_least;
+      size_most = omega (arith, is.size_most, shape.cap_most);
+      due_most = (let a = is.after in let l = is.leaves in let p = shape.prop_most in omega (arith, a, l, p, bound, early));
+    })

@@ -17,7 +17,8 @@ use Rattle.link_steps.proofs.Departures.{departed-at, starts-once, leaves-once}
 use Rattle.link_steps.proofs.ListFacts.{Among, Each-among, Among-filter}
 use Rattle.link_steps.proofs.ServiceFacts.{FollowEachOther, starts-follow, starts-begun, HasBegun, starts-fact}
 use Rattle.channel_laws.specs.Channels.{HopTerms, is_of_channel, channel_packets, tick_of_packet, AreNumberedAfter, RowTells}
-use Rattle.channel_laws.proofs.Places.{Each-at, tick-at, place-of, row-keeps}
+use Rattle.link_steps.proofs.ListParts.{Each-at}
+use Rattle.channel_laws.proofs.Places.{tick-at, place-of, row-keeps}
 use Rattle.link_steps.proofs.PacketRows.{Among-passes}
 use Rattle.link_steps.proofs.NewPackets.{packets-numbered}
 use Rattle.link_steps.specs.Belonging.{AreNumbered as ArePlaced}

@@ -33,7 +33,7 @@ use Rattle.interleave_core.specs.Hops.{packets_on, ChannelAsked}
 use Rattle.call_script.specs.Tasks.{Network}
 use Rattle.run_record.specs.Runs.{part_of}
 use Rattle.interleave_core.specs.Runs.{IsNext, IsRun}
-use Rattle.channel_laws.proofs.Places.{Each-at}
+use Rattle.link_steps.proofs.ListParts.{Each-at}
 use Rattle.channel_laws.proofs.ChannelRows.{row-of, find-passes}
 use Rattle.channel_laws.proofs.DepartedCount.{channel-few}
 use Rattle.channel_laws.proofs.NumberedPackets.{HasNumber, packets-have_numbers}

@@ -31,7 +31,7 @@ use Rattle.call_script.specs.declared.tasks.Task.{Task}
 use Rattle.call_script.specs.declared.tasks.Task.TheVariants.{Opens, Sends, Closes, Pours}
 use Rattle.call_script.specs.Scripts.{Opened, Standing, task_ask, takes_step, from_step, begun, outcome_by, continued, resumed, replied, first_ask, ask_at}
 use Rattle.channel_laws.specs.Asks.{MayReplyTo, IsReserve}
-use Rattle.channel_laws.proofs.Places.{Each-at}
+use Rattle.link_steps.proofs.ListParts.{Each-at}
 use Rattle.channel_laws.proofs.OfferAnswers.{offer-answers}
 
 -- ---- what callers ask

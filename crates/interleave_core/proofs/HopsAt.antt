@@ -8,7 +8,7 @@ use Rattle.call_script.specs.Fits.{RequestFits}
 use Rattle.setup_protocol.specs.Hops.{IsHopOf}
 use Rattle.call_script.specs.Tasks.{Network}
 use Rattle.run_record.specs.declared.done.Done.{Done}
-use Rattle.channel_laws.proofs.Places.{Each-at}
+use Rattle.link_steps.proofs.ListParts.{Each-at}
 use Rattle.interleave_core.specs.Paths.{HopAt, packets_at}
 
 pub hop-at : (network : Network) (request : Request) (i : ℕ) → RequestFits network.links request → i < length request.route → HopAt network request i

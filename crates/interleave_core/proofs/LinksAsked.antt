@@ -41,7 +41,7 @@ use Rattle.run_record.specs.Runs.{replies_to, part_of}
 use Rattle.run_record.specs.declared.done.Done.{Done}
 use Rattle.interleave_core.specs.Linked.{IsLinkThere, EveryAskGoesToALink}
 use Rattle.interleave_core.specs.Runs.{plane_no, plane_at, IsNext, IsRun}
-use Rattle.channel_laws.proofs.Places.{Each-at}
+use Rattle.link_steps.proofs.ListParts.{Each-at}
 use Rattle.interleave_core.proofs.RunLegal.{asked-plane, asked-caller, caller-next, plane-next, plane-off, plane-by, part-on, part-off, made-flights, link_at-number, run-stands}
 
 -- a link that comes next, if there is one, is there

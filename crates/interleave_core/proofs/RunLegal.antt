@@ -37,7 +37,7 @@ use Rattle.tick_plane.specs.Planes.{Plane, is_due, next_due, ask_due, plane_ask,
 use Rattle.run_record.specs.Runs.{entry_of, replies_to, part_of}
 use Rattle.interleave_core.specs.Runs.{plane_no, plane_at, next_for, IsNext, IsRun}
 use Rattle.call_script.specs.Scripts.{script_ask}
-use Rattle.channel_laws.proofs.Places.{Each-at}
+use Rattle.link_steps.proofs.ListParts.{Each-at}
 use Rattle.interleave_core.proofs.CallerFacts.{IsCallers, StandingFits, standing-asks, begun-fits, replied-fits}
 use Rattle.channel_laws.specs.Departing.{IsSent}
 use Rattle.channel_laws.proofs.SentFacts.{sent-facts}

@@ -55,7 +55,7 @@ use Rattle.setup_protocol.specs.Setup.{Outcome, Accepts, Denies, asked, asked_of
 use Rattle.setup_protocol.proofs.AskFacts.{ask-fits}
 use Rattle.setup_protocol.proofs.ProgressFacts.{progress-advances, progress-none}
 use Rattle.channel_laws.specs.Asks.{IsOff}
-use Rattle.channel_laws.proofs.Places.{Each-at}
+use Rattle.link_steps.proofs.ListParts.{Each-at}
 use Rattle.link_ledger.specs.Owners.{OwnsAsk, NextBelow, IsBelow}
 use Rattle.shared_network.specs.Calls.{HasNone, IsCommitted, IsEstablished, hold_at}
 use Rattle.setup_protocol.specs.Hops.{IsHopOf}

@@ -22,7 +22,7 @@ use Rattle.step_stamp.specs.Views.{known_of}
 use Rattle.step_stamp.specs.declared.marks.Mark.{Mark}
 use Rattle.channel_laws.specs.Laws.{held_after}
 use Rattle.channel_laws.specs.Reservations.{held_by}
-use Rattle.channel_laws.proofs.Places.{Each-at}
+use Rattle.link_steps.proofs.ListParts.{Each-at}
 use Rattle.link_ledger.specs.Journals.{marks_in, done_in, history_in, journal_of}
 use Rattle.link_ledger.specs.Order.{AreInOrder}
 use Rattle.link_ledger.specs.Own.{own_mark, own_entry, own_at}

@@ -16,7 +16,7 @@ use Rattle.link_steps.specs.declared.replies.Entry.{Entry as Done}
 use Rattle.link_steps.specs.declared.replies.Reply.{Reply}
 use Rattle.link_steps.proofs.ChangeFacts.{Each-passes}
 use Rattle.link_steps.proofs.ListFacts.{Each-both, Each-filter, Each-if, Each-map, Each-mapped}
-use Rattle.channel_laws.proofs.Places.{Each-at}
+use Rattle.link_steps.proofs.ListParts.{Each-at}
 use Rattle.step_stamp.specs.Lists.{Has}
 use Rattle.step_stamp.specs.Views.{known_of}
 use Rattle.step_stamp.specs.declared.marks.Mark.{Mark}

@@ -39,7 +39,7 @@ use Rattle.setup_protocol.specs.declared.request.Request.{Request}
 use Rattle.setup_protocol.specs.declared.verdict.Deny.{Deny as Denial}
 use Rattle.setup_protocol.proofs.ProgressFacts.{offers-other, offers-more, after-other, reach-more, progress-advances}
 use Rattle.channel_laws.specs.Reservations.{held_by}
-use Rattle.channel_laws.proofs.Places.{Each-at}
+use Rattle.link_steps.proofs.ListParts.{Each-at}
 use Rattle.link_ledger.specs.Tokens.{IsLink}
 use Rattle.link_ledger.specs.Own.{own_at}
 use Rattle.link_ledger.specs.declared.entries.OwnEntry.{OwnEntry}

@@ -27,7 +27,7 @@ use Rattle.setup_protocol.specs.Teardown.{is_closing, told_count, first_count, n
 use Rattle.setup_protocol.specs.declared.request.Request.{Request}
 use Rattle.setup_protocol.specs.declared.teardown.Teardown.{Teardown}
 use Rattle.channel_laws.specs.Reservations.{held_by, IsReleased}
-use Rattle.channel_laws.proofs.Places.{Each-at}
+use Rattle.link_steps.proofs.ListParts.{Each-at}
 use Rattle.channel_laws.proofs.SendReplies.{release-committed}
 use Rattle.link_ledger.specs.Own.{own_at}
 use Rattle.link_ledger.specs.Owners.{OwnsAsk, IsOwner, NextBelow}

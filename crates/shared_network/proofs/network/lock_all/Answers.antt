@@ -6,7 +6,7 @@ use Rattle.net_units.specs.Numbers.{link_number}
 use Rattle.link_steps.specs.Lists.{Each}
 use Rattle.link_steps.specs.Split.{Link, SplitFits}
 use Rattle.step_stamp.specs.Seats.{seat_link}
-use Rattle.channel_laws.proofs.Places.{Each-at}
+use Rattle.link_steps.proofs.ListParts.{Each-at}
 use Rattle.shared_network.specs.Sight.{IsUnusedLink}
 use Rattle.shared_network.proofs.CountFacts.{none-left}
 use Rattle.shared_network.proofs.OpeningFacts.{Locking, locking-start, locking-left, locking-link, locking-next, locking-end}
