@@ -22,10 +22,11 @@ use Rattle.tick_plane.specs.Planes.{next_due}
 use Rattle.run_record.specs.Runs.{part_of, replies_to}
 use Rattle.interleave_core.specs.Runs.{plane_no, plane_at, IsNext, IsRun}
 use Rattle.call_script.specs.Scripts.{Opened, standing, task_ask, first_ask, ask_at, settled_as, continued, resumed, outcome_in}
-use Rattle.interleave_core.proofs.CallerFacts.{StandingFits}
+use Rattle.interleave_core.proofs.CallerFacts.{StandingFits, nothing-asked}
 use Rattle.interleave_core.proofs.ChainLaw.{open-or-not, owner-now}
 use Rattle.interleave_core.proofs.FarHolds.{first-same, OwnKind, OwnOff, OwnSetup, OwnSend, OwnClose, own-kind, hop-comes, committed-comes}
-use Rattle.interleave_core.proofs.RowsFollow.{IsTail, HopStands, reserved_of, held_at, SetupRows, View, OnWay, Back, Forth, view}
+use Rattle.setup_protocol.proofs.HopHolds.{IsTail, HopStands, reserved_of, View, OnWay, Back, Forth, view}
+use Rattle.interleave_core.proofs.RowsFollow.{held_at, SetupRows}
 use Rattle.interleave_core.proofs.RunCloses.{ClosesAt, run-closes, owned-once}
 use Rattle.call_script.specs.Owners.{OwnedFully}
 use Rattle.interleave_core.proofs.RunGoes.{GoesAt, run-goes, owned-asked, tasks-off, plane-off-ask, off-standing, off-mild, other-outcome, outcome-own, Before, Under, After}
@@ -73,13 +74,13 @@ IsDone (Relaxing left levels) = left ≤ 0
 IsDone (Settled (Accepts levels delay)) = Unit {0}
 IsDone (Settled (Denies deny)) = ⊥
 
-stands-done : (request : Request) (offers : List ℕ) (p : Progress) (held : Option Reservation) (terms : Reservation) → HopStands request offers p 0 held → held ≡ Some terms → terms.phase ≡ Ph.Committed → IsDone p
+stands-done : (request : Request) (offers : List ℕ) (p : Progress) (held : Option Reservation) (terms : Reservation) → HopStands None Some request offers p 0 held → held ≡ Some terms → terms.phase ≡ Ph.Committed → IsDone p
 stands-done request offers p held terms stands is phase =
     elim (cases_lt 0 (reserved_of offers p)) [
       | inl less ↦ absurd (let tent = stands.tent less in let same : tent.terms ≡ terms = same_Some tent.terms terms (sym tent.is ∙ is) in let clash : Ph.Tentative ≡ Ph.Committed = sym tent.phase ∙ ap (λ k. k.phase) same ∙ phase in cc)
       | inr from ↦ by-progress p from (stands.tail (omega (arith, from)))
     ] where
-      by-progress : (q : Progress) → reserved_of offers q ≤ 0 → IsTail request q 0 held → IsDone q
+      by-progress : (q : Progress) → reserved_of offers q ≤ 0 → IsTail None Some request q 0 held → IsDone q
       by-progress (Reserving os reach) from none = (let clash : None ≡ Some terms = sym none ∙ is in cc)
       by-progress (Undoing left deny) from none = (let clash : None ≡ Some terms = sym none ∙ is in cc)
       by-progress (Relaxing left levels) from comm = from
@@ -128,12 +129,9 @@ kind-accepts network request owner first done past tasks outcomes task rest repl
 kind-accepts network request owner first done past tasks outcomes task rest replies terms found by is held phase mild (OwnSend count gap size own asks) = mild (subst (IsMild (channel_number request.chan)) (sym asks) tt)
 kind-accepts network request owner first done past tasks outcomes task rest replies terms found by is held phase mild (OwnClose levels own here on asks comm) = mild (subst (IsMild (channel_number request.chan)) (sym asks) tt)
 
-none-asks : (replies : List Reply) (to : LinkNo × Ask) → first_ask [] replies ≡ Some to → ⊥
-none-asks replies to same = cc
-
 left-accepts : (network : Network) (request : Request) (owner : ℕ) (first : HopAt network request 0) (done : Done) (past : List Done) (tasks : List Task) (outcomes : List Opened) (left : List Task) (replies : List Reply) (terms : Reservation) → NetworkFits network → RequestFits network.links request → IsRun network past → (next : IsNext network past done) → slice_get network.scripts owner ≡ Some tasks → actor_number done.actor ≡ owner → standing tasks (replies_to owner past) ≡ record { tasks = left; replies = replies; outcomes = outcomes } → held_at network request 0 first (done ∷ past) ≡ Some terms → terms.phase ≡ Ph.Committed → (IsMild (channel_number request.chan) done.ask → AcceptedIn network request owner (done ∷ past))
     → first_ask left replies ≡ Some (done.link, done.ask) → StandingFits network.links (record { tasks = left; replies = replies; outcomes = outcomes }) → GoesAt network request past left replies outcomes → ClosesAt network request past (record { tasks = left; replies = replies; outcomes = outcomes }) → AcceptedIn network request owner (done ∷ past)
-left-accepts network request owner first done past tasks outcomes [] replies terms fits sound run next found by is held phase mild asks stands goes closes = absurd (none-asks replies (done.link, done.ask) asks)
+left-accepts network request owner first done past tasks outcomes [] replies terms fits sound run next found by is held phase mild asks stands goes closes = absurd (nothing-asked replies (done.link, done.ask) asks)
 left-accepts network request owner first done past tasks outcomes (task ∷ rest) replies terms fits sound run next found by is held phase mild asks stands goes closes =
     kind-accepts network request owner first done past tasks outcomes task rest replies terms found by is held phase mild (own-kind network request done past outcomes task rest replies fits sound run next stands goes asks closes)
 

@@ -29,7 +29,7 @@ use Rattle.call_script.specs.Fits.{RequestFits, TaskFits}
 use Rattle.setup_protocol.specs.Hops.{IsHopOf}
 use Rattle.call_script.specs.declared.tasks.Task.{Task}
 use Rattle.call_script.specs.declared.tasks.Task.TheVariants.{Opens, Sends, Closes, Pours}
-use Rattle.call_script.specs.Scripts.{Opened, Standing, task_ask, takes_step, from_step, begun, outcome_by, continued, resumed, replied, first_ask, ask_at}
+use Rattle.call_script.specs.Scripts.{Opened, Standing, task_ask, takes_step, from_step, begun, outcome_by, continued, resumed, replied, standing, first_ask, ask_at}
 use Rattle.channel_laws.specs.Asks.{MayReplyTo, IsReserve}
 use Rattle.link_steps.proofs.ListParts.{Each-at}
 use Rattle.channel_laws.proofs.OfferAnswers.{offer-answers}
@@ -246,3 +246,12 @@ resumed-fits links outcomes (task ∷ tasks) replies reply to ask link h each ar
 
 pub replied-fits : (links : List Link) (at : Standing) (reply : Reply) (to : LinkNo) (ask : Ask) (link : Link) (h : List Entry) → StandingFits links at → ask_at at ≡ Some (to, ask) → slice_get links (link_number to) ≡ Some link → MayReplyTo link.shape h ask reply → StandingFits links (replied at reply)
 replied-fits links at reply to ask link h fits same found answered = resumed-fits links at.outcomes at.tasks at.replies reply to ask link h fits.tasks fits.offers same found answered
+
+-- without a task nothing is asked
+pub nothing-asked : (replies : List Reply) (to : LinkNo × Ask) → first_ask [] replies ≡ Some to → ⊥
+nothing-asked replies to same = cc
+
+-- where a script stands with one reply more
+pub standing-more : (tasks : List Task) (reply : Reply) (before : List Reply) → standing tasks (reply ∷ before) ≡ resumed (standing tasks before).outcomes (standing tasks before).tasks ((standing tasks before).replies ++ reply ∷ [])
+unfolding standing
+standing-more tasks reply before = refl

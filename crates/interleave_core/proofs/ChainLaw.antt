@@ -30,11 +30,12 @@ use Rattle.tick_plane.specs.Planes.{next_due}
 use Rattle.run_record.specs.Runs.{part_of, replies_to}
 use Rattle.interleave_core.specs.Runs.{plane_no, plane_at, IsNext, IsRun}
 use Rattle.call_script.specs.Scripts.{Opened, Standing, task_ask, continued, resumed, standing, first_ask, ask_at}
-use Rattle.interleave_core.proofs.CallerFacts.{StandingFits}
+use Rattle.interleave_core.proofs.CallerFacts.{StandingFits, nothing-asked, standing-more}
 use Rattle.channel_laws.proofs.ChannelRows.{own-count, legal-free, row-of, find-passes}
 use Rattle.channel_laws.proofs.HoldFates.{Fate, FateOpen, TellsAll, NotCommitted, held-released, released-count}
-use Rattle.interleave_core.proofs.Routes.{index-apart}
-use Rattle.interleave_core.proofs.RowsFollow.{IsComm, IsTail, HopStands, reserved_of, held_at, held-here, held-elsewhere, hop-reply, same-held}
+use Rattle.hop_reservation.proofs.RouteFacts.{index-apart}
+use Rattle.setup_protocol.proofs.HopHolds.{IsComm, IsTail, HopStands, reserved_of}
+use Rattle.interleave_core.proofs.RowsFollow.{held_at, held-here, held-elsewhere, hop-reply, same-held}
 use Rattle.call_script.specs.Owners.{OwnedFully}
 use Rattle.interleave_core.proofs.RunCloses.{ClosesAt, AllComm, comm-later, run-closes, owned-once, head-same}
 use Rattle.call_script.specs.Owners.{TaskOff}
@@ -115,7 +116,7 @@ setup-tells c least count (Arrive packet) off = tt
 setup-tells c least count (Pour many gap size) off = tt
 setup-tells c least count Tick off = tt
 
-same-count : (network : Network) (request : Request) (i : ℕ) (one other : HopAt network request i) (run : List Done) → count_at network request i one run ≡ count_at network request i other run
+pub same-count : (network : Network) (request : Request) (i : ℕ) (one other : HopAt network request i) (run : List Done) → count_at network request i one run ≡ count_at network request i other run
 same-count network request i one other run =
     let hop : one.hop ≡ other.hop = same_Some one.hop other.hop (sym one.stands ∙ other.stands) in
     let link : one.link ≡ other.link = same_Some one.link other.link (sym one.linked ∙ ap (λ h. slice_get network.links (link_number h.link)) hop ∙ other.linked) in
@@ -152,17 +153,17 @@ mild-whole network request owner first done past fits run mild was later terms h
 send-later : (network : Network) (request : Request) (done : Done) (past : List Done) (count gap size : ℕ) (levels : List ℕ) → done.ask ≡ Submit request.chan count gap size → AllComm network request levels 0 past → AllComm network request levels 0 (done ∷ past)
 send-later network request done past count gap size levels is comm i at from =
     elim (cases_Bool (nat_eq (link_number done.link) (link_number at.hop.link))) [
-      | inl on ↦ subst (IsComm request levels i) (sym (held-here network request i at done past (eqb-true (link_number done.link) (link_number at.hop.link) on) ∙ ap (λ a. held_by request.chan (after at.link.shape (clock_of (part_of (link_number at.hop.link) past)) (scan_of at.link.shape (part_of (link_number at.hop.link) past)) a done.reply).rows) is ∙ held-submitted at.link.shape request.chan request.chan (clock_of (part_of (link_number at.hop.link) past)) (scan_of at.link.shape (part_of (link_number at.hop.link) past)) count gap size done.reply)) (comm i at from)
-      | inr off ↦ subst (IsComm request levels i) (sym (held-elsewhere network request i at done past (eqb-false (link_number done.link) (link_number at.hop.link) off))) (comm i at from)
+      | inl on ↦ subst (IsComm Some request levels i) (sym (held-here network request i at done past (eqb-true (link_number done.link) (link_number at.hop.link) on) ∙ ap (λ a. held_by request.chan (after at.link.shape (clock_of (part_of (link_number at.hop.link) past)) (scan_of at.link.shape (part_of (link_number at.hop.link) past)) a done.reply).rows) is ∙ held-submitted at.link.shape request.chan request.chan (clock_of (part_of (link_number at.hop.link) past)) (scan_of at.link.shape (part_of (link_number at.hop.link) past)) count gap size done.reply)) (comm i at from)
+      | inr off ↦ subst (IsComm Some request levels i) (sym (held-elsewhere network request i at done past (eqb-false (link_number done.link) (link_number at.hop.link) off))) (comm i at from)
     ]
 
-setup-whole : (network : Network) (request : Request) (first : HopAt network request 0) (run : List Done) (offers : List ℕ) (p : Progress) → ((i : ℕ) (at : HopAt network request i) → HopStands request offers p i (held_at network request i at run)) → (terms : Reservation) → held_at network request 0 first run ≡ Some terms → terms.phase ≡ Ph.Committed → (levels : List ℕ) × AllComm network request levels 0 run
+setup-whole : (network : Network) (request : Request) (first : HopAt network request 0) (run : List Done) (offers : List ℕ) (p : Progress) → ((i : ℕ) (at : HopAt network request i) → HopStands None Some request offers p i (held_at network request i at run)) → (terms : Reservation) → held_at network request 0 first run ≡ Some terms → terms.phase ≡ Ph.Committed → (levels : List ℕ) × AllComm network request levels 0 run
 setup-whole network request first run offers p stands terms held phase =
     elim (cases_lt 0 (reserved_of offers p)) [
       | inl less ↦ absurd (let tent = (stands 0 first).tent less in let same : tent.terms ≡ terms = same_Some tent.terms terms (sym tent.is ∙ held) in let clash : Ph.Tentative ≡ Ph.Committed = sym tent.phase ∙ ap (λ k. k.phase) same ∙ phase in cc)
       | inr from ↦ by-progress p (λ i at. (stands i at).tail (omega (arith, from)))
     ] where
-      by-progress : (q : Progress) → ((i : ℕ) (at : HopAt network request i) → IsTail request q i (held_at network request i at run)) → (levels : List ℕ) × AllComm network request levels 0 run
+      by-progress : (q : Progress) → ((i : ℕ) (at : HopAt network request i) → IsTail None Some request q i (held_at network request i at run)) → (levels : List ℕ) × AllComm network request levels 0 run
       by-progress (Reserving os reach) tails = absurd (let clash : None ≡ Some terms = sym (tails 0 first) ∙ held in cc)
       by-progress (Undoing left deny) tails = absurd (let clash : None ≡ Some terms = sym (tails 0 first) ∙ held in cc)
       by-progress (Relaxing left levels) tails = (levels, λ i at from. tails i at)
@@ -179,7 +180,7 @@ record FirstReleased (network : Network) (request : Request) (first : HopAt netw
   held : held_at network request 0 first (done ∷ past) ≡ Some terms
   phase : terms.phase ≡ Ph.Closing
 
-first-released : (network : Network) (request : Request) (first : HopAt network request 0) (done : Done) (past : List Done) (levels : List ℕ) → NetworkFits network → ChannelAsked request past → IsRun network past → (next : IsNext network past done) → link_number done.link ≡ link_number first.hop.link → done.ask ≡ Release request.chan None → IsComm request levels 0 (held_at network request 0 first past) → FirstReleased network request first done past
+first-released : (network : Network) (request : Request) (first : HopAt network request 0) (done : Done) (past : List Done) (levels : List ℕ) → NetworkFits network → ChannelAsked request past → IsRun network past → (next : IsNext network past done) → link_number done.link ≡ link_number first.hop.link → done.ask ≡ Release request.chan None → IsComm Some request levels 0 (held_at network request 0 first past) → FirstReleased network request first done past
 unfolding reply_at after
 first-released network request first done past levels fits asked run next on is comm =
     let reply : done.reply ≡ release_to (clock_of (part_of (link_number first.hop.link) past)) None (find (is_row_at_hop request.chan true) (scan_of first.link.shape (part_of (link_number first.hop.link) past)).rows) = hop-reply network request 0 first done past next on ∙ ap (reply_at first.link (clock_of (part_of (link_number first.hop.link) past)) (scan_of first.link.shape (part_of (link_number first.hop.link) past))) is in
@@ -210,11 +211,11 @@ same-told : (a b : ℕ) → Some a ≡ Some b → a ≡ b
 same-told a b same = cc
 
 -- the first hop is frozen after a release
-close-frozen : (network : Network) (request : Request) (first : HopAt network request 0) (done : Done) (past : List Done) (levels : List ℕ) (replies : List Reply) (here : HopAt network request (length replies)) (told : ℕ) → NetworkFits network → ChannelAsked request past → IsRun network past → (next : IsNext network past done) → link_number done.link ≡ link_number here.hop.link → done.ask ≡ Release request.chan (first_count replies) → IsComm request levels (length replies) (held_at network request (length replies) here past) → ((given : ℕ) → first_count replies ≡ Some given → Frozen network request first past given)
+close-frozen : (network : Network) (request : Request) (first : HopAt network request 0) (done : Done) (past : List Done) (levels : List ℕ) (replies : List Reply) (here : HopAt network request (length replies)) (told : ℕ) → NetworkFits network → ChannelAsked request past → IsRun network past → (next : IsNext network past done) → link_number done.link ≡ link_number here.hop.link → done.ask ≡ Release request.chan (first_count replies) → IsComm Some request levels (length replies) (held_at network request (length replies) here past) → ((given : ℕ) → first_count replies ≡ Some given → Frozen network request first past given)
     → first_count (replies ++ done.reply ∷ []) ≡ Some told → Frozen network request first (done ∷ past) told
 close-frozen network request first done past levels [] here told fits asked run next on is comm frozen tells =
     let hop : here.hop ≡ first.hop = same_Some here.hop first.hop (sym here.stands ∙ first.stands) in
-    let own = first-released network request first done past levels fits asked run next (on ∙ ap link_of hop) is (subst (IsComm request levels 0) (same-held network request 0 0 here first past refl) comm) in
+    let own = first-released network request first done past levels fits asked run next (on ∙ ap link_of hop) is (subst (IsComm Some request levels 0) (same-held network request 0 0 here first past refl) comm) in
     let given : own.count ≡ told = same-told own.count told (ap (λ r. Some (told_count r)) (sym own.reply) ∙ tells) in
     let same = first-same network request first done past fits asked run next (λ tick. absurd (let clash : Release request.chan None ≡ Tick = sym is ∙ tick in cc)) in
     record {
@@ -224,7 +225,7 @@ close-frozen network request first done past levels [] here told fits asked run 
 close-frozen network request first done past levels (reply ∷ replies) here told fits asked run next on is comm frozen tells =
     frozen-later network request first done past told fits asked run next (subst (IsMild (channel_number request.chan)) (sym is) tt) (frozen told tells)
 
-close-whole : (network : Network) (request : Request) (first : HopAt network request 0) (done : Done) (past : List Done) (levels : List ℕ) (replies : List Reply) (here : HopAt network request (length replies)) → NetworkFits network → ChannelAsked request past → IsRun network past → (next : IsNext network past done) → link_number done.link ≡ link_number here.hop.link → done.ask ≡ Release request.chan (first_count replies) → IsComm request levels (length replies) (held_at network request (length replies) here past) → ((given : ℕ) → first_count replies ≡ Some given → Frozen network request first past given)
+close-whole : (network : Network) (request : Request) (first : HopAt network request 0) (done : Done) (past : List Done) (levels : List ℕ) (replies : List Reply) (here : HopAt network request (length replies)) → NetworkFits network → ChannelAsked request past → IsRun network past → (next : IsNext network past done) → link_number done.link ≡ link_number here.hop.link → done.ask ≡ Release request.chan (first_count replies) → IsComm Some request levels (length replies) (held_at network request (length replies) here past) → ((given : ℕ) → first_count replies ≡ Some given → Frozen network request first past given)
     → (terms : Reservation) → held_at network request 0 first (done ∷ past) ≡ Some terms → terms.phase ≡ Ph.Committed → ⊥
 close-whole network request first done past levels replies here fits asked run next on is comm frozen terms held phase =
     by-first (first_count (replies ++ done.reply ∷ [])) refl where
@@ -288,10 +289,6 @@ own-leaves network request owner first done past task replies fits sound asked r
   whole = λ terms held phase. absurd (close-whole network request first done past levels replies here fits (asked past run) run next on is comm (λ g s. frozen g own s) terms held phase);
 }
 
-standing-more : (tasks : List Task) (reply : Reply) (before : List Reply) → standing tasks (reply ∷ before) ≡ resumed (standing tasks before).outcomes (standing tasks before).tasks ((standing tasks before).replies ++ reply ∷ [])
-unfolding standing
-standing-more tasks reply before = refl
-
 resumed-at : (at : Standing) (reply : Reply) (outcomes : List Opened) (left : List Task) (replies : List Reply) → at ≡ record { tasks = left; replies = replies; outcomes = outcomes } → resumed at.outcomes at.tasks (at.replies ++ reply ∷ []) ≡ resumed outcomes left (replies ++ reply ∷ [])
 resumed-at at reply outcomes left replies is = ap (λ s. resumed s.outcomes s.tasks (s.replies ++ reply ∷ [])) is
 
@@ -333,9 +330,6 @@ own-some : (network : Network) (request : Request) (owner : ℕ) (first : HopAt 
 own-some network request owner first done past tasks outcomes task rest replies fits sound names run next found by is kind was =
     own-chain network request owner first done past tasks outcomes task rest replies fits sound names run next found by is
     (own-leaves network request owner first done past task replies fits sound names run next was (frozen-was network request owner first past tasks outcomes task rest replies found is was) kind) was
-
-nothing-asked : (replies : List Reply) (to : LinkNo × Ask) → first_ask [] replies ≡ Some to → ⊥
-nothing-asked replies to same = cc
 
 own-next : (network : Network) (request : Request) (owner : ℕ) (first : HopAt network request 0) (done : Done) (past : List Done) (tasks : List Task) (outcomes : List Opened) (left : List Task) (replies : List Reply) → NetworkFits network → RequestFits network.links request → ((run : List Done) → IsRun network run → ChannelAsked request run) → IsRun network past → (next : IsNext network past done) → slice_get network.scripts owner ≡ Some tasks → actor_number done.actor ≡ owner
     → standing tasks (replies_to owner past) ≡ record { tasks = left; replies = replies; outcomes = outcomes } → first_ask left replies ≡ Some (done.link, done.ask) → StandingFits network.links (record { tasks = left; replies = replies; outcomes = outcomes }) → GoesAt network request past left replies outcomes → ClosesAt network request past (record { tasks = left; replies = replies; outcomes = outcomes }) → Chain network request owner first past → Chain network request owner first (done ∷ past)

@@ -36,7 +36,7 @@ use Rattle.interleave_core.proofs.HopsAt.{hop-at, HaveLevelsAt}
 use Rattle.interleave_core.proofs.PathLaw.{delay-more, path-law}
 use Rattle.interleave_core.proofs.Punctual.{run-punctual}
 use Rattle.interleave_core.proofs.QueueTicks.{leg}
-use Rattle.interleave_core.proofs.ReadyRun.{two_of, run-legs, counts-first}
+use Rattle.interleave_core.proofs.ReadyRun.{two_of, run-legs}
 use Rattle.call_script.specs.Owners.{OwnedFully}
 use Rattle.interleave_core.proofs.RunCloses.{owned-once}
 use Rattle.interleave_core.proofs.RunGoes.{owned-asked}
@@ -46,6 +46,7 @@ use Rattle.channel_laws.specs.Departing.{gone_of}
 use Rattle.channel_laws.proofs.DepartedCount.{channel-few}
 use Rattle.channel_laws.proofs.NumberedPackets.{HasNumber, packets-have_numbers}
 use Rattle.interleave_core.specs.Guarantee.{count_at}
+use Rattle.interleave_core.proofs.ChainLaw.{same-count}
 
 -- ---- lists
 
@@ -232,7 +233,7 @@ pub path-departs : (network : Network) (request : Request) (owner : ℕ) (levels
     → k < gone_of at.link.shape (channel_number request.chan) (part_of (link_number at.hop.link) run)
 path-departs network request owner levels run first zero at k fits sound full is have ticks taken due =
     let names = owned-asked network request owner fits sound (owned-once network request owner full) in
-    let same = Rattle.interleave_core.proofs.ReadyRun.same-at network request 0 at first run in
+    let same = same-count network request 0 at first run in
     hop-gone network request levels run first 0 at k fits sound names is have (omega (arith, same, taken)) due
 path-departs network request owner levels run first (suc i) at k fits sound full is have ticks taken due =
     let names = owned-asked network request owner fits sound (owned-once network request owner full) in

@@ -5,12 +5,10 @@ use Rattle.std.proofs.lemmas.Bool.{cases_Bool, cases_lt, eqb-true, eqb-false, eq
 use Rattle.std.proofs.lemmas.List.{length-append}
 use Rattle.std.proofs.lemmas.List.Elements.{filter-append}
 use Rattle.std.proofs.lemmas.Option.{same_Some, slice_get_within}
-use Rattle.std.specs.List.{slice_get}
 use Rattle.std.specs.Prelude.{nat_eq, find}
 use Rattle.net_units.specs.Numbers.{link_number, channel_number}
 use Rattle.net_units.specs.declared.numbers.LinkNo.{LinkNo}
 use Rattle.hop_reservation.specs.Routes.{link_of}
-use Rattle.hop_reservation.specs.declared.route.Hop.{Hop}
 use Rattle.link_steps.specs.declared.asks.Ask.{Ask}
 use Rattle.link_steps.specs.declared.asks.Ask.TheVariants.{Reserve, Submit, Release, Tick}
 use Rattle.link_steps.specs.declared.replies.Entry.{Entry}
@@ -25,7 +23,7 @@ use Rattle.link_steps.specs.Scan.{clock_of, scan_of}
 use Rattle.link_steps.proofs.LegalChannels.{legal-channels}
 use Rattle.link_steps.proofs.LegalOrder.{legal-order}
 use Rattle.link_steps.proofs.ListFacts.{Each-find}
-use Rattle.setup_protocol.specs.Setup.{Progress, Reserving, Undoing, Relaxing, Settled, asked, asked_of, next_ask, progress_of}
+use Rattle.setup_protocol.specs.Setup.{Progress, asked, next_ask, progress_of}
 use Rattle.setup_protocol.specs.Teardown.{first_count, next_release}
 use Rattle.setup_protocol.specs.declared.request.Request.{Request}
 use Rattle.run_record.specs.declared.done.Done.{Done}
@@ -44,8 +42,9 @@ use Rattle.interleave_core.proofs.FlightFacts.{part-grows}
 use Rattle.channel_laws.proofs.HoldFates.{Fate, FateOpen, FateClosing, FateGone, NoSecond, TellsAll, NotCommitted, fate-after, first-quiet}
 use Rattle.interleave_core.proofs.ChannelsAt.{stands-at}
 use Rattle.interleave_core.proofs.HopsAt.{hop-at}
-use Rattle.interleave_core.proofs.RowsFollow.{IsComm, held_at, held-here, held-elsewhere, hop-may, SetupRows, setup-goes}
-use Rattle.interleave_core.proofs.RunCloses.{ClosesAt, Early, Denied, Open, Closing, Over, AllComm, at-hop, goes-rows, head-same, not-own}
+use Rattle.setup_protocol.proofs.HopHolds.{IsComm}
+use Rattle.interleave_core.proofs.RowsFollow.{held_at, held-here, held-elsewhere, hop-may, SetupRows, setup-goes}
+use Rattle.interleave_core.proofs.RunCloses.{ClosesAt, Early, Denied, Open, Closing, Over, AllComm, goes-rows, head-same, not-own}
 use Rattle.call_script.specs.Owners.{TaskOff}
 use Rattle.interleave_core.proofs.RunGoes.{GoesAt, task-off, is-run}
 use Rattle.interleave_core.proofs.RunLegal.{part-on, part-off, part-admissible}
@@ -54,6 +53,7 @@ use Rattle.channel_laws.specs.Reservations.{held_by, ComesOf, Stays, Closed}
 use Rattle.channel_laws.proofs.TermsAfter.{comes-mild}
 use Rattle.interleave_core.specs.Paths.{HopAt, packets_at}
 use Rattle.interleave_core.specs.Guarantee.{count_at}
+use Rattle.setup_protocol.proofs.HopAsks.{asked-at, of-setup}
 
 -- ---- one hop
 
@@ -165,26 +165,19 @@ pub data OwnKind (network : Network) (request : Request) (done : Done) (past : L
   OwnOff : TaskOff (channel_number request.chan) task → IsOff (channel_number request.chan) done.ask → OwnKind network request done past task replies
   OwnSetup : (later : List Reply) → later ≡ replies ++ done.reply ∷ [] → task ≡ Opens request → SetupRows network request later (done ∷ past) → NoRelease done.ask → OwnKind network request done past task replies
   OwnSend : (count gap size : ℕ) → task ≡ Sends request count gap size → done.ask ≡ Submit request.chan count gap size → OwnKind network request done past task replies
-  OwnClose : (levels : List ℕ) → task ≡ Closes request → (here : HopAt network request (length replies)) → link_number done.link ≡ link_number here.hop.link → done.ask ≡ Release request.chan (first_count replies) → IsComm request levels (length replies) (held_at network request (length replies) here past) → OwnKind network request done past task replies
+  OwnClose : (levels : List ℕ) → task ≡ Closes request → (here : HopAt network request (length replies)) → link_number done.link ≡ link_number here.hop.link → done.ask ≡ Release request.chan (first_count replies) → IsComm Some request levels (length replies) (held_at network request (length replies) here past) → OwnKind network request done past task replies
 
-no-release-hop : (found : Option Hop) (to : LinkNo) (ask own : Ask) → NoRelease own → asked_of found (λ hop. own) ≡ Some (to, ask) → NoRelease ask
-no-release-hop None to ask own mild same = cc
-no-release-hop (Some hop) to ask own mild same = subst NoRelease (ap (λ pair. pair.1) (same_Some (hop.link, own) (to, ask) same)) mild
-
-setup-asks : (request : Request) (p : Progress) (to : LinkNo) (ask : Ask) → asked request p ≡ Some (to, ask) → NoRelease ask
-setup-asks request (Reserving offers reach) to ask same = no-release-hop _ to ask _ tt same
-setup-asks request (Undoing left deny) to ask same = no-release-hop _ to ask _ tt same
-setup-asks request (Relaxing left levels) to ask same = no-release-hop _ to ask _ tt same
-setup-asks request (Settled outcome) to ask same = cc
+setup-keeps : (request : Request) (p : Progress) (to : LinkNo) (ask : Ask) → asked request p ≡ Some (to, ask) → NoRelease ask
+setup-keeps request p to ask same = of-setup NoRelease request p to ask (λ offers reach. tt) tt (λ levels place. tt) same
 
 close-kind : (network : Network) (request : Request) (done : Done) (past : List Done) (task : Task) (replies : List Reply) (levels : List ℕ) → RequestFits network.links request → task ≡ Closes request → AllComm network request levels (length replies) past → next_release request.chan request.route replies ≡ Some (done.link, done.ask) → OwnKind network request done past task replies
 close-kind network request done past task replies levels sound is comm asks =
-    let own = at-hop request (length replies) (slice_get request.route (length replies)) done.link done.ask (Release request.chan (first_count replies)) refl asks in
-    let here = hop-at network request (length replies) sound (slice_get_within request.route (length replies) own.0 own.1) in
-    OwnClose levels is here (ap link_number own.2 ∙ ap link_of (same_Some own.0 here.hop (sym own.1 ∙ here.stands))) own.3 (comm (length replies) here (omega arith))
+    let own = asked-at request.route (length replies) (λ hop. Release request.chan (first_count replies)) done.link done.ask asks in
+    let here = hop-at network request (length replies) sound (slice_get_within request.route (length replies) own.hop own.stands) in
+    OwnClose levels is here (ap link_number own.at ∙ ap link_of (same_Some own.hop here.hop (sym own.stands ∙ here.stands))) own.is (comm (length replies) here (omega arith))
 
 send-kind : (network : Network) (request : Request) (done : Done) (past : List Done) (task : Task) (replies : List Reply) (count gap size : ℕ) → task ≡ Sends request count gap size → submit_next request count gap size replies ≡ Some (done.link, done.ask) → OwnKind network request done past task replies
-send-kind network request done past task [] count gap size is asks = OwnSend count gap size is (at-hop request 0 (slice_get request.route 0) done.link done.ask (Submit request.chan count gap size) refl asks).3
+send-kind network request done past task [] count gap size is asks = OwnSend count gap size is (asked-at request.route 0 (λ hop. Submit request.chan count gap size) done.link done.ask asks).is
 send-kind network request done past task (reply ∷ replies) count gap size is asks = cc
 
 pub own-kind : (network : Network) (request : Request) (done : Done) (past : List Done) (outcomes : List Opened) (task : Task) (tasks : List Task) (replies : List Reply) → NetworkFits network → RequestFits network.links request → IsRun network past → (next : IsNext network past done) → StandingFits network.links (record { tasks = task ∷ tasks; replies = replies; outcomes = outcomes }) → GoesAt network request past (task ∷ tasks) replies outcomes → task_ask task replies ≡ Some (done.link, done.ask) → ClosesAt network request past (record { tasks = task ∷ tasks; replies = replies; outcomes = outcomes })
@@ -194,7 +187,7 @@ own-kind network request done past outcomes task tasks replies fits sound run ne
     let goes' : GoesAt network request past (Opens request ∷ tasks) replies outcomes = subst (λ t. GoesAt network request past (t ∷ tasks) replies outcomes) own.0 goes in
     let asks' : next_ask request replies ≡ Some (done.link, done.ask) = subst (λ t. first_ask (t ∷ tasks) replies ≡ Some (done.link, done.ask)) own.0 asks in
     let stands' = subst (λ t. StandingFits network.links (record { tasks = t ∷ tasks; replies = replies; outcomes = outcomes })) own.0 stands in
-    OwnSetup (replies ++ done.reply ∷ []) refl own.0 (setup-goes network request replies done past fits sound run next stands'.offers (goes-rows network request past tasks replies outcomes sound.route.least goes') asks').rows (setup-asks request (progress_of request replies) done.link done.ask asks')
+    OwnSetup (replies ++ done.reply ∷ []) refl own.0 (setup-goes network request replies done past fits sound run next stands'.offers (goes-rows network request past tasks replies outcomes sound.route.least goes') asks').stands (setup-keeps request (progress_of request replies) done.link done.ask asks')
 own-kind network request done past outcomes task tasks replies fits sound run next stands goes asks (Denied (inl off) first none) = OwnOff off.0 (task-off (channel_number request.chan) task replies done.link done.ask off.0 asks)
 own-kind network request done past outcomes task tasks replies fits sound run next stands goes asks (Denied (inr (inl own)) first none) = absurd (not-own request task _ first own.0.is (λ off. off refl))
 own-kind network request done past outcomes task tasks replies fits sound run next stands goes asks (Denied (inr (inr own)) first none) = absurd (not-own request task _ first own.0 (λ off. off refl))

@@ -34,11 +34,13 @@ use Rattle.tick_plane.specs.Planes.{Plane, is_due, next_due, ask_due, flight_to,
 use Rattle.run_record.specs.Runs.{entry_of, part_of, replies_to}
 use Rattle.interleave_core.specs.Flights.{FlightsStand}
 use Rattle.interleave_core.specs.Runs.{plane_no, plane_at, IsNext, IsRun}
-use Rattle.interleave_core.proofs.RunLegal.{part-may, tick-answer, RunStands, clock_at, plane-next, plane-off, plane-by, part-on, part-off, made-flights, link_at-number, run-stands}
+use Rattle.interleave_core.proofs.RunLegal.{part-may, tick-answer, RunStands, clock_at, plane-next, plane-off, plane-by, part-on, part-off, link_at-number, run-stands}
 use Rattle.channel_laws.specs.Departing.{ticked, IsSent}
 use Rattle.channel_laws.proofs.SentFacts.{sent-facts}
 use Rattle.channel_laws.proofs.DepartedCount.{history-from, more-legal}
 use Rattle.channel_laws.proofs.NumberedPackets.{HasNumber, packets-have_numbers}
+use Rattle.tick_plane.proofs.FlightFacts.{made-flights}
+use Rattle.link_steps.proofs.ListParts.{Among-left}
 
 -- ---- packets only grow
 
@@ -58,11 +60,6 @@ part-grows link n done past =
       | inl on ↦ subst (λ h. Grows (packets_on link n past) (scan_of link.shape h).packets) (sym (part-on n done past (eqb-true (link_number done.link) n on))) (history-grows link.shape (entry_of done) (part_of n past))
       | inr off ↦ subst (λ h. Grows (packets_on link n past) (scan_of link.shape h).packets) (sym (part-off n done past (eqb-false (link_number done.link) n off))) (grows-none (packets_on link n past))
     ]
-
-pub Among-left : {X : Type 0} (x : X) (xs ys : List X) → Among x xs → Among x (xs ++ ys)
-Among-left x [] ys among = absurd among
-Among-left x (y ∷ xs) ys (inl same) = inl same
-Among-left x (y ∷ xs) ys (inr among) = inr (Among-left x xs ys among)
 
 among-later : (p : Arrival) (old new : List Arrival) → Grows old new → Among p old → Among p new
 among-later p old new grows among = subst (Among p) (sym grows.is) (Among-left p old grows.more among)

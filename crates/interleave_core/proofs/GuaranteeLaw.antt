@@ -1,5 +1,5 @@
 -- Every run of a network whose parts fit, and whose channels each have one owner, is guaranteed after each of its entries.
-use Rattle.std.proofs.Common.{◌≡◌, ℕ, zero, suc, ◌+◌, ◌<◌, ◌≤◌, true, List, [], ◌∷◌, length, map, get_or, Some, None, refl, sym, ap, ◌∙◌, subst, inl, inr, arith}
+use Rattle.std.proofs.Common.{◌≡◌, ℕ, ◌+◌, ◌<◌, ◌≤◌, true, List, [], ◌∷◌, length, map, get_or, Some, None, refl, sym, ap, ◌∙◌, subst, inl, inr, arith}
 use Rattle.std.proofs.lemmas.Bool.{cases_Bool, eqb-true, eqb-false, eq-eqb, ne_eqb, and_from, lt-ltb}
 use Rattle.std.proofs.lemmas.Option.{same_Some, slice_get_within}
 use Rattle.std.specs.List.{slice_get}
@@ -8,8 +8,6 @@ use Rattle.net_units.specs.LevelBounds.{bound_at}
 use Rattle.net_units.specs.Numbers.{link_number, actor_number, channel_number}
 use Rattle.net_units.specs.declared.Kind.TheVariants.{Jitter}
 use Rattle.net_units.proofs.BoundFacts.{bound_least}
-use Rattle.hop_reservation.specs.Offers.{AreLevels, IsLevelOf}
-use Rattle.hop_reservation.specs.declared.route.Hop.{Hop}
 use Rattle.link_steps.specs.declared.asks.Ask.{Ask}
 use Rattle.link_steps.specs.declared.asks.Ask.TheVariants.{Reserve, Relax, Deny, Submit, Release, Arrive, Tick, Pour}
 use Rattle.link_steps.specs.declared.asks.Packet.{Packet}
@@ -57,21 +55,15 @@ use Rattle.interleave_core.proofs.HopsAt.{hop-at}
 use Rattle.interleave_core.proofs.ReadyRun.{counts-first}
 use Rattle.interleave_core.proofs.ChannelsAt.{packet-offered}
 use Rattle.link_steps.proofs.ChangeFacts.{Each-from_among}
+use Rattle.hop_reservation.proofs.OfferFacts.{AreLevels-at}
 
 -- ---- an accepted channel
-
-level-at : (hops : List Hop) (levels : List ℕ) (i : ℕ) (hop : Hop) → AreLevels hops levels → slice_get hops i ≡ Some hop → i < length levels → IsLevelOf hop (get_or levels i 0)
-unfolding AreLevels
-level-at hops [] i hop are found within = absurd (omega (arith, within))
-level-at [] (level ∷ levels) i hop are found within = absurd are
-level-at (h ∷ hops) (level ∷ levels) zero hop are found within = subst (λ x. IsLevelOf x level) (same_Some h hop found) are.0
-level-at (h ∷ hops) (level ∷ levels) (suc i) hop are found within = level-at hops levels i hop are.1 found (omega (arith, within))
 
 have-ticks : (network : Network) (request : Request) (levels : List ℕ) (delay : ℕ) → KeepsRequest request levels delay → HaveTicks network request levels
 have-ticks network request levels delay keeps i at =
     let whole = keeps.have_levels.whole in
     let within = slice_get_within request.route i at.hop at.stands in
-    let level = level-at request.route levels i at.hop keeps.have_levels.are_levels at.stands (omega (arith, whole, within)) in
+    let level = AreLevels-at request.route levels i at.hop keeps.have_levels.are_levels at.stands (omega (arith, whole, within)) in
     let most = level.most in
     let same : length at.hop.bounds ≡ length at.link.shape.bounds = ap length at.bounds in
     bound_least at.link.shape.bounds (get_or levels i 0) at.link.shape.bounds_rise level.least (omega (arith, most, same))

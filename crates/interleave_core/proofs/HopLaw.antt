@@ -31,7 +31,7 @@ use Rattle.link_steps.specs.Lists.{Each}
 use Rattle.link_steps.specs.Regulator.{waits_until, eligible_next}
 use Rattle.link_steps.specs.Replies.{arrive_to, reply_at, reply_to}
 use Rattle.link_steps.specs.Rows.{Row}
-use Rattle.link_steps.specs.Scan.{Scan, clock_with, clock_of, scan_of, is_row_of, arrived_packet, with_arrival, after_tick, after}
+use Rattle.link_steps.specs.Scan.{Scan, clock_of, scan_of, is_row_of, arrived_packet, with_arrival, after_tick, after}
 use Rattle.link_steps.specs.Service.{Arrival}
 use Rattle.link_steps.proofs.LegalChannels.{legal-channels}
 use Rattle.link_steps.proofs.ListFacts.{Among, Each-among, Each-find}
@@ -51,19 +51,17 @@ use Rattle.call_script.specs.Scripts.{standing}
 use Rattle.interleave_core.proofs.CallerFacts.{IsCallers, standing-asks}
 use Rattle.channel_laws.proofs.ChannelRows.{packets-on, packets-off, row-of, find-passes, arrive-number, tick-none, tick-free, legal-free}
 use Rattle.interleave_core.proofs.ChannelsAt.{stands-at, packet-offered}
-use Rattle.interleave_core.proofs.Routes.{index-apart}
+use Rattle.hop_reservation.proofs.RouteFacts.{index-apart}
 use Rattle.channel_laws.proofs.Places.{place-of, row-keeps}
 use Rattle.link_steps.proofs.PacketRows.{Among-passes}
 use Rattle.interleave_core.proofs.FlightFacts.{part-grows, run-flights}
 use Rattle.interleave_core.proofs.HopStep.{IsTimed, eligible-after, timed-none, timed-later, timed-append, timed-more}
 use Rattle.interleave_core.proofs.RunLegal.{RunStands, clock_at, plane-next, caller-next, part-on, part-off, run-stands, part-admissible}
 use Rattle.interleave_core.specs.Flights.{FlightsStand}
+use Rattle.link_steps.proofs.ListParts.{Each-parts}
+use Rattle.link_steps.proofs.ClockFacts.{clock_with-later}
 
 -- ---- lists
-
-Each-left : {X : Type 0} (P : X → Type 0) (xs ys : List X) → Each P (xs ++ ys) → Each P xs
-Each-left P [] ys each = tt
-Each-left P (x ∷ xs) ys each = (each.0, Each-left P xs ys each.1)
 
 -- ---- a packet that arrives
 
@@ -340,7 +338,7 @@ levels-before network request i two past done level levels =
     let grows = part-grows two.near (link_number two.hop.link) done past in
     let same : channel_packets (channel_number request.chan) (packets_on two.near (link_number two.hop.link) (done ∷ past)) ≡ channel_packets (channel_number request.chan) (packets_on two.near (link_number two.hop.link) past) ++ channel_packets (channel_number request.chan) grows.more =
     ap (channel_packets (channel_number request.chan)) grows.is ∙ filter-append (is_of_channel (channel_number request.chan)) (packets_on two.near (link_number two.hop.link) past) grows.more in
-    Each-left (λ p. p.level ≡ level) _ _ (subst (Each (λ p. p.level ≡ level)) same levels)
+    (Each-parts (λ p. p.level ≡ level) _ _ (subst (Each (λ p. p.level ≡ level)) same levels)).0
 
 hop-step : (network : Network) (request : Request) (i : ℕ) (two : TwoHops network request i) (past : List Done) (done : Done) (level : ℕ) → NetworkFits network → RequestFits network.links request → IsRun network past → ChannelAsked request past → (next : IsNext network past done)
     → Each (λ p. p.level ≡ level) (channel_packets (channel_number request.chan) (packets_on two.near (link_number two.hop.link) past))
@@ -359,21 +357,11 @@ hop-step network request i two past done level fits sound run asked next levels 
           subst (λ h. IsTimed (kind_of request.control) (bound_at two.near.shape.bounds level + two.near.shape.prop) two.near.shape.prop (clock_of (part_of (link_number two.after.link) past)) (near_ticks network request i two past) (ticks_at (channel_number request.chan) (scan_of two.far.shape h).packets)) (sym (part-off (link_number two.after.link) done past (eqb-false (link_number done.link) (link_number two.after.link) off))) rest
     ]
 
-clock-with-later : (ask : Ask) (t : ℕ) → t ≤ clock_with ask t
-clock-with-later (Reserve chan contract kind delay up_reach first next) t = omega arith
-clock-with-later (Relax chan level up_bound) t = omega arith
-clock-with-later (Deny chan) t = omega arith
-clock-with-later (Submit chan count gap size) t = omega arith
-clock-with-later (Release chan upstream) t = omega arith
-clock-with-later (Arrive packet) t = omega arith
-clock-with-later Tick t = omega arith
-clock-with-later (Pour count gap size) t = omega arith
-
 clock-later : (n : ℕ) (done : Done) (past : List Done) → clock_of (part_of n past) ≤ clock_of (part_of n (done ∷ past))
 unfolding clock_of
 clock-later n done past =
     elim (cases_Bool (nat_eq (link_number done.link) n)) [
-      | inl on ↦ subst (λ h. clock_of (part_of n past) ≤ clock_of h) (sym (part-on n done past (eqb-true (link_number done.link) n on))) (clock-with-later done.ask (clock_of (part_of n past)))
+      | inl on ↦ subst (λ h. clock_of (part_of n past) ≤ clock_of h) (sym (part-on n done past (eqb-true (link_number done.link) n on))) (clock_with-later done.ask (clock_of (part_of n past)))
       | inr off ↦ subst (λ h. clock_of (part_of n past) ≤ clock_of h) (sym (part-off n done past (eqb-false (link_number done.link) n off))) (omega arith)
     ]
 

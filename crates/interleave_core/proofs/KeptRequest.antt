@@ -24,7 +24,7 @@ use Rattle.call_script.specs.Tasks.{Network}
 use Rattle.run_record.specs.Runs.{part_of, replies_to}
 use Rattle.interleave_core.specs.Runs.{IsNext, IsRun}
 use Rattle.call_script.specs.Scripts.{Opened, task_ask, settled_as, continued, resumed, standing, first_ask, ask_at, outcome_in}
-use Rattle.interleave_core.proofs.CallerFacts.{StandingFits, offers-go-on}
+use Rattle.interleave_core.proofs.CallerFacts.{StandingFits, offers-go-on, standing-more}
 use Rattle.call_script.specs.Owners.{OwnedFully}
 use Rattle.interleave_core.proofs.RunCloses.{ClosesAt, Early, Denied, Open, Closing, Over, run-closes, head-same}
 use Rattle.call_script.specs.Owners.{TaskOff}
@@ -125,10 +125,6 @@ step-keeps network request done past (task ∷ tasks) replies outcomes levels de
       | inl before ↦ was before
       | inr opens ↦ opened-keeps network request done past task tasks replies outcomes levels delay sound next may asks stands closes opens
     ]
-
-standing-more : (tasks : List Task) (reply : Reply) (before : List Reply) → standing tasks (reply ∷ before) ≡ resumed (standing tasks before).outcomes (standing tasks before).tasks ((standing tasks before).replies ++ reply ∷ [])
-unfolding standing
-standing-more tasks reply before = refl
 
 none-yet : (request : Request) (tasks : List Task) (outcome : Outcome) → outcome_in request.chan (standing tasks []).outcomes ≡ Some outcome → ⊥
 unfolding standing outcome_in

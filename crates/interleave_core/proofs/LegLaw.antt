@@ -42,7 +42,7 @@ use Rattle.channel_laws.proofs.SizeLaw.{legal-within}
 use Rattle.interleave_core.proofs.HopLaw.{TwoHops, arrive-comes, from-near, next-link, far-ticks}
 use Rattle.interleave_core.proofs.ChannelsAt.{packet-offered}
 use Rattle.link_steps.proofs.PacketRows.{Among-passes}
-use Rattle.interleave_core.proofs.Routes.{index-apart}
+use Rattle.hop_reservation.proofs.RouteFacts.{index-apart}
 use Rattle.channel_laws.proofs.DepartedCount.{gone-quiet, start-among, more-legal, level-channel}
 use Rattle.channel_laws.proofs.NumberedPackets.{HasNumber, packets-have_numbers}
 use Rattle.interleave_core.specs.Flights.{IsPunctual}

@@ -6,7 +6,6 @@ use Rattle.std.proofs.lemmas.Option.{same_Some}
 use Rattle.std.specs.List.{slice_get}
 use Rattle.std.specs.Prelude.{nat_eq}
 use Rattle.net_units.specs.Numbers.{actor_number, channel_number}
-use Rattle.net_units.specs.declared.numbers.LinkNo.{LinkNo}
 use Rattle.link_steps.specs.declared.asks.Ask.{Ask}
 use Rattle.link_steps.specs.declared.asks.Ask.TheVariants.{Tick}
 use Rattle.link_steps.specs.declared.replies.Phase.TheVariants as Ph
@@ -24,11 +23,12 @@ use Rattle.tick_plane.specs.Planes.{next_due}
 use Rattle.run_record.specs.Runs.{part_of, replies_to}
 use Rattle.interleave_core.specs.Runs.{plane_no, plane_at, IsNext, IsRun}
 use Rattle.call_script.specs.Scripts.{Opened, standing, first_ask, ask_at}
-use Rattle.interleave_core.proofs.CallerFacts.{StandingFits}
+use Rattle.interleave_core.proofs.CallerFacts.{StandingFits, nothing-asked}
 use Rattle.interleave_core.proofs.ChainLaw.{is-tick, open-or-not, run-chain}
 use Rattle.interleave_core.proofs.FarHolds.{first-same, OwnKind, OwnOff, OwnSetup, OwnSend, OwnClose, own-kind}
 use Rattle.channel_laws.proofs.HoldFates.{Fate, FateOpen, FateClosing, FateGone}
-use Rattle.interleave_core.proofs.RowsFollow.{IsTail, HopStands, reserved_of, held_at, SetupRows, AfterRows, comm-kept}
+use Rattle.setup_protocol.proofs.HopHolds.{IsTail, HopStands, reserved_of}
+use Rattle.interleave_core.proofs.RowsFollow.{held_at, SetupRows, AfterRows, comm-kept}
 use Rattle.interleave_core.proofs.RunCloses.{ClosesAt, AllComm, comm-later, run-closes, owned-once}
 use Rattle.call_script.specs.Owners.{OwnedFully}
 use Rattle.interleave_core.proofs.RunGoes.{HopLevels, levels-settled, levels-later, after-later, GoesAt, run-goes, owned-asked, tasks-off, plane-off-ask, off-standing, off-mild, is-run}
@@ -51,9 +51,6 @@ own-entry network request done past task replies (OwnSetup later made own rows s
     ]
 own-entry network request done past task replies (OwnSend count gap size own is) = MildOne (subst (IsMild (channel_number request.chan)) (sym is) tt)
 own-entry network request done past task replies (OwnClose levels own here on is comm) = MildOne (subst (IsMild (channel_number request.chan)) (sym is) tt)
-
-nothing-asked : (replies : List Reply) (to : LinkNo × Ask) → first_ask [] replies ≡ Some to → ⊥
-nothing-asked replies to same = cc
 
 left-entry : (network : Network) (request : Request) (done : Done) (past : List Done) (outcomes : List Opened) (left : List Task) (replies : List Reply) → NetworkFits network → RequestFits network.links request → IsRun network past → (next : IsNext network past done) → first_ask left replies ≡ Some (done.link, done.ask) → StandingFits network.links (record { tasks = left; replies = replies; outcomes = outcomes }) → GoesAt network request past left replies outcomes → ClosesAt network request past (record { tasks = left; replies = replies; outcomes = outcomes }) → EntryIs network request done past
 left-entry network request done past outcomes [] replies fits sound run next asks stands goes closes = absurd (nothing-asked replies (done.link, done.ask) asks)
@@ -105,13 +102,13 @@ never-tent least count held terms is tent (FateOpen own same phase) = (let e : t
 never-tent least count held terms is tent (FateClosing own same phase upto) = (let e : terms ≡ own = same_Some terms own (sym is ∙ same) in let clash : Ph.Tentative ≡ Ph.Closing = sym tent ∙ ap (λ k. k.phase) e ∙ phase in cc)
 never-tent least count held terms is tent (FateGone none upto) = (let clash : Some terms ≡ None = sym is ∙ none in cc)
 
-setup-levelled : (network : Network) (request : Request) (first : HopAt network request 0) (done : Done) (past : List Done) (offers : List ℕ) (p : Progress) (least count : ℕ) → NetworkFits network → IsRun network (done ∷ past) → ChannelAsked request (done ∷ past) → ((i : ℕ) (at : HopAt network request i) → HopStands request offers p i (held_at network request i at (done ∷ past))) → Fate least count (held_at network request 0 first (done ∷ past)) → Levelled network request past → Levelled network request (done ∷ past)
+setup-levelled : (network : Network) (request : Request) (first : HopAt network request 0) (done : Done) (past : List Done) (offers : List ℕ) (p : Progress) (least count : ℕ) → NetworkFits network → IsRun network (done ∷ past) → ChannelAsked request (done ∷ past) → ((i : ℕ) (at : HopAt network request i) → HopStands None Some request offers p i (held_at network request i at (done ∷ past))) → Fate least count (held_at network request 0 first (done ∷ past)) → Levelled network request past → Levelled network request (done ∷ past)
 setup-levelled network request first done past offers p least count fits is asked stands fate was =
     elim (cases_lt 0 (reserved_of offers p)) [
       | inl less ↦ absurd (let tent = (stands 0 first).tent less in never-tent least count (held_at network request 0 first (done ∷ past)) tent.terms tent.is tent.phase fate)
       | inr from ↦ by-progress p (λ i at. (stands i at).tail (omega (arith, from)))
     ] where
-      by-progress : (q : Progress) → ((i : ℕ) (at : HopAt network request i) → IsTail request q i (held_at network request i at (done ∷ past))) → Levelled network request (done ∷ past)
+      by-progress : (q : Progress) → ((i : ℕ) (at : HopAt network request i) → IsTail None Some request q i (held_at network request i at (done ∷ past))) → Levelled network request (done ∷ past)
       by-progress (Reserving os reach) tails = none-levelled network request done past fits is asked tails was
       by-progress (Undoing left deny) tails = none-levelled network request done past fits is asked tails was
       by-progress (Relaxing left levels) tails = all-levelled network request (done ∷ past) levels fits is asked (λ i at from. tails i at)

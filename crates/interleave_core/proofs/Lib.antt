@@ -1,10 +1,8 @@
 pub mod CallerFacts
 pub mod RunLegal
 pub mod RunOf
-pub mod Routes
 pub mod HopsAt
 pub mod SetupOnce
-pub mod SetupReplies
 pub mod RowsFollow
 pub mod ChannelsAt
 pub mod RowLevels

@@ -1,24 +1,22 @@
 -- The caller that opens a request is one of the actors, and what the request has come to, as this caller knows it, is the verdict
 -- over the replies of the run.
 use Rattle.std.proofs.Common.{◌≡◌, ℕ, ◌<◌, Option, Some, List, length, sym, ap, ◌∙◌, arith}
-use Rattle.std.proofs.lemmas.List.{length-map}
 use Rattle.std.proofs.lemmas.Option.{same_Some}
 use Rattle.std.specs.List.{slice_get}
 use Rattle.net_units.specs.Numbers.{actor_number, channel_number}
 use Rattle.setup_protocol.specs.Setup.{Outcome, verdict_of}
 use Rattle.call_script.proofs.FitFacts.{request-fits}
 use Rattle.call_script.proofs.OwnerFacts.{owned-by}
-use Rattle.call_script.specs.Owners.{OwnedFully}
 use Rattle.call_script.specs.Parts.{PlanParts}
 use Rattle.call_script.specs.Plans.{IsPlan}
 use Rattle.call_script.specs.Scripts.{outcome_in, standing_of}
 use Rattle.call_script.specs.Standing.{standing_in}
-use Rattle.call_script.specs.Tasks.{Network, network_of}
+use Rattle.call_script.specs.Tasks.{network_of}
 use Rattle.call_script.specs.declared.entries.RequestEntry.{RequestEntry}
 use Rattle.interleave_core.specs.Runs.{IsRun}
 use Rattle.interleave_core.specs.Verdicts.{setup_replies}
 use Rattle.interleave_core.proofs.ActorFacts.{plane-number}
-use Rattle.interleave_core.proofs.Lookups.{Held, held}
+use Rattle.interleave_core.proofs.Lookups.{held}
 use Rattle.interleave_core.proofs.VerdictHolds.{verdicts-follow}
 use Rattle.run_record.specs.Runs.{replies_to}
 use Rattle.run_record.specs.declared.done.Done.{Done}

@@ -37,7 +37,7 @@ run-guaranteed parts core stands = record {
 -- ---- turns
 
 -- the core's step is the actor's next
-step-some : (next : Option (LinkNo × Ask)) (to : LinkNo × Ask) → next ≡ Some to → IsSome next
+pub step-some : (next : Option (LinkNo × Ask)) (to : LinkNo × Ask) → next ≡ Some to → IsSome next
 step-some None to is = cc
 step-some (Some found) to is = refl
 

@@ -37,7 +37,7 @@ use Rattle.run_record.specs.Runs.{part_of}
 use Rattle.interleave_core.specs.Runs.{IsNext, IsRun}
 use Rattle.channel_laws.proofs.ChannelRows.{own-count, legal-free, row-of, find-passes}
 use Rattle.interleave_core.proofs.BufferLaw.{slot-free}
-use Rattle.interleave_core.proofs.ChainLaw.{run-chain}
+use Rattle.interleave_core.proofs.ChainLaw.{run-chain, same-count}
 use Rattle.interleave_core.proofs.FarHolds.{hop-tells}
 use Rattle.channel_laws.proofs.HoldFates.{Fate, FateOpen, FateClosing, FateGone}
 use Rattle.interleave_core.proofs.HopLaw.{TwoHops, arrive-comes, from-near, next-link, far-row-at, hop-law}
@@ -87,14 +87,8 @@ counts-fall network request i near far run fits sound asked is =
     let b = length-map (packets_at network request (suc i) far run) tick_of_packet in
     omega (arith, fewer, a, b)
 
-pub same-at : (network : Network) (request : Request) (i : ℕ) (one other : HopAt network request i) (run : List Done) → count_at network request i one run ≡ count_at network request i other run
-same-at network request i one other run =
-    let hop : one.hop ≡ other.hop = same_Some one.hop other.hop (sym one.stands ∙ other.stands) in
-    let link : one.link ≡ other.link = same_Some one.link other.link (sym one.linked ∙ ap (λ h. slice_get network.links (link_number h.link)) hop ∙ other.linked) in
-    ap (λ l. length (channel_packets (channel_number request.chan) (packets_on l (link_number one.hop.link) run))) link ∙ ap (λ h. length (channel_packets (channel_number request.chan) (packets_on other.link (link_number h.link) run))) hop
-
 pub counts-first : (network : Network) (request : Request) (first : HopAt network request 0) (i : ℕ) (at : HopAt network request i) (run : List Done) → NetworkFits network → RequestFits network.links request → ((run : List Done) → IsRun network run → ChannelAsked request run) → IsRun network run → count_at network request i at run ≤ count_at network request 0 first run
-counts-first network request first zero at run fits sound asked is = (let same = same-at network request 0 at first run in omega (arith, same))
+counts-first network request first zero at run fits sound asked is = (let same = same-count network request 0 at first run in omega (arith, same))
 counts-first network request first (suc i) at run fits sound asked is =
     let within = slice_get_within request.route (suc i) at.hop at.stands in
     let before = hop-at network request i sound (omega (arith, within)) in

@@ -3,11 +3,10 @@ use Rattle.std.proofs.Common.{◌≡◌, ◌≢◌, ℕ, ◌⊎◌, true, List, 
 use Rattle.std.proofs.lemmas.Bool.{cases_Bool, eqb-true, eqb-false}
 use Rattle.std.proofs.lemmas.Option.{same_Some}
 use Rattle.std.specs.List.{slice_get}
-use Rattle.std.specs.Prelude.{nat_eq, find}
+use Rattle.std.specs.Prelude.{nat_eq}
 use Rattle.net_units.specs.Numbers.{link_number, actor_number, channel_number}
 use Rattle.net_units.specs.declared.numbers.LinkNo.{LinkNo}
 use Rattle.hop_reservation.specs.Offers.{next_levels}
-use Rattle.hop_reservation.specs.declared.route.Hop.{Hop}
 use Rattle.link_steps.specs.declared.asks.Ask.{Ask}
 use Rattle.link_steps.specs.declared.asks.Ask.TheVariants.{Arrive, Tick, Pour}
 use Rattle.link_steps.specs.declared.replies.Entry.{Entry}
@@ -16,9 +15,9 @@ use Rattle.link_steps.specs.declared.replies.Reply.{Reply}
 use Rattle.link_steps.specs.declared.replies.Reply.TheVariants as Is
 use Rattle.link_steps.specs.Lists.{Each}
 use Rattle.link_steps.specs.Replies.{tick_reply, reply_at, reply_to}
-use Rattle.link_steps.specs.Scan.{clock_of, scan_of, is_row_of}
+use Rattle.link_steps.specs.Scan.{clock_of, scan_of}
 use Rattle.link_steps.specs.Split.{Link}
-use Rattle.setup_protocol.specs.Setup.{Progress, Reserving, Undoing, Relaxing, Settled, answers_reserve, answers_deny, answers_relax, is_expected, asked, asked_of, next_ask, progress_of}
+use Rattle.setup_protocol.specs.Setup.{Progress, Reserving, Undoing, Relaxing, Settled, answers_reserve, answers_deny, answers_relax, is_expected, asked, next_ask, progress_of}
 use Rattle.setup_protocol.specs.Teardown.{is_closing, next_release}
 use Rattle.setup_protocol.specs.declared.request.Request.{Request}
 use Rattle.call_script.specs.Fits.{NetworkFits}
@@ -28,8 +27,8 @@ use Rattle.call_script.specs.Tasks.{Network}
 use Rattle.call_script.specs.declared.tasks.Task.{Task}
 use Rattle.call_script.specs.declared.tasks.Task.TheVariants.{Opens, Sends, Closes, Pours}
 use Rattle.channel_laws.specs.Reservations.{IsSendReply, IsReleased, IsArriveReply}
-use Rattle.channel_laws.proofs.ArriveReplies.{arrive-answered}
-use Rattle.channel_laws.proofs.SendReplies.{pour-answered}
+use Rattle.channel_laws.proofs.ArriveReplies.{arrive-told, of-arrive}
+use Rattle.channel_laws.proofs.SendReplies.{pour-answered, of-released}
 use Rattle.interleave_core.specs.Answers.{IsReserveReply, IsRelaxed, IsTicked, IsReplyOf}
 use Rattle.interleave_core.specs.Laws.{EveryReplyIsExpected, EveryAskIsAnswered}
 use Rattle.interleave_core.specs.Runs.{plane_no, plane_at, IsNext, IsRun}
@@ -39,7 +38,8 @@ use Rattle.tick_plane.specs.Planes.{next_due, ask_due, answers_arrive, answers_t
 use Rattle.tick_plane.specs.declared.flight.Flight.{Flight}
 use Rattle.interleave_core.proofs.RunCloses.{IsUsualReply, FirstUsual, ClosesAt, Early, Denied, Open, Closing, Over, FirstOff, owned-once, run-closes, replies-usual, head-same}
 use Rattle.interleave_core.proofs.RunGoes.{off-standing, setup-expected}
-use Rattle.interleave_core.proofs.RunLegal.{AsksOf, plane-next, caller-next}
+use Rattle.interleave_core.proofs.RunLegal.{AsksOf, plane-next, caller-next, tick-answer}
+use Rattle.setup_protocol.proofs.HopAsks.{of-hop}
 
 -- ---- the tests and the facts say the same
 
@@ -48,16 +48,6 @@ send-expected (Is.Planned clock) is = refl
 send-expected (Is.Refused (Why.Busy left)) is = refl
 send-expected (Is.Refused (Why.TooBig size smax)) is = refl
 send-expected _ is = absurd is
-
-release-expected : (reply : Reply) → IsReleased reply → is_closing reply ≡ true
-release-expected (Is.Closing count cancelled) is = refl
-release-expected _ is = absurd is
-
-arrive-expected : (reply : Reply) → IsArriveReply reply → answers_arrive reply ≡ true
-arrive-expected (Is.Taken clock eligible) is = refl
-arrive-expected (Is.Refused (Why.Full held slots)) is = refl
-arrive-expected (Is.Refused (Why.Stray why)) is = refl
-arrive-expected _ is = absurd is
 
 reserve-answered : (levels : ℕ) (reply : Reply) → answers_reserve levels reply ≡ true → IsReserveReply reply
 reserve-answered levels (Is.Offer level reach) is = tt
@@ -74,14 +64,10 @@ relax-answered _ is = cc
 
 -- ---- the ask under way and its replies
 
-hop-answered : (found : Option Hop) (to : LinkNo) (ask : Ask) (own : Hop → Ask) (reply : Reply) → asked_of found own ≡ Some (to, ask) → ((hop : Hop) → IsReplyOf (own hop) reply) → IsReplyOf ask reply
-hop-answered None to ask own reply same is = cc
-hop-answered (Some hop) to ask own reply same is = subst (λ a. IsReplyOf a reply) (ap (λ pair. pair.1) (same_Some (hop.link, own hop) (to, ask) same)) (is hop)
-
 setup-answered : (request : Request) (p : Progress) (to : LinkNo) (ask : Ask) (reply : Reply) → asked request p ≡ Some (to, ask) → is_expected request p reply ≡ true → IsReplyOf ask reply
-setup-answered request (Reserving offers reach) to ask reply same is = hop-answered (slice_get request.route (length offers)) to ask _ reply same (λ hop. reserve-answered (next_levels request.route offers) reply is)
-setup-answered request (Undoing left deny) to ask reply same is = hop-answered _ to ask _ reply same (λ hop. deny-answered reply is)
-setup-answered request (Relaxing left levels) to ask reply same is = hop-answered _ to ask _ reply same (λ hop. relax-answered reply is)
+setup-answered request (Reserving offers reach) to ask reply same is = of-hop (λ a. IsReplyOf a reply) (slice_get request.route (length offers)) _ to ask (λ hop. reserve-answered (next_levels request.route offers) reply is) same
+setup-answered request (Undoing left deny) to ask reply same is = of-hop (λ a. IsReplyOf a reply) _ _ to ask (λ hop. deny-answered reply is) same
+setup-answered request (Relaxing left levels) to ask reply same is = of-hop (λ a. IsReplyOf a reply) _ _ to ask (λ hop. relax-answered reply is) same
 setup-answered request (Settled outcome) to ask reply same is = cc
 
 -- what stands of a reply to a caller
@@ -93,11 +79,11 @@ opens-expected : (request : Request) (rest : List Task) (replies : List Reply) (
 opens-expected request rest replies to ask reply same is = record { is = is; answered = setup-answered request (progress_of request replies) to ask reply same is }
 
 sends-expected : (request : Request) (count gap size : ℕ) (rest : List Task) (replies : List Reply) (to : LinkNo) (ask : Ask) (reply : Reply) → submit_next request count gap size replies ≡ Some (to, ask) → IsSendReply reply → Expected (Sends request count gap size ∷ rest) replies ask reply
-sends-expected request count gap size rest [] to ask reply same is = record { is = send-expected reply is; answered = hop-answered (slice_get request.route 0) to ask _ reply same (λ hop. is) }
+sends-expected request count gap size rest [] to ask reply same is = record { is = send-expected reply is; answered = of-hop (λ a. IsReplyOf a reply) (slice_get request.route 0) _ to ask (λ hop. is) same }
 sends-expected request count gap size rest (first ∷ replies) to ask reply same is = cc
 
 closes-expected : (request : Request) (rest : List Task) (replies : List Reply) (to : LinkNo) (ask : Ask) (reply : Reply) → next_release request.chan request.route replies ≡ Some (to, ask) → IsReleased reply → Expected (Closes request ∷ rest) replies ask reply
-closes-expected request rest replies to ask reply same is = record { is = release-expected reply is; answered = hop-answered (slice_get request.route (length replies)) to ask _ reply same (λ hop. is) }
+closes-expected request rest replies to ask reply same is = record { is = of-released (λ r. is_closing r ≡ true) reply (λ count cancelled. refl) is; answered = of-hop (λ a. IsReplyOf a reply) (slice_get request.route (length replies)) _ to ask (λ hop. is) same }
 
 poured : (link : LinkNo) (count gap size : ℕ) (replies : List Reply) (to : LinkNo) (ask : Ask) → pour_next link count gap size replies ≡ Some (to, ask) → ask ≡ Pour count gap size
 poured link count gap size [] to ask same = sym (ap (λ pair. pair.1) (same_Some (link, Pour count gap size) (to, ask) same))
@@ -209,15 +195,14 @@ caller-expected network past done tasks step other = by-tasks (stand past done t
 -- ---- each reply to the plane
 
 due-expected : (link : Link) (h : List Entry) (found : Option Flight) (ticked : ℕ) (to : LinkNo) (ask : Ask) (reply : Reply) → ask_due ticked found ≡ (to, ask) → reply ≡ reply_to link h ask → (plane_expects found reply ≡ true) × IsReplyOf ask reply
-unfolding reply_to reply_at
 due-expected link h None ticked to ask reply asks same =
     let tick : Tick ≡ ask = ap (λ pair. pair.1) asks in
-    let is : reply ≡ tick_reply link.shape (clock_of h) (scan_of link.shape h) = same ∙ ap (reply_to link h) (sym tick) in
+    let is : reply ≡ tick_reply link.shape (clock_of h) (scan_of link.shape h) = same ∙ ap (reply_to link h) (sym tick) ∙ tick-answer link h in
     (ap answers_tick is, subst (λ a. IsReplyOf a reply) tick (subst IsTicked (sym is) tt))
 due-expected link h (Some flight) ticked to ask reply asks same =
     let arrive : Arrive flight.packet ≡ ask = ap (λ pair. pair.1) asks in
-    let told : IsArriveReply reply = subst IsArriveReply (sym (same ∙ ap (reply_to link h) (sym arrive))) (arrive-answered link.shape (clock_of h) (scan_of link.shape h).packets flight.packet (find (is_row_of flight.packet.chan) (scan_of link.shape h).rows)) in
-    (arrive-expected reply told, subst (λ a. IsReplyOf a reply) arrive told)
+    let told : IsArriveReply reply = arrive-told link h flight.packet reply (same ∙ ap (reply_to link h) (sym arrive)) in
+    (of-arrive (λ r. answers_arrive r ≡ true) reply (λ clock eligible. refl) (λ held slots. refl) (λ why. refl) told, subst (λ a. IsReplyOf a reply) arrive told)
 
 plane-expected : (network : Network) (past : List Done) (done : Done) → (next : IsNext network past done) → actor_number done.actor ≡ plane_no network → (plane_expects (next_due (plane_at network past)) done.reply ≡ true) × IsReplyOf done.ask done.reply
 plane-expected network past done next same =

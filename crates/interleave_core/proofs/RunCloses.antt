@@ -1,5 +1,5 @@
 -- In every run each submit is planned, or refused as busy or too big, and each release is answered with a closing.
-use Rattle.std.proofs.Common.{◌≡◌, ◌≢◌, ℕ, suc, ◌+◌, ◌≤◌, Bool, true, false, cond, List, [], ◌∷◌, ◌++◌, length, Option, Some, None, refl, sym, ap, ◌∙◌, subst, inl, inr, arith}
+use Rattle.std.proofs.Common.{◌≡◌, ◌≢◌, ℕ, ◌+◌, ◌≤◌, Bool, true, false, cond, List, [], ◌∷◌, ◌++◌, length, Option, Some, None, refl, sym, ap, ◌∙◌, subst, inl, inr, arith}
 use Rattle.std.proofs.lemmas.Bool.{cases_Bool, cond_both, eqb-true, eqb-false, eq-eqb, ne_eqb}
 use Rattle.std.proofs.lemmas.List.{length_push}
 use Rattle.std.proofs.lemmas.Option.{same_Some, slice_get_within}
@@ -8,14 +8,13 @@ use Rattle.std.specs.Prelude.{nat_eq}
 use Rattle.net_units.specs.Numbers.{link_number, actor_number, channel_number}
 use Rattle.net_units.specs.declared.numbers.LinkNo.{LinkNo}
 use Rattle.hop_reservation.specs.Routes.{link_of}
-use Rattle.hop_reservation.specs.declared.route.Hop.{Hop}
 use Rattle.link_steps.specs.declared.asks.Ask.{Ask}
 use Rattle.link_steps.specs.declared.asks.Ask.TheVariants.{Submit, Release}
 use Rattle.link_steps.specs.declared.replies.Reply.{Reply}
 use Rattle.link_steps.specs.Lists.{Each}
 use Rattle.link_steps.specs.Replies.{reply_at}
-use Rattle.link_steps.specs.Scan.{clock_of, scan_of, after, names_first_hop}
-use Rattle.setup_protocol.specs.Setup.{Outcome, Denies, asked_of, next_ask, verdict_of}
+use Rattle.link_steps.specs.Scan.{clock_of, scan_of, after}
+use Rattle.setup_protocol.specs.Setup.{Outcome, Denies, next_ask, verdict_of}
 use Rattle.setup_protocol.specs.Teardown.{first_count, next_release}
 use Rattle.setup_protocol.specs.declared.request.Request.{Request}
 use Rattle.run_record.specs.declared.done.Done.{Done}
@@ -30,8 +29,9 @@ use Rattle.call_script.specs.Scripts.{Opened, Standing, submit_next, task_ask, i
 use Rattle.tick_plane.specs.Planes.{next_due}
 use Rattle.interleave_core.proofs.CallerFacts.{StandingFits}
 use Rattle.interleave_core.proofs.HopsAt.{hop-at}
-use Rattle.interleave_core.proofs.RowsFollow.{IsComm, held_at, held-here, held-elsewhere, hop-reply, other-hop, SetupRows, Settles, setup-settles, setup-goes}
-use Rattle.interleave_core.proofs.RunGoes.{ScriptOnce, OwnedOnce, GoesAt, Before, Under, After, run-goes, task-off, tasks-off, plane-off-ask, held-later, open-comm, off-standing, rows-none}
+use Rattle.setup_protocol.proofs.HopHolds.{IsComm}
+use Rattle.interleave_core.proofs.RowsFollow.{held_at, held-here, held-elsewhere, hop-reply, other-hop, SetupRows, Settles, setup-settles, setup-goes}
+use Rattle.interleave_core.proofs.RunGoes.{ScriptOnce, OwnedOnce, GoesAt, Before, Under, After, run-goes, task-off, tasks-off, plane-off-ask, held-later, open-comm, off-standing, rows-none, off-from}
 use Rattle.interleave_core.proofs.RunLegal.{plane-next, caller-next, replies-by, replies-off, run-stands}
 use Rattle.channel_laws.specs.Reservations.{IsSendReply, IsReleased}
 use Rattle.channel_laws.proofs.SendReplies.{submit-committed, release-committed}
@@ -40,6 +40,7 @@ use Rattle.channel_laws.specs.Asks.{IsOff}
 use Rattle.channel_laws.specs.Reservations.{held_by}
 use Rattle.channel_laws.proofs.TermsAfter.{held-submitted}
 use Rattle.interleave_core.specs.Paths.{HopAt}
+use Rattle.setup_protocol.proofs.HopAsks.{asked-at, first-named}
 
 -- ---- scripts
 
@@ -51,7 +52,7 @@ FirstOff c (task ∷ tasks) = TaskOff c task
 -- ---- where the owner stands
 
 abbrev pub AllComm : Network → Request → List ℕ → ℕ → List Done → Type 0
-AllComm network request levels from run = (i : ℕ) (at : HopAt network request i) → from ≤ i → IsComm request levels i (held_at network request i at run)
+AllComm network request levels from run = (i : ℕ) (at : HopAt network request i) → from ≤ i → IsComm Some request levels i (held_at network request i at run)
 
 abbrev pub FreshClose : Request → List Task → List Reply → Type 0
 FreshClose request [] replies = Unit {0}
@@ -68,7 +69,7 @@ pub data ClosesAt (network : Network) (request : Request) (run : List Done) (at 
 
 pub comm-later : (network : Network) (request : Request) (levels : List ℕ) (from : ℕ) (done : Done) (past : List Done) → NetworkFits network → IsRun network past → IsOff (channel_number request.chan) done.ask → AllComm network request levels from past → AllComm network request levels from (done ∷ past)
 comm-later network request levels from done past fits run off comm i at upto =
-    (let own = comm i at upto in subst (IsComm request levels i) (sym (held-later network request i at done past fits run off (open-comm request levels i (held_at network request i at past) own))) own)
+    (let own = comm i at upto in subst (IsComm Some request levels i) (sym (held-later network request i at done past fits run off (open-comm request levels i (held_at network request i at past) own))) own)
 
 closes-later : (network : Network) (request : Request) (done : Done) (past : List Done) (at : Standing) → NetworkFits network → IsRun network past → IsOff (channel_number request.chan) done.ask → ClosesAt network request past at → ClosesAt network request (done ∷ past) at
 closes-later network request done past at fits run off (Early script none) = Early script none
@@ -98,11 +99,6 @@ off-established request (Pours link count gap size) replies outcomes off = refl
 
 -- ---- the next task that takes a step
 
-pub tail-off : (c : ℕ) (outcomes : List Opened) (tasks : List Task) → Each (TaskOff c) tasks → Each (TaskOff c) (from_step outcomes tasks)
-unfolding from_step
-tail-off c outcomes [] each = tt
-tail-off c outcomes (task ∷ tasks) each = cond_both (takes_step outcomes task) (task ∷ tasks) (from_step outcomes tasks) (Each (TaskOff c)) (λ _. each) (λ _. tail-off c outcomes tasks each.1)
-
 each-first : (c : ℕ) (tasks : List Task) → Each (TaskOff c) tasks → FirstOff c tasks
 each-first c [] each = tt
 each-first c (task ∷ tasks) each = each.0
@@ -125,7 +121,7 @@ denied-from request outcomes (task ∷ tasks) none (inr (inl own)) =
     subst (λ t. SendsOnce request (cond (takes_step outcomes t) (t ∷ tasks) (from_step outcomes tasks)) × FirstOff (channel_number request.chan) (cond (takes_step outcomes t) (t ∷ tasks) (from_step outcomes tasks))) (sym own.0.is) (rw none (denied-from request outcomes tasks none own.1))
 denied-from request outcomes (task ∷ tasks) none (inr (inr own)) =
     subst (λ t. SendsOnce request (cond (takes_step outcomes t) (t ∷ tasks) (from_step outcomes tasks)) × FirstOff (channel_number request.chan) (cond (takes_step outcomes t) (t ∷ tasks) (from_step outcomes tasks))) (sym own.0)
-    (rw none (each-sends request (from_step outcomes tasks) (tail-off (channel_number request.chan) outcomes tasks own.1), each-first (channel_number request.chan) (from_step outcomes tasks) (tail-off (channel_number request.chan) outcomes tasks own.1)))
+    (rw none (each-sends request (from_step outcomes tasks) (off-from (channel_number request.chan) outcomes tasks own.1), each-first (channel_number request.chan) (from_step outcomes tasks) (off-from (channel_number request.chan) outcomes tasks own.1)))
 
 open-from : (request : Request) (outcomes : List Opened) (tasks : List Task) → SendsOnce request tasks → SendsOnce request (from_step outcomes tasks) × FreshClose request (from_step outcomes tasks) []
 unfolding from_step
@@ -187,26 +183,22 @@ off-step network request done past outcomes task tasks replies fits run asks oth
 
 -- ---- the request's own tasks
 
-pub at-hop : (request : Request) (k : ℕ) (found : Option Hop) (to : LinkNo) (ask own : Ask) → slice_get request.route k ≡ found → asked_of found (λ hop. own) ≡ Some (to, ask) → (hop : Hop) × (slice_get request.route k ≡ Some hop) × (to ≡ hop.link) × (ask ≡ own)
-at-hop request k None to ask own is same = cc
-at-hop request k (Some hop) to ask own is same = (let both = same_Some (hop.link, own) (to, ask) same in (hop, is, sym (ap (λ pair. pair.0) both), sym (ap (λ pair. pair.1) both)))
-
 -- a submit
 send-step : (network : Network) (request : Request) (done : Done) (past : List Done) (outcomes : List Opened) (tasks : List Task) (replies : List Reply) (levels : List ℕ) (count gap size : ℕ) → NetworkFits network → RequestFits network.links request → IsRun network past → (next : IsNext network past done) → SendsOnce request tasks → AllComm network request levels 0 past → submit_next request count gap size replies ≡ Some (done.link, done.ask)
     → ClosesNext network request (done ∷ past) (Sends request count gap size ∷ tasks) done.reply (resumed outcomes (Sends request count gap size ∷ tasks) (replies ++ done.reply ∷ []))
 unfolding resumed reply_at
 send-step network request done past outcomes tasks (reply ∷ replies) levels count gap size fits sound run next sends comm asks = cc
 send-step network request done past outcomes tasks [] levels count gap size fits sound run next sends comm asks =
-    let own = at-hop request 0 (slice_get request.route 0) done.link done.ask (Submit request.chan count gap size) refl asks in
-    let here = hop-at network request 0 sound (slice_get_within request.route 0 own.0 own.1) in
-    let on : link_number done.link ≡ link_number here.hop.link = ap link_number own.2 ∙ ap link_of (same_Some own.0 here.hop (sym own.1 ∙ here.stands)) in
+    let own = asked-at request.route 0 (λ hop. Submit request.chan count gap size) done.link done.ask asks in
+    let here = hop-at network request 0 sound (slice_get_within request.route 0 own.hop own.stands) in
+    let on : link_number done.link ≡ link_number here.hop.link = ap link_number own.at ∙ ap link_of (same_Some own.hop here.hop (sym own.stands ∙ here.stands)) in
     let held = comm 0 here (omega arith) in
-    let reply = hop-reply network request 0 here done past next on ∙ ap (reply_at here.link (clock_of (part_of (link_number here.hop.link) past)) (scan_of here.link.shape (part_of (link_number here.hop.link) past))) own.3 in
+    let reply = hop-reply network request 0 here done past next on ∙ ap (reply_at here.link (clock_of (part_of (link_number here.hop.link) past)) (scan_of here.link.shape (part_of (link_number here.hop.link) past))) own.is in
     let later : AllComm network request levels 0 (done ∷ past) = λ i at from. elim (cases_Bool (nat_eq i 0)) [
       | inl hit ↦ (let e = eqb-true i 0 hit in
           let hop : link_number at.hop.link ≡ link_number here.hop.link = ap link_of (same_Some at.hop here.hop (sym at.stands ∙ ap (slice_get request.route) e ∙ here.stands)) in
-          subst (IsComm request levels i) (sym (held-here network request i at done past (on ∙ sym hop) ∙ ap (λ a. held_by request.chan (after at.link.shape (clock_of (part_of (link_number at.hop.link) past)) (scan_of at.link.shape (part_of (link_number at.hop.link) past)) a done.reply).rows) own.3 ∙ held-submitted at.link.shape request.chan request.chan (clock_of (part_of (link_number at.hop.link) past)) (scan_of at.link.shape (part_of (link_number at.hop.link) past)) count gap size done.reply)) (comm i at from))
-      | inr miss ↦ subst (IsComm request levels i) (sym (held-elsewhere network request i at done past (other-hop network request i 0 at here done sound.route on (eqb-false i 0 miss)))) (comm i at from)
+          subst (IsComm Some request levels i) (sym (held-here network request i at done past (on ∙ sym hop) ∙ ap (λ a. held_by request.chan (after at.link.shape (clock_of (part_of (link_number at.hop.link) past)) (scan_of at.link.shape (part_of (link_number at.hop.link) past)) a done.reply).rows) own.is ∙ held-submitted at.link.shape request.chan request.chan (clock_of (part_of (link_number at.hop.link) past)) (scan_of at.link.shape (part_of (link_number at.hop.link) past)) count gap size done.reply)) (comm i at from))
+      | inr miss ↦ subst (IsComm Some request levels i) (sym (held-elsewhere network request i at done past (other-hop network request i 0 at here done sound.route on (eqb-false i 0 miss)))) (comm i at from)
     ] in
     let more = open-from request outcomes tasks sends in
     record {
@@ -214,26 +206,22 @@ send-step network request done past outcomes tasks [] levels count gap size fits
       closes = Open levels more.0 more.1 later;
     }
 
-pub first-named : (replies : List Reply) → nat_eq (length replies) 0 ≡ names_first_hop (first_count replies)
-first-named [] = refl
-first-named (reply ∷ replies) = ne_eqb (suc (length replies)) 0 (λ e. omega (arith, e))
-
 -- a release
 close-continued : (network : Network) (request : Request) (run : List Done) (outcomes : List Opened) (tasks : List Task) (replies : List Reply) (levels : List ℕ) (next : Option (LinkNo × Ask)) → Each (TaskOff (channel_number request.chan)) tasks → AllComm network request levels (length replies) run → ClosesAt network request run (continued outcomes (Closes request) tasks replies next)
 close-continued network request run outcomes tasks replies levels (Some to) others comm = Closing levels tasks refl others comm
-close-continued network request run outcomes tasks replies levels None others comm = Over (tail-off (channel_number request.chan) outcomes tasks others)
+close-continued network request run outcomes tasks replies levels None others comm = Over (off-from (channel_number request.chan) outcomes tasks others)
 
 close-step : (network : Network) (request : Request) (done : Done) (past : List Done) (outcomes : List Opened) (tasks : List Task) (replies : List Reply) (levels : List ℕ) → NetworkFits network → RequestFits network.links request → IsRun network past → (next : IsNext network past done) → Each (TaskOff (channel_number request.chan)) tasks → AllComm network request levels (length replies) past → next_release request.chan request.route replies ≡ Some (done.link, done.ask)
     → ClosesNext network request (done ∷ past) (Closes request ∷ tasks) done.reply (resumed outcomes (Closes request ∷ tasks) (replies ++ done.reply ∷ []))
 unfolding resumed reply_at
 close-step network request done past outcomes tasks replies levels fits sound run next others comm asks =
-    let own = at-hop request (length replies) (slice_get request.route (length replies)) done.link done.ask (Release request.chan (first_count replies)) refl asks in
-    let here = hop-at network request (length replies) sound (slice_get_within request.route (length replies) own.0 own.1) in
-    let on : link_number done.link ≡ link_number here.hop.link = ap link_number own.2 ∙ ap link_of (same_Some own.0 here.hop (sym own.1 ∙ here.stands)) in
+    let own = asked-at request.route (length replies) (λ hop. Release request.chan (first_count replies)) done.link done.ask asks in
+    let here = hop-at network request (length replies) sound (slice_get_within request.route (length replies) own.hop own.stands) in
+    let on : link_number done.link ≡ link_number here.hop.link = ap link_number own.at ∙ ap link_of (same_Some own.hop here.hop (sym own.stands ∙ here.stands)) in
     let held = comm (length replies) here (omega arith) in
-    let reply = hop-reply network request (length replies) here done past next on ∙ ap (reply_at here.link (clock_of (part_of (link_number here.hop.link) past)) (scan_of here.link.shape (part_of (link_number here.hop.link) past))) own.3 in
+    let reply = hop-reply network request (length replies) here done past next on ∙ ap (reply_at here.link (clock_of (part_of (link_number here.hop.link) past)) (scan_of here.link.shape (part_of (link_number here.hop.link) past))) own.is in
     let count : length (replies ++ done.reply ∷ []) ≡ length replies + 1 = length_push replies done.reply in
-    let later : AllComm network request levels (length (replies ++ done.reply ∷ [])) (done ∷ past) = λ i at from. subst (IsComm request levels i) (sym (held-elsewhere network request i at done past (other-hop network request i (length replies) at here done sound.route on (λ e. omega (arith, e, from, count))))) (comm i at (omega (arith, from, count))) in
+    let later : AllComm network request levels (length (replies ++ done.reply ∷ [])) (done ∷ past) = λ i at from. subst (IsComm Some request levels i) (sym (held-elsewhere network request i at done past (other-hop network request i (length replies) at here done sound.route on (λ e. omega (arith, e, from, count))))) (comm i at (omega (arith, from, count))) in
     record {
       usual = λ same. subst IsReleased (sym reply) (release-committed (clock_of (part_of (link_number here.hop.link) past)) (first_count replies) request.chan _ held.terms held.is (held.first ∙ first-named replies) held.phase);
       closes = close-continued network request (done ∷ past) outcomes tasks (replies ++ done.reply ∷ []) levels (task_ask (Closes request) (replies ++ done.reply ∷ [])) others later;
@@ -287,7 +275,7 @@ closes-step network request done past outcomes (task ∷ tasks) replies fits sou
     let goes' : GoesAt network request past (Opens request ∷ tasks) replies outcomes = subst (λ t. GoesAt network request past (t ∷ tasks) replies outcomes) own.0 goes in
     let asks' : next_ask request replies ≡ Some (done.link, done.ask) = subst (λ t. first_ask (t ∷ tasks) replies ≡ Some (done.link, done.ask)) own.0 asks in
     let stands' = subst (λ t. StandingFits network.links (record { tasks = t ∷ tasks; replies = replies; outcomes = outcomes })) own.0 stands in
-    let rows = (setup-goes network request replies done past fits sound run next stands'.offers (goes-rows network request past tasks replies outcomes sound.route.least goes') asks').rows in
+    let rows = (setup-goes network request replies done past fits sound run next stands'.offers (goes-rows network request past tasks replies outcomes sound.route.least goes') asks').stands in
     subst (λ t. ClosesNext network request (done ∷ past) (t ∷ tasks) done.reply (resumed outcomes (t ∷ tasks) (replies ++ done.reply ∷ []))) (sym own.0) (open-next network request done past outcomes tasks replies own.1 none rows)
 closes-step network request done past outcomes (task ∷ tasks) replies fits sound run next stands goes asks (Denied (inl off) first none) =
     off-step network request done past outcomes task tasks replies fits run asks off.0
@@ -316,7 +304,7 @@ closes-step network request done past outcomes (task ∷ tasks) replies fits sou
 closes-step network request done past outcomes (task ∷ tasks) replies fits sound run next stands goes asks (Over others) =
     off-step network request done past outcomes task tasks replies fits run asks others.0
     (λ at same out. Over (subst (Each (TaskOff (channel_number request.chan))) (sym same) others))
-    (λ more same. Over (tail-off (channel_number request.chan) (more ++ outcomes) tasks others.1))
+    (λ more same. Over (off-from (channel_number request.chan) (more ++ outcomes) tasks others.1))
 
 none-established : (request : Request) → is_established request.chan [] ≡ false
 unfolding is_established

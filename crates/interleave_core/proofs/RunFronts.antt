@@ -1,6 +1,6 @@
 -- The front of a run's entries, in the order of time, is a run, and the entry after it is its next step.
-use Rattle.std.proofs.Common.{◌≡◌, ℕ, suc, ◌+◌, ◌<◌, List, [], ◌∷◌, ◌++◌, length, get_or, take, drop, reverse, refl, sym, ap, ◌∙◌, subst, append_assoc}
-use Rattle.std.proofs.lemmas.List.{drop_more, reverse-append, take-append-drop, take_more}
+use Rattle.std.proofs.Common.{◌≡◌, ℕ, ◌+◌, ◌<◌, List, [], ◌∷◌, ◌++◌, length, get_or, take, drop, reverse, sym, ap, ◌∙◌, subst}
+use Rattle.std.proofs.lemmas.List.{reverse-append, take-append-drop, take_more}
 use Rattle.call_script.specs.Tasks.{Network}
 use Rattle.interleave_core.specs.Runs.{IsNext, IsRun}
 use Rattle.run_record.specs.declared.done.Done.{Done}

@@ -35,7 +35,8 @@ use Rattle.call_script.specs.Scripts.{Opened, Standing, task_ask, takes_step, fr
 use Rattle.interleave_core.proofs.CallerFacts.{OffersFit, StandingFits}
 use Rattle.hop_reservation.specs.Offers.{AreLevels}
 use Rattle.interleave_core.proofs.HopsAt.{HaveLevelsAt}
-use Rattle.interleave_core.proofs.RowsFollow.{IsTent, IsComm, HopStands, reserved_of, IsTail, held_at, SetupRows, setup-goes, KeptTerms, AfterRows, Settles, setup-settles, held-here, held-elsewhere}
+use Rattle.setup_protocol.proofs.HopHolds.{IsTent, IsComm, HopStands, reserved_of, IsTail}
+use Rattle.interleave_core.proofs.RowsFollow.{held_at, SetupRows, setup-goes, KeptTerms, AfterRows, Settles, setup-settles, held-here, held-elsewhere}
 use Rattle.interleave_core.proofs.RunLegal.{plane-next, caller-next, part-on, part-off, replies-by, replies-off, run-stands, part-admissible}
 use Rattle.interleave_core.proofs.RowLevels.{levels-held, none-comes}
 use Rattle.interleave_core.proofs.SetupOnce.{IsOther, OpenedOnce, channel-asked, others-from, others-resumed}
@@ -43,6 +44,7 @@ use Rattle.channel_laws.specs.Asks.{IsOff, IsMild}
 use Rattle.channel_laws.specs.Reservations.{held_by, IsOpen, ComesOf, Stays, Closed}
 use Rattle.channel_laws.proofs.TermsAfter.{held-off, comes-mild}
 use Rattle.interleave_core.specs.Paths.{HopAt, packets_at}
+use Rattle.setup_protocol.proofs.HopAsks.{of-hop, of-setup}
 
 -- ---- scripts
 
@@ -58,23 +60,16 @@ pub record OwnedOnce (network : Network) (request : Request) (owner : ℕ) : Typ
 
 -- ---- asks of another channel
 
-off-hop : (c : ℕ) (found : Option Hop) (to : LinkNo) (ask : Ask) (own : Hop → Ask) → ((hop : Hop) → IsOff c (own hop)) → asked_of found own ≡ Some (to, ask) → IsOff c ask
-off-hop c None to ask own off same = cc
-off-hop c (Some hop) to ask own off same = subst (IsOff c) (ap (λ pair. pair.1) (same_Some (hop.link, own hop) (to, ask) same)) (off hop)
-
 pub off-asked : (c : ℕ) (request : Request) (p : Progress) (to : LinkNo) (ask : Ask) → channel_number request.chan ≢ c → asked request p ≡ Some (to, ask) → IsOff c ask
-off-asked c request (Reserving offers reach) to ask other same = off-hop c _ to ask _ (λ hop. other) same
-off-asked c request (Undoing left deny) to ask other same = off-hop c _ to ask _ (λ hop. other) same
-off-asked c request (Relaxing left levels) to ask other same = off-hop c _ to ask _ (λ hop. other) same
-off-asked c request (Settled outcome) to ask other same = cc
+off-asked c request p to ask other same = of-setup (IsOff c) request p to ask (λ offers reach. other) other (λ levels place. other) same
 
 pub task-off : (c : ℕ) (task : Task) (replies : List Reply) (to : LinkNo) (ask : Ask) → TaskOff c task → task_ask task replies ≡ Some (to, ask) → IsOff c ask
 task-off c (Opens request) replies to ask off same = off-asked c request (progress_of request replies) to ask off same
-task-off c (Sends request count gap size) [] to ask off same = off-hop c (slice_get request.route 0) to ask (λ hop. Submit request.chan count gap size) (λ hop. off) same
+task-off c (Sends request count gap size) [] to ask off same = of-hop (IsOff c) (slice_get request.route 0) (λ hop. Submit request.chan count gap size) to ask (λ hop. off) same
 task-off c (Sends request count gap size) (reply ∷ replies) to ask off same = cc
 task-off c (Pours link count gap size) [] to ask off same = subst (IsOff c) (ap (λ pair. pair.1) (same_Some (link, Pour count gap size) (to, ask) same)) tt
 task-off c (Pours link count gap size) (reply ∷ replies) to ask off same = cc
-task-off c (Closes request) replies to ask off same = off-hop c (slice_get request.route (length replies)) to ask (λ hop. Release request.chan _) (λ hop. off) same
+task-off c (Closes request) replies to ask off same = of-hop (IsOff c) (slice_get request.route (length replies)) (λ hop. Release request.chan _) to ask (λ hop. off) same
 
 pub tasks-off : (c : ℕ) (tasks : List Task) (replies : List Reply) (to : LinkNo) (ask : Ask) → Each (TaskOff c) tasks → first_ask tasks replies ≡ Some (to, ask) → IsOff c ask
 tasks-off c [] replies to ask off same = cc
@@ -101,20 +96,20 @@ NoneHeld network request run = (i : ℕ) (at : HopAt network request i) → held
 open-none : (held : Option Reservation) → held ≡ None → IsOpen held
 open-none held none terms is = absurd (let clash : None ≡ Some terms = sym none ∙ is in cc)
 
-open-tent : (request : Request) (offers : List ℕ) (i : ℕ) (held : Option Reservation) → IsTent request offers i held → IsOpen held
+open-tent : (request : Request) (offers : List ℕ) (i : ℕ) (held : Option Reservation) → IsTent Some request offers i held → IsOpen held
 open-tent request offers i held tent terms is = (let same : tent.terms ≡ terms = same_Some tent.terms terms (sym tent.is ∙ is) in ap (λ t. is_phase t.phase Closing) (sym same) ∙ ap (λ p. is_phase p Closing) tent.phase)
 
-pub open-comm : (request : Request) (levels : List ℕ) (i : ℕ) (held : Option Reservation) → IsComm request levels i held → IsOpen held
+pub open-comm : (request : Request) (levels : List ℕ) (i : ℕ) (held : Option Reservation) → IsComm Some request levels i held → IsOpen held
 open-comm request levels i held comm terms is = (let same : comm.terms ≡ terms = same_Some comm.terms terms (sym comm.is ∙ is) in ap (λ t. is_phase t.phase Closing) (sym same) ∙ ap (λ p. is_phase p Closing) comm.phase)
 
-open-tail : (request : Request) (p : Progress) (i : ℕ) (held : Option Reservation) → IsTail request p i held → IsOpen held
+open-tail : (request : Request) (p : Progress) (i : ℕ) (held : Option Reservation) → IsTail None Some request p i held → IsOpen held
 open-tail request (Reserving os reach) i held none = open-none held none
 open-tail request (Undoing left deny) i held none = open-none held none
 open-tail request (Relaxing left levels) i held comm = open-comm request levels i held comm
 open-tail request (Settled (Accepts levels delay)) i held comm = open-comm request levels i held comm
 open-tail request (Settled (Denies deny)) i held none = open-none held none
 
-open-stands : (request : Request) (offers : List ℕ) (p : Progress) (i : ℕ) (held : Option Reservation) → HopStands request offers p i held → IsOpen held
+open-stands : (request : Request) (offers : List ℕ) (p : Progress) (i : ℕ) (held : Option Reservation) → HopStands None Some request offers p i held → IsOpen held
 open-stands request offers p i held stands =
     elim (cases_lt i (reserved_of offers p)) [
       | inl less ↦ open-tent request offers i held (stands.tent less)
@@ -126,14 +121,14 @@ none-later network request done past fits run off none i at = held-later network
 
 rows-later : (network : Network) (request : Request) (replies : List Reply) (done : Done) (past : List Done) → NetworkFits network → IsRun network past → IsOff (channel_number request.chan) done.ask → SetupRows network request replies past → SetupRows network request replies (done ∷ past)
 rows-later network request replies done past fits run off rows = record {
-  hops = λ i at. subst (HopStands request (offers_in replies) (progress_of request replies) i) (sym (held-later network request i at done past fits run off (open-stands request (offers_in replies) (progress_of request replies) i (held_at network request i at past) (rows.hops i at)))) (rows.hops i at);
+  hops = λ i at. subst (HopStands None Some request (offers_in replies) (progress_of request replies) i) (sym (held-later network request i at done past fits run off (open-stands request (offers_in replies) (progress_of request replies) i (held_at network request i at past) (rows.hops i at)))) (rows.hops i at);
   up = rows.up;
 }
 
 pub rows-none : (network : Network) (request : Request) (run : List Done) → 1 ≤ length request.route → NoneHeld network request run → SetupRows network request [] run
 unfolding offers_in reach_after
 rows-none network request run some none = record {
-  hops = λ i at. subst (λ p. HopStands request [] p i (held_at network request i at run)) (sym (progress-none request some)) (record { tent = λ less. absurd (omega (arith, less)); tail = λ from. none i at });
+  hops = λ i at. subst (λ p. HopStands None Some request [] p i (held_at network request i at run)) (sym (progress-none request some)) (record { tent = λ less. absurd (omega (arith, less)); tail = λ from. none i at });
   up = λ alone. refl;
 }
 
@@ -183,7 +178,7 @@ after-later network request levels done past fits run mild rows = record {
 abbrev pub HopLevels : Network → Request → List ℕ → List Done → Type 0
 HopLevels network request levels run = (i : ℕ) (at : HopAt network request i) → Each (λ p. p.level ≡ get_or levels i 0) (packets_at network request i at run)
 
-pub levels-settled : (network : Network) (request : Request) (levels : List ℕ) (run : List Done) → NetworkFits network → IsRun network run → ChannelAsked request run → ((i : ℕ) (at : HopAt network request i) → IsComm request levels i (held_at network request i at run)) → HopLevels network request levels run
+pub levels-settled : (network : Network) (request : Request) (levels : List ℕ) (run : List Done) → NetworkFits network → IsRun network run → ChannelAsked request run → ((i : ℕ) (at : HopAt network request i) → IsComm Some request levels i (held_at network request i at run)) → HopLevels network request levels run
 levels-settled network request levels run fits is asked comm i at = (let own = comm i at in subst (λ l. Each (λ p. p.level ≡ l) (packets_at network request i at run)) own.level (levels-held network request i at run own.terms fits is asked own.is))
 
 pub levels-later : (network : Network) (request : Request) (levels : List ℕ) (done : Done) (past : List Done) → NetworkFits network → IsRun network (done ∷ past) → ChannelAsked request (done ∷ past) → AfterRows network request levels (done ∷ past) → HopLevels network request levels past → HopLevels network request levels (done ∷ past)
@@ -346,7 +341,7 @@ own-goes : (network : Network) (request : Request) (done : Done) (past : List Do
 unfolding resumed
 own-goes network request done past outcomes rest replies fits asked sound run next stands others rows quiet asks =
     let goes = setup-goes network request replies done past fits sound run next stands.offers rows asks in
-    record { goes = own-continued network request (done ∷ past) outcomes rest (replies ++ done.reply ∷ []) (task_ask (Opens request) (replies ++ done.reply ∷ [])) fits (is-run network past done run next) (asked (done ∷ past) (is-run network past done run next)) refl others goes.rows quiet; expected = λ more is. goes.expected }
+    record { goes = own-continued network request (done ∷ past) outcomes rest (replies ++ done.reply ∷ []) (task_ask (Opens request) (replies ++ done.reply ∷ [])) fits (is-run network past done run next) (asked (done ∷ past) (is-run network past done run next)) refl others goes.stands quiet; expected = λ more is. goes.expected }
 
 owner-before : (network : Network) (request : Request) (done : Done) (past : List Done) (outcomes : List Opened) (tasks : List Task) (replies : List Reply) → NetworkFits network → (asked : (some : List Done) → IsRun network some → ChannelAsked request some) → RequestFits network.links request → IsRun network past → (next : IsNext network past done) → StandingFits network.links (record { tasks = tasks; replies = replies; outcomes = outcomes }) → IsBefore network request past tasks replies → outcome_in request.chan outcomes ≡ None → first_ask tasks replies ≡ Some (done.link, done.ask)
     → OwnerGoes network request done past tasks replies (resumed outcomes tasks (replies ++ done.reply ∷ []))
@@ -380,7 +375,7 @@ owner-goes network request done past outcomes tasks replies fits asked sound run
 
 -- ---- other callers keep to other channels
 
-off-from : (c : ℕ) (outcomes : List Opened) (tasks : List Task) → Each (TaskOff c) tasks → Each (TaskOff c) (from_step outcomes tasks)
+pub off-from : (c : ℕ) (outcomes : List Opened) (tasks : List Task) → Each (TaskOff c) tasks → Each (TaskOff c) (from_step outcomes tasks)
 unfolding from_step
 off-from c outcomes [] each = tt
 off-from c outcomes (task ∷ tasks) each = cond_both (takes_step outcomes task) (task ∷ tasks) (from_step outcomes tasks) (Each (TaskOff c)) (λ _. each) (λ _. off-from c outcomes tasks each.1)

@@ -1,19 +1,16 @@
 -- The part of a run on each link is a legal history of that link.
-use Rattle.std.proofs.Common.{◌≡◌, ◌≢◌, ℕ, suc, ◌+◌, ◌-◌, ◌^◌, ◌<◌, ◌≤◌, true, cond, List, [], ◌∷◌, ◌++◌, length, Option, Some, None, refl, sym, ap, ◌∙◌, subst, inl, inr, arith, lit<}
+use Rattle.std.proofs.Common.{◌≡◌, ◌≢◌, ℕ, suc, ◌+◌, ◌<◌, ◌≤◌, cond, List, [], ◌∷◌, length, Option, Some, None, refl, sym, ap, ◌∙◌, subst, inl, inr, arith, lit<}
 use Rattle.std.proofs.Math.Nat.{lt_of_le_of_lt}
-use Rattle.std.proofs.lemmas.Bool.{cases_Bool, cases_lt, cond_both, eqb-true, eqb-false, eq-eqb, ne_eqb, lt-ltb, le-ltb, ltb-true}
+use Rattle.std.proofs.lemmas.Bool.{cases_Bool, cases_lt, cond_both, eqb-true, eqb-false, eq-eqb, ne_eqb, lt-ltb, le-ltb}
 use Rattle.std.proofs.lemmas.Option.{same_Some, slice_get_within}
 use Rattle.std.specs.List.{slice_get}
 use Rattle.std.specs.Prelude.{nat_eq, nat_lt}
-use Rattle.net_units.specs.LevelBounds.{bound_at}
 use Rattle.net_units.specs.Numbers.{link_number, actor_number, link_at}
 use Rattle.net_units.specs.declared.numbers.LinkNo.{LinkNo}
 use Rattle.link_steps.specs.declared.asks.Ask.{Ask}
 use Rattle.link_steps.specs.declared.asks.Ask.TheVariants.{Reserve, Relax, Deny, Submit, Release, Arrive, Tick, Pour}
 use Rattle.link_steps.specs.declared.replies.Entry.{Entry}
 use Rattle.link_steps.specs.declared.replies.Reply.{Reply}
-use Rattle.link_steps.specs.declared.replies.Reply.TheVariants as Is
-use Rattle.link_steps.specs.declared.replies.Sent.{Sent}
 use Rattle.link_steps.specs.declared.shape.LinkShape.{LinkShape}
 use Rattle.link_steps.specs.Admissible.{IsAdmissible}
 use Rattle.link_steps.specs.Split.{Link, SplitFits}
@@ -23,24 +20,21 @@ use Rattle.link_steps.specs.Replies.{tick_reply, reply_at, reply_to}
 use Rattle.link_steps.specs.Scan.{clock_with, clock_of, scan_of}
 use Rattle.link_steps.proofs.LegalAdmissible.{may-answer, legal-has, legal-admissible}
 use Rattle.channel_laws.specs.Asks.{MayReplyTo}
-use Rattle.link_steps.proofs.ListFacts.{Each-append, Each-find, Each-without_first}
-use Rattle.net_units.specs.LevelBounds.{are_bounds}
-use Rattle.net_units.proofs.BoundFacts.{bounds_parts}
-use Rattle.std.proofs.lemmas.List.{get_or_past}
+use Rattle.link_steps.proofs.ListFacts.{Each-find}
 use Rattle.run_record.specs.declared.done.Done.{Done}
 use Rattle.call_script.specs.Fits.{TaskFits, NetworkFits}
 use Rattle.call_script.specs.declared.tasks.Task.{Task}
 use Rattle.call_script.specs.Tasks.{Network}
 use Rattle.call_script.specs.Scripts.{standing, ask_at}
 use Rattle.tick_plane.specs.declared.flight.Flight.{Flight}
-use Rattle.tick_plane.specs.Planes.{Plane, is_due, next_due, ask_due, plane_ask, flight_to, flight_in, tick_made, plane_with, plane_after, plane_of}
+use Rattle.tick_plane.specs.Planes.{Plane, is_due, next_due, ask_due, plane_ask, flight_in, tick_made, plane_with, plane_after, plane_of}
 use Rattle.run_record.specs.Runs.{entry_of, replies_to, part_of}
 use Rattle.interleave_core.specs.Runs.{plane_no, plane_at, next_for, IsNext, IsRun}
 use Rattle.call_script.specs.Scripts.{script_ask}
 use Rattle.link_steps.proofs.ListParts.{Each-at}
 use Rattle.interleave_core.proofs.CallerFacts.{IsCallers, StandingFits, standing-asks, begun-fits, replied-fits}
-use Rattle.channel_laws.specs.Departing.{IsSent}
-use Rattle.channel_laws.proofs.SentFacts.{sent-facts}
+use Rattle.channel_laws.proofs.SentFacts.{sent-facts, sent-fits}
+use Rattle.tick_plane.proofs.FlightFacts.{AsksDue, asks-due, flight-in, flights-with}
 
 -- the clock of a link where the plane stands so
 abbrev pub clock_at : Plane → ℕ → ℕ
@@ -82,19 +76,8 @@ caller-next network past done next other =
     script-asks network past (actor_number done.actor) (slice_get network.scripts (actor_number done.actor)) done.link done.ask refl (sym (asked-caller network (actor_number done.actor) past other) ∙ next.asked)
 
 -- what the plane asks
-pub record PlaneAsks (network : Network) (plane : Plane) (to : LinkNo) (ask : Ask) : Type 0 where
-  pub early : plane.round < network.rounds
-  pub asks : ask_due plane.ticked (next_due plane) ≡ (to, ask)
-
-plane-asks : (network : Network) (plane : Plane) (to : LinkNo) (ask : Ask) → plane_ask network.rounds plane ≡ Some (to, ask) → PlaneAsks network plane to ask
-plane-asks network plane to ask same =
-    elim (cases_Bool (nat_lt plane.round network.rounds)) [
-      | inl early ↦ record { early = ltb-true plane.round network.rounds early; asks = same_Some _ _ (rw early at same) }
-      | inr late ↦ absurd (let none : None ≡ Some (to, ask) = rw late at same in cc)
-    ]
-
-pub plane-next : (network : Network) (past : List Done) (done : Done) → IsNext network past done → actor_number done.actor ≡ plane_no network → PlaneAsks network (plane_at network past) done.link done.ask
-plane-next network past done next same = plane-asks network (plane_at network past) done.link done.ask (sym (asked-plane network (actor_number done.actor) past same) ∙ next.asked)
+pub plane-next : (network : Network) (past : List Done) (done : Done) → IsNext network past done → actor_number done.actor ≡ plane_no network → AsksDue network.rounds (plane_at network past) done.link done.ask
+plane-next network past done next same = asks-due network.rounds (plane_at network past) done.link done.ask (sym (asked-plane network (actor_number done.actor) past same) ∙ next.asked)
 
 -- ---- parts of a run with one entry more
 
@@ -254,58 +237,23 @@ ticked-with links plane None reply some within =
       | inr more ↦ rw more (let other = eqb-false (suc plane.ticked) links more in omega (arith, other))
     ]
 
--- no bound is over its limit, and there is none where there is no level
-bound-most : (bs : List ℕ) (level : ℕ) → are_bounds bs ≡ true → bound_at bs level ≤ 1048576
-bound-most bs level are =
-    elim (cases_lt (level - 1) (length bs)) [
-      | inl within ↦ ((bounds_parts bs are).each (level - 1) within).1
-      | inr past ↦ (let none = get_or_past bs (level - 1) 0 past in omega (arith, none))
-    ]
-
--- the packet of a link's part that leaves fits
-sent-fits : (shape : LinkShape) (h : List Entry) (sent : Sent) → clock_of h ≤ 1048576 → IsSent shape h sent → PacketFits sent.packet
-sent-fits shape h sent early is = subst (λ s. PacketFits s.packet) (sym is.is)
-    (let small : 4194304 < 2 ^ 62 = lit< tt in
-    let bound : bound_at shape.bounds is.start.packet.level ≤ 1048576 = bound-most shape.bounds is.start.packet.level shape.bounds_rise in
-    record {
-      size_least = is.size_least;
-      size_most = omega (arith, is.size_most, shape.cap_most);
-      due_most = lt_of_le_of_lt (let a = is.after in let l = is.leaves in let p = shape.prop_most in omega (arith, a, l, p, bound, early)) small;
-    })
-
-flight-to-fits : (sent : Sent) (next : Option LinkNo) → PacketFits sent.packet → Each FlightFits (flight_to sent next)
-flight-to-fits sent None fits = tt
-flight-to-fits sent (Some to) fits = (fits, tt)
-
+-- a link's tick tells a packet that may arrive
 new-flights : (shape : LinkShape) (h : List Entry) (reply : Reply) → clock_of h ≤ 1048576 → IsAdmissible shape h → reply ≡ tick_reply shape (clock_of h) (scan_of shape h) → Each FlightFits (flight_in reply)
-new-flights shape h (Is.Ticked clock full None best_sent best_lost) early legal same = tt
-new-flights shape h (Is.Ticked clock full (Some sent) best_sent best_lost) early legal same = flight-to-fits sent sent.next (sent-fits shape h sent early (sent-facts shape h clock full sent best_sent best_lost legal same))
-new-flights shape h (Is.Offer level reach) early legal same = tt
-new-flights shape h (Is.Relaxed clock) early legal same = tt
-new-flights shape h Is.Denied early legal same = tt
-new-flights shape h (Is.Planned clock) early legal same = tt
-new-flights shape h (Is.Closing count cancelled) early legal same = tt
-new-flights shape h (Is.Taken clock eligible) early legal same = tt
-new-flights shape h (Is.Refused refusal) early legal same = tt
+new-flights shape h reply early legal same =
+    flight-in FlightFits reply (λ clock full sent best_sent best_lost to told next. sent-fits shape h sent (lt_of_le_of_lt early (lit< tt)) (sent-facts shape h clock full sent best_sent best_lost legal (told ∙ same)))
 
-pub made-flights : (P : Flight → Type 0) (links : ℕ) (plane : Plane) (new : List Flight) → Each P plane.flights → Each P new → Each P (tick_made links plane new).flights
-made-flights P links plane new old fresh =
-    cond_both {A = Plane} (nat_eq (suc plane.ticked) links) (record { round = suc plane.round; ticked = 0; flights = plane.flights ++ new }) (record { round = plane.round; ticked = suc plane.ticked; flights = plane.flights ++ new }) (λ p. Each P p.flights)
-    (λ _. Each-append P plane.flights new old fresh) (λ _. Each-append P plane.flights new old fresh)
-
-flights-with : (network : Network) (plane : Plane) (found : Option Flight) (done : Done) (past : List Done) → NetworkFits network → RunStands network past → (next : IsNext network past done) → plane ≡ plane_at network past → PlaneAsks network plane done.link done.ask → ask_due plane.ticked found ≡ (done.link, done.ask) → Each FlightFits plane.flights
-    → Each FlightFits (plane_with (length network.links) plane found done.reply).flights
-flights-with network plane (Some flight) done past fits stands next is asks own flights = Each-without_first FlightFits (is_due plane.round) plane.flights flights
-flights-with network plane None done past fits stands next is asks own flights =
-    let tick : Tick ≡ done.ask = ap (λ pair. pair.1) own in
-    let n : ℕ = link_number done.link in
-    let inside : link_number done.link < length network.links = slice_get_within network.links (link_number done.link) next.link next.linked in
-    let clock = stands.clocks (link_number done.link) inside in
-    let early = asks.early in
-    let most-clock : clock_at plane (link_number done.link) ≤ suc plane.round = cond_both (nat_lt (link_number done.link) plane.ticked) 1 0 (λ x. plane.round + x ≤ suc plane.round) (λ _. omega arith) (λ _. omega arith) in
-    let same : clock_of (part_of (link_number done.link) past) ≡ clock_at plane (link_number done.link) = clock ∙ ap (λ p. clock_at p (link_number done.link)) (sym is) in
-    made-flights FlightFits (length network.links) plane (flight_in done.reply) flights
-    (new-flights next.link.shape (part_of (link_number done.link) past) done.reply (omega (arith, same, most-clock, early, fits.rounds)) (part-may network past (link_number done.link) next.link fits stands next.linked) (next.answered ∙ ap (reply_to next.link (part_of (link_number done.link) past)) (sym tick) ∙ tick-answer next.link (part_of (link_number done.link) past)))
+flights-next : (network : Network) (plane : Plane) (done : Done) (past : List Done) → NetworkFits network → RunStands network past → (next : IsNext network past done) → plane ≡ plane_at network past → AsksDue network.rounds plane done.link done.ask → Each FlightFits plane.flights
+    → Each FlightFits (plane_with (length network.links) plane (next_due plane) done.reply).flights
+flights-next network plane done past fits stands next is asks flights = flights-with FlightFits (length network.links) plane (next_due plane) done.reply flights fresh where
+  fresh : next_due plane ≡ None → Each FlightFits (flight_in done.reply)
+  fresh none =
+      let tick : Tick ≡ done.ask = ap (λ pair. pair.1) (ap (ask_due plane.ticked) (sym none) ∙ asks.asks) in
+      let inside : link_number done.link < length network.links = slice_get_within network.links (link_number done.link) next.link next.linked in
+      let clock = stands.clocks (link_number done.link) inside in
+      let early = asks.early in
+      let most-clock : clock_at plane (link_number done.link) ≤ suc plane.round = cond_both (nat_lt (link_number done.link) plane.ticked) 1 0 (λ x. plane.round + x ≤ suc plane.round) (λ _. omega arith) (λ _. omega arith) in
+      let same : clock_of (part_of (link_number done.link) past) ≡ clock_at plane (link_number done.link) = clock ∙ ap (λ p. clock_at p (link_number done.link)) (sym is) in
+      new-flights next.link.shape (part_of (link_number done.link) past) done.reply (omega (arith, same, most-clock, early, fits.rounds)) (part-may network past (link_number done.link) next.link fits stands next.linked) (next.answered ∙ ap (reply_to next.link (part_of (link_number done.link) past)) (sym tick) ∙ tick-answer next.link (part_of (link_number done.link) past))
 
 -- ---- the callers
 
@@ -336,7 +284,7 @@ stands-next network past done fits stands next =
             legal = legal-next network past done stands next;
             clocks = clocks-next network past done fits stands next;
             ticked = subst (λ p. p.ticked < length network.links) (sym (plane-by network done past same)) (ticked-with (length network.links) (plane_at network past) (next_due (plane_at network past)) done.reply fits.some stands.ticked);
-            flights = subst (λ p. Each FlightFits p.flights) (sym (plane-by network done past same)) (flights-with network (plane_at network past) (next_due (plane_at network past)) done past fits stands next refl asks asks.asks stands.flights);
+            flights = subst (λ p. Each FlightFits p.flights) (sym (plane-by network done past same)) (flights-next network (plane_at network past) done past fits stands next refl asks stands.flights);
             callers = callers-next network past done fits stands next;
           })
       | inr caller ↦

@@ -47,7 +47,7 @@ stepped-run network past actor (Some to) run asked = linked-run network past act
 pub step-run : (network : Network) (past : List Done) (actor : ActorNo) → IsRun network past → IsRun network (step network actor past)
 step-run network past actor run = stepped-run network past actor (next_for network (actor_number actor) past) run refl
 
-from-run : (network : Network) (past : List Done) (actors : List ActorNo) → IsRun network past → IsRun network (run_from network past actors)
+pub from-run : (network : Network) (past : List Done) (actors : List ActorNo) → IsRun network past → IsRun network (run_from network past actors)
 unfolding run_from
 from-run network past [] run = run
 from-run network past (actor ∷ actors) run = from-run network (step network actor past) actors (step-run network past actor run)

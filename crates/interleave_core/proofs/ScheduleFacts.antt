@@ -1,5 +1,5 @@
 -- A schedule comes to a run, or asks too much: to exactly one of these, and to one run or one line. What it comes to is a run.
-use Rattle.std.proofs.Common.{◌≡◌, ℕ, zero, suc, ◌+◌, ◌-◌, ◌<◌, ◌≤◌, Bool, true, false, Option, Some, None, IsSome, List, [], ◌∷◌, ◌++◌, length, map, drop, get_or, refl, sym, ap, ◌∙◌, subst, arith}
+use Rattle.std.proofs.Common.{◌≡◌, ℕ, zero, suc, ◌+◌, ◌-◌, ◌<◌, ◌≤◌, Bool, true, false, Option, Some, None, IsSome, List, [], ◌∷◌, ◌++◌, length, map, drop, refl, sym, ap, ◌∙◌, subst, arith}
 use Rattle.std.proofs.lemmas.List.{append_assoc, append-nil, map-append}
 use Rattle.net_units.specs.Numbers.{actor_number, actor_at}
 use Rattle.net_units.specs.declared.numbers.ActorNo.{ActorNo}
@@ -12,10 +12,11 @@ use Rattle.call_script.specs.declared.schedule.Schedule.{Schedule}
 use Rattle.interleave_core.specs.Runs.{plane_no, next_for, IsRun, step, run_from}
 use Rattle.interleave_core.specs.Schedules.{Turn, actor_in, turn_of, repeated, lined_turns, turns_of, HaveSteps, FollowsTurns, Stops, StepsOut, PlayedOut, PlayedBy, StopsBy, ComesTo, ARun, TooMuch, SchedulesComeToOneEnd}
 use Rattle.interleave_core.specs.Turns.{most_left}
-use Rattle.interleave_core.proofs.RunOf.{step-run, none-run}
+use Rattle.interleave_core.proofs.RunOf.{step-run, none-run, from-run}
 use Rattle.interleave_core.proofs.TurnFacts.{makes-one}
 use Rattle.run_record.specs.Runs.{replies_to}
 use Rattle.run_record.specs.declared.done.Done.{Done}
+use Rattle.run_record.proofs.OrderFacts.{head-of}
 
 -- ---- turns one after the other
 
@@ -44,11 +45,6 @@ follows-more network past mid run first second one two = record {
 pub follows-one : (network : Network) (past run : List Done) (actor : ActorNo) → IsSome (next_for network (actor_number actor) past) → run ≡ step network actor past → FollowsTurns network past (actor ∷ []) run
 unfolding HaveSteps run_from
 follows-one network past run actor some is = record { served = (some, tt); is = is }
-
-follows-run : (network : Network) (past : List Done) (actors : List ActorNo) → IsRun network past → IsRun network (run_from network past actors)
-unfolding run_from
-follows-run network past [] run = run
-follows-run network past (actor ∷ actors) run = follows-run network (step network actor past) actors (step-run network past actor run)
 
 -- ---- the same many times
 
@@ -161,9 +157,6 @@ follows-or-stops : (network : Network) (past run : List Done) (turns : List Turn
 follows-or-stops network past run turns line made one stop =
     not-left _ stop.over (left-at network past stop.before stop.turn stop.after (subst (λ ts. HaveSteps network past (map actor_in ts)) stop.are one.served))
 
-heads : {X : Type 0} (x y : X) (xs ys : List X) → x ∷ xs ≡ y ∷ ys → x ≡ y
-heads x y xs ys same = ap (λ zs. get_or zs 0 x) same
-
 tails : {X : Type 0} (x y : X) (xs ys : List X) → x ∷ xs ≡ y ∷ ys → xs ≡ ys
 tails x y xs ys same = ap (λ zs. drop 1 zs) same
 
@@ -175,13 +168,13 @@ record SameStop (before other : List Turn) (turn turn_other : Turn) : Type 0 whe
 same-stop : (network : Network) (past : List Done) (before other : List Turn) (turn turn_other : Turn) (after after_other : List Turn) → before ++ turn ∷ after ≡ other ++ turn_other ∷ after_other → HaveSteps network past (map actor_in before) → HaveSteps network past (map actor_in other)
     → next_for network (actor_number turn.actor) (run_from network past (map actor_in before)) ≡ None → next_for network (actor_number turn_other.actor) (run_from network past (map actor_in other)) ≡ None → SameStop before other turn turn_other
 unfolding HaveSteps run_from
-same-stop network past [] [] turn turn_other after after_other same have have_other over over_other = record { befores = refl; turns = heads turn turn_other after after_other same }
+same-stop network past [] [] turn turn_other after after_other same have have_other over over_other = record { befores = refl; turns = head-of turn turn_other after after_other same }
 same-stop network past [] (first ∷ other) turn turn_other after after_other same have have_other over over_other =
-    absurd (not-left _ over (subst (λ (t : Turn). IsSome (next_for network (actor_number t.actor) past)) (sym (heads turn first after (other ++ turn_other ∷ after_other) same)) have_other.0))
+    absurd (not-left _ over (subst (λ (t : Turn). IsSome (next_for network (actor_number t.actor) past)) (sym (head-of turn first after (other ++ turn_other ∷ after_other) same)) have_other.0))
 same-stop network past (first ∷ before) [] turn turn_other after after_other same have have_other over over_other =
-    absurd (not-left _ over_other (subst (λ (t : Turn). IsSome (next_for network (actor_number t.actor) past)) (heads first turn_other (before ++ turn ∷ after) after_other same) have.0))
+    absurd (not-left _ over_other (subst (λ (t : Turn). IsSome (next_for network (actor_number t.actor) past)) (head-of first turn_other (before ++ turn ∷ after) after_other same) have.0))
 same-stop network past (first ∷ before) (second ∷ other) turn turn_other after after_other same have have_other over over_other =
-    let head : second ≡ first = sym (heads first second (before ++ turn ∷ after) (other ++ turn_other ∷ after_other) same) in
+    let head : second ≡ first = sym (head-of first second (before ++ turn ∷ after) (other ++ turn_other ∷ after_other) same) in
     let mine : HaveSteps network (step network first.actor past) (map actor_in other) = subst (λ (t : Turn). HaveSteps network (step network t.actor past) (map actor_in other)) head have_other.1 in
     let ends : next_for network (actor_number turn_other.actor) (run_from network (step network first.actor past) (map actor_in other)) ≡ None = subst (λ (t : Turn). next_for network (actor_number turn_other.actor) (run_from network (step network t.actor past) (map actor_in other)) ≡ None) head over_other in
     let rest = same-stop network (step network first.actor past) before other turn turn_other after after_other (tails first second (before ++ turn ∷ after) (other ++ turn_other ∷ after_other) same) have.1 mine over ends in
@@ -241,7 +234,7 @@ steps-out network zero past actor fits run few = at-end network zero past actor 
 steps-out network (suc most) past actor fits run few = at-end network (suc most) past actor fits run few (next_for network (actor_number actor) past) refl (λ next is_run less. steps-out network most next actor fits is_run (omega (arith, few, less)))
 
 out-run : (network : Network) (past run : List Done) (actor : ActorNo) → IsRun network past → StepsOut network past actor run → IsRun network run
-out-run network past run actor is out = subst (IsRun network) (sym out.steps.is) (follows-run network past (repeated out.count actor) is)
+out-run network past run actor is out = subst (IsRun network) (sym out.steps.is) (from-run network past (repeated out.count actor) is)
 
 played-run : (network : Network) (n : ℕ) (run : List Done) → PlayedOut network n run → IsRun network run
 unfolding PlayedOut
@@ -281,7 +274,7 @@ by-one-line network true items line made line_other made_other one two = stops-o
 by-one-line network false items line made line_other made_other one two = absurd one
 
 by-run : (network : Network) (written : Bool) (items : List Do) (run : List Done) → PlayedBy network written items run → IsRun network run
-by-run network true items run played = subst (IsRun network) (sym played.is) (follows-run network [] (turns_of items) (none-run network))
+by-run network true items run played = subst (IsRun network) (sym played.is) (from-run network [] (turns_of items) (none-run network))
 by-run network false items run played = played-run network (suc (plane_no network)) run played
 
 pub one-end : SchedulesComeToOneEnd

@@ -17,7 +17,7 @@ use Rattle.link_steps.specs.declared.replies.Reply.TheVariants as Is
 use Rattle.link_steps.specs.declared.shape.LinkShape.{LinkShape}
 use Rattle.link_steps.specs.Lists.{Each}
 use Rattle.channel_laws.specs.Asks.{MayReplyTo}
-use Rattle.setup_protocol.specs.Setup.{is_offer, level_in, offers_in, after_offers, reach_after, on_the_way, asked, asked_of, reserve_of, next_ask}
+use Rattle.setup_protocol.specs.Setup.{is_offer, level_in, offers_in, after_offers, reach_after, on_the_way, asked, reserve_of, next_ask}
 use Rattle.setup_protocol.specs.declared.request.Request.{Request}
 use Rattle.setup_protocol.proofs.ProgressFacts.{after-other, offers-more, progress-on_the_way, progress-tested}
 use Rattle.run_record.specs.declared.done.Done.{Done}
@@ -35,8 +35,9 @@ use Rattle.call_script.specs.Scripts.{Opened, Standing, task_ask, takes_step, fr
 use Rattle.channel_laws.specs.Asks.{IsReserve}
 use Rattle.channel_laws.proofs.OfferAnswers.{offer-answers}
 use Rattle.interleave_core.proofs.CallerFacts.{undone-asks, tested-asks}
-use Rattle.interleave_core.proofs.Routes.{index-apart}
+use Rattle.hop_reservation.proofs.RouteFacts.{index-apart}
 use Rattle.interleave_core.proofs.RunLegal.{answered-may, plane-next, caller-next, part-on, part-off, replies-by, replies-off}
+use Rattle.setup_protocol.proofs.HopAsks.{asked-at}
 
 -- ---- scripts
 
@@ -66,14 +67,10 @@ pub record Reserves (request : Request) (replies : List Reply) (to : LinkNo) (as
   pub reach : ℕ
   pub is : ask ≡ reserve_of request (offers_in replies) reach
 
-of-hop : (found : Option Hop) (to : LinkNo) (ask : Ask) (own : Ask) → asked_of found (λ hop. own) ≡ Some (to, ask) → (hop : Hop) × (found ≡ Some hop) × (to ≡ hop.link) × (ask ≡ own)
-of-hop None to ask own same = cc
-of-hop (Some hop) to ask own same = (let both = same_Some (hop.link, own) (to, ask) same in (hop, refl, sym (ap (λ pair. pair.0) both), sym (ap (λ pair. pair.1) both)))
-
 way-reserves : (request : Request) (replies : List Reply) (rest : List Reply) (to : LinkNo) (ask : Ask) → after_offers replies ≡ rest → asked request (on_the_way (offers_in replies) (reach_after 0 request.route replies) rest) ≡ Some (to, ask) → IsReserve ask → Reserves request replies to ask
 way-reserves request replies [] to ask after same is =
-    let found = of-hop (slice_get request.route (length (offers_in replies))) to ask (reserve_of request (offers_in replies) (reach_after 0 request.route replies)) same in
-    record { alone = after; hop = found.0; stands = found.1; at = found.2; reach = reach_after 0 request.route replies; is = found.3 }
+    let found = asked-at request.route (length (offers_in replies)) (λ hop. reserve_of request (offers_in replies) (reach_after 0 request.route replies)) to ask same in
+    record { alone = after; hop = found.hop; stands = found.stands; at = found.at; reach = reach_after 0 request.route replies; is = found.is }
 way-reserves request replies (first ∷ denied) to ask after same is = absurd (undone-asks request _ _ to ask same is)
 
 reserves : (request : Request) (replies : List Reply) (to : LinkNo) (ask : Ask) → next_ask request replies ≡ Some (to, ask) → IsReserve ask → Reserves request replies to ask
@@ -112,11 +109,11 @@ offer-reserves shape h ask (Is.Refused refusal) same offer = cc
 -- a task of another channel
 task-other : (c : ℕ) (task : Task) (replies : List Reply) (to : LinkNo) (ask : Ask) → IsOther c task → task_ask task replies ≡ Some (to, ask) → IsReserve ask → reserve_chan ask ≢ c
 task-other c (Opens request) replies to ask other same is = (let own = reserves request replies to ask same is in λ e. other (ap reserve_chan (sym own.is) ∙ e))
-task-other c (Sends request count gap size) [] to ask other same is = absurd (subst IsReserve (of-hop (slice_get request.route 0) to ask (Submit request.chan count gap size) same).3 is)
+task-other c (Sends request count gap size) [] to ask other same is = absurd (subst IsReserve (asked-at request.route 0 (λ hop. Submit request.chan count gap size) to ask same).is is)
 task-other c (Sends request count gap size) (reply ∷ replies) to ask other same is = cc
 task-other c (Pours link count gap size) [] to ask other same is = absurd (subst IsReserve (sym (ap (λ pair. pair.1) (same_Some (link, Pour count gap size) (to, ask) same))) is)
 task-other c (Pours link count gap size) (reply ∷ replies) to ask other same is = cc
-task-other c (Closes request) replies to ask other same is = absurd (subst IsReserve (of-hop (slice_get request.route (length replies)) to ask (Release request.chan _) same).3 is)
+task-other c (Closes request) replies to ask other same is = absurd (subst IsReserve (asked-at request.route (length replies) (λ hop. Release request.chan _) to ask same).is is)
 
 tasks-other : (c : ℕ) (tasks : List Task) (replies : List Reply) (to : LinkNo) (ask : Ask) → Each (IsOther c) tasks → first_ask tasks replies ≡ Some (to, ask) → IsReserve ask → reserve_chan ask ≢ c
 tasks-other c [] replies to ask others same is = cc

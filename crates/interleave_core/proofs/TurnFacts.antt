@@ -20,7 +20,7 @@ use Rattle.link_steps.specs.Lists.{without_first}
 use Rattle.link_steps.specs.Replies.{reply_to}
 use Rattle.link_steps.specs.Split.{Link}
 use Rattle.relaxation.specs.declared.EndDenial.{EndDenial}
-use Rattle.setup_protocol.specs.Setup.{is_offer, offers_in, after_offers, undoing, relaxing, on_the_way, after_test, asked, asked_of, next_ask}
+use Rattle.setup_protocol.specs.Setup.{offers_in, after_offers, undoing, relaxing, on_the_way, after_test, asked, asked_of, next_ask}
 use Rattle.setup_protocol.specs.declared.request.Request.{Request}
 use Rattle.setup_protocol.specs.declared.verdict.Deny.{Deny}
 use Rattle.setup_protocol.proofs.ProgressFacts.{progress-on_the_way, progress-tested}
@@ -39,6 +39,7 @@ use Rattle.run_record.specs.Runs.{replies_to, part_of}
 use Rattle.run_record.specs.declared.done.Done.{Done}
 use Rattle.tick_plane.specs.Planes.{Plane, is_due, next_due, flight_to, flight_in, plane_with}
 use Rattle.tick_plane.specs.declared.flight.Flight.{Flight}
+use Rattle.setup_protocol.proofs.WayBackFacts.{count-all}
 
 -- ---- a setup takes at most two steps a hop
 
@@ -61,19 +62,9 @@ tested-few : (request : Request) (offers : List ℕ) (count : ℕ) (denial : Opt
 tested-few request offers count (Some denial) to ask same = (let some = undone-some request (length request.route - count) _ to ask same in omega (arith, some))
 tested-few request offers count None to ask same = (let some = relaxed-some request (length request.route - count) _ to ask same in omega (arith, some))
 
--- the offers at the front of the replies and those after them are all
-front-and-after : (replies : List Reply) → length replies ≡ length (offers_in replies) + length (after_offers replies)
-unfolding offers_in after_offers
-front-and-after [] = refl
-front-and-after (first ∷ replies) =
-    elim (cases_Bool (is_offer first)) [
-      | inl offer ↦ (let rest = front-and-after replies in rw offer (omega (arith, rest)))
-      | inr plain ↦ rw plain (omega arith)
-    ]
-
 setup-few : (request : Request) (replies : List Reply) (to : LinkNo) (ask : Ask) → AreLevels request.route (offers_in replies) → next_ask request replies ≡ Some (to, ask) → length replies < 2 * length request.route
 setup-few request replies to ask are same =
-    let all = front-and-after replies in
+    let all = count-all replies in
     let fit = levels-fit request.route (offers_in replies) are in
     elim (cases_lt (length (offers_in replies)) (length request.route)) [
       | inl fewer ↦

@@ -13,7 +13,7 @@ use Rattle.link_steps.specs.declared.replies.Reply.{Reply}
 use Rattle.link_steps.specs.Lists.{Each}
 use Rattle.setup_protocol.specs.Setup.{Outcome, Progress, Reserving, Undoing, Relaxing, Settled, asked, asked_of, next_ask, progress_of, settled_in, verdict_of}
 use Rattle.setup_protocol.specs.declared.request.Request.{Request}
-use Rattle.setup_protocol.proofs.ProgressFacts.{progress-none}
+use Rattle.setup_protocol.proofs.ProgressFacts.{none-settled}
 use Rattle.call_script.specs.Owners.{TaskOff}
 use Rattle.call_script.specs.Scripts.{Opened, Standing, task_ask, takes_step, from_step, begun, settled_as, outcome_by, continued, resumed, standing, first_ask, ask_at, outcome_in}
 use Rattle.call_script.specs.Tasks.{Network}
@@ -82,9 +82,6 @@ data VerdictAt (request : Request) (run : List Done) (at : Standing) : Type 0 wh
   Before : ScriptOnce request at.tasks → IsBegun request at.tasks at.replies → setup_replies (channel_number request.chan) run ≡ [] → outcome_in request.chan at.outcomes ≡ None → VerdictAt request run at
   Under : (rest : List Task) → at.tasks ≡ Opens request ∷ rest → Each (IsOther (channel_number request.chan)) rest → setup_replies (channel_number request.chan) run ≡ at.replies → verdict_of request at.replies ≡ None → outcome_in request.chan at.outcomes ≡ None → VerdictAt request run at
   After : Each (IsOther (channel_number request.chan)) at.tasks → outcome_in request.chan at.outcomes ≡ verdict_of request (setup_replies (channel_number request.chan) run) → VerdictAt request run at
-
-none-settled : (request : Request) → 1 ≤ length request.route → verdict_of request [] ≡ None
-none-settled request some = ap settled_in (progress-none request some)
 
 -- so the outcome is that of the replies
 verdict-at : (request : Request) (run : List Done) (at : Standing) → 1 ≤ length request.route → VerdictAt request run at → outcome_in request.chan at.outcomes ≡ verdict_of request (setup_replies (channel_number request.chan) run)

@@ -2,9 +2,7 @@
 -- turns. The schedule is played where each turn finds a step of its actor left, and its run has a step for each turn. It asks
 -- too much at the first turn that finds none left. Where none is written, the callers in their order, and then the plane, each
 -- make their steps until none is left.
-use Rattle.std.specs.Prelude.{◌≡◌, ℕ, zero, suc, ◌≤◌, min, Bool, true, false, None, IsSome, List, [], ◌∷◌, ◌++◌, length, map}
-use Rattle.std.proofs.Common.{lit<}
-use Rattle.std.proofs.Math.Nat.{min-le_left, lt_of_le_of_lt}
+use Rattle.std.specs.Prelude.{◌≡◌, ℕ, zero, suc, ◌≤◌, Bool, true, false, None, IsSome, List, [], ◌∷◌, ◌++◌, length, map}
 use Rattle.net_units.specs.Numbers.{actor_number, actor_at}
 use Rattle.net_units.specs.declared.numbers.ActorNo.{ActorNo}
 use Rattle.call_script.specs.Fits.{NetworkFits}

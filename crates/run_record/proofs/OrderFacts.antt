@@ -73,7 +73,7 @@ same-rest lt x ys zs same = λ w. elim (cases_Bool (ties lt w x)) [
   | inr apart ↦ rw (apart) at (same w)
 ]
 
-head-of : {X : Type 0} (x y : X) (xs ys : List X) → x ∷ xs ≡ y ∷ ys → x ≡ y
+pub head-of : {X : Type 0} (x y : X) (xs ys : List X) → x ∷ xs ≡ y ∷ ys → x ≡ y
 head-of x y xs ys same = cc
 
 pub one-order : {X : Type 0} (lt : X → X → Bool) (o : IsStrictWeakOrder lt) (ys zs : List X) → Ascends lt ys → Ascends lt zs → SameTies lt ys zs → ys ≡ zs

@@ -153,6 +153,13 @@ module _ {X : Type 0} (free : X) (holds : Reservation → X) (request : Request)
     };
   }
 
+  -- hop k holds the reservation of its offer until it gives it back, or is relaxed
+  pub back-tent : (k : ℕ) (deny : Denial) → progress_of request replies ≡ undoing (suc k) deny → (at : At k) → IsTent holds request (offers_in replies) k (now k at)
+  back-tent k deny is at = (undo-says free holds request (offers_in replies) (suc k) deny k (now k at) (subst (λ p. HopStands free holds request (offers_in replies) p k (now k at)) is (stood.hops k at))).0 (omega arith)
+
+  pub forth-tent : (k : ℕ) (levels : List ℕ) → progress_of request replies ≡ relaxing request.route (suc k) levels → (at : At k) → IsTent holds request (offers_in replies) k (now k at)
+  forth-tent k levels is at = (relax-says free holds request (offers_in replies) (suc k) levels k (now k at) (subst (λ p. HopStands free holds request (offers_in replies) p k (now k at)) is (stood.hops k at))).0 (omega arith)
+
   -- hop k has given its reservation back
   pub back-goes : (k : ℕ) (deny : Denial) → progress_of request replies ≡ undoing (suc k) deny → reply ≡ Is.Denied → Changes At now later k free → RouteGoes free holds request At later replies reply
   back-goes k deny is told changes =

@@ -49,7 +49,7 @@ flight-in P (Is.Refused refusal) fresh = tt
 
 -- ---- the flights of the plane
 
-made-flights : (P : Flight → Type 0) (links : ℕ) (plane : Plane) (new : List Flight) → Each P plane.flights → Each P new → Each P (tick_made links plane new).flights
+pub made-flights : (P : Flight → Type 0) (links : ℕ) (plane : Plane) (new : List Flight) → Each P plane.flights → Each P new → Each P (tick_made links plane new).flights
 made-flights P links plane new old fresh =
     cond_both {A = Plane} (nat_eq (suc plane.ticked) links) (record { round = suc plane.round; ticked = 0; flights = plane.flights ++ new }) (record { round = plane.round; ticked = suc plane.ticked; flights = plane.flights ++ new }) (λ p. Each P p.flights)
     (λ _. Each-append P plane.flights new old fresh) (λ _. Each-append P plane.flights new old fresh)

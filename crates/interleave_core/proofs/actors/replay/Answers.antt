@@ -1,5 +1,5 @@
 -- The next entry is the next step of its actor, and the actors stand after it.
-use Rattle.std.proofs.Common.{◌≡◌, ◌<◌, ◌+◌, ◌∷◌, length, get_or, reverse, take, sym, subst, arith}
+use Rattle.std.proofs.Common.{◌≡◌, ◌<◌, length, get_or, reverse, take, sym, subst}
 use Rattle.call_script.specs.Tasks.{network_of}
 use Rattle.interleave_core.specs.Standing.{ActorsStand, IsDueStep}
 use Rattle.interleave_core.proofs.RunFronts.{front-run, front-more, front-next}

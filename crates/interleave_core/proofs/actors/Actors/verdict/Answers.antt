@@ -1,6 +1,5 @@
 -- The caller that opens the request is there, and what it knows is the verdict over the replies of the run.
-use Rattle.std.proofs.Common.{◌≡◌, ◌<◌, Some, length, refl, sym, ap, ◌∙◌, arith}
-use Rattle.std.specs.List.{slice_get}
+use Rattle.std.proofs.Common.{◌<◌, length, refl, ◌∙◌, arith}
 use Rattle.net_units.specs.Numbers.{actor_number}
 use Rattle.run_record.specs.Runs.{replies_to}
 use Rattle.interleave_core.proofs.OwnerVerdict.{owner-within, read-verdict}
