@@ -8,8 +8,6 @@ use Rattle.std.proofs.lemmas.Option.{slice_get_past}
 use mathlib.Core.HLevel.{is_prop→PathP}
 use Rattle.net_units.specs.Numbers.{actor_number, actor_at}
 use Rattle.net_units.specs.declared.numbers.ActorNo.{ActorNo}
-use Rattle.net_units.specs.declared.numbers.LinkNo.{LinkNo}
-use Rattle.link_steps.specs.declared.asks.Ask.{Ask}
 use Rattle.link_steps.specs.declared.replies.Reply.{Reply}
 use Rattle.call_script.proofs.FitFacts.{plan-fits}
 use Rattle.call_script.specs.Fits.{NetworkFits}
@@ -19,6 +17,7 @@ use Rattle.call_script.specs.Scripts.{script_ask}
 use Rattle.call_script.specs.Tasks.{Network, network_of}
 use Rattle.call_script.specs.declared.entries.CallerEntry.{CallerEntry}
 use Rattle.interleave_core.proofs.ActorFacts.{plane-number}
+use Rattle.interleave_core.proofs.PlayFacts.{step-some}
 use Rattle.interleave_core.proofs.RunLegal.{asked-caller}
 use Rattle.interleave_core.proofs.RunOf.{none-run, step-is, step-run}
 use Rattle.interleave_core.proofs.StepFacts.{callers-few}
@@ -61,15 +60,11 @@ left-within network actor run some =
 
 -- ---- the circle
 
-asks-some : (next : Option (LinkNo × Ask)) (to : LinkNo × Ask) → next ≡ Some to → IsSome next
-asks-some None to is = cc
-asks-some (Some found) to is = refl
-
 pub goes-on-within : (network : Network) (run : List Done) → IsRun network run → goes_on_at run ≤ suc (plane_no network)
 unfolding IsRun
 goes-on-within network [] run = omega arith
 goes-on-within network (done ∷ past) run =
-    let within = left-within network (actor_number done.actor) past (asks-some (next_for network (actor_number done.actor) past) (done.link, done.ask) run.1.asked) in
+    let within = left-within network (actor_number done.actor) past (step-some (next_for network (actor_number done.actor) past) (done.link, done.ask) run.1.asked) in
     omega (arith, within)
 
 -- each number of the circle is so many places further
