@@ -51,7 +51,7 @@ use Rattle.link_steps.specs.declared.asks.Ask.TheVariants.{Reserve, Relax, Deny,
 use Rattle.link_steps.proofs.ListFacts.{Each-filter}
 use Rattle.relaxation.specs.Laws.{HaveBounds}
 use Rattle.setup_protocol.specs.Laws.{AsksHop, is_accepted}
-use Rattle.setup_protocol.specs.Setup.{Outcome, Accepts, Denies, asked, asked_of, hop_link, reach_after, relax_of, reserve_of, settled_in}
+use Rattle.setup_protocol.specs.Setup.{Outcome, Accepts, Denies, asked, hop_link, reach_after, settled_in}
 use Rattle.setup_protocol.proofs.AskFacts.{ask-fits}
 use Rattle.setup_protocol.proofs.ProgressFacts.{progress-advances, progress-none}
 use Rattle.channel_laws.specs.Asks.{IsOff}
@@ -59,12 +59,13 @@ use Rattle.link_steps.proofs.ListParts.{Each-at}
 use Rattle.link_ledger.specs.Owners.{OwnsAsk, NextBelow, IsBelow}
 use Rattle.shared_network.specs.Calls.{HasNone, IsCommitted, IsEstablished, hold_at}
 use Rattle.setup_protocol.specs.Hops.{IsHopOf}
-use Rattle.shared_network.specs.Holds.{Hold, Free, Untold, reserved, hold_relaxed, denied, hold_with, hold_from, hold_of}
+use Rattle.shared_network.specs.Holds.{Hold, Free, Holds, Untold, reserved, hold_relaxed, denied, hold_with, hold_from, hold_of}
 use Rattle.shared_network.specs.Sight.{FitsAt, IsSend}
 use Rattle.shared_network.proofs.HoldSteps.{AnswersOf, answers}
 use Rattle.net_units.proofs.NumberFacts.{same-link}
 use Rattle.shared_network.proofs.SetupGoes.{hold-elsewhere, hold-here, setup-goes}
-use Rattle.shared_network.proofs.SetupHolds.{HopStands, IsComm}
+use Rattle.setup_protocol.proofs.HopHolds.{HopStands, IsComm}
+use Rattle.setup_protocol.proofs.HopAsks.{of-setup}
 
 -- ---- entries that follow a protocol
 
@@ -168,9 +169,11 @@ have-bounds links (hop ∷ hops) are = (ap are_bounds are.0.bounds ∙ are.0.lin
 rows-first : (request : Request) (own : List OwnEntry) → 1 ≤ length request.route → HasNone request.chan own → SetupRows request own []
 unfolding offers_in after_offers reach_after AreLevels
 rows-first request own some none = record {
-  hops = λ i hop found. subst (λ p. HopStands request [] p i (hold_at request.chan hop own)) (sym (progress-none request some)) (record { tent = λ less. absurd (omega (arith, less)); tail = λ from. none-hold request.chan hop own none });
+  stands = record {
+    hops = λ i at. subst (λ p. HopStands Free Holds request [] p i (hold_at request.chan at.hop own)) (sym (progress-none request some)) (record { tent = λ less. absurd (omega (arith, less)); tail = λ from. none-hold request.chan at.hop own none });
+    up = λ alone. refl;
+  };
   levels = tt;
-  up = λ alone. refl;
 }
 
 pub setting-first : (table : TableId) (owners : List ActorNo) (links : List Link) (request : Request) (pass : Token) (setup : Setup) → IsContract request.contract → IsRoute request.route → Each (IsHopOf links) request.route → MayStep table owners links pass → HasNone request.chan pass.own → setup.request ≡ request → SetupStands setup [] → SettingUp table owners links request pass pass setup
@@ -195,31 +198,17 @@ setting-first table owners links request pass setup contract route hops may none
 -- ---- one step
 
 -- each ask of a setup names its channel
-owns-hop : (owners : List ActorNo) (a : ActorNo) (found : Option Hop) (own : Hop → Ask) (to : LinkNo) (ask : Ask) → ((hop : Hop) → OwnsAsk owners a (own hop)) → asked_of found own ≡ Some (to, ask) → OwnsAsk owners a ask
-owns-hop owners a None own to ask owns same = absurd (let clash : None ≡ Some (to, ask) = same in cc)
-owns-hop owners a (Some hop) own to ask owns same = subst (OwnsAsk owners a) (ap (λ pair. pair.1) (same_Some (hop.link, own hop) (to, ask) same)) (owns hop)
-
 owns-asked : (owners : List ActorNo) (a : ActorNo) (request : Request) (p : Progress) (to : LinkNo) (ask : Ask) → IsOwner owners a request.chan → asked request p ≡ Some (to, ask) → OwnsAsk owners a ask
-owns-asked owners a request (Reserving offers reach) to ask owner same = owns-hop owners a (slice_get request.route (length offers)) (λ hop. reserve_of request offers reach) to ask (λ hop. owner) same
-owns-asked owners a request (Undoing left deny) to ask owner same = owns-hop owners a (slice_get request.route (left - 1)) (λ hop. Deny request.chan) to ask (λ hop. owner) same
-owns-asked owners a request (Relaxing left levels) to ask owner same = owns-hop owners a (slice_get request.route (left - 1)) (λ hop. relax_of request levels left) to ask (λ hop. owner) same
-owns-asked owners a request (Settled outcome) to ask owner same = absurd (let clash : None ≡ Some (to, ask) = same in cc)
+owns-asked owners a request p to ask owner same = of-setup (OwnsAsk owners a) request p to ask (λ offers reach. owner) owner (λ levels place. owner) same
 
 -- and each reserve a next link of the network
 next-found : (links : List Link) (route : List Hop) (i : ℕ) (found : Option Hop) → Each (IsHopOf links) route → slice_get route i ≡ found → IsBelow (length links) (option_map hop_link found)
 next-found links route i None hops is = tt
 next-found links route i (Some hop) hops is = (let at = Each-at (IsHopOf links) route i hop hops is in slice_get_within links (link_number hop.link) at.link at.linked)
 
-next-hop : (links : ℕ) (found : Option Hop) (own : Hop → Ask) (to : LinkNo) (ask : Ask) → ((hop : Hop) → NextBelow links (own hop)) → asked_of found own ≡ Some (to, ask) → NextBelow links ask
-next-hop links None own to ask next same = absurd (let clash : None ≡ Some (to, ask) = same in cc)
-next-hop links (Some hop) own to ask next same = subst (NextBelow links) (ap (λ pair. pair.1) (same_Some (hop.link, own hop) (to, ask) same)) (next hop)
-
 next-asked : (links : List Link) (request : Request) (p : Progress) (to : LinkNo) (ask : Ask) → Each (IsHopOf links) request.route → asked request p ≡ Some (to, ask) → NextBelow (length links) ask
-next-asked links request (Reserving offers reach) to ask hops same =
-    next-hop (length links) (slice_get request.route (length offers)) (λ hop. reserve_of request offers reach) to ask (λ hop. next-found links request.route (suc (length offers)) (slice_get request.route (suc (length offers))) hops refl) same
-next-asked links request (Undoing left deny) to ask hops same = next-hop (length links) (slice_get request.route (left - 1)) (λ hop. Deny request.chan) to ask (λ hop. tt) same
-next-asked links request (Relaxing left levels) to ask hops same = next-hop (length links) (slice_get request.route (left - 1)) (λ hop. relax_of request levels left) to ask (λ hop. tt) same
-next-asked links request (Settled outcome) to ask hops same = absurd (let clash : None ≡ Some (to, ask) = same in cc)
+next-asked links request p to ask hops same =
+    of-setup (NextBelow (length links)) request p to ask (λ offers reach. next-found links request.route (suc (length offers)) (slice_get request.route (suc (length offers))) hops refl) tt (λ levels place. tt) same
 
 module _ (table : TableId) (owners : List ActorNo) (links : List Link) (request : Request) (pass0 pass : Token) (setup : Setup) (so : SettingUp table owners links request pass0 pass setup) (to : LinkNo) (ask : Ask) (asks : next_ask request (map reply_in so.entries) ≡ Some (to, ask)) where
   hop-asked : AsksHop request to ask
@@ -302,8 +291,8 @@ pub setup-established : (table : TableId) (owners : List ActorNo) (links : List 
 setup-established table owners links request pass0 pass setup (Denies deny) so is accepted = absurd (let clash : false ≡ true = accepted in cc)
 setup-established table owners links request pass0 pass setup (Accepts levels delay) so is accepted = λ i hop found.
     (let at_end : progress_of request (map reply_in so.entries) ≡ Settled (Accepts levels delay) = ap (λ (r : Request). progress_of r (map reply_in so.entries)) (sym so.request_is) ∙ sym so.stands ∙ settled-is (progress_in setup) (Accepts levels delay) is in
-    let stands = subst (λ p. HopStands request (offers_in (map reply_in so.entries)) p i (hold_at request.chan hop pass.own)) at_end (so.rows.hops i hop found) in
-    let comm : IsComm request levels i (hold_at request.chan hop pass.own) = stands.tail (omega arith) in
+    let stands = subst (λ p. HopStands Free Holds request (offers_in (map reply_in so.entries)) p i (hold_at request.chan hop pass.own)) at_end (so.rows.stands.hops i (record { hop = hop; stands = found })) in
+    let comm : IsComm Holds request levels i (hold_at request.chan hop pass.own) = stands.tail (omega arith) in
     record { terms = comm.terms; is = comm.is; phase = comm.phase; first_is = comm.first })
 
 -- an answer that is Ok is no Err

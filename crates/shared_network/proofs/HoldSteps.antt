@@ -22,7 +22,7 @@ use Rattle.step_stamp.specs.Views.{known_of}
 use Rattle.step_stamp.specs.declared.marks.Mark.{Mark}
 use Rattle.channel_laws.specs.Laws.{held_after}
 use Rattle.channel_laws.specs.Reservations.{held_by}
-use Rattle.link_steps.proofs.ListParts.{Each-at}
+use Rattle.link_steps.proofs.ListParts.{Each-at, Each-parts}
 use Rattle.link_ledger.specs.Journals.{marks_in, done_in, history_in, journal_of}
 use Rattle.link_ledger.specs.Order.{AreInOrder}
 use Rattle.link_ledger.specs.Own.{own_mark, own_entry, own_at}
@@ -42,14 +42,6 @@ pub record AnswersOf (link : Link) (chan : ChanNo) (hold : Hold) (ask : Ask) (re
   pub held : IsHeld hold (held_by chan scan.rows)
   pub reply_is : reply ≡ reply_at link clock scan ask
   pub may : MayAnswer link.shape clock scan ask reply
-
-each-right : {X : Type 0} (P : X → Type 0) (xs ys : List X) → Each P (xs ++ ys) → Each P ys
-each-right P [] ys each = each
-each-right P (x ∷ xs) ys each = each-right P xs ys each.1
-
-each-left : {X : Type 0} (P : X → Type 0) (xs ys : List X) → Each P (xs ++ ys) → Each P xs
-each-left P [] ys each = tt
-each-left P (x ∷ xs) ys each = (each.0, each-left P xs ys each.1)
 
 module _ (table : TableId) (owners : List ActorNo) (links : List Link) (l : ℕ) (ask : Ask) (pass pass' : Token) (reply : Reply) (splits : Each SplitFits links) (may : MayStep table owners links pass) (steps : Steps links l ask pass pass' reply) (order : AreInOrder owners (length links) (known_of l pass'.view)) where
   abbrev a : ActorNo
@@ -87,7 +79,9 @@ module _ (table : TableId) (owners : List ActorNo) (links : List Link) (l : ℕ)
   none = rest_none a l pass.view pass.own rest may.exact (subst (Has (actor_number a)) (sym may.acts) (inl refl)) (subst StampsRise (sym whole) steps.acted.rises) (λ m has on. steps.acted.own m (subst (Has m) whole has) on)
 
   owned : Each (λ (m : Mark). OwnsAsk owners m.actor m.ask) rest
-  owned = each-right (λ (m : Mark). OwnsAsk owners m.actor m.ask) known rest (subst (Each (λ (m : Mark). OwnsAsk owners m.actor m.ask)) (sym whole) (each-left (λ (m : Mark). OwnsAsk owners m.actor m.ask) (marks_in steps.entries) (own_mark a e ∷ []) (subst (Each (λ (m : Mark). OwnsAsk owners m.actor m.ask)) steps.acted.knows order.owned)))
+  owned =
+      let O : Mark → Type 0 = λ m. OwnsAsk owners m.actor m.ask in
+      (Each-parts O known rest (subst (Each O) (sym whole) (Each-parts O (marks_in steps.entries) (own_mark a e ∷ []) (subst (Each O) steps.acted.knows order.owned)).0)).1
 
   pub hold-before : (chan : ChanNo) → IsOwner owners a chan → IsHeld (hold_of (channel_number chan) (own_at l pass.own)) (held_after steps.link.shape chan (history_in steps.entries))
   hold-before chan owner =

@@ -1,8 +1,7 @@
 -- Entries that don't name a channel leave it as it was: one that was established is so, and one that no entry names has none. The
 -- entries of a setup and of a teardown name their own channel alone.
-use Rattle.std.proofs.Common.{◌≡◌, ◌≢◌, ℕ, ◌-◌, List, [], ◌∷◌, ◌++◌, length, Option, Some, None, refl, sym, ap, ◌∙◌, subst}
+use Rattle.std.proofs.Common.{◌≡◌, ◌≢◌, ℕ, List, [], ◌∷◌, ◌++◌, length, Option, Some, refl, sym, ap, ◌∙◌, subst}
 use Rattle.std.proofs.lemmas.List.Elements.{filter-append}
-use Rattle.std.proofs.lemmas.Option.{same_Some}
 use Rattle.std.specs.List.{slice_get}
 use Rattle.std.specs.Prelude.{nat_eq}
 use Rattle.net_units.specs.Numbers.{channel_number, link_number}
@@ -12,10 +11,10 @@ use Rattle.hop_reservation.specs.Routes.{link_of}
 use Rattle.hop_reservation.specs.declared.route.Hop.{Hop}
 use Rattle.link_steps.specs.Lists.{Each}
 use Rattle.link_steps.specs.declared.asks.Ask.{Ask}
-use Rattle.link_steps.specs.declared.asks.Ask.TheVariants.{Release, Deny}
+use Rattle.link_steps.specs.declared.asks.Ask.TheVariants.{Release}
 use Rattle.link_steps.specs.declared.replies.Reply.{Reply}
 use Rattle.link_steps.proofs.ListFacts.{Each-append, Each-filter}
-use Rattle.setup_protocol.specs.Setup.{Progress, Reserving, Undoing, Relaxing, Settled, asked, asked_of, next_ask, progress_of, relax_of, reserve_of}
+use Rattle.setup_protocol.specs.Setup.{next_ask, progress_of}
 use Rattle.setup_protocol.specs.Teardown.{first_count, next_release}
 use Rattle.setup_protocol.specs.declared.request.Request.{Request}
 use Rattle.channel_laws.specs.Asks.{IsOff}
@@ -24,6 +23,7 @@ use Rattle.link_ledger.specs.declared.entries.OwnEntry.{OwnEntry}
 use Rattle.shared_network.specs.Calls.{HasNone, Follows, IsCommitted, IsEstablished, OthersStay, hold_at}
 use Rattle.shared_network.specs.Holds.{Hold, Free, hold_with, hold_from, hold_of}
 use Rattle.shared_network.proofs.CallFacts.{none-from}
+use Rattle.setup_protocol.proofs.HopAsks.{of-hop, of-setup}
 
 -- ---- entries that don't name it
 
@@ -51,16 +51,6 @@ unfolding Follows
 each-follows P next replies [] all follows = tt
 each-follows P next replies (e ∷ entries) all follows = (all replies e.link e.ask follows.0, each-follows P next (replies ++ e.reply ∷ []) entries all follows.1)
 
-of-hop : (P : Ask → Type 0) (found : Option Hop) (own : Hop → Ask) (to : LinkNo) (ask : Ask) → ((hop : Hop) → P (own hop)) → asked_of found own ≡ Some (to, ask) → P ask
-of-hop P None own to ask each same = absurd (let clash : None ≡ Some (to, ask) = same in cc)
-of-hop P (Some hop) own to ask each same = subst P (ap (λ pair. pair.1) (same_Some (hop.link, own hop) (to, ask) same)) (each hop)
-
-off-asked : (c : ℕ) (request : Request) (p : Progress) (to : LinkNo) (ask : Ask) → channel_number request.chan ≢ c → asked request p ≡ Some (to, ask) → IsOff c ask
-off-asked c request (Reserving offers reach) to ask other same = of-hop (IsOff c) (slice_get request.route (length offers)) (λ hop. reserve_of request offers reach) to ask (λ hop. other) same
-off-asked c request (Undoing left deny) to ask other same = of-hop (IsOff c) (slice_get request.route (left - 1)) (λ hop. Deny request.chan) to ask (λ hop. other) same
-off-asked c request (Relaxing left levels) to ask other same = of-hop (IsOff c) (slice_get request.route (left - 1)) (λ hop. relax_of request levels left) to ask (λ hop. other) same
-off-asked c request (Settled outcome) to ask other same = absurd (let clash : None ≡ Some (to, ask) = same in cc)
-
 others-stay : (chan : ChanNo) (own own' entries : List OwnEntry) → own' ≡ own ++ entries → ((c : ℕ) → channel_number chan ≢ c → Each (λ (e : OwnEntry). IsOff c e.ask) entries) → OthersStay chan own own'
 others-stay chan own own' entries is off = record {
   established = λ other apart was. established-stays other own own' entries is (off (channel_number other.chan) (λ same. apart (sym same))) was;
@@ -69,7 +59,7 @@ others-stay chan own own' entries is off = record {
 
 pub setup-others : (request : Request) (own own' entries : List OwnEntry) → own' ≡ own ++ entries → Follows (next_ask request) [] entries → OthersStay request.chan own own'
 setup-others request own own' entries is follows =
-    others-stay request.chan own own' entries is (λ c apart. each-follows (IsOff c) (next_ask request) [] entries (λ rs to ask same. off-asked c request (progress_of request rs) to ask apart same) follows)
+    others-stay request.chan own own' entries is (λ c apart. each-follows (IsOff c) (next_ask request) [] entries (λ rs to ask same. of-setup (IsOff c) request (progress_of request rs) to ask (λ offers reach. apart) apart (λ levels place. apart) same) follows)
 
 pub teardown-others : (request : Request) (own own' entries : List OwnEntry) → own' ≡ own ++ entries → Follows (next_release request.chan request.route) [] entries → OthersStay request.chan own own'
 teardown-others request own own' entries is follows =

@@ -32,8 +32,7 @@ use Rattle.shared_network.specs.Calls.{reply_in}
 use Rattle.shared_network.specs.Planes.{is_round, rounds_in}
 use Rattle.shared_network.specs.Ready.{KnowsLink, MayStep}
 use Rattle.shared_network.proofs.ClosingFacts.{map-has}
-use Rattle.shared_network.proofs.NextLinks.{AsksBelow}
-use Rattle.shared_network.proofs.RoundReplies.{MayFly, round-flies}
+use Rattle.shared_network.proofs.RoundReplies.{AsksBelow, MayFly, round-flies}
 use Rattle.link_steps.proofs.ListParts.{Each-reverse}
 use Rattle.link_steps.proofs.ClockFacts.{clock_of-most}
 use Rattle.step_stamp.proofs.MarkFacts.{rises-length}

@@ -22,9 +22,10 @@ use Rattle.shared_network.specs.Ready.{MayStep}
 use Rattle.shared_network.proofs.CallFacts.{follows-more}
 use Rattle.net_units.proofs.NumberFacts.{same-link}
 use Rattle.shared_network.proofs.OwnRounds.{rounds-fly}
-use Rattle.shared_network.proofs.RoundReplies.{MayFly, MayAsk, plane-flights, plane-may, plane-expected}
+use Rattle.shared_network.proofs.RoundReplies.{MayFly, MayAsk, plane-may, plane-expected}
 use Rattle.shared_network.proofs.StepFacts.{adds-one}
 use Rattle.link_steps.proofs.ListParts.{Each-reverse}
+use Rattle.tick_plane.proofs.FlightFacts.{plane-flights}
 
 module _ (table : TableId) (owners : List ActorNo) (links : List Link) (pass : Token) (plane : KeptPlane) (splits : Each SplitFits links) (may : MayStep table owners links pass) (links_are : plane.links ≡ length links) (within : plane.at.ticked < plane.links) (is : IsPlanes (length links) plane pass.own) (to : LinkNo) (ask : Ask) (asks : plane_ask plane.rounds plane.at ≡ Some (to, ask)) where
   flies : Each (MayFly (length links)) plane.at.flights

@@ -1,9 +1,8 @@
 -- A teardown goes on with each step: the hops that weren't asked yet hold their committed reservations, so each release is
 -- answered.
 use Rattle.std.proofs.Common.{◌≡◌, ◌≢◌, ℕ, ◌-◌, ◌<◌, ◌≤◌, true, List, [], ◌∷◌, ◌++◌, length, map, Option, Some, None, refl, sym, ap, ◌∙◌, subst, arith}
-use Rattle.std.proofs.lemmas.Bool.{ne_eqb}
 use Rattle.std.proofs.lemmas.List.{append_assoc, append-nil, map-append, length_push, length-map}
-use Rattle.std.proofs.lemmas.Option.{same_Some, slice_get_within}
+use Rattle.std.proofs.lemmas.Option.{slice_get_within}
 use Rattle.std.specs.List.{slice_get}
 use Rattle.std.specs.Prelude.{nat_eq, unwrap_or}
 use Rattle.atomic_table.specs.Seated.{TableId}
@@ -12,23 +11,19 @@ use Rattle.net_units.specs.declared.numbers.ActorNo.{ActorNo}
 use Rattle.net_units.specs.declared.numbers.LinkNo.{LinkNo}
 use Rattle.hop_reservation.specs.Routes.{IsRoute, link_of}
 use Rattle.hop_reservation.specs.declared.route.Hop.{Hop}
-use Rattle.link_steps.specs.Legal.{AskFits}
 use Rattle.link_steps.specs.Lists.{Each}
 use Rattle.link_steps.specs.Replies.{reply_at}
-use Rattle.link_steps.specs.Scan.{names_first_hop}
 use Rattle.link_steps.specs.Split.{Link, SplitFits}
 use Rattle.link_steps.specs.declared.asks.Ask.{Ask}
 use Rattle.link_steps.specs.declared.asks.Ask.TheVariants.{Release}
 use Rattle.link_steps.specs.declared.replies.Reply.{Reply}
-use Rattle.link_steps.specs.declared.replies.Reply.TheVariants as Is
 use Rattle.setup_protocol.specs.Releases.{Releases}
-use Rattle.setup_protocol.specs.Setup.{asked_of}
 use Rattle.setup_protocol.specs.Teardown.{is_closing, told_count, first_count, next_release}
 use Rattle.setup_protocol.specs.declared.request.Request.{Request}
 use Rattle.setup_protocol.specs.declared.teardown.Teardown.{Teardown}
 use Rattle.channel_laws.specs.Reservations.{held_by, IsReleased}
 use Rattle.link_steps.proofs.ListParts.{Each-at}
-use Rattle.channel_laws.proofs.SendReplies.{release-committed}
+use Rattle.channel_laws.proofs.SendReplies.{release-committed, of-released}
 use Rattle.link_ledger.specs.Own.{own_at}
 use Rattle.link_ledger.specs.Owners.{OwnsAsk, IsOwner, NextBelow}
 use Rattle.link_ledger.specs.Tokens.{Token, IsLink, Steps}
@@ -42,7 +37,11 @@ use Rattle.shared_network.specs.Sight.{FitsAt}
 use Rattle.shared_network.proofs.CallFacts.{follows-more}
 use Rattle.shared_network.proofs.HoldSteps.{AnswersOf, answers}
 use Rattle.net_units.proofs.NumberFacts.{same-link}
-use Rattle.shared_network.proofs.SetupGoes.{hold-elsewhere, index-apart}
+use Rattle.shared_network.proofs.SetupGoes.{hold-elsewhere}
+use Rattle.hop_reservation.proofs.RouteFacts.{index-apart}
+use Rattle.setup_protocol.proofs.HopAsks.{first-named}
+use Rattle.setup_protocol.proofs.FitFacts.{release-at}
+use Rattle.setup_protocol.specs.WayBack.{IsReleaseOfHop}
 
 pub record TearingDown (table : TableId) (owners : List ActorNo) (links : List Link) (request : Request) (pass pass' : Token) (teardown : Teardown) (count : Option ℕ) : Type 0 where
   pub route : IsRoute request.route
@@ -77,33 +76,9 @@ tearing-first table owners links request pass teardown route hops may establishe
   few = omega arith;
 }
 
-first-named : (replies : List Reply) → nat_eq (length replies) 0 ≡ names_first_hop (first_count replies)
-first-named [] = refl
-first-named (reply ∷ replies) = ne_eqb (length (reply ∷ replies)) 0 (λ is. omega (arith, is))
-
 first-more : (replies : List Reply) (reply : Reply) → Some (unwrap_or (first_count replies) (told_count reply)) ≡ first_count (replies ++ reply ∷ [])
 first-more [] reply = refl
 first-more (r ∷ replies) reply = refl
-
-released-closing : (r : Reply) → IsReleased r → is_closing r ≡ true
-released-closing (Is.Closing count cancelled) is = refl
-released-closing (Is.Offer level reach) is = absurd is
-released-closing (Is.Relaxed clock) is = absurd is
-released-closing Is.Denied is = absurd is
-released-closing (Is.Planned clock) is = absurd is
-released-closing (Is.Taken clock eligible) is = absurd is
-released-closing (Is.Ticked clock full sent best_sent best_lost) is = absurd is
-released-closing (Is.Refused refusal) is = absurd is
-
-record ReleasesHop (request : Request) (replies : List Reply) (to : LinkNo) (ask : Ask) : Type 0 where
-  hop : Hop
-  stands : slice_get request.route (length replies) ≡ Some hop
-  at : to ≡ hop.link
-  is : ask ≡ Release request.chan (first_count replies)
-
-release-at : (request : Request) (replies : List Reply) (found : Option Hop) (to : LinkNo) (ask : Ask) → slice_get request.route (length replies) ≡ found → asked_of found (λ hop. Release request.chan (first_count replies)) ≡ Some (to, ask) → ReleasesHop request replies to ask
-release-at request replies None to ask is same = absurd (let clash : None ≡ Some (to, ask) = same in cc)
-release-at request replies (Some hop) to ask is same = (let both = same_Some (hop.link, Release request.chan (first_count replies)) (to, ask) same in record { hop = hop; stands = is; at = sym (ap (λ pair. pair.0) both); is = sym (ap (λ pair. pair.1) both) })
 
 module _ (table : TableId) (owners : List ActorNo) (links : List Link) (request : Request) (pass0 pass : Token) (teardown : Teardown) (count : Option ℕ) (so : TearingDown table owners links request pass0 pass teardown count) (to : LinkNo) (ask : Ask) (asks : next_release request.chan request.route (map reply_in so.entries) ≡ Some (to, ask)) where
   abbrev replies : List Reply
@@ -112,26 +87,26 @@ module _ (table : TableId) (owners : List ActorNo) (links : List Link) (request 
   many : length replies ≡ length so.entries
   many = length-map so.entries reply_in
 
-  hop-asked : ReleasesHop request replies to ask
-  hop-asked = release-at request replies (slice_get request.route (length replies)) to ask refl asks
+  hop-asked : IsReleaseOfHop request.chan request.route replies to ask
+  hop-asked = release-at request.chan request.route replies to ask asks
 
   hop-of : IsHopOf links hop-asked.hop
   hop-of = Each-at (IsHopOf links) request.route (length replies) hop-asked.hop so.hops hop-asked.stands
 
   at-link : IsLink links (link_number to) hop-of.link
-  at-link = subst (λ (l : LinkNo). IsLink links (link_number l) hop-of.link) (sym hop-asked.at) hop-of.linked
+  at-link = subst (λ (l : LinkNo). IsLink links (link_number l) hop-of.link) (sym hop-asked.is_asked) hop-of.linked
 
   pub to-below : link_number to < length links
   to-below = slice_get_within links (link_number to) hop-of.link at-link
 
   pub fits-there : FitsAt links (link_number to) ask
-  fits-there link is = subst (AskFits link.shape) (sym hop-asked.is) tt
+  fits-there link is = hop-asked.fits link.shape
 
   pub owned-there : IsOwner owners pass0.actor request.chan → OwnsAsk owners pass.actor ask
-  owned-there owner = subst (OwnsAsk owners pass.actor) (sym hop-asked.is) (subst (λ (a : ActorNo). IsOwner owners a request.chan) (sym so.same.actor) owner)
+  owned-there owner = subst (OwnsAsk owners pass.actor) (sym hop-asked.releases) (subst (λ (a : ActorNo). IsOwner owners a request.chan) (sym so.same.actor) owner)
 
   pub next-there : NextBelow (length links) ask
-  next-there = subst (NextBelow (length links)) (sym hop-asked.is) tt
+  next-there = subst (NextBelow (length links)) (sym hop-asked.releases) tt
 
   within : length so.entries < length request.route
   within = (let inside = slice_get_within request.route (length replies) hop-asked.hop hop-asked.stands in let same = many in omega (arith, inside, same))
@@ -144,11 +119,11 @@ module _ (table : TableId) (owners : List ActorNo) (links : List Link) (request 
     asks-entry = asks ∙ (λ i. Some (same-link to e.link (sym steps.acted.link_is) i, sym steps.acted.ask_is i))
 
     on : link_number e.link ≡ link_of hop-asked.hop
-    on = steps.acted.link_is ∙ ap link_number hop-asked.at
+    on = steps.acted.link_is ∙ ap link_number hop-asked.is_asked
 
     ans : AnswersOf steps.link request.chan (hold_at request.chan hop-asked.hop pass.own) e.ask e.reply
     ans =
-        subst (λ l. AnswersOf steps.link request.chan (hold_of (channel_number request.chan) (own_at l pass.own)) e.ask e.reply) (ap link_number hop-asked.at)
+        subst (λ l. AnswersOf steps.link request.chan (hold_of (channel_number request.chan) (own_at l pass.own)) e.ask e.reply) (ap link_number hop-asked.is_asked)
         (answers table owners links (link_number to) ask pass pass' reply splits so.goes.may_step steps (goes.may_step.knows (link_number to) steps.link steps.is_link).order request.chan (subst (λ (a : ActorNo). IsOwner owners a request.chan) (sym so.same.actor) owner))
 
     pub closing-there : is_closing reply ≡ true
@@ -156,8 +131,8 @@ module _ (table : TableId) (owners : List ActorNo) (links : List Link) (request 
     closing-there =
         let committed = so.holds (length replies) hop-asked.hop hop-asked.stands (let same = many in omega (arith, same)) in
         let held = subst (λ h. IsHeld h (held_by request.chan ans.scan.rows)) committed.is ans.held in
-        let answered : reply ≡ reply_at steps.link ans.clock ans.scan (Release request.chan (first_count replies)) = sym steps.reply_is ∙ ans.reply_is ∙ ap (reply_at steps.link ans.clock ans.scan) (steps.acted.ask_is ∙ hop-asked.is) in
-        released-closing reply (subst IsReleased (sym answered) (release-committed ans.clock (first_count replies) request.chan ans.scan.rows committed.terms held.0 (committed.first_is ∙ first-named replies) committed.phase))
+        let answered : reply ≡ reply_at steps.link ans.clock ans.scan (Release request.chan (first_count replies)) = sym steps.reply_is ∙ ans.reply_is ∙ ap (reply_at steps.link ans.clock ans.scan) (steps.acted.ask_is ∙ hop-asked.releases) in
+        of-released (λ r. is_closing r ≡ true) reply (λ count cancelled. refl) (subst IsReleased (sym answered) (release-committed ans.clock (first_count replies) request.chan ans.scan.rows committed.terms held.0 (committed.first_is ∙ first-named replies) committed.phase))
 
     module _ (teardown' : Teardown) (chan_is : teardown'.chan ≡ teardown.chan) (route_is : teardown'.route ≡ teardown.route) (releases : Releases teardown' (replies ++ reply ∷ [])) where
       pub made-more : length teardown'.route - teardown'.made < length teardown.route - teardown.made
