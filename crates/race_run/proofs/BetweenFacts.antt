@@ -1,8 +1,8 @@
 -- A caller between two operations goes on over one task: one that takes no step, and one that is made.
-use Rattle.std.proofs.Common.{◌≡◌, ℕ, zero, suc, ◌+◌, ◌<◌, Bool, true, false, List, [], ◌∷◌, ◌++◌, map, reverse, take, drop, get_or, length, Option, Some, None, refl, sym, ap, ◌∙◌, subst, arith}
+use Rattle.std.proofs.Common.{◌≡◌, ℕ, ◌+◌, Bool, true, false, List, [], ◌∷◌, ◌++◌, map, reverse, take, drop, get_or, length, Option, Some, None, refl, sym, ap, ◌∙◌, subst, arith}
 use Rattle.std.proofs.lemmas.Bool.{ne_eqb}
 use Rattle.std.proofs.lemmas.List.{append_assoc, append-nil, length-map, take-append-drop}
-use Rattle.std.proofs.lemmas.Option.{same_Some, slice_get-map}
+use Rattle.std.proofs.lemmas.Option.{same_Some, slice_get-map, slice_get_within}
 use Rattle.std.specs.List.{slice_get}
 use Rattle.std.specs.Prelude.{option_map}
 use Rattle.net_units.specs.Numbers.{actor_number, channel_number}
@@ -46,11 +46,6 @@ pub tasks-none : (requests : List Request) → tasks_of requests [] ≡ []
 unfolding tasks_of
 tasks-none requests = refl
 
-pub inside-of : {X : Type 0} (xs : List X) (k : ℕ) (x : X) → slice_get xs k ≡ Some x → k < length xs
-inside-of [] k x found = absurd (let clash : None ≡ Some x = found in cc)
-inside-of (y ∷ xs) zero x found = omega arith
-inside-of (y ∷ xs) (suc k) x found = (let less = inside-of xs k x found in omega (arith, less))
-
 -- the tasks of a caller at a place of its script
 pub caller-tasks : (parts : PlanParts) (caller place : ℕ) (pass : Token) (accepted : List Bool) (at : CallerIsAt parts caller place pass accepted)
     → HasTasks (network_of parts) pass.actor (tasks_of (requests_of parts) (take place at.entry.ops) ++ tasks_of (requests_of parts) (drop place at.entry.ops))
@@ -60,7 +55,7 @@ caller-tasks parts caller place pass accepted at =
     let entry = at.entry in
     let all : tasks_of requests (take place entry.ops) ++ tasks_of requests (drop place entry.ops) ≡ tasks_of requests entry.ops = sym (tasks-append requests (take place entry.ops) (drop place entry.ops)) ∙ ap (tasks_of requests) (take-append-drop place entry.ops) in
     record {
-      caller = ne_eqb (actor_number pass.actor) (length (map (script_of requests) parts.callers)) (λ clash. absurd (let low = inside-of parts.callers caller entry at.found in let number = at.is in let count = length-map parts.callers (script_of requests) in omega (arith, low, number, count, clash)));
+      caller = ne_eqb (actor_number pass.actor) (length (map (script_of requests) parts.callers)) (λ clash. absurd (let low = slice_get_within parts.callers caller entry at.found in let number = at.is in let count = length-map parts.callers (script_of requests) in omega (arith, low, number, count, clash)));
       found = ap (slice_get (map (script_of requests) parts.callers)) at.is ∙ slice_get-map (script_of requests) parts.callers caller ∙ ap (option_map (script_of requests)) at.found ∙ ap Some (sym all);
     }
 
@@ -79,7 +74,7 @@ here parts caller place op pass accepted at has =
     let entry = at.entry in
     let same : has.entry ≡ entry = same_Some has.entry entry (sym has.found ∙ at.found) in
     let op_at : slice_get entry.ops place ≡ Some op = ap (λ (e : CallerEntry). slice_get e.ops place) (sym same) ∙ has.here in
-    let inside = inside-of entry.ops place op op_at in
+    let inside = slice_get_within entry.ops place op op_at in
     let is = read-at entry.ops place op op_at in
     let task = task_of requests op in
     let after : tasks_of requests (drop place entry.ops) ≡ with_task task (tasks_of requests (drop (place + 1) entry.ops)) = ap (tasks_of requests) (left-at entry.ops place op inside is) ∙ tasks-one requests op (drop (place + 1) entry.ops) in

@@ -19,7 +19,7 @@ use Rattle.call_script.specs.Tasks.{Network}
 use Rattle.interleave_core.specs.Parts.{IsAsked, next_after}
 use Rattle.interleave_core.specs.Runs.{plane_no}
 use Rattle.race_run.specs.Whole.{HasMadeAll, IsWhole, own_done}
-use Rattle.race_run.proofs.Lists.{MapsTo, get-map, map-get}
+use Rattle.link_steps.proofs.ListParts.{ComesFrom, comes-from, mapped-at}
 
 module _ (passes closed : List Token) (same : map kept_pass closed ≡ map kept_pass passes) where
   -- what is said of the actor and the own entries alone
@@ -32,8 +32,8 @@ module _ (passes closed : List Token) (same : map kept_pass closed ≡ map kept_
     by-kept [] = refl
     by-kept (p ∷ ps) = ap (λ ns. actor_number p.actor ∷ ns) (by-kept ps)
 
-kept-at : (xs ys : List Token) (k : ℕ) (x : Token) → map kept_pass ys ≡ map kept_pass xs → slice_get xs k ≡ Some x → MapsTo kept_pass ys k (kept_pass x)
-kept-at xs ys k x same found = get-map kept_pass ys k (kept_pass x) (ap (λ ks. slice_get ks k) same ∙ map-get kept_pass xs k x found)
+kept-at : (xs ys : List Token) (k : ℕ) (x : Token) → map kept_pass ys ≡ map kept_pass xs → slice_get xs k ≡ Some x → ComesFrom kept_pass ys k (kept_pass x)
+kept-at xs ys k x same found = comes-from kept_pass ys k (kept_pass x) (ap (λ ks. slice_get ks k) same ∙ mapped-at kept_pass xs k x found)
 
 kept-one : (passes closed : List Token) (l k : ℕ) (x : Entry) → map kept_pass closed ≡ map kept_pass passes → IsOfOne passes l k x → IsOfOne closed l k x
 kept-one passes closed l k x same one =

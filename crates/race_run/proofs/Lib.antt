@@ -1,7 +1,7 @@
 pub mod Lists
 mod WholeFacts
 mod MergeFacts
-mod TurnFacts
+pub mod TurnFacts
 mod RunFacts
 mod Sources
 mod ScriptFacts

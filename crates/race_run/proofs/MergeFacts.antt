@@ -22,12 +22,13 @@ use Rattle.interleave_core.proofs.WeaveLaw.{journals-weave}
 use Rattle.race_run.specs.Merging.{is_before, places_from, sources_from, places_of, IsInside, IsThere, AreThere}
 use Rattle.race_run.specs.Whole.{IsWhole, stamped_on, stamped_in, weave_of}
 use Rattle.race_run.specs.declared.merging.Place.{Place}
-use Rattle.race_run.proofs.Lists.{turned-map, among-turned, among-turned_map, get-map}
+use Rattle.race_run.proofs.Lists.{turned-map, among-turned_map}
 use Rattle.itertools.proofs.KMergeLemmas.{All-of-map}
 use Rattle.std.proofs.lemmas.List.Folds.{flat_map-map}
 use Rattle.call_script.proofs.Walks.{before-at}
 use Rattle.shared_network.proofs.CountFacts.{get-after}
 use Rattle.race_run.proofs.WholeFacts.{whole-journals}
+use Rattle.link_steps.proofs.ListParts.{Among-turned, comes-from, Among-left, Among-right}
 
 -- ---- lists by falling stamps
 
@@ -181,15 +182,6 @@ contains-among x [] k less is = absurd (omega (arith, less))
 contains-among x (y ∷ ys) zero less is = inl (sym is)
 contains-among x (y ∷ ys) (suc k) less is = inr (contains-among x ys k (omega (arith, less)) is)
 
-among-left : {X : Type 0} (x : X) (xs ys : List X) → Among x xs → Among x (xs ++ ys)
-among-left x [] ys among = absurd among
-among-left x (z ∷ xs) ys (inl same) = inl same
-among-left x (z ∷ xs) ys (inr among) = inr (among-left x xs ys among)
-
-among-right : {X : Type 0} (x : X) (xs ys : List X) → Among x ys → Among x (xs ++ ys)
-among-right x [] ys among = among
-among-right x (z ∷ xs) ys among = inr (among-right x xs ys among)
-
 -- the place of an entry that stands k places after the first
 place-among : (n at k : ℕ) (entries : List Entry) (e : Entry) (place : Place) → slice_get entries k ≡ Some e → place ≡ record { stamp = e.stamp; journal = n; at = at + k } → Among place (places_from n at entries)
 unfolding places_from
@@ -208,10 +200,10 @@ place-in-all n zero at (first ∷ journals) journal e place found here is =
     let own : slice_get first.entries.items at ≡ Some e = ap (λ (j : Journal). slice_get j.entries.items at) (same_Some first journal found) ∙ here in
     let number : n + 0 ≡ n = omega arith in
     let from : at ≡ 0 + at = omega arith in
-    among-left place (places_from n 0 first.entries.items) (flat_map (λ places. places) (sources_from (suc n) journals)) (place-among n 0 at first.entries.items e place own (is ∙ ap (λ i. record { stamp = e.stamp; journal = i; at = at }) number ∙ ap (λ i. record { stamp = e.stamp; journal = n; at = i }) from))
+    Among-left place (places_from n 0 first.entries.items) (flat_map (λ places. places) (sources_from (suc n) journals)) (place-among n 0 at first.entries.items e place own (is ∙ ap (λ i. record { stamp = e.stamp; journal = i; at = at }) number ∙ ap (λ i. record { stamp = e.stamp; journal = n; at = i }) from))
 place-in-all n (suc k) at (first ∷ journals) journal e place found here is =
     let number : n + suc k ≡ suc n + k = omega arith in
-    among-right place (places_from n 0 first.entries.items) (flat_map (λ places. places) (sources_from (suc n) journals)) (place-in-all (suc n) k at journals journal e place found here (is ∙ ap (λ i. record { stamp = e.stamp; journal = i; at = at }) number))
+    Among-right place (places_from n 0 first.entries.items) (flat_map (λ places. places) (sources_from (suc n) journals)) (place-in-all (suc n) k at journals journal e place found here (is ∙ ap (λ i. record { stamp = e.stamp; journal = i; at = at }) number))
 
 -- what stands at a place of the merge
 there-among : (journals : List Journal) (places : List Place) (entries : List Done) (place : Place) → AreThere journals places entries → Among place places → (done : Done) × IsThere journals place done × Among (record { stamp = place.stamp; done = done }) (with_stamps places entries)
@@ -231,7 +223,7 @@ weave-in : (journals : List Journal) (all : List Place) (entries : List Done) �
 weave-in journals all entries moved there z among = stands (journals-weave.stands (map stamped_in journals) z among) where
   stands : InOne z (map stamped_in journals) → Among z (reverse (with_stamps all entries))
   stands (StandsIn k stamped found in_it) =
-      let journal = get-map stamped_in journals k stamped found in
+      let journal = comes-from stamped_in journals k stamped found in
       let from = among-turned_map (stamped_on journal.from.link) journal.from.entries.items z (subst (Among z) (sym journal.is) in_it) in
       let place : Place = record { stamp = from.from.stamp; journal = k; at = from.place } in
       let number : 0 + k ≡ k = omega arith in
@@ -239,7 +231,7 @@ weave-in journals all entries moved there z among = stands (journals-weave.stand
       let moved_there = Contains-permutation (places_of journals) all place moved (among-contains place (places_of journals) here) in
       let told = there-among journals all entries place there (contains-among place all moved_there.0 moved_there.1 moved_there.2) in
       let same = same-there journals place told.0 journal.from from.from told.1 journal.found from.found refl ∙ sym from.is in
-      among-turned z (with_stamps all entries) (subst (λ (s : Stamped). Among s (with_stamps all entries)) same told.2)
+      Among-turned z (with_stamps all entries) (subst (λ (s : Stamped). Among s (with_stamps all entries)) same told.2)
 
 -- ---- the weave
 

@@ -1,8 +1,8 @@
 -- Each operation of a caller, from what the network's call promises: the caller is at its next operation.
-use Rattle.std.proofs.Common.{◌≡◌, ◌≢◌, ℕ, zero, suc, ◌+◌, ◌<◌, ◌≤◌, Bool, true, false, List, [], ◌∷◌, ◌++◌, map, set, get_or, length, Option, Some, None, refl, sym, ap, ◌∙◌, subst, inl, inr, arith}
-use Rattle.std.proofs.lemmas.Bool.{eq-eqb, ne_eqb, cases_eq, lt-ltb}
+use Rattle.std.proofs.Common.{◌≡◌, ◌≢◌, ℕ, ◌+◌, ◌<◌, ◌≤◌, Bool, true, false, List, [], ◌∷◌, ◌++◌, map, set, get_or, length, Option, Some, None, refl, sym, ap, ◌∙◌, subst, inl, inr, arith}
+use Rattle.std.proofs.lemmas.Bool.{eq-eqb, ne_eqb, cases_eq}
 use Rattle.std.proofs.lemmas.List.{length-map, length-set, get_or-set_same, get_or-set_other}
-use Rattle.std.proofs.lemmas.Option.{same_Some, slice_get-map, slice_get_past}
+use Rattle.std.proofs.lemmas.Option.{same_Some, slice_get-map, slice_get_past, slice_get_within}
 use Rattle.std.specs.List.{slice_get}
 use Rattle.std.specs.Prelude.{option_map}
 use Rattle.net_units.specs.Numbers.{actor_number, channel_number, link_number}
@@ -22,7 +22,7 @@ use Rattle.net_units.specs.declared.numbers.LinkNo.{LinkNo}
 use Rattle.step_stamp.specs.Lists.{Has}
 use Rattle.step_stamp.proofs.ListFacts.{each_has, has_split}
 use Rattle.setup_protocol.specs.Laws.{is_accepted}
-use Rattle.setup_protocol.specs.Setup.{Outcome, Accepts, Denies, Progress, Settled, offers_in, after_offers, asked, asked_of, settled_in, progress_of, verdict_of}
+use Rattle.setup_protocol.specs.Setup.{Outcome, Accepts, Denies, Progress, Settled, asked, asked_of, settled_in, progress_of, verdict_of}
 use Rattle.setup_protocol.specs.Teardown.{first_count}
 use Rattle.setup_protocol.specs.declared.request.Request.{Request}
 use Rattle.link_ledger.specs.Owners.{IsOwner}
@@ -30,14 +30,13 @@ use Rattle.link_ledger.specs.Tokens.{Token}
 use Rattle.link_ledger.specs.declared.entries.OwnEntry.{OwnEntry}
 use Rattle.shared_network.specs.Calls.{OthersStay, HasNone, IsEstablished, Follows, SetsUp, TearsDown, reply_in}
 use Rattle.setup_protocol.specs.Hops.{IsHopOf}
-use Rattle.shared_network.proofs.LinkNumbers.{same-actor}
 use Rattle.call_script.specs.Fits.{SendFits, PourFits, TaskFits}
 use Rattle.call_script.specs.Owners.{TaskOff, FullScript}
 use Rattle.call_script.specs.Parts.{PlanParts}
 use Rattle.call_script.specs.Plans.{IsPlan}
 use Rattle.call_script.specs.Scripts.{Opened, is_accepting, is_established, outcome_by, settled_as, submit_next, task_ask}
 use Rattle.call_script.specs.Standing.{requests_of}
-use Rattle.call_script.specs.Tasks.{network_of, request_of, entry_link, task_of, with_task}
+use Rattle.call_script.specs.Tasks.{network_of, request_of, task_of, with_task}
 use Rattle.call_script.specs.declared.entries.RequestEntry.{RequestEntry}
 use Rattle.call_script.specs.declared.operations.Op.{Op}
 use Rattle.call_script.specs.declared.operations.Op.TheVariants.{Open, Send, Close, Pour}
@@ -49,7 +48,9 @@ use Rattle.race_run.specs.Callers.{StandsBetween, CallerIsAt, HasOp, IsNetworkOf
 use Rattle.race_run.proofs.BetweenFacts.{here, Leaves, between-none, between-skipped, between-made}
 use Rattle.race_run.proofs.ScriptFacts.{Names, AnOpen, ASend, AClose, ByClose, named-off, each-middle, each-front, has-front, opened-once, used-live}
 use Rattle.race_run.proofs.TaskFacts.{HasTasks}
-use Rattle.race_run.proofs.Lists.{each-get}
+use Rattle.link_steps.proofs.ListParts.{Each-at}
+use Rattle.net_units.proofs.NumberFacts.{same-actor}
+use Rattle.setup_protocol.proofs.ProgressFacts.{none-settled}
 
 -- ---- the task of an operation
 
@@ -147,11 +148,6 @@ settled-none : (request : Request) (progress : Progress) (outcome : Outcome) →
 settled-none request (Settled o) outcome is = refl
 settled-none request progress outcome is = cc
 
-inside-of : {X : Type 0} (xs : List X) (k : ℕ) (x : X) → slice_get xs k ≡ Some x → k < length xs
-inside-of [] k x found = absurd (let clash : None ≡ Some x = found in cc)
-inside-of (y ∷ xs) zero x found = omega arith
-inside-of (y ∷ xs) (suc k) x found = (let less = inside-of xs k x found in omega (arith, less))
-
 set-here : (xs : List Bool) (i k : ℕ) (b : Bool) → i < length xs → k ≡ i → get_or (set xs i b) k false ≡ b
 set-here xs i k b inside same = ap (λ n. get_or (set xs i b) n false) same ∙ get_or-set_same xs i b false inside
 
@@ -160,11 +156,6 @@ same-open one other same = cc
 
 route-least : (parts : PlanParts) (c : ℕ) (entry : RequestEntry) → IsPlan parts → slice_get parts.requests c ≡ Some entry → 1 ≤ length entry.request.route
 route-least parts c entry plan found = (request-fits parts c entry plan found).route.least
-
--- a setup of a request with a hop asks something
-route-some : (request : Request) → 1 ≤ length request.route → verdict_of request [] ≡ None
-unfolding offers_in after_offers
-route-some request some = rw (lt-ltb 0 (length request.route) some) refl
 
 established-first : (chan : ChanNo) (outcome : Outcome) (outcomes : List Opened) (c : ChanNo) → channel_number chan ≡ channel_number c → is_established c (record { chan = chan; outcome = outcome } ∷ outcomes) ≡ is_accepting outcome
 unfolding is_established
@@ -187,11 +178,11 @@ open-over parts caller place chan entry pass pass' accepted outcome told plan at
     let h = open-at parts caller place chan entry pass accepted at has found in
     let off = open-off parts caller place chan entry pass accepted plan h found in
     let number = plan.planned.requests (channel_number chan) entry found in
-    let inside : channel_number chan < length accepted = (let low = inside-of parts.requests (channel_number chan) entry found in let all = at.all in omega (arith, low, all)) in
+    let inside : channel_number chan < length accepted = (let low = slice_get_within parts.requests (channel_number chan) entry found in let all = at.all in omega (arith, low, all)) in
     let entries = opened.made.entries in
     let ends = opened.made.verdict in
     let outcomes : outcome_by (Opens entry.request) (map reply_in entries) ≡ record { chan = entry.request.chan; outcome = outcome } ∷ [] = ap (settled_as entry.request) ends in
-    let some : entries ≡ [] → ⊥ = λ none. (let early : verdict_of entry.request [] ≡ Some outcome = ap (λ es. verdict_of entry.request (map reply_in es)) (sym none) ∙ ends in let open_yet = route-some entry.request (route-least parts (channel_number chan) entry plan found) in let clash : None ≡ Some outcome = sym open_yet ∙ early in cc) in
+    let some : entries ≡ [] → ⊥ = λ none. (let early : verdict_of entry.request [] ≡ Some outcome = ap (λ es. verdict_of entry.request (map reply_in es)) (sym none) ∙ ends in let open_yet = none-settled entry.request (route-least parts (channel_number chan) entry plan found) in let clash : None ≡ Some outcome = sym open_yet ∙ early in cc) in
     h.next pass' (set accepted (channel_number chan) told) opened.by (length-set accepted (channel_number chan) told)
     (between-made (network_of parts) h.front (Opens entry.request) h.rest pass pass' accepted (set accepted (channel_number chan) told) entries h.between h.tasks opened.by opened.made.own refl opened.made.follows (settled-none entry.request (progress_of entry.request (map reply_in entries)) outcome ends) some
     (subst (λ os. Leaves h.front (Opens entry.request) pass pass' (os ++ h.between.outcomes) (set accepted (channel_number chan) told)) (sym outcomes) (record {
@@ -217,7 +208,7 @@ open-over parts caller place chan entry pass pass' accepted outcome told plan at
 
 task-fits : (parts : PlanParts) (caller place : ℕ) (task : Task) (pass : Token) (accepted : List Bool) → IsPlan parts → HereAt parts caller place task pass accepted → TaskFits (network_of parts).links task
 task-fits parts caller place task pass accepted plan h =
-    each-middle (TaskFits (network_of parts).links) h.front task h.rest (each-get (Each (TaskFits (network_of parts).links)) (network_of parts).scripts (actor_number pass.actor) (h.front ++ task ∷ h.rest) (plan-fits parts plan).tasks h.tasks.found)
+    each-middle (TaskFits (network_of parts).links) h.front task h.rest (Each-at (Each (TaskFits (network_of parts).links)) (network_of parts).scripts (actor_number pass.actor) (h.front ++ task ∷ h.rest) (plan-fits parts plan).tasks h.tasks.found)
 
 -- ---- one entry
 
@@ -255,15 +246,16 @@ one-reply entries one same =
 send-at : (parts : PlanParts) (caller place : ℕ) (chan : ChanNo) (count gap size : ℕ) (entry : RequestEntry) (pass : Token) (accepted : List Bool) → CallerIsAt parts caller place pass accepted → HasOp parts caller place (Send chan count gap size) → slice_get parts.requests (channel_number chan) ≡ Some entry → HereAt parts caller place (Sends entry.request count gap size) pass accepted
 send-at parts caller place chan count gap size entry pass accepted at has found = here-with parts caller place (Send chan count gap size) (Sends entry.request count gap size) pass accepted at has (request-at parts (λ request. Sends request count gap size) (channel_number chan) entry found)
 
+sends-apart : (one other : Request) (count gap size : ℕ) → Sends one count gap size ≡ Opens other → ⊥
+sends-apart one other count gap size same = cc
+
 established-told : (parts : PlanParts) (front rest : List Task) (pass : Token) (accepted : List Bool) (c : ℕ) (entry : RequestEntry) (told : Bool) → IsPlan parts → (between : StandsBetween (network_of parts) front rest pass accepted) → slice_get parts.requests c ≡ Some entry → get_or accepted c false ≡ told → is_established entry.request.chan between.outcomes ≡ told
 established-told parts front rest pass accepted c entry told plan between found is = between.known entry.request.chan ∙ ap (λ n. get_or accepted n false) (plan.planned.requests c entry found) ∙ is
 
 pub send-passed : (parts : PlanParts) (caller place : ℕ) (chan : ChanNo) (count gap size : ℕ) (entry : RequestEntry) (pass : Token) (accepted : List Bool) → IsPlan parts → CallerIsAt parts caller place pass accepted → HasOp parts caller place (Send chan count gap size) → slice_get parts.requests (channel_number chan) ≡ Some entry → get_or accepted (channel_number chan) false ≡ false → CallerIsAt parts caller (place + 1) pass accepted
 send-passed parts caller place chan count gap size entry pass accepted plan at has found is =
     let h = send-at parts caller place chan count gap size entry pass accepted at has found in
-    h.next pass accepted refl refl (between-skipped (network_of parts) h.front (Sends entry.request count gap size) h.rest pass accepted h.between (established-told parts h.front _ pass accepted (channel_number chan) entry false plan h.between found is) (λ request same. sends-apart entry.request request count gap size same)) where
-      sends-apart : (one other : Request) (count gap size : ℕ) → Sends one count gap size ≡ Opens other → ⊥
-      sends-apart one other count gap size same = cc
+    h.next pass accepted refl refl (between-skipped (network_of parts) h.front (Sends entry.request count gap size) h.rest pass accepted h.between (established-told parts h.front _ pass accepted (channel_number chan) entry false plan h.between found is) (λ request same. sends-apart entry.request request count gap size same))
 
 pub send-owner : (parts : PlanParts) (links : List Link) (owners : List ActorNo) (caller place : ℕ) (chan : ChanNo) (count gap size : ℕ) (entry : RequestEntry) (pass : Token) (accepted : List Bool) → IsPlan parts → IsNetworkOf parts links owners → CallerIsAt parts caller place pass accepted → HasOp parts caller place (Send chan count gap size) → slice_get parts.requests (channel_number chan) ≡ Some entry → IsOwner owners pass.actor entry.request.chan
 send-owner parts links owners caller place chan count gap size entry pass accepted plan network at has found =
@@ -272,8 +264,8 @@ send-owner parts links owners caller place chan count gap size entry pass accept
 -- the first hop is over a link of the network
 pub send-there : (parts : PlanParts) (links : List Link) (owners : List ActorNo) (c : ℕ) (entry : RequestEntry) (hop : Hop) → IsPlan parts → IsNetworkOf parts links owners → slice_get parts.requests c ≡ Some entry → slice_get entry.request.route 0 ≡ Some hop → link_number hop.link < length links
 send-there parts links owners c entry hop plan network found first =
-    let of : IsHopOf links hop = each-get (IsHopOf links) entry.request.route 0 hop (hops-of parts links owners c entry plan network found) first in
-    inside-of links (link_number hop.link) of.link of.linked
+    let of : IsHopOf links hop = Each-at (IsHopOf links) entry.request.route 0 hop (hops-of parts links owners c entry plan network found) first in
+    slice_get_within links (link_number hop.link) of.link of.linked
 
 pub send-fits : (parts : PlanParts) (links : List Link) (caller place : ℕ) (chan : ChanNo) (count gap size : ℕ) (entry : RequestEntry) (pass : Token) (accepted : List Bool) (l : ℕ) → IsPlan parts → CallerIsAt parts caller place pass accepted → HasOp parts caller place (Send chan count gap size) → slice_get parts.requests (channel_number chan) ≡ Some entry → FitsAt links l (Submit entry.request.chan count gap size)
 send-fits parts links caller place chan count gap size entry pass accepted l plan at has found =
@@ -295,9 +287,7 @@ send-over parts caller place chan count gap size entry hop reply pass pass' acce
       known = h.between.known;
       fresh = λ c off had. unopened c off had;
       live = λ request has each accepts. established request (h.between.live request (has-front (Opens request) h.front task has (λ same. sends-apart entry.request request count gap size same)) (each-front _ h.front task each).0 accepts);
-    })) where
-      sends-apart : (one other : Request) (count gap size : ℕ) → Sends one count gap size ≡ Opens other → ⊥
-      sends-apart one other count gap size same = cc
+    }))
 
 -- ---- closing
 
@@ -345,7 +335,7 @@ pour-at parts caller place link count gap size pass accepted at has = here-with 
 pub pour-there : (parts : PlanParts) (links : List Link) (owners : List ActorNo) (caller place : ℕ) (link : LinkNo) (count gap size : ℕ) (pass : Token) (accepted : List Bool) → IsPlan parts → IsNetworkOf parts links owners → CallerIsAt parts caller place pass accepted → HasOp parts caller place (Pour link count gap size) → link_number link < length links
 pour-there parts links owners caller place link count gap size pass accepted plan network at has =
     let fits : PourFits (network_of parts).links link count gap size = task-fits parts caller place (Pours link count gap size) pass accepted plan (pour-at parts caller place link count gap size pass accepted at has) in
-    subst (λ (ls : List Link). link_number link < length ls) (sym network.links_are) (inside-of (network_of parts).links (link_number link) fits.link fits.linked)
+    subst (λ (ls : List Link). link_number link < length ls) (sym network.links_are) (slice_get_within (network_of parts).links (link_number link) fits.link fits.linked)
 
 pub pour-fits : (parts : PlanParts) (links : List Link) (owners : List ActorNo) (caller place : ℕ) (link : LinkNo) (count gap size : ℕ) (pass : Token) (accepted : List Bool) → IsPlan parts → IsNetworkOf parts links owners → CallerIsAt parts caller place pass accepted → HasOp parts caller place (Pour link count gap size) → FitsAt links (link_number link) (PourAsk count gap size)
 pour-fits parts links owners caller place link count gap size pass accepted plan network at has =

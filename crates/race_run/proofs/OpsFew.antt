@@ -25,6 +25,7 @@ use Rattle.call_script.proofs.OpeningFacts.{opened-has}
 use Rattle.call_script.proofs.OwnerFacts.{any-later, twice-not}
 use Rattle.call_script.proofs.RuleFacts.{each-of, keeps-rules, packets-fit}
 use Rattle.race_run.specs.Callers.{HasLeft}
+use Rattle.std.proofs.Math.Bool.{or-true}
 
 -- ---- operations by their kinds
 
@@ -94,10 +95,6 @@ closed-apart k above (Close chan ∷ ops) kept closed =
     )
 closed-apart k above (Pour link count gap size ∷ ops) kept closed =
     closed-apart k (above ++ Pour link count gap size ∷ []) ops (and_parts (is_unclosed above (Pour link count gap size)) (each_after is_unclosed (above ++ Pour link count gap size ∷ []) ops) kept).1 (any-later (closes k) above (Pour link count gap size ∷ []) closed)
-
-or-true : (b : Bool) → (b || true) ≡ true
-or-true true = refl
-or-true false = refl
 
 closes-itself : (above : List Op) (chan : ChanNo) → list_any (closes (channel_number chan)) (above ++ Close chan ∷ []) ≡ true
 closes-itself above chan =

@@ -1,7 +1,7 @@
 -- The pieces of a race. Those of passes that have made no step may begin. Where all have ended, each caller's pass has made all
 -- that its caller asks, and the plane stands after its rounds beside the callers.
 use Rattle.std.proofs.Common.{◌≡◌, ℕ, suc, ◌<◌, Some, Result, Ok, Err, List, [], ◌∷◌, ◌++◌, map, length, get_or, refl, sym, ap, ◌∙◌, subst, arith}
-use Rattle.std.proofs.lemmas.List.{length-append, length-map, map-append}
+use Rattle.std.proofs.lemmas.List.{length-append, map-append}
 use Rattle.std.proofs.lemmas.Option.{slice_get_within}
 use Rattle.std.specs.List.{slice_get}
 use Rattle.atomic_table.specs.Seated.{TableId}
@@ -19,13 +19,14 @@ use Rattle.shared_network.specs.Ready.{IsNew, MayStep, PassGoesOn}
 use Rattle.shared_network.proofs.LinkNumbers.{numbered-at, numbered-length}
 use Rattle.tick_plane.specs.Kept.{KeptPlane}
 use Rattle.call_script.specs.Parts.{PlanParts}
-use Rattle.call_script.specs.Tasks.{network_of, script_of, request_of}
+use Rattle.call_script.specs.Tasks.{network_of}
 use Rattle.interleave_core.specs.Runs.{plane_no}
 use Rattle.race_run.specs.Pieces.{AreInOrder, AreNew, HasEnded, IsAtRound, IsMade, IsOfRounds, IsOfScript, MayBegin, Pairwise}
 use Rattle.race_run.specs.Whole.{HasMadeAll}
 use Rattle.race_run.specs.declared.pieces.Piece.{Piece}
 use Rattle.race_run.specs.declared.pieces.Piece.TheVariants.{Script, Rounds}
-use Rattle.race_run.proofs.Lists.{each-get, get-each}
+use Rattle.link_steps.proofs.ListParts.{Each-at, Each-by_place, Each-parts}
+use Rattle.interleave_core.proofs.ActorFacts.{plane-number}
 
 -- ---- lists side by side
 
@@ -54,15 +55,7 @@ map-along R f g step [] (y ∷ ys) pairs = absurd pairs
 map-along R f g step (x ∷ xs) [] pairs = absurd pairs
 map-along R f g step (x ∷ xs) (y ∷ ys) pairs = (let first = step x y pairs.0 in let rest = map-along R f g step xs ys pairs.1 in λ i. first i ∷ rest i)
 
-each-front : {X : Type 0} (P : X → Type 0) (xs ys : List X) → Each P (xs ++ ys) → Each P xs × Each P ys
-each-front P [] ys each = (tt, each)
-each-front P (x ∷ xs) ys each = (let rest = each-front P xs ys each.1 in ((each.0, rest.0), rest.1))
-
 -- ---- the plane's number
-
-pub plane-number : (parts : PlanParts) → plane_no (network_of parts) ≡ length parts.callers
-unfolding network_of
-plane-number parts = length-map parts.callers (script_of (map request_of parts.requests))
 
 -- ---- the beginning
 
@@ -75,7 +68,7 @@ module _ (table : TableId) (owners : List ActorNo) (links : List Link) (parts : 
   last-plane = numbered-at token_actor (callers ++ last ∷ []) (suc (length parts.callers)) (length parts.callers) last all.actors (omega arith) (ap (slice_get (callers ++ last ∷ [])) (sym many) ∙ get-last callers last) ∙ sym (plane-number parts)
 
   parted : Each (IsNew table owners links (suc (length parts.callers))) callers × Each (IsNew table owners links (suc (length parts.callers))) (last ∷ [])
-  parted = each-front (IsNew table owners links (suc (length parts.callers))) callers (last ∷ []) all.new
+  parted = Each-parts (IsNew table owners links (suc (length parts.callers))) callers (last ∷ []) all.new
 
   pub last-own : last.own ≡ []
   last-own = parted.1.0.own
@@ -85,13 +78,13 @@ module _ (table : TableId) (owners : List ActorNo) (links : List Link) (parts : 
   caller-begins k pass found =
       let inside = slice_get_within callers k pass found in
       let is = numbered-at token_actor (callers ++ last ∷ []) (suc (length parts.callers)) k pass all.actors (let m = many in omega (arith, inside, m)) (get-left callers (last ∷ []) k pass found) in
-      let new = each-get (IsNew table owners links (suc (length parts.callers))) callers k pass parted.0 found in
+      let new = Each-at (IsNew table owners links (suc (length parts.callers))) callers k pass parted.0 found in
       record { may_step = new.may_step; begins = record { caller = (let m = many in omega (arith, inside, is, m)); own = new.own; drawn = new.drawn } }
 
   pub all-begin : (plane : KeptPlane) → IsAtRound parts 0 plane last → Each (MayBegin table owners links parts) (map (λ (p : Token). Script p) callers ++ Rounds plane last ∷ [])
   all-begin plane at =
       Each-append (MayBegin table owners links parts) (map (λ (p : Token). Script p) callers) (Rounds plane last ∷ [])
-      (Each-map (MayBegin table owners links parts) (λ (p : Token). Script p) callers (get-each (λ (p : Token). MayBegin table owners links parts (Script p)) callers caller-begins))
+      (Each-map (MayBegin table owners links parts) (λ (p : Token). Script p) callers (Each-by_place (λ (p : Token). MayBegin table owners links parts (Script p)) callers caller-begins))
       (record { may_step = parted.1.0.may_step; begins = at }, tt)
 
 -- ---- the order
@@ -170,7 +163,7 @@ module _ (table : TableId) (owners : List ActorNo) (links : List Link) (parts : 
     made-are_all =
         let n = suc (length parts.callers) in
         let long : length (callers' ++ final ∷ []) ≡ n = numbered-length token_actor (callers' ++ final ∷ []) n (same-actors ∙ all.actors) in
-        let news = each-front (IsNew table owners links n) callers (last ∷ []) all.new in
+        let news = Each-parts (IsNew table owners links n) callers (last ∷ []) all.new in
         record {
           some = omega (arith, long);
           actors = same-actors ∙ all.actors ∙ ap up_to (sym long);

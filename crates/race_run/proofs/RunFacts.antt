@@ -1,7 +1,7 @@
 -- A run is played by its list of actors in maximal runs, and all of these are actors of its plan.
 use Rattle.std.proofs.Common.{◌≡◌, ℕ, zero, suc, ◌≤◌, List, [], ◌∷◌, ◌++◌, map, reverse, length, Option, Some, None, refl, sym, ap, ◌∙◌, subst, inl, inr, arith}
 use Rattle.std.proofs.lemmas.Bool.{cases_lt, ne_eqb}
-use Rattle.std.proofs.lemmas.List.{length-map, reverse-append, reverse-reverse}
+use Rattle.std.proofs.lemmas.List.{reverse-append, reverse-reverse}
 use Rattle.std.proofs.lemmas.Option.{slice_get_past}
 use Rattle.std.specs.Prelude.{IsSome}
 use Rattle.net_units.specs.Numbers.{actor_number}
@@ -12,7 +12,7 @@ use Rattle.link_steps.specs.declared.asks.Ask.{Ask}
 use Rattle.link_steps.proofs.ListFacts.{Each-map}
 use Rattle.call_script.specs.Parts.{PlanParts}
 use Rattle.call_script.specs.Plans.{IsPlan}
-use Rattle.call_script.specs.Tasks.{Network, network_of, script_of, request_of}
+use Rattle.call_script.specs.Tasks.{Network, network_of}
 use Rattle.call_script.specs.declared.schedule.Do.{Do}
 use Rattle.call_script.proofs.FitFacts.{plan-fits}
 use Rattle.call_script.proofs.OwnerFacts.{all-owned}
@@ -25,7 +25,9 @@ use Rattle.interleave_core.proofs.GuaranteeLaw.{guaranteed-throughout}
 use Rattle.interleave_core.proofs.RunOf.{step-is}
 use Rattle.interleave_core.proofs.ScheduleFacts.{follows-none, follows-more, follows-one, turns-append, turns-one}
 use Rattle.race_run.specs.Turns.{AreMaximalRuns, IsUnwritten, actors_of}
-use Rattle.race_run.proofs.Lists.{turned-map, turned-each}
+use Rattle.race_run.proofs.Lists.{turned-map}
+use Rattle.link_steps.proofs.ListParts.{Each-reverse}
+use Rattle.interleave_core.proofs.ActorFacts.{plane-number}
 
 -- ---- played
 
@@ -80,16 +82,12 @@ turns-each P (item ∷ items) unwritten each =
     let parted = subst (Each P) first each in
     (front-has P item.count item.actor (turns_of items) unwritten.0.some parted, turns-each P items unwritten.1 (back-each P (repeated item.count item.actor) (turns_of items) parted))
 
-actors-number : (parts : PlanParts) → plane_no (network_of parts) ≡ length parts.callers
-unfolding network_of
-actors-number parts = length-map parts.callers (script_of (map request_of parts.requests))
-
 pub run-items : (parts : PlanParts) (entries : List Done) (items : List Do) → AreMaximalRuns (actors_of entries) items → IsRun (network_of parts) (reverse entries) → Each (IsActorOf parts) items
 run-items parts entries items runs is =
     let below = run-actors (network_of parts) (reverse entries) is in
-    let most = subst (λ n. Each (λ (done : Done). actor_number done.actor ≤ n) (reverse entries)) (actors-number parts) below in
+    let most = subst (λ n. Each (λ (done : Done). actor_number done.actor ≤ n) (reverse entries)) (plane-number parts) below in
     let P : ActorNo → Type 0 = λ actor. actor_number actor ≤ length parts.callers in
-    let all : Each P (reverse (map actor_of (reverse entries))) = turned-each P (map actor_of (reverse entries)) (Each-map P actor_of (reverse entries) most) in
+    let all : Each P (reverse (map actor_of (reverse entries))) = Each-reverse P (map actor_of (reverse entries)) (Each-map P actor_of (reverse entries) most) in
     turns-each P items runs.each (subst (Each P) (turned-actors entries ∙ sym runs.spelled) all)
 
 -- ---- the guarantee

@@ -14,11 +14,11 @@ use Rattle.call_script.specs.declared.schedule.Do.{Do}
 use Rattle.interleave_core.specs.Schedules.{lined_turns, turns_of, repeated}
 use Rattle.interleave_core.proofs.ScheduleFacts.{turns-append, turns-one, repeated-more}
 use Rattle.race_run.specs.Turns.{BeginsOtherThan, Alternate, IsUnwritten, AreMaximalRuns, ends_with}
-use Rattle.shared_network.proofs.LinkNumbers.{same-actor}
 use Rattle.call_script.proofs.Walks.{before-at}
 use Rattle.run_record.specs.declared.done.Done.{Done}
 use Rattle.race_run.specs.Turns.{actors_of}
 use Rattle.interleave_core.specs.Laws.{actor_of}
+use Rattle.net_units.proofs.NumberFacts.{same-actor}
 
 abbrev pub one_more : Do → Do
 one_more item = record { line = item.line; actor = item.actor; count = item.count + 1 }
@@ -28,7 +28,7 @@ unfolding repeated
 length-repeated zero x = refl
 length-repeated (suc n) x = ap suc (length-repeated n x)
 
-turns-first : (item : Do) (items : List Do) → turns_of (item ∷ items) ≡ repeated item.count item.actor ++ turns_of items
+pub turns-first : (item : Do) (items : List Do) → turns_of (item ∷ items) ≡ repeated item.count item.actor ++ turns_of items
 turns-first item items = turns-append (item ∷ []) items ∙ ap (λ ts. ts ++ turns_of items) (turns-one item)
 
 -- the last item with a step more
@@ -104,7 +104,7 @@ count-most (item ∷ items) (suc n) last inside is =
     let rest = count-most items n last (omega (arith, inside)) is in
     omega (arith, all, rest)
 
-turns-nothing : turns_of [] ≡ []
+pub turns-nothing : turns_of [] ≡ []
 unfolding lined_turns
 turns-nothing = refl
 

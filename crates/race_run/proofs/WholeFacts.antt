@@ -3,7 +3,7 @@
 use Rattle.std.proofs.Common.{◌≡◌, ◌≢◌, ℕ, zero, suc, ◌+◌, ◌<◌, ◌≤◌, List, [], ◌∷◌, ◌++◌, map, reverse, length, Option, Some, None, refl, sym, ap, ◌∙◌, subst, inl, inr, arith}
 use Rattle.std.proofs.lemmas.Bool.{ne_eqb}
 use Rattle.std.proofs.lemmas.List.{length-map, reverse-append}
-use Rattle.std.proofs.lemmas.Option.{slice_get_past}
+use Rattle.std.proofs.lemmas.Option.{slice_get_past, slice_get_within}
 use Rattle.std.specs.List.{slice_get}
 use Rattle.net_units.specs.Numbers.{actor_number, link_number}
 use Rattle.net_units.specs.declared.numbers.ActorNo.{ActorNo}
@@ -24,14 +24,17 @@ use Rattle.link_ledger.specs.declared.entries.OwnEntry.{OwnEntry}
 use Rattle.shared_network.specs.Calls.{reply_in}
 use Rattle.shared_network.specs.Closing.{StandsIn as StandsAt, number_of}
 use Rattle.shared_network.specs.Gathering.{token_actor}
-use Rattle.shared_network.proofs.LinkNumbers.{same-link, numbered-length, numbered-at}
+use Rattle.shared_network.proofs.LinkNumbers.{numbered-length, numbered-at}
 use Rattle.call_script.specs.Tasks.{Network}
 use Rattle.interleave_core.specs.Parts.{IsAsked, next_after, reply_of}
 use Rattle.interleave_core.specs.Runs.{plane_no, IsRun, next_for}
 use Rattle.interleave_core.specs.Weave.{Stamped, IsUnder, Falls, IsUnlike, AreStampedApart, PairsApart, AreOf, AreJournals, AreAsked, InOne, StandsIn, done_of, entry_in}
 use Rattle.interleave_core.proofs.WeaveLaw.{journals-weave}
 use Rattle.race_run.specs.Whole.{IsWhole, HasMadeAll, own_done, stamped_on, stamped_in, weave_of}
-use Rattle.race_run.proofs.Lists.{turned-map, turned-each, among-turned_map, turned_map-among, get-map, map-get, each-get, get-each, get-has, has-get}
+use Rattle.race_run.proofs.Lists.{turned-map, among-turned_map, turned_map-among}
+use Rattle.link_steps.proofs.ListParts.{Each-reverse, comes-from, mapped-at, Each-at, Each-by_place}
+use Rattle.step_stamp.proofs.ListFacts.{get-has, has-get}
+use Rattle.net_units.proofs.NumberFacts.{same-link}
 
 -- ---- stamps that rise, turned round
 
@@ -57,21 +60,16 @@ falls-turned g m same low (x ∷ xs) rises =
 pub whole-length : (network : Network) (passes : List Token) (journals : List Journal) → IsWhole network passes journals → length journals ≡ length network.links
 whole-length network passes journals whole = numbered-length number_of journals (length network.links) whole.closed.numbers
 
-within : {X : Type 0} (xs : List X) (k : ℕ) (x : X) → slice_get xs k ≡ Some x → k < length xs
-within [] k x found = absurd (let clash : None ≡ Some x = found in cc)
-within (y ∷ xs) zero x found = omega arith
-within (y ∷ xs) (suc k) x found = (let less = within xs k x found in omega (arith, less))
-
 journal-number : (network : Network) (passes : List Token) (journals : List Journal) (k : ℕ) (journal : Journal) → IsWhole network passes journals → slice_get journals k ≡ Some journal → link_number journal.link ≡ k
 journal-number network passes journals k journal whole found =
-    let inside : k < length network.links = subst (λ n. k < n) (whole-length network passes journals whole) (within journals k journal found) in
+    let inside : k < length network.links = subst (λ n. k < n) (whole-length network passes journals whole) (slice_get_within journals k journal found) in
     numbered-at number_of journals (length network.links) k journal whole.closed.numbers inside found
 
 are-of : (n : ℕ) (journals : List Journal) → ((k : ℕ) (journal : Journal) → slice_get journals k ≡ Some journal → link_number journal.link ≡ n + k) → AreOf n (map stamped_in journals)
 are-of n [] numbers = tt
 are-of n (journal ∷ journals) numbers = (
   let first : link_number journal.link ≡ n = (let e = numbers 0 journal refl in omega (arith, e)) in
-      turned-each (λ (x : Stamped). link_number x.done.link ≡ n) (map (stamped_on journal.link) journal.entries.items) (Each-map (λ (x : Stamped). link_number x.done.link ≡ n) (stamped_on journal.link) journal.entries.items (Each-from (λ (e : Entry). link_number journal.link ≡ n) journal.entries.items (λ e. first))),
+      Each-reverse (λ (x : Stamped). link_number x.done.link ≡ n) (map (stamped_on journal.link) journal.entries.items) (Each-map (λ (x : Stamped). link_number x.done.link ≡ n) (stamped_on journal.link) journal.entries.items (Each-from (λ (e : Entry). link_number journal.link ≡ n) journal.entries.items (λ e. first))),
   are-of (suc n) journals (λ k one found. (let e = numbers (suc k) one found in omega (arith, e))),
 )
 
@@ -82,7 +80,7 @@ are-apart (x ∷ xs) ys unlike = (Each-from_among (IsUnlike x) ys (λ y there. u
 pairs-apart : (journals : List Journal) → ((k l : ℕ) (one other : Journal) → k ≢ l → slice_get journals k ≡ Some one → slice_get journals l ≡ Some other → AreStampedApart (stamped_in one) (stamped_in other)) → PairsApart (map stamped_in journals)
 pairs-apart [] apart = tt
 pairs-apart (journal ∷ journals) apart = (
-  Each-map (AreStampedApart (stamped_in journal)) stamped_in journals (get-each (λ (j : Journal). AreStampedApart (stamped_in journal) (stamped_in j)) journals (λ k j found. apart 0 (suc k) journal j (λ same. absurd (omega (arith, same))) refl found)),
+  Each-map (AreStampedApart (stamped_in journal)) stamped_in journals (Each-by_place (λ (j : Journal). AreStampedApart (stamped_in journal) (stamped_in j)) journals (λ k j found. apart 0 (suc k) journal j (λ same. absurd (omega (arith, same))) refl found)),
   pairs-apart journals (λ k l one other ne here there. apart (suc k) (suc l) one other (λ same. ne (omega (arith, same))) here there),
 )
 
@@ -101,7 +99,7 @@ whole-journals network passes journals whole = record {
       let to = among-turned_map (stamped_on other.link) other.entries.items y in_other in
       λ same. whole.closed.apart k l one other from.from to.from ne here there (get-has one.entries.items from.place from.from from.found) (get-has other.entries.items to.place to.from to.found) (sym (ap (λ (s : Stamped). s.stamp) from.is) ∙ same ∙ ap (λ (s : Stamped). s.stamp) to.is))));
   legal = λ n link journal linked found.
-      (let it = get-map stamped_in journals n journal found in
+      (let it = comes-from stamped_in journals n journal found in
       let told : map entry_in (stamped_in it.from) ≡ reverse (map done_in it.from.entries.items) = turned-map entry_in (map (stamped_on it.from.link) it.from.entries.items) ∙ ap reverse (entries-told it.from.link it.from.entries.items) in
       subst (λ (j : List Stamped). IsLegal link (map entry_in j)) it.is (subst (IsLegal link) (sym told) ((journals-are-histories link (map done_in it.from.entries.items)).0 (whole.closed.legal n link it.from linked it.found))));
 }
@@ -122,27 +120,27 @@ owns_of passes actor = own_in (slice_get passes actor)
 own-falls : (network : Network) (passes : List Token) (journals : List Journal) (actor : ℕ) (found : Option Token) → IsWhole network passes journals → slice_get passes actor ≡ found → Falls (own_in found)
 own-falls network passes journals actor None whole is = tt
 own-falls network passes journals actor (Some pass) whole is =
-    (falls-turned (own_stamped pass.actor) (own_mark pass.actor) (λ e. refl) 0 pass.own (each-get (λ (p : Token). StampsRise (map (own_mark p.actor) p.own)) passes actor pass whole.closed.in_order is)).0
+    (falls-turned (own_stamped pass.actor) (own_mark pass.actor) (λ e. refl) 0 pass.own (Each-at (λ (p : Token). StampsRise (map (own_mark p.actor) p.own)) passes actor pass whole.closed.in_order is)).0
 
 pass-number : (network : Network) (passes : List Token) (journals : List Journal) (actor : ℕ) (pass : Token) → IsWhole network passes journals → slice_get passes actor ≡ Some pass → actor_number pass.actor ≡ actor
 pass-number network passes journals actor pass whole found =
     let all : length passes ≡ suc (plane_no network) = numbered-length token_actor passes (suc (plane_no network)) whole.actors in
-    numbered-at token_actor passes (suc (plane_no network)) actor pass whole.actors (subst (λ n. actor < n) all (within passes actor pass found)) found
+    numbered-at token_actor passes (suc (plane_no network)) actor pass whole.actors (subst (λ n. actor < n) all (slice_get_within passes actor pass found)) found
 
 own-stands : (network : Network) (passes : List Token) (journals : List Journal) (actor : ℕ) (x : Stamped) (found : Option Token) → IsWhole network passes journals → slice_get passes actor ≡ found → Among x (own_in found) → InOne x (map stamped_in journals) × (actor_number x.done.actor ≡ actor)
 own-stands network passes journals actor x None whole is among = absurd among
 own-stands network passes journals actor x (Some pass) whole is among =
     let from = among-turned_map (own_stamped pass.actor) pass.own x among in
-    let at = each-get (StandsAt journals pass.actor) pass.own from.place from.from (each-get (λ (p : Token). Each (StandsAt journals p.actor) p.own) passes actor pass whole.closed.stands is) from.found in
+    let at = Each-at (StandsAt journals pass.actor) pass.own from.place from.from (Each-at (λ (p : Token). Each (StandsAt journals p.actor) p.own) passes actor pass whole.closed.stands is) from.found in
     let link : at.journal.link ≡ from.from.link = same-link at.journal.link from.from.link (journal-number network passes journals (link_number from.from.link) at.journal whole at.found) in
     let same : stamped_on at.journal.link (own_entry pass.actor from.from) ≡ x = ap (λ l. stamped_on l (own_entry pass.actor from.from)) link ∙ sym from.is in (
-      StandsIn (link_number from.from.link) (stamped_in at.journal) (map-get stamped_in journals (link_number from.from.link) at.journal at.found) (subst (λ (z : Stamped). Among z (stamped_in at.journal)) same (turned_map-among (stamped_on at.journal.link) at.journal.entries.items _ (own_entry pass.actor from.from) at.here)),
+      StandsIn (link_number from.from.link) (stamped_in at.journal) (mapped-at stamped_in journals (link_number from.from.link) at.journal at.found) (subst (λ (z : Stamped). Among z (stamped_in at.journal)) same (turned_map-among (stamped_on at.journal.link) at.journal.entries.items _ (own_entry pass.actor from.from) at.here)),
       ap (λ (z : Stamped). actor_number z.done.actor) from.is ∙ pass-number network passes journals actor pass whole is,
     )
 
 all-own : (network : Network) (passes : List Token) (journals : List Journal) (actor : ℕ) (x : Stamped) → IsWhole network passes journals → InOne x (map stamped_in journals) → actor_number x.done.actor ≡ actor → Among x (owns_of passes actor)
 all-own network passes journals actor x whole (StandsIn k stamped found among) by =
-    let journal = get-map stamped_in journals k stamped found in
+    let journal = comes-from stamped_in journals k stamped found in
     let from = among-turned_map (stamped_on journal.from.link) journal.from.entries.items x (subst (Among x) (sym journal.is) among) in
     let one = whole.closed.of_one k from.place journal.from from.from journal.found from.found in
     let link : journal.from.link ≡ one.entry.link = same-link journal.from.link one.entry.link (journal-number network passes journals k journal.from whole journal.found ∙ sym one.link) in
@@ -163,7 +161,7 @@ own-replies actor (e ∷ own) = ap (λ rs. e.reply ∷ rs) (own-replies actor ow
 own-asked : (network : Network) (passes : List Token) (journals : List Journal) (actor : ℕ) (found : Option Token) → IsWhole network passes journals → slice_get passes actor ≡ found → IsAsked network actor (map done_of (own_in found))
 own-asked network passes journals actor None whole is = tt
 own-asked network passes journals actor (Some pass) whole is =
-    let made = each-get (HasMadeAll network) passes actor pass whole.made_all is in
+    let made = Each-at (HasMadeAll network) passes actor pass whole.made_all is in
     let told : map done_of (own_in (Some pass)) ≡ reverse (map (own_done pass.actor) pass.own) = turned-map done_of (map (own_stamped pass.actor) pass.own) ∙ ap reverse (own-done pass.actor pass.own) in
     subst (λ n. IsAsked network n (map done_of (own_in (Some pass)))) (pass-number network passes journals actor pass whole is) (subst (IsAsked network (actor_number pass.actor)) (sym told) made.asked)
 
@@ -195,7 +193,7 @@ own-over network passes journals actor None whole is =
       past-end (x ∷ xs) (suc k) zero long none = omega arith
       past-end (x ∷ xs) (suc k) (suc n) long none = (let more = past-end xs k n (omega (arith, long)) none in omega (arith, more))
 own-over network passes journals actor (Some pass) whole is =
-    let made = each-get (HasMadeAll network) passes actor pass whole.made_all is in
+    let made = Each-at (HasMadeAll network) passes actor pass whole.made_all is in
     let told : map reply_of (map done_of (own_in (Some pass))) ≡ reverse (map reply_in pass.own) = ap (map reply_of) (turned-map done_of (map (own_stamped pass.actor) pass.own)) ∙ turned-map reply_of (map done_of (map (own_stamped pass.actor) pass.own)) ∙ ap reverse (own-replies pass.actor pass.own) in
     ap (next_after network actor) told ∙ ap (λ n. next_after network n (reverse (map reply_in pass.own))) (sym (pass-number network passes journals actor pass whole is)) ∙ made.over
 
