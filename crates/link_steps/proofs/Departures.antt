@@ -3,7 +3,7 @@
 use Rattle.std.proofs.Common.{◌≡◌, ℕ, zero, suc, ◌+◌, ◌-◌, ◌<◌, ◌≤◌, true, false, List, [], ◌∷◌, Option, Some, None, inl, inr, ⊎_elim, refl, sym, ◌∙◌, subst, arith}
 use Rattle.std.proofs.lemmas.Bool.{cases_lt, leb-true, le-leb, eq-eqb, eqb-true, and_parts, and_from, or_cases, or_left, or_right, or_parts, true≢false, cond_both}
 use Rattle.std.specs.Prelude.{filter, nat_eq}
-use Rattle.link_steps.specs.BusyPeriod.{IsClear, IsGone, HasWork, FitsWithin}
+use Rattle.link_steps.specs.BusyPeriod.{IsClear, IsGone, HasWork, FitsWithin, EndsWithin}
 use Rattle.link_steps.specs.Lists.{Each}
 use Rattle.link_steps.specs.Service.{Arrival, Start, leaves_at, first_in_line, is_start_of, has_started, is_waiting, is_busy, add_start, serve_tick, starts_below, is_departure_by, has_departed}
 use Rattle.link_steps.proofs.BusyPeriods.{busy_period-ends, add-departed, departed-has-started, waits-fresh}
@@ -13,19 +13,12 @@ use Rattle.link_steps.proofs.ServiceFacts.{first_in_line-fact}
 
 -- ---- clear ticks follow one another
 
--- a clear tick after e, and at most w ticks after it
-pub record ClearAfter (rate : ℕ) (packets : List Arrival) (m e w : ℕ) : Type 0 where
-  pub tick : ℕ
-  pub after : e < tick
-  pub within : tick ≤ e + w
-  pub clear : IsClear rate packets m tick
-
 -- nothing was eligible before tick 0
 clear-first : (rate : ℕ) (packets : List Arrival) (m : ℕ) → IsClear rate packets m 0
 clear-first rate packets m = Each-from (IsGone rate (starts_below rate packets 0) m 0) packets (λ p upto before. absurd (omega arith))
 
 -- from one clear tick to the next, in k steps at most, beyond e
-clear-from : (rate blocking : ℕ) (packets : List Arrival) (m w : ℕ) → Each (HasWork rate blocking) packets → ((u : ℕ) → FitsWithin rate blocking packets m u w) → (k u e : ℕ) → IsClear rate packets m u → u ≤ e → e < u + k → ClearAfter rate packets m e w
+clear-from : (rate blocking : ℕ) (packets : List Arrival) (m w : ℕ) → Each (HasWork rate blocking) packets → ((u : ℕ) → FitsWithin rate blocking packets m u w) → (k u e : ℕ) → IsClear rate packets m u → u ≤ e → e < u + k → EndsWithin rate packets m e w
 clear-from rate blocking packets m w works fits zero u e clear upto near = absurd (omega arith)
 clear-from rate blocking packets m w works fits (suc k) u e clear upto near =
     let room = fits u in
@@ -33,12 +26,12 @@ clear-from rate blocking packets m w works fits (suc k) u e clear upto near =
     let after = next.after in
     let within : next.end ≤ u + w = omega (arith, next.within, room.upto) in
     ⊎_elim
-    (λ (rest : e < next.end). record { tick = next.end; after = rest; within = omega (arith, within); clear = next.clear })
+    (λ (rest : e < next.end). record { end = next.end; after = rest; within = omega (arith, within); clear = next.clear })
     (λ (before : next.end ≤ e). clear-from rate blocking packets m w works fits k next.end e next.clear before (omega (arith, after)))
     (cases_lt e next.end)
 
--- after every tick there is a clear one
-pub clear-after : (rate blocking : ℕ) (packets : List Arrival) (m w : ℕ) → Each (HasWork rate blocking) packets → ((u : ℕ) → FitsWithin rate blocking packets m u w) → (e : ℕ) → ClearAfter rate packets m e w
+-- after every tick there is a clear one, w ticks later at most
+pub clear-after : (rate blocking : ℕ) (packets : List Arrival) (m w : ℕ) → Each (HasWork rate blocking) packets → ((u : ℕ) → FitsWithin rate blocking packets m u w) → (e : ℕ) → EndsWithin rate packets m e w
 clear-after rate blocking packets m w works fits e =
     clear-from rate blocking packets m w works fits (suc e) 0 e (clear-first rate packets m) (omega arith) (omega arith)
 
@@ -54,8 +47,8 @@ pub record DepartsWithin (rate : ℕ) (packets : List Arrival) (w : ℕ) (p : Ar
 pub departs-within : (rate blocking : ℕ) (packets : List Arrival) (w : ℕ) (p : Arrival) → Each (HasWork rate blocking) packets → ((u : ℕ) → FitsWithin rate blocking packets p.level u w) → Among p packets → DepartsWithin rate packets w p
 departs-within rate blocking packets w p works fits among =
     let next = clear-after rate blocking packets p.level w works fits p.eligible in
-    let gone = Each-among (IsGone rate (starts_below rate packets next.tick) p.level next.tick) p packets next.clear among in
-    record { tick = next.tick; within = next.within; departed = gone (omega arith) next.after }
+    let gone = Each-among (IsGone rate (starts_below rate packets next.end) p.level next.end) p packets next.clear among in
+    record { tick = next.end; within = next.within; departed = gone (omega arith) next.after }
 
 -- ---- what has departed stays so
 
