@@ -11,3 +11,4 @@ pub mod Growing
 pub mod Work
 pub mod Standing
 pub mod OneLink
+pub mod ActorNames

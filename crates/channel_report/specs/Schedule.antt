@@ -1,16 +1,12 @@
 -- The text of a schedule: a line for each item, with the name of its actor and its number of steps.
-use Rattle.std.specs.Prelude.{ℕ, Option, Some, None, List, [], ◌∷◌, codes}
+use Rattle.std.specs.Prelude.{ℕ, List, [], ◌∷◌, codes}
 use Rattle.std.specs.List.{flat_map, slice_get}
 use Rattle.std.specs.Fmt.{decimal}
 use Rattle.net_units.specs.Numbers.{actor_number}
+use Rattle.call_script.specs.ActorNames.{name_of_actor}
 use Rattle.call_script.specs.declared.entries.CallerEntry.{CallerEntry}
 use Rattle.call_script.specs.declared.schedule.Do.{Do}
 use Rattle.channel_report.specs.Lines.{whole_line}
-
--- a caller's name; the actor after the callers is the plane
-abbrev pub name_of_actor : Option CallerEntry → List ℕ
-name_of_actor None = codes "plane"
-name_of_actor (Some entry) = entry.name
 
 -- do ACTOR COUNT
 abbrev pub do_line : List CallerEntry → Do → List ℕ

@@ -4,7 +4,8 @@ ghost use Rattle.std.specs.List.{slice_get};
 ghost use Rattle.net_units.specs.Numbers.{actor_number};
 ghost use Rattle.link_steps.specs.Lists.{Each};
 ghost use Rattle.call_script.specs.declared.schedule.Do.{Do as Item};
-ghost use Rattle.channel_report.specs.Schedule.{do_line, name_of_actor, schedule_of};
+ghost use Rattle.call_script.specs.ActorNames.{name_of_actor};
+ghost use Rattle.channel_report.specs.Schedule.{do_line, schedule_of};
 ghost use Rattle.channel_report.specs.Telling.{Tells, WritesText};
 
 use crate::fault::ReportFault;

@@ -9,6 +9,7 @@ use Rattle.net_units.specs.Numbers.{actor_number, actor_at}
 use Rattle.net_units.specs.Text.{is_name}
 use Rattle.net_units.specs.declared.numbers.ActorNo.{ActorNo}
 use Rattle.link_steps.specs.Lists.{Each}
+use Rattle.call_script.specs.ActorNames.{name_of_actor}
 use Rattle.call_script.specs.Parts.{PlanParts}
 use Rattle.call_script.specs.Rules.{are_distinct, caller_names}
 use Rattle.call_script.specs.declared.entries.CallerEntry.{CallerEntry}
@@ -22,7 +23,7 @@ use Rattle.scenario_reader.specs.Fields.{line_of, is_field, are_fields}
 use Rattle.scenario_reader.specs.Forms.{has_form, used_name_rule, number_rule}
 use Rattle.scenario_reader.specs.Grammar.{judge, is_plane, actor_rule, actor_named, do_form, do_rule, do_said}
 use Rattle.scenario_reader.specs.Kept.{IsDo}
-use Rattle.scenario_reader.specs.PlanText.{actor_field, do_fields, schedule_fields, schedule_lines}
+use Rattle.scenario_reader.specs.PlanText.{do_fields, schedule_fields, schedule_lines}
 use Rattle.scenario_reader.specs.declared.cause.Cause.TheVariants as cause
 use Rattle.scenario_reader.specs.declared.form.Keyword.TheVariants as word
 use Rattle.scenario_reader.specs.declared.item.Item.TheVariants as item
@@ -38,9 +39,9 @@ use Rattle.scenario_reader.proofs.SaysBack.{judged_as, Leads, leads_on, leads_mo
 
 -- an actor of the plan is found by the field of its name
 pub record IsFound (callers : List CallerEntry) (n : ℕ) (found : Option CallerEntry) : Type 0 where
-  pub field : is_field (actor_field found) ≡ true
-  pub rule : (said : Said) → said.callers ≡ callers → actor_rule said (actor_field found) ≡ None
-  pub named : (said : Said) → said.callers ≡ callers → actor_named said (actor_field found) ≡ Some n
+  pub field : is_field (name_of_actor found) ≡ true
+  pub rule : (said : Said) → said.callers ≡ callers → actor_rule said (name_of_actor found) ≡ None
+  pub named : (said : Said) → said.callers ≡ callers → actor_named said (name_of_actor found) ≡ Some n
 
 actor_back : (callers : List CallerEntry) (n : ℕ) → Each (λ (caller : CallerEntry). is_name caller.name ≡ true) callers → are_distinct (caller_names callers) ≡ true → n ≤ length callers → IsFound callers n (slice_get callers n)
 actor_back callers n names apart within =
@@ -78,7 +79,7 @@ item_judged : (parts : PlanParts) (done : List Do) (it : Do) (number : ℕ) → 
 item_judged parts done it number names apart few is =
     let said = scheduled parts done in
     let n = actor_number it.actor in
-    let field = actor_field (slice_get parts.callers n) in
+    let field = name_of_actor (slice_get parts.callers n) in
     let actor = actor_back parts.callers n names apart is.actor in
     let count = value-decimal it.count (let most = is.most in omega (arith, most)) in
     let line : are_fields (do_fields parts.callers it) ≡ true = rw (actor.field, number_field it.count (let most = is.most in omega (arith, most))) refl in

@@ -11,6 +11,7 @@ use Rattle.setup_protocol.specs.declared.request.Control.{Control}
 use Rattle.setup_protocol.specs.declared.request.Control.TheVariants.{Rate, Jitter}
 use Rattle.setup_protocol.specs.declared.request.Request.{Request}
 use Rattle.traffic_contract.specs.Contract.{Traffic}
+use Rattle.call_script.specs.ActorNames.{name_of_actor}
 use Rattle.call_script.specs.Parts.{PlanParts}
 use Rattle.call_script.specs.declared.entries.LinkEntry.{LinkEntry}
 use Rattle.call_script.specs.declared.entries.RequestEntry.{RequestEntry}
@@ -120,13 +121,8 @@ tail_fields count = codes "tail" ∷ decimal count ∷ []
 
 -- ---- schedule, do ACTOR COUNT
 
--- a caller's name, or the plane
-abbrev pub actor_field : Option CallerEntry → List ℕ
-actor_field None = codes "plane"
-actor_field (Some caller) = caller.name
-
 abbrev pub do_fields : List CallerEntry → Do → List (List ℕ)
-do_fields callers item = codes "do" ∷ actor_field (slice_get callers (actor_number item.actor)) ∷ decimal item.count ∷ []
+do_fields callers item = codes "do" ∷ name_of_actor (slice_get callers (actor_number item.actor)) ∷ decimal item.count ∷ []
 
 abbrev pub schedule_fields : List (List ℕ)
 schedule_fields = codes "schedule" ∷ []

@@ -2,8 +2,9 @@
 ghost use Rattle.std.specs.Prelude.{◌≡◌, ◌++◌, [], IfOk, OnOk, IfSome, IfNone, string_bytes, length, get_or, ◌<◌};
 ghost use Rattle.std.specs.List.{slice_get};
 ghost use Rattle.net_units.specs.Numbers.{link_number, actor_number};
+ghost use Rattle.call_script.specs.ActorNames.{name_of_actor};
 ghost use Rattle.scenario_reader.specs.Fields.{ended_line};
-ghost use Rattle.scenario_reader.specs.PlanText.{header_fields, best_fields, bounds_fields, link_text, caller_fields, route_names, with_name, contract_fields, delay_fields, open_fields, send_fields, close_fields, pour_fields, op_text, rounds_fields, tail_fields, actor_field, do_text, schedule_fields, spaced, link_line_front};
+ghost use Rattle.scenario_reader.specs.PlanText.{header_fields, best_fields, bounds_fields, link_text, caller_fields, route_names, with_name, contract_fields, delay_fields, open_fields, send_fields, close_fields, pour_fields, op_text, rounds_fields, tail_fields, do_text, schedule_fields, spaced, link_line_front};
 
 use call_script::{CallerEntry, Do, LinkEntry, Op, RequestEntry, Version};
 use hop_reservation::Route;
@@ -254,7 +255,7 @@ pub(crate) fn do_line(
 
 // A caller's name, or the plane.
 fn actor_name(callers: &[CallerEntry], actor: ActorNo) -> &str
-    ensures { result.now ≡ actor_field (slice_get callers.now (actor_number actor)) }
+    ensures { result.now ≡ name_of_actor (slice_get callers.now (actor_number actor)) }
 {
     match callers.get(usize::from(actor.get())) {
         Some(caller) => caller.name.as_str(),
