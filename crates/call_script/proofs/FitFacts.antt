@@ -16,8 +16,8 @@ use Rattle.link_steps.specs.Lists.{Each}
 use Rattle.link_steps.specs.Split.{Link, SplitFits}
 use Rattle.relaxation.specs.Laws.{HaveBounds}
 use Rattle.setup_protocol.specs.declared.request.Request.{Request}
-use Rattle.call_script.specs.Fits.{RequestFits, TaskFits, NetworkFits}
-use Rattle.setup_protocol.specs.Hops.{IsHopOf}
+use Rattle.call_script.specs.Fits.{TaskFits, NetworkFits}
+use Rattle.setup_protocol.specs.Hops.{IsHopOf, RequestFits}
 use Rattle.call_script.specs.Parts.{PlanParts, FollowsLink}
 use Rattle.call_script.specs.Plans.{HasTerms, IsPlan}
 use Rattle.call_script.specs.Rules.{have_links, has_link, route_is_there, pour_is_there, are_opened, are_there, request_in_range, op_in_range, rounds_in_range, are_in_range, are_few, takes_best_effort, pour_is_taken, pours_are_taken}

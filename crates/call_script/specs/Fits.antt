@@ -5,23 +5,14 @@ use Rattle.std.specs.Prelude.{◌≡◌, ℕ, ◌≤◌, Some, List, length}
 use Rattle.std.specs.List.{slice_get}
 use Rattle.net_units.specs.Numbers.{link_number}
 use Rattle.net_units.specs.declared.numbers.LinkNo.{LinkNo}
-use Rattle.hop_reservation.specs.Routes.{IsRoute}
 use Rattle.link_steps.specs.Legal.{SubmitFits}
 use Rattle.link_steps.specs.Lists.{Each}
 use Rattle.link_steps.specs.Split.{Link, SplitFits}
-use Rattle.relaxation.specs.Laws.{HaveBounds}
-use Rattle.setup_protocol.specs.Hops.{IsHopOf}
+use Rattle.setup_protocol.specs.Hops.{RequestFits}
 use Rattle.setup_protocol.specs.declared.request.Request.{Request}
-use Rattle.traffic_contract.specs.Contract.{IsContract}
 use Rattle.call_script.specs.Tasks.{Network}
 use Rattle.call_script.specs.declared.tasks.Task.{Task}
 use Rattle.call_script.specs.declared.tasks.Task.TheVariants.{Opens, Sends, Closes, Pours}
-
-pub record RequestFits (links : List Link) (request : Request) : Type 0 where
-  pub contract : IsContract request.contract
-  pub bounds : HaveBounds request.route
-  pub route : IsRoute request.route
-  pub hops : Each (IsHopOf links) request.route
 
 pub record SendFits (links : List Link) (request : Request) (count gap size : ℕ) : Type 0 where
   pub of_request : RequestFits links request

@@ -11,7 +11,8 @@ use Rattle.link_steps.specs.declared.replies.Reply.{Reply}
 use Rattle.link_steps.specs.declared.replies.Reply.TheVariants.{Planned, Refused}
 use Rattle.link_steps.specs.declared.replies.Refusal.{Refusal}
 use Rattle.link_steps.specs.declared.replies.Refusal.TheVariants.{Busy, TooBig}
-use Rattle.setup_protocol.specs.Setup.{Outcome, Accepts, Denies, asked_of, next_ask, progress_of, verdict_of, is_expected}
+use Rattle.setup_protocol.specs.Laws.{is_accepted}
+use Rattle.setup_protocol.specs.Setup.{Outcome, asked_of, next_ask, progress_of, verdict_of, is_expected}
 use Rattle.setup_protocol.specs.Teardown.{next_release, is_closing}
 use Rattle.setup_protocol.specs.declared.request.Request.{Request}
 use Rattle.call_script.specs.declared.tasks.Task.{Task}
@@ -49,14 +50,10 @@ task_ask (Pours link count gap size) replies = pour_next link count gap size rep
 
 -- ---- the tasks that take a step
 
-abbrev pub is_accepting : Outcome → Bool
-is_accepting (Accepts levels delay) = true
-is_accepting (Denies deny) = false
-
 -- whether a request was accepted
 unfoldable pub is_established : ChanNo → List Opened → Bool
 is_established chan [] = false
-is_established chan (opened ∷ outcomes) = if nat_eq (channel_number opened.chan) (channel_number chan) then is_accepting opened.outcome else is_established chan outcomes
+is_established chan (opened ∷ outcomes) = if nat_eq (channel_number opened.chan) (channel_number chan) then is_accepted opened.outcome else is_established chan outcomes
 
 abbrev pub takes_step : List Opened → Task → Bool
 takes_step outcomes (Opens request) = true

@@ -7,6 +7,7 @@ use Rattle.net_units.specs.declared.numbers.LinkNo.{LinkNo}
 use Rattle.link_steps.specs.declared.asks.Ask.{Ask}
 use Rattle.link_steps.specs.declared.replies.Reply.{Reply}
 use Rattle.hop_reservation.specs.Routes.{IsRoute}
+use Rattle.setup_protocol.specs.Laws.{is_accepted}
 use Rattle.setup_protocol.specs.Releases.{Releases}
 use Rattle.setup_protocol.specs.Setup.{Outcome, settled_in}
 use Rattle.setup_protocol.specs.Standing.{progress_in, SetupStands}
@@ -14,7 +15,7 @@ use Rattle.setup_protocol.specs.State.{outcome_of}
 use Rattle.setup_protocol.specs.declared.request.Request.{Request}
 use Rattle.setup_protocol.specs.declared.setup.Setup.{Setup}
 use Rattle.setup_protocol.specs.declared.teardown.Teardown.{Teardown}
-use Rattle.call_script.specs.Scripts.{Opened, is_accepting, submit_next, pour_next, task_ask, outcome_by}
+use Rattle.call_script.specs.Scripts.{Opened, submit_next, pour_next, task_ask, outcome_by}
 use Rattle.call_script.specs.declared.tasks.Task.{Task}
 use Rattle.call_script.specs.declared.tasks.Task.TheVariants.{Opens, Sends, Closes, Pours}
 use Rattle.call_script.specs.declared.work.Known.{Known}
@@ -70,7 +71,7 @@ opened_among known = map opened_of (reverse known)
 -- whether an outcome, if there is one, is an established channel
 abbrev pub accepts_in : Option Outcome → Bool
 accepts_in None = false
-accepts_in (Some outcome) = is_accepting outcome
+accepts_in (Some outcome) = is_accepted outcome
 
 -- ---- one reply more
 

@@ -25,10 +25,11 @@ use Rattle.link_steps.specs.Scan.{clock_of, scan_of, is_row_of, starts_of}
 use Rattle.link_steps.specs.Service.{Arrival, Start, here_at, is_here, starts_below}
 use Rattle.link_steps.proofs.HopHolds.{guaranteed}
 use Rattle.link_steps.proofs.ListFacts.{Among, Each-among, Each-filter}
+use Rattle.setup_protocol.specs.Hops.{RequestFits}
 use Rattle.setup_protocol.specs.declared.request.Request.{Request}
 use Rattle.run_record.specs.declared.done.Done.{Done}
 use Rattle.channel_laws.specs.Channels.{is_of_channel, channel_packets, tick_of_packet, channel_of}
-use Rattle.call_script.specs.Fits.{RequestFits, NetworkFits}
+use Rattle.call_script.specs.Fits.{NetworkFits}
 use Rattle.interleave_core.specs.Hops.{packets_on, ChannelAsked}
 use Rattle.call_script.specs.Tasks.{Network}
 use Rattle.run_record.specs.Runs.{part_of}

@@ -25,8 +25,8 @@ use Rattle.setup_protocol.specs.declared.request.Request.{Request}
 use Rattle.setup_protocol.specs.declared.verdict.Deny.{Deny as Denial}
 use Rattle.setup_protocol.proofs.AskFacts.{ask-fits}
 use Rattle.setup_protocol.proofs.ProgressFacts.{offers-other, offers-more, progress-on_the_way, progress-tested}
-use Rattle.call_script.specs.Fits.{RequestFits, TaskFits}
-use Rattle.setup_protocol.specs.Hops.{IsHopOf}
+use Rattle.call_script.specs.Fits.{TaskFits}
+use Rattle.setup_protocol.specs.Hops.{IsHopOf, RequestFits}
 use Rattle.call_script.specs.declared.tasks.Task.{Task}
 use Rattle.call_script.specs.declared.tasks.Task.TheVariants.{Opens, Sends, Closes, Pours}
 use Rattle.call_script.specs.Scripts.{Opened, Standing, task_ask, takes_step, from_step, begun, outcome_by, continued, resumed, replied, standing, first_ask, ask_at}

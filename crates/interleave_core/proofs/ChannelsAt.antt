@@ -9,8 +9,9 @@ use Rattle.link_steps.specs.Service.{Arrival}
 use Rattle.link_steps.specs.Split.{Link}
 use Rattle.link_steps.proofs.ListFacts.{Among}
 use Rattle.link_steps.proofs.PacketRows.{Among-passes}
+use Rattle.setup_protocol.specs.Hops.{RequestFits}
 use Rattle.setup_protocol.specs.declared.request.Request.{Request}
-use Rattle.call_script.specs.Fits.{RequestFits, NetworkFits}
+use Rattle.call_script.specs.Fits.{NetworkFits}
 use Rattle.call_script.specs.Tasks.{Network}
 use Rattle.channel_laws.specs.Channels.{is_of_channel, offers_to, AllOfferTerms, HasOneRow, ChannelStands}
 use Rattle.channel_laws.proofs.ChannelRows.{legal-stands, legal-free}

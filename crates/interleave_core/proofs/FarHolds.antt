@@ -23,12 +23,13 @@ use Rattle.link_steps.specs.Scan.{clock_of, scan_of}
 use Rattle.link_steps.proofs.LegalChannels.{legal-channels}
 use Rattle.link_steps.proofs.LegalOrder.{legal-order}
 use Rattle.link_steps.proofs.ListFacts.{Each-find}
+use Rattle.setup_protocol.specs.Hops.{RequestFits}
 use Rattle.setup_protocol.specs.Setup.{Progress, asked, next_ask, progress_of}
 use Rattle.setup_protocol.specs.Teardown.{first_count, next_release}
 use Rattle.setup_protocol.specs.declared.request.Request.{Request}
 use Rattle.run_record.specs.declared.done.Done.{Done}
 use Rattle.channel_laws.specs.Channels.{is_of_channel, channel_packets, channel_of, offers_with, offers_to, RowTells, IsOnly, IsElsewhere}
-use Rattle.call_script.specs.Fits.{RequestFits, NetworkFits}
+use Rattle.call_script.specs.Fits.{NetworkFits}
 use Rattle.interleave_core.specs.Hops.{packets_on, terms_at, ChannelAsked}
 use Rattle.call_script.specs.declared.tasks.Task.{Task}
 use Rattle.call_script.specs.declared.tasks.Task.TheVariants.{Opens, Sends, Closes}

@@ -20,12 +20,13 @@ use Rattle.link_steps.specs.SourceGuarantee.{arrival_of}
 use Rattle.link_steps.proofs.HopHolds.{guaranteed}
 use Rattle.link_steps.proofs.ListFacts.{Among}
 use Rattle.link_steps.proofs.SourceHistory.{source-guarantee}
+use Rattle.setup_protocol.specs.Hops.{RequestFits}
 use Rattle.setup_protocol.specs.Laws.{KeepsRequest}
 use Rattle.setup_protocol.specs.Setup.{Accepts}
 use Rattle.setup_protocol.specs.declared.request.Request.{Request}
 use Rattle.run_record.specs.declared.done.Done.{Done}
 use Rattle.channel_laws.specs.Channels.{HopTerms, is_of_channel, tick_of_packet, offers_with, offers_to}
-use Rattle.call_script.specs.Fits.{RequestFits, NetworkFits}
+use Rattle.call_script.specs.Fits.{NetworkFits}
 use Rattle.interleave_core.specs.Hops.{packets_on, terms_at, ChannelAsked}
 use Rattle.call_script.specs.declared.tasks.Task.{Task}
 use Rattle.call_script.specs.Tasks.{Network}

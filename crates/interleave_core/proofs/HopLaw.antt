@@ -35,12 +35,13 @@ use Rattle.link_steps.specs.Scan.{Scan, clock_of, scan_of, is_row_of, arrived_pa
 use Rattle.link_steps.specs.Service.{Arrival}
 use Rattle.link_steps.proofs.LegalChannels.{legal-channels}
 use Rattle.link_steps.proofs.ListFacts.{Among, Each-among, Each-find}
+use Rattle.setup_protocol.specs.Hops.{RequestFits}
 use Rattle.setup_protocol.specs.Requests.{kind_of}
 use Rattle.setup_protocol.specs.Setup.{hop_link}
 use Rattle.setup_protocol.specs.declared.request.Request.{Request}
 use Rattle.run_record.specs.declared.done.Done.{Done}
 use Rattle.channel_laws.specs.Channels.{is_of_channel, channel_packets, tick_of_packet, ticks_at, channel_of, offers_to, RowTells, IsElsewhere, IsOnly, HasOneRow}
-use Rattle.call_script.specs.Fits.{RequestFits, NetworkFits}
+use Rattle.call_script.specs.Fits.{NetworkFits}
 use Rattle.interleave_core.specs.Hops.{packets_on, terms_at, ChannelAsked, ComesFrom}
 use Rattle.call_script.specs.Tasks.{Network}
 use Rattle.tick_plane.specs.declared.flight.Flight.{Flight}

@@ -4,8 +4,7 @@ use Rattle.std.specs.List.{slice_get}
 use Rattle.hop_reservation.specs.declared.route.Hop.{Hop}
 use Rattle.link_steps.specs.Lists.{Each}
 use Rattle.setup_protocol.specs.declared.request.Request.{Request}
-use Rattle.call_script.specs.Fits.{RequestFits}
-use Rattle.setup_protocol.specs.Hops.{IsHopOf}
+use Rattle.setup_protocol.specs.Hops.{IsHopOf, RequestFits}
 use Rattle.call_script.specs.Tasks.{Network}
 use Rattle.run_record.specs.declared.done.Done.{Done}
 use Rattle.link_steps.proofs.ListParts.{Each-at}

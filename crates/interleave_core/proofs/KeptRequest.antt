@@ -9,6 +9,7 @@ use Rattle.net_units.specs.declared.numbers.LinkNo.{LinkNo}
 use Rattle.hop_reservation.specs.declared.route.Hop.{Hop}
 use Rattle.link_steps.specs.declared.asks.Ask.{Ask}
 use Rattle.link_steps.specs.declared.replies.Reply.{Reply}
+use Rattle.setup_protocol.specs.Hops.{RequestFits}
 use Rattle.setup_protocol.specs.declared.verdict.Deny.{Deny}
 use Rattle.hop_reservation.specs.Offers.{delay_over}
 use Rattle.relaxation.specs.declared.EndDenial.{EndDenial}
@@ -17,7 +18,7 @@ use Rattle.setup_protocol.proofs.ProgressFacts.{progress-on_the_way, progress-te
 use Rattle.setup_protocol.specs.declared.request.Request.{Request}
 use Rattle.setup_protocol.proofs.LawFacts.{accepted-keep}
 use Rattle.run_record.specs.declared.done.Done.{Done}
-use Rattle.call_script.specs.Fits.{RequestFits, NetworkFits}
+use Rattle.call_script.specs.Fits.{NetworkFits}
 use Rattle.call_script.specs.declared.tasks.Task.{Task}
 use Rattle.call_script.specs.declared.tasks.Task.TheVariants.{Opens, Sends, Closes, Pours}
 use Rattle.call_script.specs.Tasks.{Network}

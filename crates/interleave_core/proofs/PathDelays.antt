@@ -14,11 +14,12 @@ use Rattle.link_steps.proofs.HopHolds.{guaranteed}
 use Rattle.link_steps.proofs.ChangeFacts.{Each-from_among}
 use Rattle.link_steps.proofs.ListFacts.{Among, Each-among}
 use Rattle.link_steps.proofs.ServiceFacts.{starts-fact}
+use Rattle.setup_protocol.specs.Hops.{RequestFits}
 use Rattle.setup_protocol.specs.Requests.{kind_of}
 use Rattle.setup_protocol.specs.declared.request.Request.{Request}
 use Rattle.run_record.specs.declared.done.Done.{Done}
 use Rattle.channel_laws.specs.Channels.{is_of_channel, tick_of_packet}
-use Rattle.call_script.specs.Fits.{RequestFits, NetworkFits}
+use Rattle.call_script.specs.Fits.{NetworkFits}
 use Rattle.interleave_core.specs.Hops.{packets_on, ChannelAsked}
 use Rattle.call_script.specs.Tasks.{Network}
 use Rattle.run_record.specs.Runs.{part_of}

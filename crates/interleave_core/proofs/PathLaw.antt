@@ -10,10 +10,11 @@ use Rattle.net_units.specs.Numbers.{link_number, channel_number}
 use Rattle.hop_reservation.specs.Offers.{delay_over}
 use Rattle.hop_reservation.specs.declared.route.Hop.{Hop}
 use Rattle.hop_reservation.proofs.OfferFacts.{delay_over-push}
+use Rattle.setup_protocol.specs.Hops.{RequestFits}
 use Rattle.setup_protocol.specs.declared.request.Request.{Request}
 use Rattle.run_record.specs.declared.done.Done.{Done}
 use Rattle.channel_laws.specs.Channels.{ticks_at}
-use Rattle.call_script.specs.Fits.{RequestFits, NetworkFits}
+use Rattle.call_script.specs.Fits.{NetworkFits}
 use Rattle.interleave_core.specs.Hops.{packets_on, ChannelAsked}
 use Rattle.interleave_core.proofs.HopsAt.{hop-at, HaveLevelsAt}
 use Rattle.call_script.specs.Tasks.{Network}

@@ -26,11 +26,12 @@ use Rattle.link_steps.specs.Service.{Arrival}
 use Rattle.link_steps.proofs.LegalOrder.{legal-order}
 use Rattle.link_steps.proofs.LegalRowFacts.{IsInOrder}
 use Rattle.link_steps.proofs.ListFacts.{Among, Each-find}
+use Rattle.setup_protocol.specs.Hops.{RequestFits}
 use Rattle.setup_protocol.specs.Setup.{hop_link}
 use Rattle.setup_protocol.specs.declared.request.Request.{Request}
 use Rattle.run_record.specs.declared.done.Done.{Done}
 use Rattle.channel_laws.specs.Channels.{is_of_channel, channel_packets, tick_of_packet, channel_of, offers_to}
-use Rattle.call_script.specs.Fits.{RequestFits, NetworkFits}
+use Rattle.call_script.specs.Fits.{NetworkFits}
 use Rattle.interleave_core.specs.Hops.{packets_on, terms_at, ChannelAsked}
 use Rattle.call_script.specs.Tasks.{Network}
 use Rattle.run_record.specs.Runs.{part_of}

@@ -24,6 +24,7 @@ use Rattle.link_steps.specs.Scan.{Scan, clock_of, scan_of, after}
 use Rattle.link_steps.proofs.LegalChannels.{legal-channels}
 use Rattle.relaxation.specs.Allotment.{allotment}
 use Rattle.relaxation.specs.Laws.{AreWithinReach}
+use Rattle.setup_protocol.specs.Hops.{RequestFits}
 use Rattle.setup_protocol.specs.Requests.{jitter_of}
 use Rattle.setup_protocol.specs.Setup.{Outcome, Accepts, Denies, Reserving, Settled, offers_in, after_offers, reach_after, undoing, relaxing, asked, asked_of, reserve_of, bound_given, next_ask, progress_of, settled_in, verdict_of}
 use Rattle.setup_protocol.specs.declared.request.Request.{Request}
@@ -33,7 +34,7 @@ use Rattle.setup_protocol.proofs.HopHolds.{IsComm, HopStands, View, OnWay, Back,
 use Rattle.setup_protocol.proofs.SetupReplies.{IsReserved, reserve-reply, deny-tentative}
 use Rattle.setup_protocol.proofs.StepHolds.{SetupAsks, Reserves, GivesBack, Relaxes, setup-asks, relax_at, relax-told, Changes, RouteStands, RouteGoes, back-tent, forth-tent, back-goes, forth-goes, way-free, refused-goes, offer-goes}
 use Rattle.run_record.specs.declared.done.Done.{Done}
-use Rattle.call_script.specs.Fits.{RequestFits, NetworkFits}
+use Rattle.call_script.specs.Fits.{NetworkFits}
 use Rattle.call_script.specs.Tasks.{Network}
 use Rattle.run_record.specs.Runs.{part_of}
 use Rattle.interleave_core.specs.Runs.{IsNext, IsRun}

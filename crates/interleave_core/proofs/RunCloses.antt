@@ -14,18 +14,20 @@ use Rattle.link_steps.specs.declared.replies.Reply.{Reply}
 use Rattle.link_steps.specs.Lists.{Each}
 use Rattle.link_steps.specs.Replies.{reply_at}
 use Rattle.link_steps.specs.Scan.{clock_of, scan_of, after}
+use Rattle.setup_protocol.specs.Hops.{RequestFits}
+use Rattle.setup_protocol.specs.Laws.{is_accepted}
 use Rattle.setup_protocol.specs.Setup.{Outcome, Denies, next_ask, verdict_of}
 use Rattle.setup_protocol.specs.Teardown.{first_count, next_release}
 use Rattle.setup_protocol.specs.declared.request.Request.{Request}
 use Rattle.run_record.specs.declared.done.Done.{Done}
 use Rattle.call_script.specs.Owners.{TaskOff, SendsOnce, FullScript, OwnedFully}
-use Rattle.call_script.specs.Fits.{RequestFits, NetworkFits}
+use Rattle.call_script.specs.Fits.{NetworkFits}
 use Rattle.call_script.specs.declared.tasks.Task.{Task}
 use Rattle.call_script.specs.declared.tasks.Task.TheVariants.{Opens, Sends, Closes, Pours}
 use Rattle.call_script.specs.Tasks.{Network}
 use Rattle.run_record.specs.Runs.{part_of, replies_to}
 use Rattle.interleave_core.specs.Runs.{plane_no, plane_at, IsNext, IsRun}
-use Rattle.call_script.specs.Scripts.{Opened, Standing, submit_next, task_ask, is_accepting, is_established, takes_step, from_step, begun, settled_as, outcome_by, continued, resumed, standing, first_ask, ask_at}
+use Rattle.call_script.specs.Scripts.{Opened, Standing, submit_next, task_ask, is_established, takes_step, from_step, begun, settled_as, outcome_by, continued, resumed, standing, first_ask, ask_at}
 use Rattle.tick_plane.specs.Planes.{next_due}
 use Rattle.interleave_core.proofs.CallerFacts.{StandingFits}
 use Rattle.interleave_core.proofs.HopsAt.{hop-at}
@@ -84,7 +86,7 @@ established-skip : (request r : Request) (outcome : Outcome) (outcomes : List Op
 unfolding is_established
 established-skip request r outcome outcomes other = rw (ne_eqb (channel_number r.chan) (channel_number request.chan) other) refl
 
-established-own : (request : Request) (outcome : Outcome) (outcomes : List Opened) → is_established request.chan (record { chan = request.chan; outcome = outcome } ∷ outcomes) ≡ is_accepting outcome
+established-own : (request : Request) (outcome : Outcome) (outcomes : List Opened) → is_established request.chan (record { chan = request.chan; outcome = outcome } ∷ outcomes) ≡ is_accepted outcome
 unfolding is_established
 established-own request outcome outcomes = rw (eq-eqb (channel_number request.chan) (channel_number request.chan) refl) refl
 

@@ -15,6 +15,7 @@ use Rattle.link_steps.specs.Lists.{Each}
 use Rattle.link_steps.specs.Reservation.{Reservation, is_phase}
 use Rattle.link_steps.specs.Scan.{clock_of, scan_of}
 use Rattle.link_steps.proofs.LegalChannels.{legal-channels}
+use Rattle.setup_protocol.specs.Hops.{RequestFits}
 use Rattle.setup_protocol.specs.Setup.{Outcome, Accepts, Denies, Progress, Reserving, Undoing, Relaxing, Settled, offers_in, reach_after, asked, asked_of, next_ask, progress_of, verdict_of, is_expected}
 use Rattle.setup_protocol.specs.declared.request.Request.{Request}
 use Rattle.setup_protocol.proofs.ProgressFacts.{progress-none}
@@ -22,7 +23,7 @@ use Rattle.run_record.specs.declared.done.Done.{Done}
 use Rattle.link_steps.proofs.ListFacts.{Each-if}
 use Rattle.channel_laws.specs.Channels.{channel_packets}
 use Rattle.call_script.specs.Owners.{TaskOff}
-use Rattle.call_script.specs.Fits.{RequestFits, NetworkFits}
+use Rattle.call_script.specs.Fits.{NetworkFits}
 use Rattle.interleave_core.specs.Hops.{ChannelAsked}
 use Rattle.call_script.specs.declared.tasks.Task.{Task}
 use Rattle.call_script.specs.declared.tasks.Task.TheVariants.{Opens, Sends, Closes, Pours}

@@ -22,13 +22,13 @@ use Rattle.link_steps.specs.Service.{Arrival, Start, leaves_at, has_departed}
 use Rattle.link_steps.specs.SourceGuarantee.{SourceGuarantee, arrival_of}
 use Rattle.link_steps.specs.Split.{Link}
 use Rattle.link_steps.proofs.ListFacts.{Among}
+use Rattle.setup_protocol.specs.Hops.{RequestFits}
 use Rattle.setup_protocol.specs.Laws.{KeepsRequest}
 use Rattle.setup_protocol.specs.Requests.{kind_of}
 use Rattle.setup_protocol.specs.Setup.{Accepts}
 use Rattle.setup_protocol.specs.declared.request.Request.{Request}
 use Rattle.channel_laws.specs.Channels.{is_of_channel}
 use Rattle.channel_laws.specs.Sources.{SourceIsKept}
-use Rattle.call_script.specs.Fits.{RequestFits}
 use Rattle.call_script.specs.Owners.{OwnedFully}
 use Rattle.call_script.specs.Scripts.{Standing, standing, outcome_in}
 use Rattle.call_script.specs.Tasks.{Network}

@@ -8,9 +8,10 @@ use Rattle.link_steps.specs.Legal.{AskFits, IsLegal}
 use Rattle.link_steps.specs.Lists.{Each}
 use Rattle.link_steps.specs.Scan.{clock_of}
 use Rattle.link_steps.specs.Split.{Link}
+use Rattle.setup_protocol.specs.Hops.{RequestFits}
 use Rattle.setup_protocol.specs.Setup.{Accepts, verdict_of}
 use Rattle.setup_protocol.specs.declared.request.Request.{Request}
-use Rattle.call_script.specs.Fits.{RequestFits, NetworkFits}
+use Rattle.call_script.specs.Fits.{NetworkFits}
 use Rattle.call_script.specs.Owners.{OwnedFully, AllOwned}
 use Rattle.call_script.specs.Scripts.{standing, expects, outcome_in}
 use Rattle.call_script.specs.Tasks.{Network}

@@ -22,7 +22,7 @@ use Rattle.net_units.specs.declared.numbers.LinkNo.{LinkNo}
 use Rattle.step_stamp.specs.Lists.{Has}
 use Rattle.step_stamp.proofs.ListFacts.{each_has, has_split}
 use Rattle.setup_protocol.specs.Laws.{is_accepted}
-use Rattle.setup_protocol.specs.Setup.{Outcome, Accepts, Denies, Progress, Settled, asked, asked_of, settled_in, progress_of, verdict_of}
+use Rattle.setup_protocol.specs.Setup.{Outcome, Progress, Settled, asked, asked_of, settled_in, progress_of, verdict_of}
 use Rattle.setup_protocol.specs.Teardown.{first_count}
 use Rattle.setup_protocol.specs.declared.request.Request.{Request}
 use Rattle.link_ledger.specs.Owners.{IsOwner}
@@ -34,7 +34,7 @@ use Rattle.call_script.specs.Fits.{SendFits, PourFits, TaskFits}
 use Rattle.call_script.specs.Owners.{TaskOff, FullScript}
 use Rattle.call_script.specs.Parts.{PlanParts}
 use Rattle.call_script.specs.Plans.{IsPlan}
-use Rattle.call_script.specs.Scripts.{Opened, is_accepting, is_established, outcome_by, settled_as, submit_next, task_ask}
+use Rattle.call_script.specs.Scripts.{Opened, is_established, outcome_by, settled_as, submit_next, task_ask}
 use Rattle.call_script.specs.Standing.{requests_of}
 use Rattle.call_script.specs.Tasks.{network_of, request_of, task_of, with_task}
 use Rattle.call_script.specs.declared.entries.RequestEntry.{RequestEntry}
@@ -140,10 +140,6 @@ open-new parts caller place chan entry pass accepted plan at has found =
     let h = open-at parts caller place chan entry pass accepted at has found in
     h.between.fresh entry.request.chan (open-off parts caller place chan entry pass accepted plan h found)
 
-accepts-alike : (outcome : Outcome) → is_accepting outcome ≡ is_accepted outcome
-accepts-alike (Accepts levels delay) = refl
-accepts-alike (Denies deny) = refl
-
 settled-none : (request : Request) (progress : Progress) (outcome : Outcome) → settled_in progress ≡ Some outcome → asked request progress ≡ None
 settled-none request (Settled o) outcome is = refl
 settled-none request progress outcome is = cc
@@ -157,7 +153,7 @@ same-open one other same = cc
 route-least : (parts : PlanParts) (c : ℕ) (entry : RequestEntry) → IsPlan parts → slice_get parts.requests c ≡ Some entry → 1 ≤ length entry.request.route
 route-least parts c entry plan found = (request-fits parts c entry plan found).route.least
 
-established-first : (chan : ChanNo) (outcome : Outcome) (outcomes : List Opened) (c : ChanNo) → channel_number chan ≡ channel_number c → is_established c (record { chan = chan; outcome = outcome } ∷ outcomes) ≡ is_accepting outcome
+established-first : (chan : ChanNo) (outcome : Outcome) (outcomes : List Opened) (c : ChanNo) → channel_number chan ≡ channel_number c → is_established c (record { chan = chan; outcome = outcome } ∷ outcomes) ≡ is_accepted outcome
 unfolding is_established
 established-first chan outcome outcomes c same = rw (eq-eqb (channel_number chan) (channel_number c) same) refl
 
@@ -187,7 +183,7 @@ open-over parts caller place chan entry pass pass' accepted outcome told plan at
     (between-made (network_of parts) h.front (Opens entry.request) h.rest pass pass' accepted (set accepted (channel_number chan) told) entries h.between h.tasks opened.by opened.made.own refl opened.made.follows (settled-none entry.request (progress_of entry.request (map reply_in entries)) outcome ends) some
     (subst (λ os. Leaves h.front (Opens entry.request) pass pass' (os ++ h.between.outcomes) (set accepted (channel_number chan) told)) (sym outcomes) (record {
       known = λ c. elim (cases_eq (channel_number entry.request.chan) (channel_number c)) [
-        | inl same ↦ established-first entry.request.chan outcome h.between.outcomes c same ∙ accepts-alike outcome ∙ sym is ∙ sym (set-here accepted (channel_number chan) (channel_number c) told inside (sym same ∙ number))
+        | inl same ↦ established-first entry.request.chan outcome h.between.outcomes c same ∙ sym is ∙ sym (set-here accepted (channel_number chan) (channel_number c) told inside (sym same ∙ number))
         | inr other ↦ established-later entry.request.chan outcome h.between.outcomes c other ∙ h.between.known c ∙ sym (get_or-set_other accepted (channel_number chan) (channel_number c) told false (λ same. other (number ∙ sym same)))
       ];
       fresh = λ c task_off none. opened.others.unopened c (λ same. task_off (sym same)) none;
@@ -202,7 +198,7 @@ open-over parts caller place chan entry pass pass' accepted outcome told plan at
       last-one request (inr none) accepts = absurd none
       last-one request (inl same) accepts =
           (let one : entry.request ≡ request = same-open entry.request request same in
-          subst (λ r. IsEstablished r pass'.own) one (opened.established (sym (accepts-alike outcome) ∙ sym (established-first entry.request.chan outcome _ request.chan (ap (λ (r : Request). channel_number r.chan) one)) ∙ accepts)))
+          subst (λ r. IsEstablished r pass'.own) one (opened.established (sym (established-first entry.request.chan outcome _ request.chan (ap (λ (r : Request). channel_number r.chan) one)) ∙ accepts)))
 
 -- ---- what fits
 

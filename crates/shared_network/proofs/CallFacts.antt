@@ -39,7 +39,7 @@ use Rattle.shared_network.specs.Added.{IsSamePass}
 use Rattle.shared_network.specs.Calls.{Follows, reply_in}
 use Rattle.shared_network.specs.Ready.{MayStep, PassGoesOn}
 use Rattle.shared_network.proofs.StepFacts.{drawn-own}
-use Rattle.shared_network.proofs.SetupGoes.{IsSound, SetupRows, SetupGoes}
+use Rattle.shared_network.proofs.SetupGoes.{SetupRows, SetupGoes}
 use Rattle.std.proofs.lemmas.Bool.{ne_eqb, cases_eq}
 use Rattle.std.specs.Option.{option_map}
 use Rattle.std.specs.Prelude.{Result, Ok, Err, IsOk, OnOk}
@@ -58,7 +58,7 @@ use Rattle.channel_laws.specs.Asks.{IsOff}
 use Rattle.link_steps.proofs.ListParts.{Each-at}
 use Rattle.link_ledger.specs.Owners.{OwnsAsk, NextBelow, IsBelow}
 use Rattle.shared_network.specs.Calls.{HasNone, IsCommitted, IsEstablished, hold_at}
-use Rattle.setup_protocol.specs.Hops.{IsHopOf}
+use Rattle.setup_protocol.specs.Hops.{IsHopOf, RequestFits}
 use Rattle.shared_network.specs.Holds.{Hold, Free, Holds, Untold, reserved, hold_relaxed, denied, hold_with, hold_from, hold_of}
 use Rattle.shared_network.specs.Sight.{FitsAt, IsSend}
 use Rattle.shared_network.proofs.HoldSteps.{AnswersOf, answers}
@@ -129,7 +129,7 @@ setup-less setup reply expected = left-state setup.request setup.itinerary.level
 -- ---- a setup under way
 
 pub record SettingUp (table : TableId) (owners : List ActorNo) (links : List Link) (request : Request) (pass pass' : Token) (setup : Setup) : Type 0 where
-  pub sound : IsSound links request
+  pub sound : RequestFits links request
   pub entries : List OwnEntry
   pub own : pass'.own ≡ pass.own ++ entries
   pub follows : Follows (next_ask request) [] entries

@@ -5,9 +5,8 @@ use Rattle.std.proofs.lemmas.Option.{same_Some, slice_get_within}
 use Rattle.std.specs.List.{slice_get}
 use Rattle.net_units.specs.Numbers.{channel_number, link_number, level_number}
 use Rattle.net_units.specs.declared.numbers.ChanNo.{ChanNo}
-use Rattle.traffic_contract.specs.Contract.{IsContract}
 use Rattle.hop_reservation.specs.Offers.{AreLevels}
-use Rattle.hop_reservation.specs.Routes.{IsRoute, link_of}
+use Rattle.hop_reservation.specs.Routes.{link_of}
 use Rattle.hop_reservation.specs.declared.route.Hop.{Hop}
 use Rattle.hop_reservation.proofs.OfferFacts.{AreLevels-push}
 use Rattle.link_steps.specs.Admissible.{MayAnswer}
@@ -20,7 +19,7 @@ use Rattle.link_steps.specs.declared.asks.Ask.{Ask}
 use Rattle.link_steps.specs.declared.asks.Ask.TheVariants.{Deny}
 use Rattle.link_steps.specs.declared.replies.Reply.{Reply}
 use Rattle.link_steps.specs.declared.replies.Reply.TheVariants as Is
-use Rattle.relaxation.specs.Laws.{HaveBounds, AreWithinReach}
+use Rattle.relaxation.specs.Laws.{AreWithinReach}
 use Rattle.setup_protocol.specs.Setup.{Reserving, is_offer, level_in, offers_in, after_offers, reach_after, undoing, relaxing, asked, reserve_of, bound_given, next_ask, progress_of, is_expected}
 use Rattle.setup_protocol.specs.declared.request.Request.{Request}
 use Rattle.setup_protocol.specs.declared.verdict.Deny.{Deny as Denial}
@@ -32,7 +31,7 @@ use Rattle.link_ledger.specs.Own.{own_at}
 use Rattle.link_ledger.specs.declared.entries.OwnEntry.{OwnEntry}
 use Rattle.link_ledger.proofs.OwnFacts.{one_at, none_at}
 use Rattle.shared_network.specs.Calls.{hold_at}
-use Rattle.setup_protocol.specs.Hops.{IsHopOf}
+use Rattle.setup_protocol.specs.Hops.{IsHopOf, RequestFits}
 use Rattle.shared_network.specs.Holds.{Hold, Free, Holds, reserved, denied, hold_with, hold_of, IsHeld}
 use Rattle.shared_network.proofs.HoldFacts.{hold-more}
 use Rattle.shared_network.proofs.HoldSteps.{AnswersOf}
@@ -40,13 +39,6 @@ use Rattle.hop_reservation.proofs.RouteFacts.{index-apart}
 use Rattle.setup_protocol.proofs.HopAsks.{AskedAt}
 use Rattle.setup_protocol.proofs.SetupReplies.{IsReserved, reserve-reply, deny-tentative}
 use Rattle.setup_protocol.proofs.StepHolds.{SetupAsks, Reserves, GivesBack, Relaxes, setup-asks, relax_at, relax-told, Changes, offer_of, RouteStands, RouteGoes, back-tent, forth-tent, back-goes, forth-goes, way-free, refused-goes, offer-goes}
-
--- a request that may be asked of the network
-pub record IsSound (links : List Link) (request : Request) : Type 0 where
-  pub contract : IsContract request.contract
-  pub bounds : HaveBounds request.route
-  pub route : IsRoute request.route
-  pub hops : Each (IsHopOf links) request.route
 
 -- a hop of its route
 pub record HopOf (request : Request) (i : ℕ) : Type 0 where
@@ -77,7 +69,7 @@ pub record SetupGoes (request : Request) (own : List OwnEntry) (replies : List R
   pub expected : is_expected request (progress_of request replies) e.reply ≡ true
   pub rows : SetupRows request (own ++ e ∷ []) (replies ++ e.reply ∷ [])
 
-module _ (links : List Link) (request : Request) (own : List OwnEntry) (replies : List Reply) (e : OwnEntry) (link : Link) (sound : IsSound links request) (is_link : IsLink links (link_number e.link) link) (ans : AnswersOf link request.chan (hold_of (channel_number request.chan) (own_at (link_number e.link) own)) e.ask e.reply) (rows : SetupRows request own replies) where
+module _ (links : List Link) (request : Request) (own : List OwnEntry) (replies : List Reply) (e : OwnEntry) (link : Link) (sound : RequestFits links request) (is_link : IsLink links (link_number e.link) link) (ans : AnswersOf link request.chan (hold_of (channel_number request.chan) (own_at (link_number e.link) own)) e.ask e.reply) (rows : SetupRows request own replies) where
   abbrev now : (i : ℕ) → HopOf request i → Hold
   now i at = hold_at request.chan at.hop own
 
