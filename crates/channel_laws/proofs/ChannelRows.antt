@@ -1,7 +1,7 @@
 -- In a legal history that offers to a channel at most once, all packets of the channel are those of its one row.
 use Rattle.std.proofs.Common.{◌≡◌, ◌≢◌, ℕ, suc, ◌+◌, ◌≤◌, Bool, true, false, List, [], ◌∷◌, ◌++◌, length, map, Option, Some, None, refl, sym, ap, ◌∙◌, subst, inl, inr, arith, append-nil}
-use Rattle.std.proofs.lemmas.Bool.{cases_Bool, eqb-true, eqb-false, eq-eqb, ne_eqb, lt-ltb, and_parts, cond_both}
-use Rattle.std.proofs.lemmas.List.{length-reverse, map-append, reverse-append}
+use Rattle.std.proofs.lemmas.Bool.{cases_Bool, eqb-true, eqb-false, eq-eqb, ne_eqb, lt-ltb, and_parts}
+use Rattle.std.proofs.lemmas.List.{length-reverse, map-append, reverse-append, length-map}
 use Rattle.std.proofs.lemmas.List.Elements.{filter-append}
 use Rattle.std.proofs.lemmas.Option.{same_Some}
 use Rattle.std.specs.Prelude.{filter, find, reverse, nat_eq}
@@ -35,7 +35,7 @@ use Rattle.link_steps.specs.Sources.{SourceStep, Rests, Brings, Drops, source_st
 use Rattle.link_steps.specs.BestEffort.{best_packet}
 use Rattle.link_steps.proofs.AdmissionHolds.{find-terms}
 use Rattle.link_steps.proofs.ChangeFacts.{Each-change_found}
-use Rattle.link_steps.proofs.LegalChannels.{DifferInChannel, legal-channels}
+use Rattle.link_steps.proofs.LegalChannels.{DifferInChannel, legal-channels, differ-filter}
 use Rattle.link_steps.proofs.LegalOrder.{ScanInOrder, legal-order}
 use Rattle.link_steps.proofs.LegalRowFacts.{IsInOrder, keeps-more}
 use Rattle.link_steps.proofs.ListFacts.{Each-append, Each-filter, Each-find, Each-if, Each-change_first, Each-without_first, Each-mapped}
@@ -55,10 +55,7 @@ none-mapped [] none = refl
 none-mapped (p ∷ own) none = cc
 
 pub own-count : (ticks : List ℕ) (own : List Arrival) → reverse ticks ≡ map tick_of_packet own → length own ≡ length ticks
-own-count ticks own same = sym (count own) ∙ ap length (sym same) ∙ length-reverse ticks where
-  count : (ps : List Arrival) → length (map tick_of_packet ps) ≡ length ps
-  count [] = refl
-  count (p ∷ ps) = ap suc (count ps)
+own-count ticks own same = sym (length-map own tick_of_packet) ∙ ap length (sym same) ∙ length-reverse ticks
 
 pub packets-on : (c : ℕ) (packets : List Arrival) (p : Arrival) → channel_number p.chan ≡ c → 1 ≤ p.number → channel_packets c (packets ++ p ∷ []) ≡ channel_packets c packets ++ p ∷ []
 packets-on c packets p same numbered = filter-append (is_of_channel c) packets (p ∷ []) ∙ rw (eq-eqb (channel_number p.chan) c same, lt-ltb 0 p.number numbered) refl
@@ -309,17 +306,6 @@ sources-tell terms c bounds here t taken (r ∷ rows) row own differ tells only 
             only = ((λ is. absurd (row-elsewhere c t (suc taken) r (step_of bounds here t r) other is)), rest.only);
           })
     ]
-
-pub differ-filter : (test : Row → Bool) (rows : List Row) → DifferInChannel rows → DifferInChannel (filter test rows)
-differ-filter test [] differ = tt
-differ-filter test (row ∷ rows) differ =
-    cond_both (test row) (row ∷ filter test rows) (filter test rows) DifferInChannel
-    (λ _. (others-filter (channel_of row) rows differ.0, differ-filter test rows differ.1)) (λ _. differ-filter test rows differ.1) where
-      others-filter : (n : ℕ) (more : List Row) → Each (λ m. m ≢ n) (map channel_of more) → Each (λ m. m ≢ n) (map channel_of (filter test more))
-      others-filter n [] other = tt
-      others-filter n (r ∷ more) other =
-          cond_both (test r) (r ∷ filter test more) (filter test more) (λ rs. Each (λ m. m ≢ n) (map channel_of rs))
-          (λ _. (other.0, others-filter n more other.1)) (λ _. others-filter n more other.1)
 
 tick-stands : (shape : LinkShape) (terms : HopTerms) (c n t : ℕ) (scan : Scan) → DifferInChannel scan.rows → ChannelStands terms c n scan → ChannelStands terms c n (after_tick shape t scan)
 unfolding after_tick with_best with_sources without_expired

@@ -36,6 +36,7 @@ use Rattle.channel_laws.specs.Channels.{is_of_channel, channel_packets, channel_
 use Rattle.channel_laws.proofs.ChannelRows.{row-of, row-at-hop, others-elsewhere, packet-elsewhere, find-passes, packets-off, tick-packets}
 use Rattle.channel_laws.specs.Reservations.{held_by}
 use Rattle.channel_laws.proofs.TermsAfter.{other-changed, other-without, apart-row, apart-hop, none-held, reserved-other, pushed, arrival-held, held-submitted}
+use Rattle.link_steps.proofs.ReplyFacts.{closing-count}
 
 pub data Fate (least count : ℕ) (held : Option Reservation) : Type 0 where
   FateOpen : (terms : Reservation) → held ≡ Some terms → terms.phase ≡ Committed → Fate least count held
@@ -235,15 +236,12 @@ pub record Released (upstream : Option ℕ) (found : Option Row) (count : ℕ) :
   pub is : found ≡ Some row
   pub count_is : count ≡ count_at_release upstream (length row.ticks)
 
-same-closing : (a b c d : ℕ) → Is.Closing a b ≡ Is.Closing c d → a ≡ c
-same-closing a b c d same = cc
-
 pub released-count : (t : ℕ) (upstream : Option ℕ) (found : Option Row) (count cancelled : ℕ) → Is.Closing count cancelled ≡ release_to t upstream found → Released upstream found count
 unfolding release_reply
 released-count t upstream None count cancelled same = cc
 released-count t upstream (Some row) count cancelled same =
     let rule = kept-rule (not_in_phase Committed row.terms) _ (Is.Closing count cancelled) tt same in
-    record { row = row; is = refl; count_is = same-closing count cancelled _ _ rule.1 }
+    record { row = row; is = refl; count_is = closing-count count cancelled _ _ rule.1 }
 
 -- ---- a relax or a deny changes a tentative row alone
 

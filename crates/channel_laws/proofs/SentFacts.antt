@@ -15,7 +15,7 @@ use Rattle.link_steps.specs.Admissible.{MayAnswer, IsAdmissible}
 use Rattle.link_steps.specs.BestEffort.{is_best}
 use Rattle.link_steps.specs.Legal.{PacketFits}
 use Rattle.link_steps.specs.Lists.{Each}
-use Rattle.link_steps.specs.Replies.{sent_of, sent_at, tick_reply, reply_at}
+use Rattle.link_steps.specs.Replies.{sent_of, sent_at, tick_reply, reply_at, reply_to}
 use Rattle.link_steps.specs.Scan.{clock_of, scan_of, after, starts_of}
 use Rattle.link_steps.specs.Service.{Start, leaves_at}
 use Rattle.channel_laws.specs.Departing.{ticked, IsSent}
@@ -23,6 +23,8 @@ use Rattle.link_steps.proofs.HopHolds.{guaranteed}
 use Rattle.link_steps.proofs.LegalOrder.{IsCarried, legal-order}
 use Rattle.link_steps.proofs.ListFacts.{Among}
 use Rattle.link_steps.proofs.ServiceFacts.{starts-fact}
+use Rattle.link_steps.specs.Split.{Link}
+use Rattle.link_steps.specs.declared.asks.Ask.TheVariants.{Tick}
 
 first-sent : (shape : LinkShape) (t : ℕ) (starts : List Start) (sent : Sent) → Each (λ start. IsCarried shape start.packet) starts → Each (LeavesInTime shape t) starts → Some sent ≡ sent_at shape t starts
     → (start : Start) × (earlier : List Start) × (starts ≡ start ∷ earlier) × Among start starts × (leaves_at shape.rate start ≡ t) × (sent ≡ sent_of shape start) × (start.packet.level ≤ length shape.bounds) × IsCarried shape start.packet × (start.packet.eligible < leaves_at shape.rate start) × (leaves_at shape.rate start ≤ deadline_of shape start.packet)
@@ -39,6 +41,11 @@ first-sent shape t (start ∷ earlier) sent carried leave same =
       ]
       | inr later ↦ absurd (let none : Some sent ≡ None = rw later at same in cc)
     ]
+
+-- the legal reply to a tick
+pub tick-answer : (link : Link) (h : List Entry) → reply_to link h Tick ≡ tick_reply link.shape (clock_of h) (scan_of link.shape h)
+unfolding reply_to reply_at
+tick-answer link h = refl
 
 pub ticked-sent : (clock clock' full full' : ℕ) (sent sent' : Option Sent) (best_sent best_sent' best_lost best_lost' : Bool) → Ticked clock full sent best_sent best_lost ≡ Ticked clock' full' sent' best_sent' best_lost' → sent ≡ sent'
 ticked-sent clock clock' full full' sent sent' best_sent best_sent' best_lost best_lost' same = cc

@@ -17,7 +17,7 @@ use Rattle.link_steps.proofs.Departures.{departed-at, starts-once, leaves-once}
 use Rattle.link_steps.proofs.ListFacts.{Among, Each-among, Among-filter}
 use Rattle.link_steps.proofs.ServiceFacts.{FollowEachOther, starts-follow, starts-begun, HasBegun, starts-fact}
 use Rattle.channel_laws.specs.Channels.{HopTerms, is_of_channel, channel_packets, tick_of_packet, AreNumberedAfter, RowTells}
-use Rattle.link_steps.proofs.ListParts.{Each-at}
+use Rattle.link_steps.proofs.ListParts.{Each-at, Among-at}
 use Rattle.channel_laws.proofs.Places.{tick-at, place-of, row-keeps}
 use Rattle.link_steps.proofs.PacketRows.{Among-passes}
 use Rattle.link_steps.proofs.NewPackets.{packets-numbered}
@@ -110,11 +110,6 @@ spaced-rise least ticks j (suc d) spaced within =
     let f : get_or ticks (j + d + 1) 0 ≡ get_or ticks (j + suc d) 0 = ap (λ k. get_or ticks k 0) e in
     omega (arith, before, step, f)
 
-at-among : (ps : List Arrival) (j : ℕ) (x : Arrival) → slice_get ps j ≡ Some x → Among x ps
-at-among [] j x is = absurd (let clash : None ≡ Some x = is in cc)
-at-among (y ∷ ps) zero x is = inl (sym (same_Some y x is))
-at-among (y ∷ ps) (suc j) x is = inr (at-among ps j x is)
-
 spaced-between : (least : ℕ) (ticks : List ℕ) (j k : ℕ) → Spaced 1 least ticks → j < k → k < length ticks → get_or ticks j 0 ≤ get_or ticks k 0
 spaced-between least ticks j k spaced less within = at-sum (k - j) (omega arith) where
   at-sum : (d : ℕ) → j + d ≡ k → get_or ticks j 0 ≤ get_or ticks k 0
@@ -139,7 +134,7 @@ place-above n (q ∷ packets) p placed (inl same) = (let e : p.place ≡ q.place
 place-above n (q ∷ packets) p placed (inr among) = (let rest = place-above (suc n) packets p placed.1 among in omega (arith, rest))
 
 filter-above : (test : Arrival → Bool) (n : ℕ) (packets : List Arrival) (k : ℕ) (p : Arrival) → ArePlaced n packets → slice_get (filter test packets) k ≡ Some p → n < p.place
-filter-above test n packets k p placed found = place-above n packets p placed (Among-filter test p packets (at-among (filter test packets) k p found)).0
+filter-above test n packets k p placed found = place-above n packets p placed (Among-filter test p packets (Among-at (filter test packets) k p found)).0
 
 filter-rises : (test : Arrival → Bool) (n : ℕ) (packets : List Arrival) (j k : ℕ) (p q : Arrival) → ArePlaced n packets → slice_get (filter test packets) j ≡ Some p → slice_get (filter test packets) k ≡ Some q → j < k → p.place < q.place
 filter-rises test n [] j k p q placed fp fq less = absurd (let clash : None ≡ Some p = fp in cc)
@@ -201,7 +196,7 @@ sent-number shape terms c t row h head tells works among chan =
       not-both {b} one other = no-true (sym other ∙ one)
 
       inside : (k : ℕ) (p : Arrival) → slice_get (channel_packets c (scan_of shape h).packets) k ≡ Some p → Among p (scan_of shape h).packets
-      inside k p found = (Among-filter (is_of_channel c) p (scan_of shape h).packets (at-among (channel_packets c (scan_of shape h).packets) k p found)).0
+      inside k p found = (Among-filter (is_of_channel c) p (scan_of shape h).packets (Among-at (channel_packets c (scan_of shape h).packets) k p found)).0
 
       earlier : (j k : ℕ) (p q : Arrival) → Keeps terms.contract (map tick_of_packet (channel_packets c (scan_of shape h).packets)) → slice_get (channel_packets c (scan_of shape h).packets) j ≡ Some p → slice_get (channel_packets c (scan_of shape h).packets) k ≡ Some q → j < k → (p.level ≡ q.level) × (p.eligible ≤ q.eligible) × (p.place < q.place)
       earlier j k p q keeps fp fq less =

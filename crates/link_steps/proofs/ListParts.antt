@@ -1,6 +1,6 @@
 -- Facts on lists: what holds of each element of a list's parts, of the list turned round and at each place; what stands at a
 -- place of a list seen through a map; and what stands in two lists put together, in a list turned round and at a place.
-use Rattle.std.proofs.Common.{◌≡◌, ℕ, zero, suc, List, [], ◌∷◌, ◌++◌, map, reverse, Some, None, inl, inr, ⊎_elim, refl, sym, ap, ◌∙◌, subst}
+use Rattle.std.proofs.Common.{◌≡◌, ℕ, zero, suc, ◌<◌, length, arith, List, [], ◌∷◌, ◌++◌, map, reverse, Some, None, inl, inr, ⊎_elim, refl, sym, ap, ◌∙◌, subst}
 use Rattle.std.proofs.lemmas.List.{reverse-append, reverse-reverse}
 use Rattle.std.proofs.lemmas.Option.{same_Some, slice_get-map}
 use Rattle.std.specs.List.{slice_get}
@@ -28,6 +28,12 @@ Each-at P (y ∷ xs) (suc i) x each found = Each-at P xs i x each.1 found
 pub Each-by_place : {X : Type 0} (P : X → Type 0) (xs : List X) → ((i : ℕ) (x : X) → slice_get xs i ≡ Some x → P x) → Each P xs
 Each-by_place P [] all = tt
 Each-by_place P (x ∷ xs) all = (all 0 x refl, Each-by_place P xs (λ i y found. all (suc i) y found))
+
+-- an element stands at each place
+pub stands-at : {X : Type 0} (xs : List X) (i : ℕ) → i < length xs → (x : X) × (slice_get xs i ≡ Some x)
+stands-at [] i inside = absurd (omega arith)
+stands-at (x ∷ xs) zero inside = (x, refl)
+stands-at (x ∷ xs) (suc i) inside = stands-at xs i (omega arith)
 
 -- ---- a list seen through a map
 
