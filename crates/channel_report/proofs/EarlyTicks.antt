@@ -20,7 +20,7 @@ use Rattle.call_script.specs.Tasks.{network_of}
 use Rattle.interleave_core.specs.Answers.{IsReplyOf, IsReserveReply, IsRelaxed}
 use Rattle.interleave_core.specs.Runs.{IsRun}
 use Rattle.interleave_core.proofs.Replying.{asks-answered}
-use Rattle.interleave_core.proofs.RunLegal.{tick-answer}
+use Rattle.channel_laws.proofs.SentFacts.{tick-answer}
 use Rattle.run_record.specs.Rows.{IsEarly}
 use Rattle.run_record.specs.Runs.{part_of}
 use Rattle.run_record.specs.declared.done.Done.{Done}

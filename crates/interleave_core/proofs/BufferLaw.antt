@@ -1,8 +1,8 @@
 -- Past the first hop a packet finds a slot: the packets of its channel that are here, and it, were eligible at the hop
 -- before within as many ticks as the bounds of both hops' levels together.
-use Rattle.std.proofs.Common.{◌≡◌, ℕ, suc, ◌+◌, ◌-◌, ◌<◌, ◌≤◌, Bool, true, false, List, [], ◌∷◌, length, map, get_or, Some, refl, sym, ap, ◌∙◌, subst, inl, inr, arith}
+use Rattle.std.proofs.Common.{◌≡◌, ℕ, suc, ◌+◌, ◌-◌, ◌<◌, ◌≤◌, Bool, true, false, List, [], ◌∷◌, length, get_or, Some, refl, sym, ap, ◌∙◌, subst, inl, inr, arith}
 use Rattle.std.proofs.lemmas.Bool.{cases_Bool, cases_lt, and_from, le-leb, lt-ltb}
-use Rattle.std.proofs.lemmas.List.{length-reverse}
+use Rattle.std.proofs.lemmas.List.{length-reverse, length-map}
 use Rattle.std.specs.List.{slice_get}
 use Rattle.std.specs.Prelude.{filter, find, nat_le, nat_lt}
 use Rattle.net_units.specs.LevelBounds.{bound_at}
@@ -112,7 +112,7 @@ fits-window network request i two past done packet row level fits sound asked ru
     let place = place-of 0 _ near.taken near-tells.numbered own in
     let timed = hop-law network request i two fits sound asked past run level levels in
     let qs : List Arrival = channel_packets (channel_number request.chan) (packets_on two.far (link_number two.after.link) past) in
-    let count : length (channel_packets (channel_number request.chan) (packets_on two.far (link_number two.after.link) past)) ≡ length row.ticks = sym (mapped-length (channel_packets (channel_number request.chan) (packets_on two.far (link_number two.after.link) past))) ∙ ap length (sym tells.eligible) ∙ length-reverse row.ticks in
+    let count : length (channel_packets (channel_number request.chan) (packets_on two.far (link_number two.after.link) past)) ≡ length row.ticks = sym (length-map (channel_packets (channel_number request.chan) (packets_on two.far (link_number two.after.link) past)) tick_of_packet) ∙ ap length (sym tells.eligible) ∙ length-reverse row.ticks in
     let index : place.index ≡ length (channel_packets (channel_number request.chan) (packets_on two.far (link_number two.after.link) past)) = (let a = place.number in let b = near.number in omega (arith, a, b, numbered, count)) in
     let tick : get_or (near_ticks network request i two past) (length (channel_packets (channel_number request.chan) (packets_on two.far (link_number two.after.link) past))) 0 ≡ near.taken.eligible = ap (λ k. get_or (near_ticks network request i two past) k 0) (sym index) ∙ place.tick in
     let same : near.taken.level ≡ level = Each-among (λ p. p.level ≡ level) near.taken _ levels own in
@@ -123,7 +123,7 @@ fits-window network request i two past done packet row level fits sound asked ru
     let passed = near.passed in
     let due-same : comes.flight.packet.due ≡ packet.due = ap (λ p. p.due) comes.same in
     let clock-same : clock_of (part_of (link_number done.link) past) ≡ clock_of (part_of (link_number two.after.link) past) = ap (λ m. clock_of (part_of m past)) at in
-    let shorter : length (channel_packets (channel_number request.chan) (packets_on two.far (link_number two.after.link) past)) < length (near_ticks network request i two past) = (let w = place.within in let l = mapped-length (channel_packets (channel_number request.chan) (packets_on two.near (link_number two.hop.link) past)) in omega (arith, w, index, l)) in
+    let shorter : length (channel_packets (channel_number request.chan) (packets_on two.far (link_number two.after.link) past)) < length (near_ticks network request i two past) = (let w = place.within in let l = length-map (channel_packets (channel_number request.chan) (packets_on two.near (link_number two.hop.link) past)) tick_of_packet in omega (arith, w, index, l)) in
     let legal = part-admissible network past (link_number two.after.link) two.far fits run two.far_linked in
     let left = Each-filter (HasLeftInTime two.far.shape (clock_of (part_of (link_number two.after.link) past)) (starts_of two.far.shape (part_of (link_number two.after.link) past))) (is_of_channel (channel_number request.chan)) _ (guaranteed two.far.shape (part_of (link_number two.after.link) past) legal).in_time in
     let numbers = Each-filter (HasNumber two.far.shape.bounds) (is_of_channel (channel_number request.chan)) _ (packets-have_numbers two.far.shape (part_of (link_number two.after.link) past) legal) in
@@ -146,10 +146,7 @@ fits-window network request i two past done packet row level fits sound asked ru
     let counted = covered-count _ _ _ _ covers in
     let keeps : Keeps request.contract (near_ticks network request i two past) = row-keeps _ _ row-at.row.row _ near-tells in
     let most = count_in-le request.contract (near_ticks network request i two past) (clock_of (part_of (link_number two.after.link) past) - two.near.shape.prop - (bound_at two.near.shape.bounds level + bound_at two.far.shape.bounds (level_number row.terms.level))) (bound_at two.near.shape.bounds level + bound_at two.far.shape.bounds (level_number row.terms.level)) sound.contract keeps in
-    omega (arith, counted, most) where
-      mapped-length : (ps : List Arrival) → length (map tick_of_packet ps) ≡ length ps
-      mapped-length [] = refl
-      mapped-length (p ∷ ps) = ap suc (mapped-length ps)
+    omega (arith, counted, most)
 
 -- so its slot is free, where the row reckons with the bound of the hop before
 pub slot-free : (network : Network) (request : Request) (i : ℕ) (two : TwoHops network request i) (past : List Done) (done : Done) (packet : Packet) (row : Row) (level : ℕ) → NetworkFits network → RequestFits network.links request → ((run : List Done) → IsRun network run → ChannelAsked request run) → IsRun network past → (next : IsNext network past done) → done.ask ≡ Arrive packet → link_number done.link ≡ link_number two.after.link

@@ -29,7 +29,7 @@ use Rattle.interleave_core.specs.Runs.{plane_at, IsRun}
 use Rattle.channel_laws.proofs.ChannelRows.{legal-free}
 use Rattle.interleave_core.proofs.FlightFacts.{run-flights}
 use Rattle.interleave_core.proofs.FlightQueue.{IsQueue}
-use Rattle.channel_laws.proofs.Places.{place-of}
+use Rattle.channel_laws.proofs.Places.{place-of, tick-at}
 use Rattle.interleave_core.proofs.ChannelsAt.{packet-offered, stands-at}
 use Rattle.link_steps.proofs.PacketRows.{Among-passes}
 use Rattle.interleave_core.proofs.LegLaw.{leg-near}
@@ -48,6 +48,8 @@ use Rattle.channel_laws.proofs.DepartedCount.{channel-few}
 use Rattle.channel_laws.proofs.NumberedPackets.{HasNumber, packets-have_numbers}
 use Rattle.interleave_core.specs.Guarantee.{count_at}
 use Rattle.interleave_core.proofs.ChainLaw.{same-count}
+use Rattle.link_steps.proofs.ListParts.{Among-at}
+use Rattle.std.proofs.lemmas.List.Sums.{length-filter, count_by-le-length}
 
 -- ---- lists
 
@@ -58,16 +60,6 @@ front-gone test (p ∷ own) (suc k) within all =
     let first = all 0 p (omega arith) refl in
     let rest = front-gone test own k (omega (arith, within)) (λ j q upto found. all (suc j) q (omega (arith, upto)) found) in
     rw first (omega (arith, rest))
-
-among-at : (own : List Arrival) (j : ℕ) (p : Arrival) → slice_get own j ≡ Some p → Among p own
-among-at [] j p found = cc
-among-at (q ∷ own) zero p found = inl (sym (same_Some q p found))
-among-at (q ∷ own) (suc j) p found = inr (among-at own j p found)
-
-tick-at : (own : List Arrival) (j : ℕ) (p : Arrival) → slice_get own j ≡ Some p → get_or (map tick_of_packet own) j 0 ≡ p.eligible
-tick-at [] j p found = cc
-tick-at (q ∷ own) zero p found = ap (λ x. x.eligible) (same_Some q p found)
-tick-at (q ∷ own) (suc j) p found = tick-at own j p found
 
 within-list : (own : List Arrival) (j : ℕ) (p : Arrival) → slice_get own j ≡ Some p → j < length own
 within-list own j p found = slice_get_within own j p found
@@ -110,8 +102,8 @@ hop-departed network request levels run first i at k fits sound asked is have ta
     let after = path.after j (omega (arith, within, own)) in
     let fewer = path.fewer in
     let rising = first-rises network request first run j k fits is (asked run is) upto (omega (arith, fewer, own, taken)) in
-    let tick = tick-at (packets_at network request i at run) j p found in
-    let among = among-at (packets_at network request i at run) j p found in
+    let tick = (tick-at (packets_at network request i at run) j p found).1 in
+    let among = Among-at (packets_at network request i at run) j p found in
     let level = Each-among (λ q. q.level ≡ get_or levels i 0) p _ (have.at i at) among in
     let bound : bound_at at.link.shape.bounds p.level ≡ bound_at at.link.shape.bounds (get_or levels i 0) = ap (bound_at at.link.shape.bounds) level in
     let more = delay-more network request levels i at (let n = have.count in let inside = slice_get_within request.route i at.hop at.stands in omega (arith, n, inside)) in
@@ -247,15 +239,6 @@ path-departs network request owner levels run first (suc i) at k fits sound full
     let there = next-taken network request owner levels run first i before at k fits sound full is have gone (omega (arith, more, one, due)) in
     hop-gone network request levels run first (suc i) at k fits sound names is have there due
 
-filter-fewer : (test : Arrival → Bool) (xs : List Arrival) → length (filter test xs) ≤ length xs
-filter-fewer test [] = omega arith
-filter-fewer test (x ∷ xs) =
-    let rest = filter-fewer test xs in
-    elim (cases_Bool (test x)) [
-      | inl passes ↦ rw passes (omega (arith, rest))
-      | inr fails ↦ rw fails (omega (arith, rest))
-    ]
-
 -- it is taken there, and it has departed
 pub path-departed : (network : Network) (request : Request) (owner : ℕ) (levels : List ℕ) (run : List Done) (first : HopAt network request 0) (i : ℕ) (at : HopAt network request i) (k : ℕ) → NetworkFits network → RequestFits network.links request → OwnedFully network request owner → IsRun network run → HaveLevelsAt network request levels run → HaveTicks network request levels
     → k < count_at network request 0 first run → get_or (hop_ticks network request 0 first run) k 0 + delay_before request levels (suc i) ≤ clock_of (part_of (link_number at.hop.link) run) + at.link.shape.prop
@@ -263,6 +246,7 @@ pub path-departed : (network : Network) (request : Request) (owner : ℕ) (level
 path-departed network request owner levels run first i at k fits sound full is have ticks taken due =
     let names = owned-asked network request owner fits sound (owned-once network request owner full) in
     let gone = path-departs network request owner levels run first i at k fits sound full is have ticks taken due in
-    let fewer = filter-fewer (has_departed at.link.shape.rate (starts_below at.link.shape.rate (packets_on at.link (link_number at.hop.link) run) (clock_of (part_of (link_number at.hop.link) run))) (clock_of (part_of (link_number at.hop.link) run))) (packets_at network request i at run) in
-    let there : k < count_at network request i at run = omega (arith, gone, fewer) in
+    let fewer = count_by-le-length (has_departed at.link.shape.rate (starts_below at.link.shape.rate (packets_on at.link (link_number at.hop.link) run) (clock_of (part_of (link_number at.hop.link) run))) (clock_of (part_of (link_number at.hop.link) run))) (packets_at network request i at run) in
+    let kept = length-filter (has_departed at.link.shape.rate (starts_below at.link.shape.rate (packets_on at.link (link_number at.hop.link) run) (clock_of (part_of (link_number at.hop.link) run))) (clock_of (part_of (link_number at.hop.link) run))) (packets_at network request i at run) in
+    let there : k < count_at network request i at run = omega (arith, gone, fewer, kept) in
     (there, λ p found. hop-departed network request levels run first i at k fits sound names is have there due k p (omega arith) found)

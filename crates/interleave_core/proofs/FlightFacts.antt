@@ -34,9 +34,9 @@ use Rattle.tick_plane.specs.Planes.{Plane, is_due, next_due, ask_due, flight_to,
 use Rattle.run_record.specs.Runs.{entry_of, part_of, replies_to}
 use Rattle.interleave_core.specs.Flights.{FlightsStand}
 use Rattle.interleave_core.specs.Runs.{plane_no, plane_at, IsNext, IsRun}
-use Rattle.interleave_core.proofs.RunLegal.{part-may, tick-answer, RunStands, clock_at, plane-next, plane-off, plane-by, part-on, part-off, link_at-number, run-stands}
+use Rattle.interleave_core.proofs.RunLegal.{part-may, RunStands, clock_at, plane-next, plane-off, plane-by, part-on, part-off, link_at-number, run-stands}
 use Rattle.channel_laws.specs.Departing.{ticked, IsSent}
-use Rattle.channel_laws.proofs.SentFacts.{sent-facts}
+use Rattle.channel_laws.proofs.SentFacts.{sent-facts, tick-answer}
 use Rattle.channel_laws.proofs.DepartedCount.{history-from, more-legal}
 use Rattle.channel_laws.proofs.NumberedPackets.{HasNumber, packets-have_numbers}
 use Rattle.tick_plane.proofs.FlightFacts.{made-flights}

@@ -2,7 +2,7 @@
 -- by its eligible tick, its level's bound and the propagation at the hop before.
 use Rattle.std.proofs.Common.{◌≡◌, ◌≢◌, ℕ, zero, suc, ◌+◌, ◌<◌, ◌≤◌, Bool, true, false, cond, List, [], ◌∷◌, ◌++◌, length, map, get_or, Option, Some, None, refl, sym, ap, ◌∙◌, subst, inl, inr, arith}
 use Rattle.std.proofs.lemmas.Bool.{cases_Bool, cases_lt, eqb-true, eqb-false, eq-eqb, ne_eqb, le-ltb, lt-ltb, and_from}
-use Rattle.std.proofs.lemmas.List.{length-reverse, map-append}
+use Rattle.std.proofs.lemmas.List.{length-reverse, map-append, length-map}
 use Rattle.std.proofs.lemmas.List.Elements.{filter-append}
 use Rattle.std.proofs.lemmas.Option.{same_Some, slice_get_within}
 use Rattle.std.specs.List.{slice_get}
@@ -239,7 +239,7 @@ taken-after network request i two past done packet row level clock e held fits s
     let due-same : comes.flight.packet.due ≡ packet.due = ap (λ p. p.due) comes.same in
     let early : clock_of (part_of (link_number two.after.link) past) ≤ packet.due = omega (arith, now, in_time, clock-same, due-same) in
     let most = waits-most row.terms.kind row.terms.first (clock_of (part_of (link_number two.after.link) past)) packet.due early in
-    let shorter : length (far_ticks network request i two past) < length (near_ticks network request i two past) = (let w = place.within in let l = mapped-length (channel_packets (channel_number request.chan) (packets_on two.near (link_number two.hop.link) past)) in omega (arith, w, index, l)) in
+    let shorter : length (far_ticks network request i two past) < length (near_ticks network request i two past) = (let w = place.within in let l = length-map (channel_packets (channel_number request.chan) (packets_on two.near (link_number two.hop.link) past)) tick_of_packet in omega (arith, w, index, l)) in
     let valid : IsContract row.terms.contract = subst IsContract (sym far-row.1.contract_is) far-row.1.valid in
     let keeps : Keeps row.terms.contract (reverse row.ticks) = (Decides-keeps_newest_first row.terms.contract row.ticks (burst-least row.terms.contract valid)).0 (subst (λ k. keeps_newest_first k row.ticks ≡ true) (sym far-row.1.contract_is) far-row.1.keeps) in
     let is = eligible-is row.terms.contract row.ticks (waits_until row.terms.kind row.terms.first (clock_of (part_of (link_number two.after.link) past)) packet.due) valid (burst-least row.terms.contract valid) keeps in
@@ -254,10 +254,6 @@ taken-after network request i two past done packet row level clock e held fits s
     (omega (arith, tick, passed, now, clock-same))
     (λ is-jitter. (let exact = waits-exact row.terms.kind row.terms.first (clock_of (part_of (link_number two.after.link) past)) packet.due (far-row.1.kind_is ∙ is-jitter) later in omega (arith, exact, reached, tick, due, shift)))
   where
-    mapped-length : (ps : List Arrival) → length (map tick_of_packet ps) ≡ length ps
-    mapped-length [] = refl
-    mapped-length (p ∷ ps) = ap suc (mapped-length ps)
-
     has-row : (j : ℕ) (hop : Hop) (n : ℕ) (link : Link) → link_number hop.link ≡ n → slice_get request.route j ≡ Some hop → slice_get network.links n ≡ Some link → (p : Arrival) → is_of_channel (channel_number request.chan) p ≡ true → Among p (packets_on link n past) → HasOneRow (terms_at request j) (channel_number request.chan) (scan_of link.shape (part_of n past))
     has-row j hop n link number stands linked p chan among =
         let row-at = packet-offered network request past n link p fits run asked sound linked chan among in

@@ -25,7 +25,7 @@ use Rattle.call_script.specs.Tasks.{Network}
 use Rattle.run_record.specs.Runs.{part_of, replies_to}
 use Rattle.interleave_core.specs.Runs.{IsNext, IsRun}
 use Rattle.call_script.specs.Scripts.{Opened, task_ask, settled_as, continued, resumed, standing, first_ask, ask_at, outcome_in}
-use Rattle.interleave_core.proofs.CallerFacts.{StandingFits, offers-go-on, standing-more}
+use Rattle.interleave_core.proofs.CallerFacts.{StandingFits, offers-go-on, standing-more, nothing-asked}
 use Rattle.call_script.specs.Owners.{OwnedFully}
 use Rattle.interleave_core.proofs.RunCloses.{ClosesAt, Early, Denied, Open, Closing, Over, run-closes, head-same}
 use Rattle.call_script.specs.Owners.{TaskOff}
@@ -118,9 +118,7 @@ opened-keeps network request done past task tasks replies outcomes levels delay 
 
 step-keeps : (network : Network) (request : Request) (done : Done) (past : List Done) (left : List Task) (replies : List Reply) (outcomes : List Opened) (levels : List ℕ) (delay : ℕ) → RequestFits network.links request → (next : IsNext network past done) → MayReplyTo next.link.shape (part_of (link_number done.link) past) done.ask done.reply → first_ask left replies ≡ Some (done.link, done.ask) → StandingFits network.links (record { tasks = left; replies = replies; outcomes = outcomes }) → ClosesAt network request past (record { tasks = left; replies = replies; outcomes = outcomes })
     → (outcome_in request.chan outcomes ≡ Some (Accepts levels delay) → VerdictSums request levels delay) → outcome_in request.chan (resumed outcomes left (replies ++ done.reply ∷ [])).outcomes ≡ Some (Accepts levels delay) → VerdictSums request levels delay
-step-keeps network request done past [] replies outcomes levels delay sound next may asks stands closes was same = absurd (nothing replies (done.link, done.ask) asks) where
-  nothing : (rs : List Reply) (to : LinkNo × Ask) → first_ask [] rs ≡ Some to → ⊥
-  nothing rs to same = cc
+step-keeps network request done past [] replies outcomes levels delay sound next may asks stands closes was same = absurd (nothing-asked replies (done.link, done.ask) asks)
 step-keeps network request done past (task ∷ tasks) replies outcomes levels delay sound next may asks stands closes was same =
     elim (resumed-comes request outcomes task tasks (replies ++ done.reply ∷ []) (Accepts levels delay) same) [
       | inl before ↦ was before

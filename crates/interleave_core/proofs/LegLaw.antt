@@ -49,9 +49,9 @@ use Rattle.channel_laws.proofs.NumberedPackets.{HasNumber, packets-have_numbers}
 use Rattle.interleave_core.specs.Flights.{IsPunctual}
 use Rattle.interleave_core.proofs.Punctual.{run-punctual}
 use Rattle.interleave_core.proofs.QueueTicks.{leg, QueueOf, SendsTo, queue-ticks}
-use Rattle.interleave_core.proofs.RunLegal.{tick-answer, plane-next, caller-next, plane-off, plane-by, part-on, part-off, run-stands, part-admissible}
+use Rattle.interleave_core.proofs.RunLegal.{plane-next, caller-next, plane-off, plane-by, part-on, part-off, run-stands, part-admissible}
 use Rattle.channel_laws.specs.Departing.{ticked, gone_of}
-use Rattle.channel_laws.proofs.SentFacts.{sent-facts}
+use Rattle.channel_laws.proofs.SentFacts.{sent-facts, tick-answer}
 
 -- how many packets of the channel the far hop has taken
 abbrev pub far_count : (network : Network) (request : Request) (i : ℕ) → TwoHops network request i → List Done → ℕ

@@ -33,10 +33,11 @@ use Rattle.run_record.specs.declared.done.Done.{Done}
 use Rattle.interleave_core.specs.Linked.{IsLinkThere, EveryAskGoesToALink}
 use Rattle.interleave_core.specs.Runs.{plane_no, plane_at, IsNext, IsRun}
 use Rattle.link_steps.proofs.ListParts.{Each-at}
-use Rattle.interleave_core.proofs.RunLegal.{asked-plane, asked-caller, caller-next, plane-next, plane-off, plane-by, part-on, part-off, link_at-number, run-stands, tick-answer}
+use Rattle.interleave_core.proofs.RunLegal.{asked-plane, asked-caller, caller-next, plane-next, plane-off, plane-by, part-on, part-off, link_at-number, run-stands}
 use Rattle.channel_laws.proofs.NextLinks.{NamesNext, NextsAre, after-nexts, sent-next}
 use Rattle.setup_protocol.proofs.HopAsks.{asked-at}
 use Rattle.tick_plane.proofs.FlightFacts.{asks-due, flight-in, flights-with}
+use Rattle.channel_laws.proofs.SentFacts.{tick-answer}
 
 -- a link that comes next, if there is one, is there
 abbrev NextLinked : List Link → Option LinkNo → Type 0

@@ -1,5 +1,5 @@
 -- The delay of a packet over its whole route; and under delay-jitter control how far two delays are apart.
-use Rattle.std.proofs.Common.{◌≡◌, ℕ, zero, suc, ◌+◌, ◌<◌, ◌≤◌, true, List, [], ◌∷◌, length, map, get_or, take, refl, ap, arith}
+use Rattle.std.proofs.Common.{◌≡◌, ℕ, zero, suc, ◌+◌, ◌<◌, ◌≤◌, true, List, [], ◌∷◌, length, get_or, take, refl, ap, arith}
 use Rattle.std.proofs.lemmas.Option.{slice_get_within}
 use Rattle.net_units.specs.LevelBounds.{bound_at}
 use Rattle.net_units.specs.Numbers.{link_number, channel_number}
@@ -9,7 +9,7 @@ use Rattle.hop_reservation.specs.declared.route.Hop.{Hop}
 use Rattle.link_steps.specs.HopGuarantee.{LeavesInTime}
 use Rattle.link_steps.specs.Lists.{Each}
 use Rattle.link_steps.specs.Scan.{clock_of, starts_of}
-use Rattle.link_steps.specs.Service.{Arrival, Start, leaves_at}
+use Rattle.link_steps.specs.Service.{Start, leaves_at}
 use Rattle.link_steps.proofs.HopHolds.{guaranteed}
 use Rattle.link_steps.proofs.ChangeFacts.{Each-from_among}
 use Rattle.link_steps.proofs.ListFacts.{Among, Each-among}
@@ -34,6 +34,7 @@ use Rattle.interleave_core.proofs.HopsAt.{hop-at, HaveLevelsAt}
 use Rattle.interleave_core.proofs.PathLaw.{delay-more, path-law, same-hop}
 use Rattle.interleave_core.proofs.RunLegal.{part-admissible}
 use Rattle.interleave_core.specs.Paths.{HopAt, hop_ticks, packets_at, delay_before, Passed}
+use Rattle.std.proofs.lemmas.List.{length-map}
 
 -- under delay-jitter control the packets are exactly the shift later
 pub path-exact : (network : Network) (request : Request) (levels : List ℕ) (run : List Done) → NetworkFits network → RequestFits network.links request → ((past : List Done) → IsRun network past → ChannelAsked request past) → IsRun network run → HaveLevelsAt network request levels run → kind_of request.control ≡ Jitter
@@ -68,7 +69,7 @@ passed network request levels run fits sound asked is have first i at start amon
     let row = packet-offered network request run (link_number at.hop.link) at.link start.packet fits is (asked run is) sound at.linked chan there in
     let place = place-of 0 (packets_at network request i at run) start.packet row.row.tells.numbered own in
     let path = path-law network request levels run fits sound asked is have first i at in
-    let count = mapped-length (packets_at network request i at run) in
+    let count = length-map (packets_at network request i at run) tick_of_packet in
     let inside : place.index < length (hop_ticks network request i at run) = (let w = place.within in omega (arith, w, count)) in
     let rest = path.after place.index inside in
     let tick = place.tick in
@@ -84,10 +85,7 @@ passed network request levels run fits sound asked is have first i at start amon
       within = (let fewer = path.fewer in omega (arith, fewer, inside));
       in_time = omega (arith, rest, tick, bound, most, more);
       later = λ jitter. (let exact = path-exact network request levels run fits sound asked is have jitter first i at place.index inside in omega (arith, exact, tick, least));
-    } where
-      mapped-length : (ps : List Arrival) → length (map tick_of_packet ps) ≡ length ps
-      mapped-length [] = refl
-      mapped-length (p ∷ ps) = ap suc (mapped-length ps)
+    }
 
 -- the delays of two packets that have left a hop, from their eligible ticks at the first hop on, differ by less than the
 -- bound of the hop's level

@@ -27,9 +27,9 @@ use Rattle.tick_plane.specs.declared.flight.Flight.{Flight}
 use Rattle.tick_plane.specs.Planes.{Plane, is_due, next_due, ask_due, flight_to, flight_in, tick_made, plane_with, plane_of}
 use Rattle.run_record.specs.Runs.{part_of, replies_to}
 use Rattle.interleave_core.specs.Runs.{plane_no, plane_at, IsNext, IsRun}
-use Rattle.interleave_core.proofs.RunLegal.{part-may, tick-answer, RunStands, clock_at, plane-next, plane-off, plane-by, run-stands}
+use Rattle.interleave_core.proofs.RunLegal.{part-may, RunStands, clock_at, plane-next, plane-off, plane-by, run-stands}
 use Rattle.channel_laws.specs.Departing.{IsSent}
-use Rattle.channel_laws.proofs.SentFacts.{sent-facts}
+use Rattle.channel_laws.proofs.SentFacts.{sent-facts, tick-answer}
 
 -- none found means that none passes
 not-due : (t : ℕ) (flights : List Flight) → find (is_due t) flights ≡ None → Each (λ flight. is_due t flight ≡ false) flights

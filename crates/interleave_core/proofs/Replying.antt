@@ -38,8 +38,9 @@ use Rattle.tick_plane.specs.Planes.{next_due, ask_due, answers_arrive, answers_t
 use Rattle.tick_plane.specs.declared.flight.Flight.{Flight}
 use Rattle.interleave_core.proofs.RunCloses.{IsUsualReply, FirstUsual, ClosesAt, Early, Denied, Open, Closing, Over, FirstOff, owned-once, run-closes, replies-usual, head-same}
 use Rattle.interleave_core.proofs.RunGoes.{off-standing, setup-expected}
-use Rattle.interleave_core.proofs.RunLegal.{AsksOf, plane-next, caller-next, tick-answer}
+use Rattle.interleave_core.proofs.RunLegal.{AsksOf, plane-next, caller-next}
 use Rattle.setup_protocol.proofs.HopAsks.{of-hop}
+use Rattle.channel_laws.proofs.SentFacts.{tick-answer}
 
 -- ---- the tests and the facts say the same
 

@@ -43,6 +43,7 @@ use Rattle.interleave_core.proofs.RunLegal.{part-on, part-off, part-admissible, 
 use Rattle.channel_laws.specs.Reservations.{held_by}
 use Rattle.channel_laws.proofs.TermsAfter.{held-offered, held-relaxed, held-denied}
 use Rattle.interleave_core.specs.Paths.{HopAt}
+use Rattle.link_steps.proofs.ListParts.{stands-at}
 
 -- ---- what a hop holds
 
@@ -233,9 +234,7 @@ allotted-count jitter slack before (hop ∷ hops) (offer ∷ offers) whole = (le
 pub setup-settles : (network : Network) (request : Request) (replies : List Reply) (run : List Done) → SetupRows network request replies run → next_ask request replies ≡ None → Settles network request replies run
 setup-settles network request replies run rows over = by-view (view request replies) where
   no-hop : (hops : List Hop) (j : ℕ) → j < length hops → slice_get hops j ≡ None → ⊥
-  no-hop [] j inside none = omega arith
-  no-hop (h ∷ hops) zero inside none = cc
-  no-hop (h ∷ hops) (suc j) inside none = no-hop hops j (omega arith) none
+  no-hop hops j inside none = (let there = stands-at hops j inside in let clash : None ≡ Some there.0 = sym none ∙ there.1 in cc)
 
   none-asked : (found : Option Hop) (own : Hop → Ask) → asked_of found own ≡ None → found ≡ None
   none-asked None own none = refl

@@ -16,7 +16,7 @@ use Rattle.link_steps.specs.Admissible.{IsAdmissible}
 use Rattle.link_steps.specs.Split.{Link, SplitFits}
 use Rattle.link_steps.specs.Legal.{AskFits, PacketFits, IsLegal}
 use Rattle.link_steps.specs.Lists.{Each}
-use Rattle.link_steps.specs.Replies.{tick_reply, reply_at, reply_to}
+use Rattle.link_steps.specs.Replies.{tick_reply, reply_to}
 use Rattle.link_steps.specs.Scan.{clock_with, clock_of, scan_of}
 use Rattle.link_steps.proofs.LegalAdmissible.{may-answer, legal-has, legal-admissible}
 use Rattle.channel_laws.specs.Asks.{MayReplyTo}
@@ -33,7 +33,7 @@ use Rattle.interleave_core.specs.Runs.{plane_no, plane_at, next_for, IsNext, IsR
 use Rattle.call_script.specs.Scripts.{script_ask}
 use Rattle.link_steps.proofs.ListParts.{Each-at}
 use Rattle.interleave_core.proofs.CallerFacts.{IsCallers, StandingFits, standing-asks, begun-fits, replied-fits}
-use Rattle.channel_laws.proofs.SentFacts.{sent-facts, sent-fits}
+use Rattle.channel_laws.proofs.SentFacts.{sent-facts, sent-fits, tick-answer}
 use Rattle.tick_plane.proofs.FlightFacts.{AsksDue, asks-due, flight-in, flights-with}
 
 -- the clock of a link where the plane stands so
@@ -116,10 +116,6 @@ next-may network past done fits stands next =
     let split = Each-at SplitFits network.links (link_number done.link) next.link fits.splits next.linked in
     let has = legal-has next.link (part_of (link_number done.link) past) split (stands.legal (link_number done.link) next.link next.linked) in
     may-answer next.link (clock_of (part_of (link_number done.link) past)) (scan_of next.link.shape (part_of (link_number done.link) past)) done.ask done.reply split has.within next.answered
-
-pub tick-answer : (link : Link) (h : List Entry) → reply_to link h Tick ≡ tick_reply link.shape (clock_of h) (scan_of link.shape h)
-unfolding reply_to reply_at
-tick-answer link h = refl
 
 -- ---- the ask meets its conditions
 

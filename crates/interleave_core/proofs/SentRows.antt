@@ -24,9 +24,9 @@ use Rattle.interleave_core.specs.Runs.{IsNext, IsRun}
 use Rattle.interleave_core.proofs.ChainLaw.{is-tick}
 use Rattle.interleave_core.proofs.LegLaw.{quiet-clock, entry-tick}
 use Rattle.channel_laws.proofs.DepartedCount.{history-from}
-use Rattle.interleave_core.proofs.RunLegal.{part-on, part-off, part-admissible, tick-answer}
+use Rattle.interleave_core.proofs.RunLegal.{part-on, part-off, part-admissible}
 use Rattle.channel_laws.specs.Departing.{ticked}
-use Rattle.channel_laws.proofs.SentFacts.{sent-facts}
+use Rattle.channel_laws.proofs.SentFacts.{sent-facts, tick-answer}
 use Rattle.interleave_core.specs.Sent.{SentBy, TicksTellWhatHasLeft}
 
 best-more : (best : Option Arrival) (t : ℕ) (starts : List Start) (s : Start) → Among s starts → Among s (add_start best t starts)

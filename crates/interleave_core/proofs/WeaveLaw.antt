@@ -1,6 +1,6 @@
 -- The merge of the links' journals by stamp is a run, where each journal is legal and each actor's own entries are asked by its
 -- rules.
-use Rattle.std.proofs.Common.{◌≡◌, ℕ, zero, suc, ◌+◌, ◌<◌, ◌≤◌, Bool, List, [], ◌∷◌, length, map, Some, None, refl, sym, ap, ◌∙◌, subst, inl, inr, arith}
+use Rattle.std.proofs.Common.{◌≡◌, ℕ, suc, ◌+◌, ◌<◌, ◌≤◌, Bool, List, [], ◌∷◌, length, map, Some, None, refl, sym, ap, ◌∙◌, subst, inl, inr, arith}
 use Rattle.std.proofs.lemmas.Bool.{cases_Bool, eqb-true, eq-eqb}
 use Rattle.std.proofs.lemmas.Option.{slice_get_within}
 use Rattle.std.specs.List.{slice_get}
@@ -18,6 +18,7 @@ use Rattle.interleave_core.specs.Runs.{next_for, IsRun}
 use Rattle.interleave_core.specs.Weave.{Stamped, woven_of, Falls, AreOf, done_of, entry_in, AreOwn, AreJournals, AreAsked, run_of, JournalsWeaveToARun}
 use Rattle.interleave_core.proofs.Merge.{is_at, HoldTheSame, falls-woven, woven-part, each-woven, woven-in, in-woven, pairs-apart, falls-same, falls-filter}
 use Rattle.interleave_core.proofs.PartsRun.{next-is, parts-run}
+use Rattle.link_steps.proofs.ListParts.{stands-at}
 
 -- ---- the entries of a link and of an actor
 
@@ -41,17 +42,12 @@ own-filter actor (x ∷ xs) =
       | inr off ↦ rw off (own-filter actor xs)
     ]
 
--- ---- a place in a list
-
-get-there : {X : Type 0} (xs : List X) (n : ℕ) → n < length xs → (x : X) × (slice_get xs n ≡ Some x)
-get-there [] n inside = absurd (omega (arith, inside))
-get-there (x ∷ xs) zero inside = (x, refl)
-get-there (x ∷ xs) (suc n) inside = get-there xs n (omega (arith, inside))
+-- ---- the links of journals
 
 linked-all : (network : Network) (n : ℕ) (xs : List Stamped) → n < length network.links → Each (λ x. link_number x.done.link ≡ n) xs → Each (λ x. IsLinked network x.done) xs
 linked-all network n [] inside each = tt
 linked-all network n (x ∷ xs) inside each =
-    let there = get-there network.links n inside in
+    let there = stands-at network.links n inside in
     (record { link = there.0; linked = ap (slice_get network.links) each.0 ∙ there.1 }, linked-all network n xs inside each.1)
 
 linked-journals : (network : Network) (n : ℕ) (journals : List (List Stamped)) → n + length journals ≤ length network.links → AreOf n journals → Each (Each (λ x. IsLinked network x.done)) journals
@@ -91,7 +87,7 @@ woven-run network journals owns are of =
     parts-run network (run_of journals) (each-done (IsLinked network) (woven_of journals) (each-woven (λ x. IsLinked network x.done) journals (linked-journals network 0 journals (omega (arith, whole)) are.of_links)))
     (λ n link found.
     (let within = slice_get_within network.links n link found in
-    let there = get-there journals n (omega (arith, whole, within)) in
+    let there = stands-at journals n (omega (arith, whole, within)) in
     subst (IsLegal link) (sym (woven-parts network journals n there.0 are there.1)) (are.legal n link there.0 found there.1)))
     (λ actor. subst (IsAsked network actor) (sym (own-part network journals owns actor are of)) (of.asked actor))
 
