@@ -35,7 +35,7 @@ use Rattle.shared_network.specs.Gathering.{token_actor, all_drawn, IsPartOf, Are
 use Rattle.shared_network.specs.Ready.{MayStep}
 use Rattle.shared_network.proofs.GatherFacts.{prefix-then}
 use Rattle.shared_network.proofs.LinkNumbers.{numbered-at, numbered-length}
-use Rattle.link_steps.proofs.ListParts.{mapped-at, Each-at, comes-from}
+use Rattle.link_steps.proofs.ListParts.{mapped-at, Each-at, comes-from, stands-at}
 
 -- ---- lists
 
@@ -49,12 +49,6 @@ pub map-has : {X Y : Type 0} (f : X → Y) (xs : List X) (x : X) → Has x xs �
 map-has f [] x has = absurd has
 map-has f (y ∷ xs) x (inl is) = inl (ap f is)
 map-has f (y ∷ xs) x (inr has) = inr (map-has f xs x has)
-
--- one inside
-get-within : {X : Type 0} (xs : List X) (k : ℕ) → k < length xs → (x : X) × (slice_get xs k ≡ Some x)
-get-within [] k below = absurd (omega (arith, below))
-get-within (x ∷ xs) zero below = (x, refl)
-get-within (x ∷ xs) (suc k) below = get-within xs k (omega (arith, below))
 
 -- ---- stamps
 
@@ -125,10 +119,10 @@ module _ (table : TableId) (owners : List ActorNo) (links : List Link) (passes :
       let may = Each-at (MayStep table owners links) passes i pass all.may_step found in
       let l : ℕ = link_number e.link in
       let below : l < length links = each_has (λ (o : OwnEntry). link_number o.link < length links) e pass.own may.linked has in
-      let at_link = get-within links l below in
+      let at_link = stands-at links l below in
       let link : Link = at_link.0 in
       let long = numbered-length number_of journals (length links) settled.numbers in
-      let at_journal = get-within journals l (omega (arith, below, long)) in
+      let at_journal = stands-at journals l (omega (arith, below, long)) in
       let journal : Journal = at_journal.0 in
       let entries : List Entry = journal.entries.items in
       let there = settled-at l journal at_journal.1 in

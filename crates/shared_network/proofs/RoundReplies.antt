@@ -13,7 +13,7 @@ use Rattle.link_steps.specs.declared.shape.LinkShape.{LinkShape}
 use Rattle.link_steps.specs.Admissible.{IsAdmissible}
 use Rattle.link_steps.specs.Legal.{AskFits, PacketFits, IsLegal}
 use Rattle.link_steps.specs.Lists.{Each}
-use Rattle.link_steps.specs.Replies.{tick_reply, reply_at, reply_to}
+use Rattle.link_steps.specs.Replies.{tick_reply, reply_to}
 use Rattle.link_steps.specs.Scan.{clock_of, scan_of}
 use Rattle.link_steps.specs.Split.{Link, SplitFits}
 use Rattle.link_steps.proofs.LegalAdmissible.{legal-admissible}
@@ -22,7 +22,7 @@ use Rattle.channel_laws.specs.Asks.{IsOff}
 use Rattle.channel_laws.specs.Departing.{ticked}
 use Rattle.channel_laws.specs.Reservations.{IsArriveReply}
 use Rattle.channel_laws.proofs.ArriveReplies.{arrive-told, of-arrive}
-use Rattle.channel_laws.proofs.SentFacts.{sent-facts, sent-fits}
+use Rattle.channel_laws.proofs.SentFacts.{sent-facts, sent-fits, tick-answer}
 use Rattle.tick_plane.specs.declared.flight.Flight.{Flight}
 use Rattle.tick_plane.specs.Planes.{Plane, is_due, next_due, ask_due, plane_ask, flight_in, answers_arrive, answers_tick, plane_expects}
 use Rattle.link_ledger.specs.Owners.{OwnsAsk, NextBelow, IsBelow}
@@ -58,20 +58,16 @@ tick-flies n shape h reply early below may same =
 arrive-flies : (n : ℕ) (reply : Reply) → IsArriveReply reply → Each (MayFly n) (flight_in reply)
 arrive-flies n reply is = of-arrive (λ r. Each (MayFly n) (flight_in r)) reply (λ clock eligible. tt) (λ held slots. tt) (λ why. tt) is
 
-tick-told : (link : Link) (h : List Entry) (reply : Reply) → reply ≡ reply_to link h Tick → reply ≡ tick_reply link.shape (clock_of h) (scan_of link.shape h)
-unfolding reply_to reply_at
-tick-told link h reply same = same
-
 -- the flight that a legal reply to such an ask begins may fly
 pub round-flies : (n : ℕ) (link : Link) (h : List Entry) (ask : Ask) (reply : Reply) → is_round ask ≡ true → SplitFits link → IsLegal link h → Each (AsksBelow n) h → clock_of h < 2 ^ 61 → reply ≡ reply_to link h ask → Each (MayFly n) (flight_in reply)
 round-flies n link h (Arrive packet) reply round splits legal below early same = arrive-flies n reply (arrive-told link h packet reply same)
-round-flies n link h Tick reply round splits legal below early same = tick-flies n link.shape h reply early below (legal-admissible link h splits legal) (tick-told link h reply same)
+round-flies n link h Tick reply round splits legal below early same = tick-flies n link.shape h reply early below (legal-admissible link h splits legal) (same ∙ tick-answer link h)
 round-flies n link h _ reply round splits legal below early same = cc
 
 due-expected : (link : Link) (h : List Entry) (found : Option Flight) (ticked : ℕ) (to : LinkNo) (ask : Ask) (reply : Reply) → ask_due ticked found ≡ (to, ask) → reply ≡ reply_to link h ask → plane_expects found reply ≡ true
 due-expected link h None ticked to ask reply asks same =
     let tick : Tick ≡ ask = ap (λ pair. pair.1) asks in
-    ap answers_tick (tick-told link h reply (same ∙ ap (reply_to link h) (sym tick)))
+    ap answers_tick (same ∙ ap (reply_to link h) (sym tick) ∙ tick-answer link h)
 due-expected link h (Some flight) ticked to ask reply asks same =
     let arrive : Arrive flight.packet ≡ ask = ap (λ pair. pair.1) asks in
     of-arrive (λ r. answers_arrive r ≡ true) reply (λ clock eligible. refl) (λ held slots. refl) (λ why. refl) (arrive-told link h flight.packet reply (same ∙ ap (reply_to link h) (sym arrive)))
