@@ -21,12 +21,13 @@ use Rattle.call_script.specs.declared.operations.Op.TheVariants.{Open, Send, Clo
 use Rattle.link_steps.specs.Lists.{Each}
 use Rattle.net_units.specs.declared.numbers.ChanNo.{ChanNo}
 use Rattle.call_script.proofs.OwnerFacts.{any-later, twice-not}
-use Rattle.call_script.proofs.GrowthFacts.{last-passes, get-more, total-more, added-names, added-length}
+use Rattle.call_script.proofs.GrowthFacts.{last-passes, get-more, added-names, added-length}
 use Rattle.call_script.proofs.Growing.{HaveRequests, callers-load, all-have}
 use Rattle.call_script.proofs.OpeningFacts.{owner-inside}
 use Rattle.scenario_reader.specs.Drafts.{Said, nothing_said, with_item, parts_said}
 use Rattle.scenario_reader.specs.Kept.{IsDraft, IsKeptBeside, MayPutLink, MayPutCaller, MayPutOpen, MayPutOp, MayDo}
 use Rattle.scenario_reader.specs.declared.item.Item.TheVariants as item
+use Rattle.traffic_contract.proofs.AdmissionFacts.{total-push}
 
 -- before the first line
 pub kept_begins : IsKeptBeside nothing_said [] [] [] [] 0
@@ -80,7 +81,7 @@ kept_caller said links requests callers closed load name d k may = record {
   same_closed = λ n entry found by.
       let inside = owner-inside (parts_said said) n entry d.keeps.planned found in
       absurd (omega (arith, inside, by, length-append said.callers (new_caller name ∷ [])));
-  same_load = (let more = total-more (λ (c : CallerEntry). total (load_of said.requests) c.ops) said.callers (new_caller name) in omega (arith, k.same_load, more));
+  same_load = (let more = total-push (λ (c : CallerEntry). total (load_of said.requests) c.ops) said.callers (new_caller name) in omega (arith, k.same_load, more));
   few_links = k.few_links;
   few_requests = k.few_requests;
   few_callers = omega (arith, may.caller.few, length-append said.callers (new_caller name ∷ []));
@@ -105,7 +106,7 @@ last_added op (caller ∷ next ∷ callers) some = last_more op caller (next ∷
 load_added : (load : Op → ℕ) (op : Op) (callers : List CallerEntry) → 1 ≤ length callers
     → total (λ (c : CallerEntry). total load c.ops) (add_op op callers) ≡ total (λ (c : CallerEntry). total load c.ops) callers + load op
 load_added load op [] some = absurd (omega arith)
-load_added load op (caller ∷ []) some = (let more = total-more load caller.ops op in omega (arith, more))
+load_added load op (caller ∷ []) some = (let more = total-push load caller.ops op in omega (arith, more))
 load_added load op (caller ∷ next ∷ callers) some = (let rest = load_added load op (next ∷ callers) (omega arith) in omega (arith, rest))
 
 -- whether a channel is closed, with one operation more

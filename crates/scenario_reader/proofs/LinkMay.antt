@@ -1,6 +1,6 @@
 -- A link line and a caller line that pass may add a link and a caller.
 use Rattle.std.proofs.Common.{◌≡◌, ℕ, ◌≤◌, Bool, true, false, not, ◌&&◌, nat_eq, nat_lt, List, [], ◌∷◌, length, Option, Some, None, is_some, is_none, if◌then◌else◌, refl, sym, ◌∙◌, ap, subst, arith, inl, inr, ◌⊎◌}
-use Rattle.std.proofs.lemmas.Bool.{ltb-true, eqb-true, and_parts, and_from, or_cases, true≢false}
+use Rattle.std.proofs.lemmas.Bool.{ltb-true, and_parts, and_from, or_cases, true≢false}
 use Rattle.std.proofs.lemmas.Option.{same_Some}
 use Rattle.std.specs.Prelude.{unwrap_or}
 use Rattle.net_units.specs.Numbers.{link_number, link_at}
@@ -24,7 +24,7 @@ use Rattle.scenario_reader.specs.Kept.{MayPutLink, MayPutCaller}
 use Rattle.scenario_reader.specs.LinkLine.{plain_form, is_link_line, best_in, link_numbers, link_fields_rule, link_numbers_rule, best_rule, bound_numbers_rule, bound_fields, link_rule, link_with, link_said}
 use Rattle.scenario_reader.specs.declared.cause.Cause.TheVariants as cause
 use Rattle.scenario_reader.proofs.LineForms.{plain_best}
-use Rattle.scenario_reader.proofs.PassFacts.{all_pass, unless_passes, new_name_passes, made_some}
+use Rattle.scenario_reader.proofs.PassFacts.{all_pass, unless_passes, new_name_passes, made_some, no_items, not_said}
 use Rattle.scenario_reader.proofs.ShapeFacts.{IsShape}
 
 -- ---- before the callers
@@ -38,17 +38,9 @@ pub some_items : {X : Type 0} (xs : List X) → not (nat_eq (length xs) 0) ≡ t
 some_items [] e n = true≢false (sym e)
 some_items (x ∷ xs) e n = cc
 
-pub no_items : {X : Type 0} (xs : List X) → nat_eq (length xs) 0 ≡ true → xs ≡ []
-no_items [] e = refl
-no_items (x ∷ xs) e = absurd (let z = eqb-true (length (x ∷ xs)) 0 e in omega arith)
-
 pub longer_than_none : {X : Type 0} (xs : List X) → not (nat_eq (length xs) 0) ≡ true → 1 ≤ length xs
 longer_than_none [] e = absurd (true≢false (sym e))
 longer_than_none (x ∷ xs) e = omega arith
-
-pub is_none_said : {X : Type 0} (o : Option X) → is_none o ≡ true → o ≡ None
-is_none_said None e = refl
-is_none_said (Some x) e = cc
 
 pub is_some_said : {X : Type 0} (o : Option X) → is_some o ≡ true → o ≡ None → ⊥
 is_some_said None e n = true≢false (sym e)
@@ -106,7 +98,7 @@ link_may version said fields entry v stands rule says =
     let has = shape_has (link_at (length said.links)) (test_of version) (link_numbers fields) made.0 made.1 in
     let form = unless_passes (is_link_line version fields) cause.Shape p.0 in
     record {
-      before = record { headed = headed_is said version v; unrounded = is_none_said said.rounds may.1 };
+      before = record { headed = headed_is said version v; unrounded = not_said said.rounds may.1 };
       link = subst (MayAddLink (parts_said said)) made.2 (record {
         first = no_items said.callers may.0;
         version = subst (λ (w : Version). link_has_version w (link_with fields made.0) ≡ true) (sym (ap (λ o. unwrap_or o One) v))
@@ -126,7 +118,7 @@ caller_may version said fields v stands rule =
     ∷ unless (nat_lt (length said.callers) 64) cause.Many ∷ []) rule in
     let may = and_parts (not (nat_eq (length said.links) 0)) (is_none said.rounds) stands in
     record {
-      before = record { before = record { headed = headed_is said version v; unrounded = is_none_said said.rounds may.1 }; linked = some_items said.links may.0 };
+      before = record { before = record { headed = headed_is said version v; unrounded = not_said said.rounds may.1 }; linked = some_items said.links may.0 };
       caller = record {
         new = (new_name_passes (caller_names said.callers) (field_at fields 1) p.1.0).1;
         few = ltb-true (length said.callers) 64 (unless_passes (nat_lt (length said.callers) 64) cause.Many p.1.1.0);

@@ -22,16 +22,16 @@ use Rattle.scenario_reader.specs.Forms.{has_form, used_name_rule, number_rule}
 use Rattle.scenario_reader.specs.Grammar.{send_form, packets_rule, is_closed_request, load_rule, send_rule, send_on, send_said, close_form, close_rule, close_of, close_said, pour_form, pour_rule, pour_over, pour_said}
 use Rattle.scenario_reader.specs.Kept.{IsDraft, HasALink, MayPutOp}
 use Rattle.scenario_reader.specs.declared.cause.Cause.TheVariants as cause
-use Rattle.scenario_reader.proofs.LinkMay.{headed_is, some_items, longer_than_none, is_none_said}
+use Rattle.scenario_reader.proofs.LinkMay.{headed_is, some_items, longer_than_none}
 use Rattle.scenario_reader.proofs.NamedFacts.{own_is}
 use Rattle.scenario_reader.proofs.OpenMay.{from_range, link_found}
 use Rattle.scenario_reader.proofs.OwnFacts.{own_opened}
-use Rattle.scenario_reader.proofs.PassFacts.{all_pass, unless_passes, made_some}
+use Rattle.scenario_reader.proofs.PassFacts.{all_pass, unless_passes, made_some, not_said}
 
 -- after a caller stands a link
 linked_by : (version : Version) (said : Said) → IsDraft said → said.version ≡ Some version → not (nat_eq (length said.callers) 0) ≡ true → is_none said.rounds ≡ true → HasALink said
 linked_by version said draft v some none = record {
-  before = record { headed = headed_is said version v; unrounded = is_none_said said.rounds none };
+  before = record { headed = headed_is said version v; unrounded = not_said said.rounds none };
   linked = λ no. some_items said.callers some (draft.unlinked_callers no);
 }
 

@@ -22,9 +22,9 @@ use Rattle.scenario_reader.specs.Forms.{new_name_rule, number_rule}
 use Rattle.scenario_reader.specs.Kept.{IsDraft, MayPutOpen}
 use Rattle.scenario_reader.specs.OpenLine.{is_open_line, route_fields, after_route, has_jitter, control_in, contract_told, contract_of, hops_in, route_names_rule, terms_rule, jitter_rule, open_fields_rule, is_way, open_limits_rule, open_rule, request_said}
 use Rattle.scenario_reader.specs.declared.cause.Cause.TheVariants as cause
-use Rattle.scenario_reader.proofs.LinkMay.{headed_is, some_items, longer_than_none, is_none_said}
-use Rattle.scenario_reader.proofs.OwnFacts.{few_parts}
-use Rattle.scenario_reader.proofs.PassFacts.{all_pass, unless_passes, new_name_passes, number_passes, contract_passes}
+use Rattle.scenario_reader.proofs.LinkMay.{headed_is, some_items, longer_than_none}
+use Rattle.scenario_reader.proofs.PassFacts.{all_pass, unless_passes, new_name_passes, number_passes, contract_passes, not_said}
+use Rattle.call_script.proofs.Growing.{few-in}
 
 -- links with the numbers of their places
 abbrev pub AreNumbered : List LinkEntry → Type 0
@@ -89,11 +89,11 @@ open_may version said fields draft v stands rule =
     let some = longer_than_none said.callers may.0 in
     let few = ltb-true (length said.requests) 1024 (unless_passes (nat_lt (length said.requests) 1024) cause.Many l.0) in
     let way = and_parts (is_none (fault_in (hops_in said fields))) (is_joined said.links (hops_in said fields)) (unless_passes (is_way said (hops_in said fields)) cause.Route l.1.1.0) in
-    let callers = (few_parts (parts_said said) draft.keeps.few).callers in
+    let callers = (few-in (parts_said said) draft.keeps.few).callers in
     let numbered = draft.keeps.planned.links in
     record {
       before = record {
-        before = record { headed = headed_is said version v; unrounded = is_none_said said.rounds may.1 };
+        before = record { headed = headed_is said version v; unrounded = not_said said.rounds may.1 };
         linked = λ none. some_items said.callers may.0 (draft.unlinked_callers none);
       };
       request = record {
@@ -108,7 +108,7 @@ open_may version said fields draft v stands rule =
         hops = route_follows said.links (route_fields fields) numbered;
         terms = record {
           contract = contract_passes (contract_told fields) (unless_passes (is_some (contract_of (contract_told fields))) cause.Contract l.1.0);
-          route = route-from_none (hops_in said fields) (is_none_said (fault_in (hops_in said fields)) way.0);
+          route = route-from_none (hops_in said fields) (not_said (fault_in (hops_in said fields)) way.0);
         };
       };
     }

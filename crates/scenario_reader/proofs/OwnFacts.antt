@@ -1,31 +1,17 @@
 -- A request that the last caller is to open is opened in that caller's operations.
 use Rattle.std.proofs.Common.{◌≡◌, ℕ, zero, suc, ◌+◌, ◌-◌, ◌≤◌, ◌⊎◌, true, List, [], ◌∷◌, ◌++◌, Some, length, map, nat_eq, sym, ap, subst, inl, inr, arith}
-use Rattle.std.proofs.lemmas.Bool.{eq-eqb, or_left, or_right, leb-true, and_parts}
+use Rattle.std.proofs.lemmas.Bool.{eq-eqb, or_left, or_right}
 use Rattle.std.proofs.lemmas.Option.{same_Some}
 use Rattle.std.specs.List.{list_any, slice_get}
-use Rattle.std.specs.Prelude.{nat_le, ◌&&◌}
 use Rattle.net_units.specs.Numbers.{actor_number, channel_number}
 use Rattle.link_steps.proofs.ListFacts.{Among}
 use Rattle.call_script.specs.Growing.{last_ops}
-use Rattle.call_script.specs.Parts.{PlanParts, Opening, openings_in, openings_of, opening_of}
-use Rattle.call_script.specs.Rules.{opens, are_few}
+use Rattle.call_script.specs.Parts.{Opening, openings_in, openings_of, opening_of}
+use Rattle.call_script.specs.Rules.{opens}
 use Rattle.call_script.specs.declared.entries.CallerEntry.{CallerEntry}
 use Rattle.call_script.specs.declared.entries.RequestEntry.{RequestEntry}
 use Rattle.call_script.specs.declared.operations.Op.{Op}
 use Rattle.call_script.specs.declared.operations.Op.TheVariants.{Open, Send, Close, Pour}
-
--- how many there are
-pub record AreFew (parts : PlanParts) : Type 0 where
-  pub links : length parts.links ≤ 32
-  pub callers : length parts.callers ≤ 64
-  pub requests : length parts.requests ≤ 1024
-
-pub few_parts : (parts : PlanParts) → are_few parts ≡ true → AreFew parts
-unfolding are_few
-few_parts parts few =
-    let first = and_parts (nat_le (length parts.links) 32 && nat_le (length parts.callers) 64) (nat_le (length parts.requests) 1024) few in
-    let second = and_parts (nat_le (length parts.links) 32) (nat_le (length parts.callers) 64) first.0 in
-    record { links = leb-true (length parts.links) 32 second.0; callers = leb-true (length parts.callers) 64 second.1; requests = leb-true (length parts.requests) 1024 first.1 }
 
 -- an opening among two lists is among one of them
 parted : (x : Opening) (xs ys : List Opening) → Among x (xs ++ ys) → Among x xs ⊎ Among x ys

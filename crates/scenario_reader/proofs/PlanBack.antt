@@ -15,14 +15,14 @@ use Rattle.call_script.specs.declared.entries.LinkEntry.{LinkEntry}
 use Rattle.call_script.specs.declared.entries.RequestEntry.{RequestEntry}
 use Rattle.call_script.specs.declared.operations.Op.{Op}
 use Rattle.call_script.specs.declared.version.Version.{Version}
-use Rattle.call_script.proofs.GrowthFacts.{added-total}
-use Rattle.call_script.proofs.Growing.{link-keeps, caller-keeps}
+use Rattle.call_script.proofs.GrowthFacts.{added-total, added-last}
+use Rattle.call_script.proofs.Growing.{link-keeps, caller-keeps, length-more}
 use Rattle.traffic_contract.proofs.AdmissionFacts.{total-append}
 use Rattle.scenario_reader.specs.BothWays.{HasNames}
 use Rattle.scenario_reader.specs.PlanText.{link_fields, op_lines, caller_fields, caller_lines}
 use Rattle.scenario_reader.proofs.ReadsBack.{front, link_read, caller_read}
 use Rattle.scenario_reader.proofs.SaysBack.{Reads, reads_none, reads_on}
-use Rattle.scenario_reader.proofs.WalkBack.{LinksStand, RestStands, Stands, OpSound, op_step, add_last, one_more}
+use Rattle.scenario_reader.proofs.WalkBack.{LinksStand, RestStands, Stands, OpSound, op_step}
 
 -- ---- links
 
@@ -50,7 +50,7 @@ links_read version links (entry ∷ rest) keeps left =
     let new = and_parts (is_new (link_names links) entry.name) (each_after is_new (link_names links ++ entry.name ∷ []) (link_names rest)) left.new in
     let few : length links < 32 = (let all = left.few in omega (arith, all)) in
     let number : link_number entry.shape.link ≡ length links = left.numbers 0 entry refl ∙ omega arith in
-    let longer = one_more links entry in
+    let longer = length-more links entry in
     let grown = link-keeps (parts_of version links [] [] 0 0) entry keeps (record { first = refl; version = kept.0; name = new.0; few = few; number = number }) in
     let one = link_read version links entry (record { named = left.named.0; kept = kept.0; new = not-true _ new.0; few = few; number = number }) in
     let others = links_read version (links ++ entry ∷ []) rest grown (record {
@@ -92,7 +92,7 @@ step_caller caller op ops = ap (λ (all : List Op). record { name = caller.name;
 
 -- the load with an operation more
 load_step : (all : List RequestEntry) (callers : List CallerEntry) (caller : CallerEntry) (op : Op) → load_in all (callers ++ with_its_op op caller ∷ []) ≤ load_in all (callers ++ caller ∷ []) + load_of all op
-load_step all callers caller op = subst (λ (cs : List CallerEntry). load_in all cs ≤ load_in all (callers ++ caller ∷ []) + load_of all op) (add_last op callers caller) (added-total (load_of all) op (callers ++ caller ∷ []))
+load_step all callers caller op = subst (λ (cs : List CallerEntry). load_in all cs ≤ load_in all (callers ++ caller ∷ []) + load_of all op) (added-last op callers caller) (added-total (load_of all) op (callers ++ caller ∷ []))
 
 ops_read : (version : Version) (links : List LinkEntry) (all requests rest : List RequestEntry) (callers : List CallerEntry) (caller : CallerEntry) (ops : List Op) (later : ℕ) (following : List Opening) → LinksStand links
     → Stands version links all requests rest callers caller → OpsLeft version links all callers caller ops later → openings_in (length callers) ops ++ following ≡ map opening_of rest → OpsRead version links all requests callers caller ops following
@@ -176,7 +176,7 @@ callers_read version links all requests rest callers (caller ∷ left) stand kee
     let ops = ops_read version links all requests rest callers (new_caller caller.name) caller.ops (load_in all left) (openings_of (suc (length callers)) left) stand
     (record { keeps = grown; same = rs.same; stand = rs.stand; named = rs.named; few = few })
     (record { sound = cs.sound.0; opened = opened.0; unclosed = unclosed.0; load = omega (arith, load, empty) }) is in
-    let longer = one_more callers caller in
+    let longer = length-more callers caller in
     let more = load_both all callers caller in
     let others = callers_read version links all ops.after ops.rest (callers ++ caller ∷ []) left stand ops.stands.keeps (record { same = ops.stands.same; stand = ops.stands.stand; named = ops.stands.named })
     (record {

@@ -23,10 +23,10 @@ use Rattle.scenario_reader.specs.declared.form.Keyword.{Keyword}
 use Rattle.scenario_reader.specs.declared.form.Keyword.TheVariants as word
 use Rattle.scenario_reader.specs.declared.item.Item.{Item}
 use Rattle.scenario_reader.specs.declared.item.Item.TheVariants as item
-use Rattle.scenario_reader.proofs.LinkMay.{headed_is, some_items, is_none_said, is_some_said, link_may, caller_may}
+use Rattle.scenario_reader.proofs.LinkMay.{headed_is, some_items, is_some_said, link_may, caller_may}
 use Rattle.scenario_reader.proofs.OpMay.{send_may, close_may, pour_may}
 use Rattle.scenario_reader.proofs.OpenMay.{open_may}
-use Rattle.scenario_reader.proofs.PassFacts.{judged_ok, stated_ok, made_some, unless_passes, all_pass, number_passes}
+use Rattle.scenario_reader.proofs.PassFacts.{judged_ok, stated_ok, made_some, unless_passes, all_pass, number_passes, not_said}
 
 -- ---- the lines after the callers
 
@@ -36,7 +36,7 @@ rounds_may version said fields v stands rule =
     let p = all_pass (unless (has_form rounds_form fields) cause.Shape ∷ number_rule 0 524288 (field_at fields 1) ∷ []) rule in
     let may = and_parts (not (nat_eq (length said.links) 0)) (is_none said.rounds) stands in
     record {
-      before = record { before = record { headed = headed_is said version v; unrounded = is_none_said said.rounds may.1 }; linked = some_items said.links may.0 };
+      before = record { before = record { headed = headed_is said version v; unrounded = not_said said.rounds may.1 }; linked = some_items said.links may.0 };
       most = (number_passes 0 524288 (field_at fields 1) p.1.0).most;
     }
 

@@ -23,26 +23,18 @@ use Rattle.scenario_reader.specs.LinkLine.{bounds_of}
 use Rattle.scenario_reader.specs.declared.cause.Cause.TheVariants.{Levels}
 use Rattle.scenario_reader.specs.declared.link_line.LinkFields.{LinkFields}
 use Rattle.scenario_reader.specs.Entries.{LinkNumbers, has_rate, has_room, has_bounds, shape_with, shape_where, shape_of}
+use Rattle.net_units.proofs.NumberFacts.{same-link, same-actor, same-channel}
 
 -- ---- numbers
 
-pub same_link : (a b : LinkNo) → link_number a ≡ link_number b → a ≡ b
-same_link a b same = λ i. record { number = same i; small = is_prop→PathP (λ j. same j < 32) (λ j. le_prop) a.small b.small i }
-
-pub same_actor : (a b : ActorNo) → actor_number a ≡ actor_number b → a ≡ b
-same_actor a b same = λ i. record { number = same i; small = is_prop→PathP (λ j. same j < 65) (λ j. le_prop) a.small b.small i }
-
-pub same_channel : (a b : ChanNo) → channel_number a ≡ channel_number b → a ≡ b
-same_channel a b same = λ i. record { number = same i; small = is_prop→PathP (λ j. same j < 1048576) (λ j. le_prop) a.small b.small i }
-
 pub link_is : (link : LinkNo) (n : ℕ) → n < 32 → link_number link ≡ n → link ≡ link_at n
-link_is link n h same = same_link link (link_at n) (omega (arith, same))
+link_is link n h same = same-link link (link_at n) (omega (arith, same))
 
 pub actor_is : (actor : ActorNo) (n : ℕ) → n < 65 → actor_number actor ≡ n → actor ≡ actor_at n
-actor_is actor n h same = same_actor actor (actor_at n) (omega (arith, same))
+actor_is actor n h same = same-actor actor (actor_at n) (omega (arith, same))
 
 pub channel_is : (chan : ChanNo) (n : ℕ) → n < 1048576 → channel_number chan ≡ n → chan ≡ channel_at n
-channel_is chan n h same = same_channel chan (channel_at n) (omega (arith, same))
+channel_is chan n h same = same-channel chan (channel_at n) (omega (arith, same))
 
 -- ---- shapes
 

@@ -1,9 +1,9 @@
 -- The callers of a plan are read one after another, each with its operations: what was read so far keeps the rules, and what
 -- is left of the plan is after it.
-use Rattle.std.proofs.Common.{◌≡◌, ℕ, suc, zero, ◌+◌, ◌*◌, ◌-◌, ◌<◌, ◌≤◌, Bool, true, false, not, nat_eq, List, [], ◌∷◌, ◌++◌, length, map, Option, Some, refl, sym, ◌∙◌, ap, subst, inl, inr, append_assoc, arith}
+use Rattle.std.proofs.Common.{◌≡◌, ℕ, suc, zero, ◌+◌, ◌*◌, ◌-◌, ◌<◌, ◌≤◌, true, false, nat_eq, List, [], ◌∷◌, ◌++◌, length, map, Option, Some, refl, sym, ◌∙◌, ap, subst, inl, inr, append_assoc, arith}
 use Rattle.std.specs.Prelude.{◌&&◌, option_map}
 use Rattle.std.proofs.lemmas.Bool.{and_parts, eq-eqb, not-true, ltb-true}
-use Rattle.std.proofs.lemmas.List.{length-append, map-append}
+use Rattle.std.proofs.lemmas.List.{map-append}
 use Rattle.std.proofs.lemmas.Option.{slice_get_cases, slice_get_within}
 use Rattle.std.specs.List.{slice_get, list_any, list_all}
 use Rattle.net_units.specs.Numbers.{link_number, actor_number, channel_number}
@@ -25,39 +25,26 @@ use Rattle.call_script.specs.declared.operations.Op.{Op}
 use Rattle.call_script.specs.declared.operations.Op.TheVariants.{Open, Send, Close, Pour}
 use Rattle.call_script.specs.declared.version.Version.{Version}
 use Rattle.call_script.proofs.FitFacts.{each-at}
-use Rattle.call_script.proofs.GrowthFacts.{get-before}
-use Rattle.call_script.proofs.Growing.{open-keeps, send-keeps, close-keeps, pour-keeps}
+use Rattle.call_script.proofs.GrowthFacts.{get-before, added-last, last-of}
+use Rattle.call_script.proofs.Growing.{open-keeps, send-keeps, close-keeps, pour-keeps, length-more}
 use Rattle.call_script.proofs.OpeningFacts.{opened-has}
 use Rattle.call_script.proofs.OwnerFacts.{twice-not}
 use Rattle.scenario_reader.specs.BothWays.{HasNames}
 use Rattle.scenario_reader.specs.Drafts.{link_named, if_own}
 use Rattle.scenario_reader.specs.PlanText.{op_fields, lines_if, op_lines, open_fields, send_fields, close_fields, pour_fields}
-use Rattle.scenario_reader.proofs.ShapeFacts.{same_link, same_channel}
 use Rattle.scenario_reader.proofs.LinesBack.{are_packets, IsOpenHere}
 use Rattle.scenario_reader.proofs.NamedBack.{find_back}
 use Rattle.scenario_reader.proofs.OpenBack.{IsHopHere}
 use Rattle.scenario_reader.proofs.ReadsBack.{front, open_read, send_read, close_read, pour_read}
 use Rattle.scenario_reader.proofs.SaysBack.{Reads}
+use Rattle.net_units.proofs.NumberFacts.{same-link, same-channel}
 
--- ---- the last caller
-
-pub add_last : (op : Op) (callers : List CallerEntry) (caller : CallerEntry) → add_op op (callers ++ caller ∷ []) ≡ callers ++ with_its_op op caller ∷ []
-add_last op [] caller = refl
-add_last op (c ∷ []) caller = refl
-add_last op (c ∷ d ∷ callers) caller = ap (λ (rest : List CallerEntry). c ∷ rest) (add_last op (d ∷ callers) caller)
-
-last_last : (callers : List CallerEntry) (caller : CallerEntry) → last_ops (callers ++ caller ∷ []) ≡ caller.ops
-last_last [] caller = refl
-last_last (c ∷ []) caller = refl
-last_last (c ∷ d ∷ callers) caller = last_last (d ∷ callers) caller
+-- ---- lists
 
 at_seam : {X : Type 0} (xs : List X) (x : X) (ys : List X) (n : ℕ) → n ≡ length xs → slice_get (xs ++ x ∷ ys) n ≡ Some x
 at_seam [] x ys n same = ap (slice_get (x ∷ ys)) same
 at_seam (y ∷ xs) x ys zero same = absurd (omega (arith, same))
 at_seam (y ∷ xs) x ys (suc n) same = at_seam xs x ys n (omega (arith, same))
-
-pub one_more : {X : Type 0} (xs : List X) (x : X) → length (xs ++ x ∷ []) ≡ suc (length xs)
-one_more xs x = (let both : length (xs ++ x ∷ []) ≡ length xs + 1 = length-append xs (x ∷ []) in omega arith)
 
 -- ---- the links, all of which were read
 
@@ -81,7 +68,7 @@ is_there links link stand there =
       | inl at ↦ record {
         entry = at.0;
         found = at.2;
-        same = same_link link at.0.shape.link (sym (stand.numbers (link_number link) at.0 at.2));
+        same = same-link link at.0.shape.link (sym (stand.numbers (link_number link) at.0 at.2));
         name = (each-at HasNames links (link_number link) at.0 stand.named at.2).name;
         named = find_back (λ (e : LinkEntry). e.name) [] links (link_number link) at.0 stand.apart at.2;
       }
@@ -121,7 +108,7 @@ pub record RestStands (links : List LinkEntry) (requests rest : List RequestEntr
 rest_next : (links : List LinkEntry) (requests : List RequestEntry) (entry : RequestEntry) (rest : List RequestEntry) → RestStands links requests (entry ∷ rest) → RestStands links (requests ++ entry ∷ []) rest
 unfolding each_after
 rest_next links requests entry rest stand =
-    let longer = one_more requests entry in
+    let longer = length-more requests entry in
     record {
       sound = stand.sound.1;
       new = subst (λ (names : List (List ℕ)). each_after is_new names (request_names rest) ≡ true) (sym (map-append (λ (e : RequestEntry). e.name) requests (entry ∷ [])))
@@ -186,7 +173,7 @@ unfolding have_names
 distinct_requests parts names = (and_parts (are_distinct (link_names parts.links) && are_distinct (caller_names parts.callers)) (are_distinct (request_names parts.requests)) names).1
 
 some_callers : (callers : List CallerEntry) (caller : CallerEntry) → 1 ≤ length (callers ++ caller ∷ [])
-some_callers callers caller = (let longer = one_more callers caller in omega (arith, longer))
+some_callers callers caller = (let longer = length-more callers caller in omega (arith, longer))
 
 -- the request of a channel that the caller has opened and not closed
 record IsOurs (version : Version) (links : List LinkEntry) (all requests : List RequestEntry) (callers : List CallerEntry) (caller : CallerEntry) (chan : ChanNo) : Type 0 where
@@ -201,17 +188,17 @@ is_ours : (version : Version) (links : List LinkEntry) (all requests rest : List
 is_ours version links all requests rest callers caller chan s opened unclosed =
     let parts = parts_of version links requests (callers ++ caller ∷ []) 0 0 in
     let has = opened-has parts (length callers) (channel_number chan) caller s.keeps.planned (at_seam callers caller [] (length callers) refl) opened in
-    let last : list_any (closes (channel_number chan)) (last_ops (callers ++ caller ∷ [])) ≡ false = ap (list_any (closes (channel_number chan))) (last_last callers caller) ∙ unclosed in
+    let last : list_any (closes (channel_number chan)) (last_ops (callers ++ caller ∷ [])) ≡ false = ap (list_any (closes (channel_number chan))) (last-of callers caller) ∙ unclosed in
     let find = find_back (λ (e : RequestEntry). e.name) [] requests (channel_number chan) has.entry (distinct_requests parts s.keeps.names) has.found in
-    let longer = one_more callers caller in
+    let longer = length-more callers caller in
     let ours : nat_eq (actor_number has.entry.caller) (length (callers ++ caller ∷ []) - 1) ≡ true = eq-eqb (actor_number has.entry.caller) (length (callers ++ caller ∷ []) - 1) (omega (arith, has.by, longer)) in
     record {
       entry = has.entry;
-      there = record { opened = ap (list_any (opens (channel_number chan))) (last_last callers caller) ∙ opened; unclosed = last };
+      there = record { opened = ap (list_any (opens (channel_number chan))) (last-of callers caller) ∙ opened; unclosed = last };
       here = record {
         name = each-at (λ (e : RequestEntry). is_name e.name ≡ true) requests (channel_number chan) has.entry s.named has.found;
         own = ap (if_own (length (callers ++ caller ∷ []) - 1)) find ∙ rw ours refl;
-        same = same_channel chan has.entry.request.chan (sym (s.keeps.planned.requests (channel_number chan) has.entry has.found));
+        same = same-channel chan has.entry.request.chan (sym (s.keeps.planned.requests (channel_number chan) has.entry has.found));
         unclosed = last;
       };
       found = has.found;
@@ -225,14 +212,11 @@ plain_step : (version : Version) (links : List LinkEntry) (all requests rest : L
 plain_step version links all requests rest callers caller op openings fields s later is keeps reads = record {
   after = requests;
   rest = rest;
-  stands = record { keeps = subst (λ (cs : List CallerEntry). KeepSoFar (parts_of version links requests cs 0 0)) (add_last op callers caller) keeps; same = s.same; stand = s.stand; named = s.named; few = s.few };
+  stands = record { keeps = subst (λ (cs : List CallerEntry). KeepSoFar (parts_of version links requests cs 0 0)) (added-last op callers caller) keeps; same = s.same; stand = s.stand; named = s.named; few = s.few };
   left = later;
   reads = subst (λ (lines : List (List (List ℕ))). Reads lines (front version links requests (callers ++ caller ∷ [])) (front version links requests (callers ++ with_its_op op caller ∷ []))) (sym (ap lines_if is))
-      (subst (λ (cs : List CallerEntry). Reads (fields ∷ []) (front version links requests (callers ++ caller ∷ [])) (front version links requests cs)) (add_last op callers caller) reads);
+      (subst (λ (cs : List CallerEntry). Reads (fields ∷ []) (front version links requests (callers ++ caller ∷ [])) (front version links requests cs)) (added-last op callers caller) reads);
 }
-
-not-not-true : (b : Bool) → not (not b) ≡ true → b ≡ true
-not-not-true b holds = twice-not b holds
 
 -- the load with one operation more, of what was read
 load_so_far : (version : Version) (links : List LinkEntry) (all requests rest : List RequestEntry) (callers : List CallerEntry) (caller : CallerEntry) (op : Op) → Stands version links all requests rest callers caller
@@ -247,7 +231,7 @@ send_step : (version : Version) (links : List LinkEntry) (all requests rest : Li
     → Stands version links all requests rest callers caller → IsNextOp version links all callers caller (Send chan count gap size) → openings ≡ map opening_of rest → Stepped version links all requests callers caller (Send chan count gap size) openings
 send_step version links all requests rest callers caller chan count gap size openings s is later =
     let parts = parts_of version links requests (callers ++ caller ∷ []) 0 0 in
-    let ours = is_ours version links all requests rest callers caller chan s (not-not-true (list_any (opens (channel_number chan)) caller.ops) is.opened) (not-true (list_any (closes (channel_number chan)) caller.ops) is.unclosed) in
+    let ours = is_ours version links all requests rest callers caller chan s (twice-not (list_any (opens (channel_number chan)) caller.ops) is.opened) (not-true (list_any (closes (channel_number chan)) caller.ops) is.unclosed) in
     let are = are_packets count gap size is.sound.range in
     let load = load_so_far version links all requests rest callers caller (Send chan count gap size) s is.load in
     let here : load_in requests (callers ++ caller ∷ []) + count * hops_of (Some ours.entry) ≤ 262144 = subst (λ (found : Option RequestEntry). load_in requests (callers ++ caller ∷ []) + count * hops_of found ≤ 262144) ours.found load in
@@ -259,7 +243,7 @@ close_step : (version : Version) (links : List LinkEntry) (all requests rest : L
     → Stands version links all requests rest callers caller → IsNextOp version links all callers caller (Close chan) → openings ≡ map opening_of rest → Stepped version links all requests callers caller (Close chan) openings
 close_step version links all requests rest callers caller chan openings s is later =
     let parts = parts_of version links requests (callers ++ caller ∷ []) 0 0 in
-    let ours = is_ours version links all requests rest callers caller chan s (not-not-true (list_any (opens (channel_number chan)) caller.ops) is.opened) (not-true (list_any (closes (channel_number chan)) caller.ops) is.unclosed) in
+    let ours = is_ours version links all requests rest callers caller chan s (twice-not (list_any (opens (channel_number chan)) caller.ops) is.opened) (not-true (list_any (closes (channel_number chan)) caller.ops) is.unclosed) in
     plain_step version links all requests rest callers caller (Close chan) openings (close_fields ours.entry) s later (ap (option_map close_fields) ours.among_all)
     (close-keeps parts chan s.keeps ours.there)
     (close_read version links requests (callers ++ caller ∷ []) chan ours.entry (some_callers callers caller) ours.here)
@@ -287,10 +271,10 @@ open_step version links all requests (entry ∷ rest) callers caller chan openin
     let others : openings ≡ map opening_of rest = cc in
     let by : actor_number entry.caller ≡ length callers = sym (ap (λ (o : Opening). o.caller) first) in
     let chan_is : channel_number chan ≡ channel_number entry.request.chan = ap (λ (o : Opening). o.chan) first in
-    let same = same_channel chan entry.request.chan chan_is in
+    let same = same-channel chan entry.request.chan chan_is in
     let number : channel_number entry.request.chan ≡ length requests = s.stand.numbers 0 entry refl ∙ omega arith in
     let sound = s.stand.sound.0 in
-    let longer = one_more callers caller in
+    let longer = length-more callers caller in
     let new = new_first requests entry rest s.stand.new in
     let few : length requests < 1024 = (let all_few = s.stand.few in omega (arith, all_few)) in
     let keeps = open-keeps parts entry s.keeps (record {
@@ -318,7 +302,7 @@ open_step version links all requests (entry ∷ rest) callers caller chan openin
       range = sound.range;
     }) in
     let to : add_op (Open entry.request.chan) (callers ++ caller ∷ []) ≡ callers ++ with_its_op (Open chan) caller ∷ [] =
-    ap (λ (c : ChanNo). add_op (Open c) (callers ++ caller ∷ [])) (sym same) ∙ add_last (Open chan) callers caller in
+    ap (λ (c : ChanNo). add_op (Open c) (callers ++ caller ∷ [])) (sym same) ∙ added-last (Open chan) callers caller in
     let found : slice_get all (channel_number chan) ≡ Some entry = ap (λ (es : List RequestEntry). slice_get es (channel_number chan)) s.same ∙ at_seam requests entry rest (channel_number chan) (chan_is ∙ number) in
     record {
       after = requests ++ entry ∷ [];

@@ -1,14 +1,10 @@
 -- What the numbers of a line make: the number of a link, an actor or a channel, the shape of a link, and a hop of a route.
 -- Only numbers within the limits of a link, of which the largest packet fits the first bound, have a shape.
-use Rattle.std.specs.Prelude.{◌≡◌, ℕ, min, refl, Bool, true, nat_le, ◌&&◌, Option, Some, None, List}
-use Rattle.std.proofs.Common.{lit<}
-use Rattle.std.proofs.Math.Nat.{min-le_left, lt_of_le_of_lt}
+use Rattle.std.specs.Prelude.{◌≡◌, ℕ, refl, Bool, true, nat_le, ◌&&◌, Option, Some, None, List}
 use Rattle.std.proofs.lemmas.Bool.{and_parts, leb-true}
 use Rattle.net_units.specs.Limits.{most_best, most_buffer, most_rate, most_size, most_propagation, is_within}
 use Rattle.net_units.specs.Quotient.{ceil_quotient}
 use Rattle.net_units.specs.LevelBounds.{are_bounds, bound_at}
-use Rattle.net_units.specs.declared.numbers.ActorNo.{ActorNo}
-use Rattle.net_units.specs.declared.numbers.ChanNo.{ChanNo}
 use Rattle.net_units.specs.declared.numbers.LinkNo.{LinkNo}
 use Rattle.traffic_contract.specs.declared.admission.Test.{Test}
 use Rattle.hop_reservation.specs.declared.route.Hop.{Hop}
