@@ -1,7 +1,8 @@
 //! Which of the packets at a link are whose, and which of them is served first.
-ghost use Rattle.std.specs.Prelude.{◌≡◌, ◌+◌, ◌≤◌, Some, None, IfSome, IfNone, filter, length};
+ghost use Rattle.std.specs.Prelude.{◌≡◌, ◌+◌, ◌≤◌, Some, None, IfSome, IfNone, filter, length, drop};
 ghost use Rattle.std.specs.Option.{option_map};
 ghost use Rattle.std.specs.Vec.{vec_capacity};
+ghost use Rattle.std.specs.VecDeque.{deque_capacity};
 ghost use Rattle.link_steps.specs.BestEffort.{is_best};
 ghost use Rattle.link_steps.specs.Buffer.{held_packets};
 ghost use Rattle.link_steps.specs.Kept.{is_eligible_by, is_other, start_at, waits_here};
@@ -17,17 +18,22 @@ use crate::held_packet::{HeldPacket, Running};
 use crate::lead_count::Count;
 use crate::line::{Line, Rank};
 use net_units::Bounds;
+use std::collections::VecDeque;
 
-// How many of these packets are of the reservation whose first packet had this place.
-pub(crate) fn held(packets: &[HeldPacket], lead: u64) -> usize
-    ensures { result ≡ held_packets lead (here_in packets.now) }
+// How many of these packets, from this place on, are of the reservation whose first packet had this number.
+pub(crate) fn held_from(packets: &VecDeque<HeldPacket>, from: usize, lead: u64) -> usize
+    requires { from ≤ length packets.now.items }
+    ensures { result ≡ held_packets lead (here_in (drop from packets.now.items)) }
 {
-    packets.iter().filter(|packet| packet.lead == lead).count()
+    packets
+        .range(from..)
+        .filter(|packet| packet.lead == lead)
+        .count()
 }
 
 // How many of these packets are best-effort packets.
-pub(crate) fn best_here(packets: &[HeldPacket], bounds: &Bounds) -> usize
-    ensures { result ≡ length (filter (is_best bounds.now) (here_in packets.now)) }
+pub(crate) fn best_here(packets: &VecDeque<HeldPacket>, bounds: &Bounds) -> usize
+    ensures { result ≡ length (filter (is_best bounds.now) (here_in packets.now.items)) }
 {
     let levels = bounds.len();
     packets
@@ -37,8 +43,12 @@ pub(crate) fn best_here(packets: &[HeldPacket], bounds: &Bounds) -> usize
 }
 
 // How many are, but for the one that occupies the link.
-pub(crate) fn best_here_but(packets: &[HeldPacket], bounds: &Bounds, running: &Running) -> usize
-    ensures { result ≡ length (filter (waits_here bounds.now (Some (start_in running.now))) (here_in packets.now)) }
+pub(crate) fn best_here_but(
+    packets: &VecDeque<HeldPacket>,
+    bounds: &Bounds,
+    running: &Running,
+) -> usize
+    ensures { result ≡ length (filter (waits_here bounds.now (Some (start_in running.now))) (here_in packets.now.items)) }
 {
     let levels = bounds.len();
     packets
@@ -49,13 +59,17 @@ pub(crate) fn best_here_but(packets: &[HeldPacket], bounds: &Bounds, running: &R
 
 // The packet that starts in this tick, where the link is free: the first in line of those that are eligible. Its rank is taken
 // out of the line.
-pub(crate) fn start_next(line: &mut Line, here: &[HeldPacket], tick: u64) -> Option<HeldPacket>
+pub(crate) fn start_next(
+    line: &mut Line,
+    here: &VecDeque<HeldPacket>,
+    tick: u64,
+) -> Option<HeldPacket>
     requires looked { line.old.until ≤ tick }
     requires room { length (ranks_in line.old) ≤ room_in line.old }
-    requires rising { AreRising 0 (here_in here.now) }
-    requires all { AreIn (ranks_in line.old) None (here_in here.now) }
-    ensures first { option_map arrival_in result ≡ first_in_line (filter (is_eligible_by tick) (here_in here.now)) }
-    ensures others { AreIn (ranks_in line.new) (start_at tick (option_map arrival_in result)) (here_in here.now) }
+    requires rising { AreRising 0 (here_in here.now.items) }
+    requires all { AreIn (ranks_in line.old) None (here_in here.now.items) }
+    ensures first { option_map arrival_in result ≡ first_in_line (filter (is_eligible_by tick) (here_in here.now.items)) }
+    ensures others { AreIn (ranks_in line.new) (start_at tick (option_map arrival_in result)) (here_in here.now.items) }
     ensures fewer { length (ranks_in line.new) + count_on (start_at tick (option_map arrival_in result)) ≤ length (ranks_in line.old) }
     ensures room { room_in line.old ≤ room_in line.new }
     ensures looked { line.new.until ≡ tick }
@@ -69,10 +83,10 @@ pub(crate) fn start_next(line: &mut Line, here: &[HeldPacket], tick: u64) -> Opt
 }
 
 // The packet of this rank, if it is here.
-fn with_rank(packets: &[HeldPacket], rank: &Rank) -> Option<HeldPacket>
-    requires { AreRising 0 (here_in packets.now) }
-    ensures some { IfSome result (λ packet. HasRank (here_in packets.now) rank.now (arrival_in packet)) }
-    ensures none { IfNone result (IsStale (here_in packets.now) rank.now) }
+fn with_rank(packets: &VecDeque<HeldPacket>, rank: &Rank) -> Option<HeldPacket>
+    requires { AreRising 0 (here_in packets.now.items) }
+    ensures some { IfSome result (λ packet. HasRank (here_in packets.now.items) rank.now (arrival_in packet)) }
+    ensures none { IfNone result (IsStale (here_in packets.now.items) rank.now) }
 {
     let index = place_in(packets, rank.place);
     if index < packets.len() && is_rank_of(&packets[index], rank) {
@@ -89,21 +103,25 @@ fn is_rank_of(packet: &HeldPacket, rank: &Rank) -> bool
 }
 
 // Where the packet of this arrival number stands, if it is here: all before it have lower ones, and no other has a lower one.
-fn place_in(packets: &[HeldPacket], place: u64) -> usize
-    requires { AreRising 0 (here_in packets.now) }
-    ensures { PartsAt place packets.now result }
+fn place_in(packets: &VecDeque<HeldPacket>, place: u64) -> usize
+    requires { AreRising 0 (here_in packets.now.items) }
+    ensures { PartsAt place packets.now.items result }
 {
     packets.partition_point(|packet| packet.place < place)
 }
 
 // Takes the packet that has been on the link out of those here, and out of their counts.
-pub(crate) fn take_out(packets: &mut Vec<HeldPacket>, counts: &mut Vec<Count>, running: &Running)
+pub(crate) fn take_out(
+    packets: &mut VecDeque<HeldPacket>,
+    counts: &mut Vec<Count>,
+    running: &Running,
+)
     requires rising { AreRising 0 (here_in packets.old.items) }
     requires counts { AreCounts counts.old.items (here_in packets.old.items) }
     ensures others { here_in packets.new.items ≡ filter (is_other (start_in running.now)) (here_in packets.old.items) }
     ensures one { length packets.old.items ≤ length packets.new.items + 1 }
     ensures fewer { length packets.new.items ≤ length packets.old.items }
-    ensures capacity { vec_capacity packets.new ≡ vec_capacity packets.old }
+    ensures capacity { deque_capacity packets.new ≡ deque_capacity packets.old }
     ensures counts { AreCounts counts.new.items (here_in packets.new.items) }
     ensures counts_capacity { vec_capacity counts.new ≡ vec_capacity counts.old }
 {

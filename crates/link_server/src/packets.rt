@@ -1,6 +1,7 @@
 //! The packets at a link: those that it has taken and that haven't departed, and the one that occupies it.
 ghost use Rattle.std.specs.Prelude.{◌≡◌, ◌+◌, ◌^◌, ◌<◌, ◌≤◌, ◌∷◌, ◌++◌, [], suc, nat_eq, filter, find, length, IsTrue, IsOk, OnOk};
 ghost use Rattle.std.specs.Vec.{vec_capacity};
+ghost use Rattle.std.specs.VecDeque.{deque_capacity};
 ghost use Rattle.link_server.specs.InLine.{count_on, AreIn, AreIn-prop};
 ghost use Rattle.link_server.specs.Counts.{AreCounts, AreCounts-prop};
 ghost use Rattle.link_server.specs.Line.{ranks_in, room_in};
@@ -11,13 +12,14 @@ ghost use Rattle.link_server.specs.SoundProp.{AreNumbered-prop};
 use crate::best_effort::best_packet;
 use crate::counts::{count_of, raise};
 use crate::held_packet::{HeldPacket, Running};
-use crate::in_line::{best_here, best_here_but, held, start_next, take_out};
+use crate::in_line::{best_here, best_here_but, held_from, start_next, take_out};
 use crate::lead_count::Count;
 use crate::line::{Line, Rank};
 use crate::planned::Planned;
 use link_steps::{LinkShape, Sent};
 use net_units::{Bounds, OutOfMemory};
 use std::alloc::Global;
+use std::collections::VecDeque;
 
 // The packets at a link.
 #[derive(Drop)]
@@ -25,7 +27,7 @@ pub(crate) struct Packets {
     // How many packets the link has taken.
     pub(crate) taken: u64,
     // In the order of their arrival.
-    pub(crate) here: Vec<HeldPacket>,
+    pub(crate) here: VecDeque<HeldPacket>,
     // How many of them are of each reservation.
     pub(crate) counts: Vec<Count>,
     // The ranks of those that haven't started.
@@ -40,7 +42,7 @@ pub(crate) struct Packets {
     ghost ranked: { AreIn (ranks_in line) (on_in on) (here_in here.items) } by { AreIn-prop (ranks_in line) (on_in on) (here_in here.items) },
     ghost few: { length (ranks_in line) + count_on (on_in on) ≤ length here.items },
     ghost fits: { length here.items ≤ room },
-    ghost holds: { room ≤ vec_capacity here },
+    ghost holds: { room ≤ deque_capacity here },
     ghost lines_up: { room ≤ room_in line },
     ghost counts_are: { AreCounts counts.items (here_in here.items) } by { AreCounts-prop counts.items (here_in here.items) },
     ghost counts_fit: { room ≤ vec_capacity counts },
@@ -73,7 +75,7 @@ impl Packets {
     {
         Packets {
             taken: 0,
-            here: Vec::new(alloc),
+            here: VecDeque::new(alloc),
             counts: Vec::new(alloc),
             line: Line::new(alloc),
             room: 0,
@@ -122,7 +124,7 @@ impl Packets {
             place: packet.place,
         });
         raise(&mut self.counts, packet.lead);
-        self.here.push_reserved(packet);
+        self.here.push_back_reserved(packet);
         self.taken += 1;
     }
 
@@ -138,7 +140,7 @@ impl Packets {
         requires { before ≤ length self.now.here.items }
         ensures { result ≡ held_packets lead (take before (here_in self.now.here.items)) }
     {
-        self.held(lead) - held(&self.here[before..], lead) as u64
+        self.held(lead) - held_from(&self.here, before, lead) as u64
     }
 
     // The packet that occupies the link in this tick: the one that did, or else the first in line of those here.

@@ -8,11 +8,11 @@ use Rattle.link_server.proofs.in_line.start_next.Goals as goal
 
 pub returns-in-Some-with_rank-clause-first : goal.returns-in-Some-with_rank-clause-first
 returns-in-Some-with_rank-clause-first c =
-    next-first c.args.tick (ranks_in c.loop-rank.line) (ranks_in c.next.new.self) c.in-Some.rank (arrival_in c.in-Some-with_rank.packet) (here_in c.args.here.now) c.requires.rising c.loop-rank.invariant.all c.in-Some.ensures.next c.in-Some-with_rank.ensures.some
+    next-first c.args.tick (ranks_in c.loop-rank.line) (ranks_in c.next.new.self) c.in-Some.rank (arrival_in c.in-Some-with_rank.packet) (here_in c.args.here.now.items) c.requires.rising c.loop-rank.invariant.all c.in-Some.ensures.next c.in-Some-with_rank.ensures.some
 
 pub returns-in-Some-with_rank-clause-others : goal.returns-in-Some-with_rank-clause-others
 returns-in-Some-with_rank-clause-others c =
-    others-left c.args.tick (ranks_in c.loop-rank.line) (ranks_in c.next.new.self) c.in-Some.rank (arrival_in c.in-Some-with_rank.packet) (here_in c.args.here.now) c.in-Some.ensures.next.others c.loop-rank.invariant.all c.in-Some-with_rank.ensures.some.told
+    others-left c.args.tick (ranks_in c.loop-rank.line) (ranks_in c.next.new.self) c.in-Some.rank (arrival_in c.in-Some-with_rank.packet) (here_in c.args.here.now.items) c.in-Some.ensures.next.others c.loop-rank.invariant.all c.in-Some-with_rank.ensures.some.told
 
 pub returns-in-Some-with_rank-clause-fewer : goal.returns-in-Some-with_rank-clause-fewer
 returns-in-Some-with_rank-clause-fewer c =
@@ -29,7 +29,7 @@ loop-rank-preserved c =
     let before = c.loop-rank.invariant.fewer in
     let room = c.loop-rank.invariant.room in
     record {
-      all = stale-passed (ranks_in c.loop-rank.line) (ranks_in c.next.new.self) c.in-Some.rank (here_in c.args.here.now) c.in-Some.ensures.next.others c.loop-rank.invariant.all c.in_default-with_rank.ensures.none;
+      all = stale-passed (ranks_in c.loop-rank.line) (ranks_in c.next.new.self) c.in-Some.rank (here_in c.args.here.now.items) c.in-Some.ensures.next.others c.loop-rank.invariant.all c.in_default-with_rank.ensures.none;
       fewer = omega (arith, one, before);
       room = omega (arith, room, c.next.ensures.room);
       looked = omega (arith, c.next.ensures.until);
@@ -38,10 +38,10 @@ loop-rank-preserved c =
 pub returns-clause-first : goal.returns-clause-first
 returns-clause-first c =
     let none = c.in_default.ensures.none in
-    none-first c.args.tick (ranks_in c.next.new.self) (here_in c.args.here.now) none.0 (same-ranks (ranks_in c.loop-rank.line) (ranks_in c.next.new.self) None (here_in c.args.here.now) none.1 c.loop-rank.invariant.all)
+    none-first c.args.tick (ranks_in c.next.new.self) (here_in c.args.here.now.items) none.0 (same-ranks (ranks_in c.loop-rank.line) (ranks_in c.next.new.self) None (here_in c.args.here.now.items) none.1 c.loop-rank.invariant.all)
 
 pub returns-clause-others : goal.returns-clause-others
-returns-clause-others c = same-ranks (ranks_in c.loop-rank.line) (ranks_in c.next.new.self) None (here_in c.args.here.now) c.in_default.ensures.none.1 c.loop-rank.invariant.all
+returns-clause-others c = same-ranks (ranks_in c.loop-rank.line) (ranks_in c.next.new.self) None (here_in c.args.here.now.items) c.in_default.ensures.none.1 c.loop-rank.invariant.all
 
 pub returns-clause-fewer : goal.returns-clause-fewer
 returns-clause-fewer c =

@@ -7,7 +7,7 @@ use Rattle.link_server.proofs.in_line.start_next.Given as goal
 -- each packet here still has its rank in line
 abbrev pub invariant-loop-rank : goal.invariant-loop-rank
 invariant-loop-rank l = record {
-  all : AreIn (ranks_in l.line) None (here_in l.here);
+  all : AreIn (ranks_in l.line) None (here_in l.here.items);
   fewer : length (ranks_in l.line) ≤ length (ranks_in l.fn.line);
   room : room_in l.fn.line ≤ room_in l.line;
   looked : l.line.until ≤ l.tick;

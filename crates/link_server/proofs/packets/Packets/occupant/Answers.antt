@@ -1,6 +1,5 @@
 -- There is room for each rank, and the packets here stand in the order of their arrival numbers.
-use Rattle.std.proofs.Common.{sym, subst, arith}
-use Rattle.link_server.specs.InLine.{AreRising}
+use Rattle.std.proofs.Common.{arith}
 use Rattle.link_server.specs.Packets.{here_in}
 use Rattle.link_server.proofs.TurnFacts.{numbered-rising}
 use Rattle.link_server.proofs.packets.Packets.occupant.Goals as goal
@@ -13,5 +12,4 @@ start_next-requires-clause-room c =
     omega (arith, few, fits, lines_up)
 
 pub start_next-requires-clause-rising : goal.start_next-requires-clause-rising
-start_next-requires-clause-rising c =
-    subst (λ packets. AreRising 0 (here_in packets)) (sym c.deref.ensures.value) (numbered-rising 0 (here_in c.args.self.now.here.items) c.args.self.now.taken c.args.self.now.numbered)
+start_next-requires-clause-rising c = numbered-rising 0 (here_in c.args.self.now.here.items) c.args.self.now.taken c.args.self.now.numbered

@@ -29,13 +29,13 @@ raise-requires c =
 
 pub invariant_of-self : goal.invariant_of-self
 invariant_of-self c =
-    let one : here_in c.push_reserved.new.self.items ≡ here_in c.args.self.now.here.items ++ arrival_in c.args.packet ∷ [] =
-    ap here_in c.push_reserved.ensures.items ∙ map_push arrival_in c.args.self.now.here.items c.args.packet in
+    let one : here_in c.push_back_reserved.new.self.items ≡ here_in c.args.self.now.here.items ++ arrival_in c.args.packet ∷ [] =
+    ap here_in c.push_back_reserved.ensures.items ∙ map_push arrival_in c.args.self.now.here.items c.args.packet in
     let few = c.args.self.now.few in
     let holds = c.args.self.now.holds in
     let lines_up = c.args.self.now.lines_up in
     let more = length_permutation _ (ranks_in c.push.new.self) c.push.ensures.ranks in
-    let longer = ap length c.push_reserved.ensures.items ∙ length-append c.args.self.now.here.items (c.args.packet ∷ []) in
+    let longer = ap length c.push_back_reserved.ensures.items ∙ length-append c.args.self.now.here.items (c.args.packet ∷ []) in
     record {
       numbered = subst (λ ps. AreNumberedWithin 0 ps (c.args.self.now.taken + 1)) (sym one)
           (numbered-append 0 c.args.self.now.taken (c.args.self.now.taken + 1) (here_in c.args.self.now.here.items) (arrival_in c.args.packet ∷ []) c.args.self.now.numbered
@@ -44,7 +44,7 @@ invariant_of-self c =
           (ranks-pushed (ranks_in c.args.self.now.line) (ranks_in c.push.new.self) _ (on_in c.args.self.now.on) (here_in c.args.self.now.here.items) (arrival_in c.args.packet) c.push.ensures.ranks c.args.self.now.ranked (own-rank (arrival_in c.args.packet)));
       few = omega (arith, few, more, longer);
       fits = omega (arith, longer, c.requires.room);
-      holds = omega (arith, holds, c.push_reserved.ensures.capacity);
+      holds = omega (arith, holds, c.push_back_reserved.ensures.capacity);
       lines_up = omega (arith, lines_up, c.push.ensures.room);
       counts_are = record {
         each = λ lead.
