@@ -37,3 +37,7 @@ pub mod QuietFacts
 pub mod RankFacts
 pub mod NextFacts
 pub mod TurnFacts
+pub mod QueueFacts
+pub mod KeyFacts
+pub mod DueFacts
+pub mod FirstFacts

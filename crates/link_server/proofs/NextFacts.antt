@@ -4,7 +4,7 @@ use Rattle.std.proofs.lemmas.Bool.{cases_Bool, true≢false, and_parts, eqb-true
 use Rattle.std.proofs.lemmas.Bool.Decides.{nat_tests}
 use Rattle.std.proofs.lemmas.List.Sorted.{list_any-IsPermutation, length_permutation}
 use Rattle.std.proofs.lemmas.Option.{same_Some}
-use Rattle.std.specs.List.{AllByRecursion, list_any}
+use Rattle.std.specs.List.{list_any}
 use Rattle.std.specs.List.Sorted.{IsPermutation}
 use Rattle.std.specs.Prelude.{filter, find}
 use Rattle.link_steps.specs.Kept.{is_eligible_by, is_other, start_at}
@@ -90,7 +90,7 @@ none-first tick ranks here after are =
 
 -- ---- where one is
 
-any-follows : (tick : ℕ) (p q : Arrival) (first : Rank) (ranks : List Rank) → AllByRecursion (IsBehind tick first) ranks → list_any (is_rank_of p) ranks ≡ true → is_rank_of q first ≡ true → p.eligible ≤ tick → goes_before p q ≡ false
+any-follows : (tick : ℕ) (p q : Arrival) (first : Rank) (ranks : List Rank) → Each (IsBehind tick first) ranks → list_any (is_rank_of p) ranks ≡ true → is_rank_of q first ≡ true → p.eligible ≤ tick → goes_before p q ≡ false
 any-follows tick p q first [] rest any is by = absurd (true≢false (sym any))
 any-follows tick p q first (r ∷ ranks) rest any is by =
     elim (cases_Bool (is_rank_of p r)) [

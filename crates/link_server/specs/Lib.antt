@@ -20,3 +20,7 @@ pub mod HoldsAgree
 pub mod Line
 pub mod InLine
 pub mod Parting
+pub mod Queues
+pub mod Keys
+pub mod Ready
+pub mod LineProp

@@ -1,31 +1,9 @@
 -- A link serves first the packet of the least level, of these the one that is eligible first, and of these the one that
--- arrived first: the rank of a packet says where it stands by that. The line of a link keeps the ranks of the packets that
--- haven't started in two parts: those that were eligible when it last looked, and the others, by the tick from which they are.
-use Rattle.std.specs.Prelude.{ℕ, ◌≤◌, Bool, nat_lt, nat_eq, ◌&&◌, ◌||◌, List}
-use Rattle.std.specs.List.{AllByRecursion}
-use Rattle.std.specs.Ordering.{nat_cmp, ordering_then}
-use Rattle.std.specs.declared.cmp.Ordering.{Ordering}
-use Rattle.std.specs.declared.cmp.Reverse.{Reverse}
+-- arrived first: the rank of a packet says where it stands by that. A best-effort packet has the level after the link's last,
+-- so there are levels from 1 to 9.
+use Rattle.std.specs.Prelude.{◌≡◌, ℕ, suc, ◌<◌, ◌≤◌, Bool, nat_lt, nat_eq, ◌&&◌, ◌||◌, List, [], ◌∷◌}
+use Rattle.link_steps.specs.Lists.{Each}
 use Rattle.link_server.specs.declared.line.Rank.{Rank}
-
--- an entry of the part that isn't eligible yet: eligible tick, arrival number, level; and of the other: level, eligible
--- tick, arrival number
-abbrev pub Later : Type 0
-Later = Reverse (ℕ × ℕ × ℕ)
-
-abbrev pub Ready : Type 0
-Ready = Reverse (ℕ × ℕ × ℕ)
-
--- the rank that an entry tells
-abbrev pub later_rank : Later → Rank
-later_rank entry = record { level = entry.0.2; eligible = entry.0.0; place = entry.0.1 }
-
-abbrev pub ready_rank : Ready → Rank
-ready_rank entry = record { level = entry.0.0; eligible = entry.0.1; place = entry.0.2 }
-
--- the order of three numbers, the last entry first
-abbrev pub backwards : Reverse (ℕ × ℕ × ℕ) → Reverse (ℕ × ℕ × ℕ) → Ordering
-backwards x y = ordering_then (ordering_then (nat_cmp y.0.0 x.0.0) (nat_cmp y.0.1 x.0.1)) (nat_cmp y.0.2 x.0.2)
 
 -- whether one rank goes before another
 abbrev pub stands_before : Rank → Rank → Bool
@@ -33,9 +11,42 @@ stands_before r s =
     nat_lt r.level s.level
     || (nat_eq r.level s.level && (nat_lt r.eligible s.eligible || (nat_eq r.eligible s.eligible && nat_lt r.place s.place)))
 
--- each of these is eligible by this tick
-abbrev pub IsBy : ℕ → Ready → Type 0
-IsBy tick entry = entry.0.1 ≤ tick
+-- it is one of these levels
+abbrev pub HasLevel : Rank → Type 0
+HasLevel rank = (1 ≤ rank.level) × (rank.level ≤ 9)
 
-abbrev pub AreBy : ℕ → List Ready → Type 0
-AreBy tick entries = AllByRecursion (IsBy tick) entries
+abbrev pub IsAtLevel : ℕ → Rank → Type 0
+IsAtLevel level rank = rank.level ≡ level
+
+-- it is eligible by this tick
+abbrev pub IsBy : ℕ → Rank → Type 0
+IsBy tick rank = rank.eligible ≤ tick
+
+-- its arrival number is at most this
+abbrev pub IsUpTo : ℕ → Rank → Type 0
+IsUpTo newest rank = rank.place ≤ newest
+
+-- the first is eligible before the second, or in the same tick and arrived before it
+abbrev pub IsAhead : Rank → Rank → Type 0
+IsAhead r s = (r.eligible ≤ s.eligible) × (s.eligible ≤ r.eligible → r.place < s.place)
+
+abbrev pub IsAheadOf : List Rank → Rank → Type 0
+IsAheadOf ranks r = Each (IsAhead r) ranks
+
+-- each arrived after the one before it
+abbrev pub ArrivedBefore : Rank → Rank → Type 0
+ArrivedBefore r s = r.place < s.place
+
+abbrev pub AreByArrival : List Rank → Type 0
+AreByArrival [] = Unit {0}
+AreByArrival (r ∷ ranks) = Each (ArrivedBefore r) ranks × AreByArrival ranks
+
+-- each is ahead of those after it
+abbrev pub AreByTick : List Rank → Type 0
+AreByTick [] = Unit {0}
+AreByTick (r ∷ ranks) = IsAheadOf ranks r × AreByTick ranks
+
+-- each queue has the ranks of one level, in order, where the first of the queues is this level's
+abbrev pub AreByLevel : ℕ → List (List Rank) → Type 0
+AreByLevel level [] = Unit {0}
+AreByLevel level (queue ∷ queues) = Each (IsAtLevel level) queue × AreByTick queue × AreByLevel (suc level) queues

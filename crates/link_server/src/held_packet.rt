@@ -24,6 +24,7 @@ pub(crate) struct HeldPacket {
     pub(crate) next: Option<LinkNo>,
     ghost has_size: { 1 ≤ size },
     ghost has_level: { 1 ≤ level },
+    ghost has_most: { level ≤ 9 },
 }
 
 // A packet that has started, and the tick at which it did.

@@ -73,6 +73,7 @@ pub(crate) fn start_next(
     ensures fewer { length (ranks_in line.new) + count_on (start_at tick (option_map arrival_in result)) ≤ length (ranks_in line.old) }
     ensures room { room_in line.old ≤ room_in line.new }
     ensures looked { line.new.until ≡ tick }
+    ensures newest { line.new.newest ≡ line.old.newest }
 {
     while let Some(rank) = line.next(tick) {
         if let Some(packet) = with_rank(here, &rank) {

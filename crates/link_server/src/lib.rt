@@ -20,6 +20,7 @@ mod line;
 mod link_state;
 mod packets;
 mod planned;
+mod ready;
 mod rows;
 mod served_row;
 mod setup;

@@ -1,12 +1,15 @@
 //! The line at a link: which packet starts next, of those that haven't started.
-ghost use Rattle.std.specs.Prelude.{◌≡◌, ◌+◌, ◌≤◌, ◌<◌, ◌∷◌, [], IfSome, IfNone, None, IsOk, OnOk, length, IsPermutation};
-ghost use Rattle.std.specs.BinaryHeap.{IsHeap, IsHeap-prop, heap_items, heap_len, heap_capacity};
-ghost use Rattle.std.proofs.Props.{props};
-ghost use Rattle.link_server.specs.Rank.{backwards, AreBy};
+ghost use Rattle.std.specs.Prelude.{◌≡◌, ◌+◌, ◌^◌, ◌≤◌, ◌<◌, ◌∷◌, [], true, false, IfOk, IfSome, IfNone, IsOk, OnOk, length, IsPermutation};
+ghost use Rattle.slab.specs.Slab.{slab_len};
+ghost use Rattle.link_server.specs.Keys.{keys_of, ranks_at, queues_at, AreKeyed, AreInOrder};
+ghost use Rattle.link_server.specs.LineProp.{AreKeyed-prop, AreInOrder-prop};
+ghost use Rattle.link_server.specs.Ready.{queues_of};
 
-use std::alloc::{AllocError, Global};
-use std::cmp::Reverse;
-use std::collections::BinaryHeap;
+use crate::ready::Ready;
+use net_units::OutOfMemory;
+use slab::Slab;
+use std::alloc::Global;
+use tick_calendar::Calendar;
 
 // Where a packet stands in line: by level, then by eligible tick, then by arrival number.
 #[derive(Clone, Copy)]
@@ -16,57 +19,100 @@ pub(crate) struct Rank {
     pub(crate) place: u64,
 }
 
-// The ranks of the packets that haven't started: those that were eligible when the link last looked, the first in line
-// ahead, and the others, the first eligible ahead.
+// The ranks of the packets that haven't started, each under a key. Those that were eligible when the link last looked are in
+// the queue of their level, and the others in a calendar.
 #[derive(Drop)]
 pub(crate) struct Line {
-    pub(crate) later: BinaryHeap<Reverse<(u64, u64, u8)>>,
-    pub(crate) ready: BinaryHeap<Reverse<(u8, u64, u64)>>,
+    pub(crate) ranks: Slab<Rank>,
+    pub(crate) later: Calendar,
+    pub(crate) ready: Ready,
     // The tick in which the link last looked.
     pub(crate) until: u64,
-    ghost later_first: { IsHeap backwards (heap_items later) } by { Prim.hlevel props },
-    ghost ready_first: { IsHeap backwards (heap_items ready) } by { Prim.hlevel props },
-    ghost moved: { AreBy until (heap_items ready) } by { Prim.hlevel props },
+    // No packet in line has a higher arrival number.
+    pub(crate) newest: u64,
+    // For how many ranks there is room.
+    pub(crate) room: usize,
+    ghost keyed: { AreKeyed ranks.slots later.entries (queues_of ready) } by { AreKeyed-prop ranks.slots later.entries (queues_of ready) },
+    ghost in_order: { AreInOrder (ranks_at ranks.slots (keys_of later.entries)) (queues_at ranks.slots (queues_of ready)) until newest } by { AreInOrder-prop (ranks_at ranks.slots (keys_of later.entries)) (queues_at ranks.slots (queues_of ready)) until newest },
+    ghost nine: { length (queues_of ready) ≡ 9 },
+    ghost looked: { later.clock ≤ until },
+    ghost ranks_hold: { room ≤ ranks.capacity },
+    ghost keys_fit: { ranks.capacity < 2 ^ 32 },
+    ghost later_holds: { room ≤ length later.entries + later.spare },
+    ghost ready_holds: { room ≤ ready.room },
 }
 
 impl Line {
-    ghost use Rattle.link_server.specs.Line.{ranks_in, later_in, ready_in, room_in, AreAfter, IsDue, IsNext};
+    ghost use Rattle.link_server.specs.Line.{ranks_in, later_in, ready_in, room_in, AreAfter, IsNext};
 
     // Nobody in line, and no room.
-    pub(crate) fn new(alloc: Global) -> Line
-        ensures ranks { ranks_in result ≡ [] }
-        ensures until { result.until ≡ 0 }
+    pub(crate) fn new(alloc: Global) -> Result<Line, OutOfMemory>
+        ensures ranks { IfOk result (λ made. ranks_in made ≡ []) }
+        ensures until { IfOk result (λ made. made.until ≡ 0) }
+        ensures newest { IfOk result (λ made. made.newest ≡ 0) }
+        ensures room { IfOk result (λ made. room_in made ≡ 0) }
     {
-        Line {
-            later: BinaryHeap::new(alloc),
-            ready: BinaryHeap::new(alloc),
+        Ok(Line {
+            ranks: Slab::new(alloc),
+            later: Calendar::new(alloc)?,
+            ready: Ready::new(alloc)?,
             until: 0,
-        }
+            newest: 0,
+            room: 0,
+        })
     }
 
     // Makes room for `room` ranks in all. Where there is that room already it takes no memory.
-    pub(crate) fn reserve(&mut self, room: usize) -> Result<(), AllocError>
+    pub(crate) fn reserve(&mut self, room: usize) -> Result<(), OutOfMemory>
         ensures room { OnOk result (room ≤ room_in self.new) }
         ensures had_room { room ≤ room_in self.old → IsOk result }
         ensures grows { room_in self.old ≤ room_in self.new }
         ensures ranks { ranks_in self.new ≡ ranks_in self.old }
         ensures until { self.new.until ≡ self.old.until }
+        ensures newest { self.new.newest ≡ self.old.newest }
     {
-        self.later.reserve(room.saturating_sub(self.later.len()))?;
-        self.ready.reserve(room.saturating_sub(self.ready.len()))
+        if room <= self.room {
+            return Ok(());
+        }
+        self.reserve_ranks(room)?;
+        self.later.reserve(room)?;
+        self.ready.reserve(room)?;
+        self.room = room;
+        Ok(())
     }
 
-    // Puts a packet in line. There is room for it, so it takes no memory.
+    // Makes the slab able to hold so many ranks.
+    fn reserve_ranks(&mut self, room: usize) -> Result<(), OutOfMemory>
+        ensures room { OnOk result (room ≤ self.new.ranks.capacity) }
+        ensures slots { self.new.ranks.slots ≡ self.old.ranks.slots }
+        ensures later { self.new.later ≡ self.old.later }
+        ensures ready { self.new.ready ≡ self.old.ready }
+        ensures until { self.new.until ≡ self.old.until }
+        ensures newest { self.new.newest ≡ self.old.newest }
+        ensures own_room { self.new.room ≡ self.old.room }
+    {
+        if self.ranks.capacity() < room {
+            self.ranks = grown(&self.ranks, room)?;
+        }
+        Ok(())
+    }
+
+    // Puts a packet in line, the newest of all, that isn't eligible before the link last looked. There is room for it, so it
+    // takes no memory.
     pub(crate) fn push(&mut self, rank: &Rank)
         requires room { length (ranks_in self.old) < room_in self.old }
+        requires least { 1 ≤ rank.now.level }
+        requires most { rank.now.level ≤ 9 }
+        requires eligible { self.old.until ≤ rank.now.eligible }
+        requires newest { self.old.newest < rank.now.place }
         ensures ranks { IsPermutation (rank.now ∷ ranks_in self.old) (ranks_in self.new) }
         ensures room { room_in self.old ≤ room_in self.new }
         ensures until { self.new.until ≡ self.old.until }
+        ensures newest { self.new.newest ≡ rank.now.place }
     {
-        let entry = Reverse((rank.eligible, rank.place, rank.level));
-        if self.later.push(entry).is_err() {
-            unreachable!();
-        }
+        let key = self.ranks.insert_reserved(*rank) as u32;
+        self.later.put(rank.eligible, key);
+        self.newest = rank.place;
     }
 
     // Takes out the first in line of those that are eligible by this tick. It takes no memory.
@@ -77,14 +123,11 @@ impl Line {
         ensures next { IfSome result (IsNext tick (ranks_in self.old) (ranks_in self.new)) }
         ensures room { room_in self.old ≤ room_in self.new }
         ensures until { self.new.until ≡ tick }
+        ensures newest { self.new.newest ≡ self.old.newest }
     {
         self.look(tick);
-        let Reverse((level, eligible, place)) = self.ready.pop()?;
-        Some(Rank {
-            level,
-            eligible,
-            place,
-        })
+        let key = self.ready.pick()?;
+        Some(self.ranks.remove(key as usize))
     }
 
     // Moves the ranks that are eligible by this tick to those that are ready.
@@ -93,47 +136,43 @@ impl Line {
         requires room { length (ranks_in self.old) ≤ room_in self.old }
         ensures ranks { IsPermutation (ranks_in self.old) (ranks_in self.new) }
         ensures after { AreAfter tick (later_in self.new) }
-        ensures room { room_in self.old ≤ room_in self.new }
+        ensures room { room_in self.new ≡ room_in self.old }
         ensures until { self.new.until ≡ tick }
+        ensures newest { self.new.newest ≡ self.old.newest }
     {
         self.until = tick;
-        while let Some(rank) = self.take_due() {
-            self.put_ready(&rank);
-        }
+        while self.move_due() {}
     }
 
-    // Takes out the first of those that weren't eligible yet, where it is now.
-    fn take_due(&mut self) -> Option<Rank>
-        ensures due { IfSome result (λ rank. IsDue self.old.until (later_in self.old) (later_in self.new) rank) }
-        ensures none { result ≡ None → AreAfter self.new.until (later_in self.new) × (later_in self.new ≡ later_in self.old) }
-        ensures ready { self.new.ready ≡ self.old.ready }
-        ensures room { heap_capacity self.new.later ≡ heap_capacity self.old.later }
+    // Moves the rank that was eligible first, of those that aren't ready, where it is eligible now. It answers whether one was.
+    fn move_due(&mut self) -> bool
+        requires room { length (ranks_in self.old) ≤ room_in self.old }
+        ensures ranks { IsPermutation (ranks_in self.old) (ranks_in self.new) }
+        ensures fewer { result ≡ true → length (later_in self.new) < length (later_in self.old) }
+        ensures after { result ≡ false → AreAfter self.new.until (later_in self.new) }
+        ensures room { room_in self.new ≡ room_in self.old }
         ensures until { self.new.until ≡ self.old.until }
+        ensures newest { self.new.newest ≡ self.old.newest }
     {
-        let Reverse((eligible, _, _)) = self.later.peek()?;
-        if *eligible > self.until {
-            return None;
-        }
-        let Reverse((eligible, place, level)) = self.later.pop()?;
-        Some(Rank {
-            level,
-            eligible,
-            place,
-        })
+        let Some(key) = self.later.take_due(self.until) else {
+            return false;
+        };
+        let level = self.ranks[key as usize].level;
+        self.ready.push(level, key);
+        true
     }
+}
 
-    // Puts a rank to those that are ready.
-    fn put_ready(&mut self, rank: &Rank)
-        requires due { rank.now.eligible ≤ self.old.until }
-        requires room { length (ready_in self.old) < heap_capacity self.old.ready }
-        ensures ready { IsPermutation (rank.now ∷ ready_in self.old) (ready_in self.new) }
-        ensures later { self.new.later ≡ self.old.later }
-        ensures room { heap_capacity self.old.ready ≤ heap_capacity self.new.ready }
-        ensures until { self.new.until ≡ self.old.until }
-    {
-        let entry = Reverse((rank.level, rank.eligible, rank.place));
-        if self.ready.push(entry).is_err() {
-            unreachable!();
-        }
+// A copy of a slab, with room for so many ranks, each of whose keys fits in a u32.
+fn grown(ranks: &Slab<Rank>, room: usize) -> Result<Slab<Rank>, OutOfMemory>
+    ensures slots { IfOk result (λ made. made.slots ≡ ranks.now.slots) }
+    ensures room { IfOk result (λ made. room ≤ made.capacity) }
+    ensures keys { IfOk result (λ made. made.capacity < 2 ^ 32) }
+{
+    let mut more = ranks.clone()?;
+    more.reserve(room.saturating_sub(more.len()))?;
+    if more.capacity() >= u32::MAX as usize {
+        return Err(OutOfMemory);
     }
+    Ok(more)
 }

@@ -64,7 +64,7 @@ impl LinkState {
     {
         let blocking = shape.blocking();
         let places = shape.best + 1;
-        let mut packets = Packets::new(alloc);
+        let mut packets = Packets::new(alloc)?;
         packets.reserve(places as usize)?;
         Ok(LinkState {
             alloc,

@@ -1,5 +1,5 @@
 //! The packets at a link: those that it has taken and that haven't departed, and the one that occupies it.
-ghost use Rattle.std.specs.Prelude.{◌≡◌, ◌+◌, ◌^◌, ◌<◌, ◌≤◌, ◌∷◌, ◌++◌, [], suc, nat_eq, filter, find, length, IsTrue, IsOk, OnOk};
+ghost use Rattle.std.specs.Prelude.{◌≡◌, ◌+◌, ◌^◌, ◌<◌, ◌≤◌, ◌∷◌, ◌++◌, [], suc, nat_eq, filter, find, length, IsTrue, IsOk, IfOk, OnOk};
 ghost use Rattle.std.specs.Vec.{vec_capacity};
 ghost use Rattle.std.specs.VecDeque.{deque_capacity};
 ghost use Rattle.link_server.specs.InLine.{count_on, AreIn, AreIn-prop};
@@ -46,6 +46,7 @@ pub(crate) struct Packets {
     ghost lines_up: { room ≤ room_in line },
     ghost counts_are: { AreCounts counts.items (here_in here.items) } by { AreCounts-prop counts.items (here_in here.items) },
     ghost counts_fit: { room ≤ vec_capacity counts },
+    ghost latest: { line.newest ≤ taken },
 }
 
 // What leaves a link at the end of a tick: a packet of a channel, or a best-effort packet, if any.
@@ -66,22 +67,22 @@ impl Packets {
     ghost use Rattle.link_server.specs.Serving.{CanServe};
 
     // No packet taken yet, and no room for one.
-    pub(crate) fn new(alloc: Global) -> Packets
-        ensures taken { result.taken ≡ 0 }
-        ensures here { result.here.items ≡ [] }
-        ensures on { result.on ≡ None }
-        ensures best { left_in result.best ≡ [] }
-        ensures looked { result.line.until ≡ 0 }
+    pub(crate) fn new(alloc: Global) -> Result<Packets, OutOfMemory>
+        ensures taken { IfOk result (λ made. made.taken ≡ 0) }
+        ensures here { IfOk result (λ made. made.here.items ≡ []) }
+        ensures on { IfOk result (λ made. made.on ≡ None) }
+        ensures best { IfOk result (λ made. left_in made.best ≡ []) }
+        ensures looked { IfOk result (λ made. made.line.until ≡ 0) }
     {
-        Packets {
+        Ok(Packets {
             taken: 0,
             here: VecDeque::new(alloc),
             counts: Vec::new(alloc),
-            line: Line::new(alloc),
+            line: Line::new(alloc)?,
             room: 0,
             on: None,
             best: Planned::NONE,
-        }
+        })
     }
 
     // Makes room for `more` more packets here. Where there is that room already it takes no memory.
@@ -106,10 +107,11 @@ impl Packets {
         Ok(())
     }
 
-    // Takes a packet, after those that are here. It takes no memory.
+    // Takes a packet, after those that are here, which isn't eligible before the link last looked. It takes no memory.
     pub(crate) fn push(&mut self, packet: HeldPacket)
         requires room { length self.old.here.items < self.old.room }
         requires next { packet.place ≡ self.old.taken + 1 }
+        requires eligible { self.old.line.until ≤ packet.eligible }
         requires countable { self.old.taken + 1 < 2 ^ 64 }
         ensures taken { self.new.taken ≡ self.old.taken + 1 }
         ensures here { self.new.here.items ≡ self.old.here.items ++ packet ∷ [] }
@@ -191,6 +193,7 @@ impl Packets {
         requires ahead { IsPlannedAhead clock self.old.best }
         requires room { IsTrue fits → length self.old.here.items < self.old.room }
         requires countable { self.old.taken + 1 < 2 ^ 64 }
+        requires looked { self.old.line.until ≤ clock }
         ensures lost { result ≡ nat_eq (dropped_by (source_step fits (find (is_for clock) (left_in self.old.best)))) 1 }
         ensures here { here_in self.new.here.items ≡ here_in self.old.here.items ++ best_packet (source_step fits (find (is_for clock) (left_in self.old.best))) shape.now.bounds (suc self.old.taken) clock }
         ensures taken { self.new.taken ≡ self.old.taken + taken_by (source_step fits (find (is_for clock) (left_in self.old.best))) }

@@ -25,6 +25,7 @@ pub(crate) fn take_source_packets(
     requires few { length rows.old < 2 ^ 32 }
     requires ready { AreReady clock rows.old }
     requires within { AreWithin (length bounds.now) rows.old }
+    requires looked { packets.old.line.until ≤ clock }
     requires room { length packets.old.here.items + length (brought_by bounds.now (here_in packets.old.here.items) clock packets.old.taken rows.old) ≤ packets.old.room }
     requires numbers { packets.old.taken + length (brought_by bounds.now (here_in packets.old.here.items) clock packets.old.taken rows.old) < 2 ^ 64 }
     ensures lost { result ≡ lost_by_rows bounds.now (here_in packets.old.here.items) clock rows.old }
@@ -64,6 +65,7 @@ fn take_source_packet(
     requires early { clock < 2 ^ 61 }
     requires ready { IsReady clock (row_in row.old) }
     requires within { IsWithinLevels (length bounds.now) row.old }
+    requires looked { packets.old.line.until ≤ clock }
     requires before { before ≤ length packets.old.here.items }
     requires room { length packets.old.here.items + taken_by (step_in bounds.now (take before (here_in packets.old.here.items)) clock row.old) ≤ packets.old.room }
     requires numbers { packets.old.taken + taken_by (step_in bounds.now (take before (here_in packets.old.here.items)) clock row.old) < 2 ^ 64 }

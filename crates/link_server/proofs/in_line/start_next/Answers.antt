@@ -1,5 +1,5 @@
 -- The first rank in turn whose packet is here is that of the first in line.
-use Rattle.std.proofs.Common.{None, arith}
+use Rattle.std.proofs.Common.{None, ◌∙◌, arith}
 use Rattle.std.proofs.lemmas.List.Sorted.{length_permutation}
 use Rattle.link_server.specs.Line.{ranks_in}
 use Rattle.link_server.specs.Packets.{arrival_in, here_in}
@@ -33,6 +33,7 @@ loop-rank-preserved c =
       fewer = omega (arith, one, before);
       room = omega (arith, room, c.next.ensures.room);
       looked = omega (arith, c.next.ensures.until);
+      newest = c.next.ensures.newest ∙ c.loop-rank.invariant.newest;
     }
 
 pub returns-clause-first : goal.returns-clause-first

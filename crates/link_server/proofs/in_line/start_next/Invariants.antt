@@ -1,4 +1,4 @@
-use Rattle.std.proofs.Common.{◌≤◌, None, length}
+use Rattle.std.proofs.Common.{◌≡◌, ◌≤◌, None, length}
 use Rattle.link_server.specs.InLine.{AreIn}
 use Rattle.link_server.specs.Line.{ranks_in, room_in}
 use Rattle.link_server.specs.Packets.{here_in}
@@ -11,6 +11,7 @@ invariant-loop-rank l = record {
   fewer : length (ranks_in l.line) ≤ length (ranks_in l.fn.line);
   room : room_in l.fn.line ≤ room_in l.line;
   looked : l.line.until ≤ l.tick;
+  newest : l.line.newest ≡ l.fn.line.newest;
 }
 
 -- each turn takes a rank out

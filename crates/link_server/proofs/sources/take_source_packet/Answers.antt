@@ -5,6 +5,8 @@ use Rattle.std.proofs.lemmas.List.{append-nil}
 use Rattle.std.specs.Prelude.{nat_lt}
 use Rattle.link_steps.specs.Sources.{dropped_by, taken_by}
 use Rattle.link_steps.specs.Sources.SourceStep.{Rests, Brings, Drops}
+use Rattle.link_steps.specs.Service.{Arrival}
+use Rattle.link_steps.proofs.AccountOfRows.{eligible-from}
 use Rattle.link_server.specs.Packets.{here_in}
 use Rattle.link_steps.specs.Buffer.{slots_of}
 use Rattle.link_server.specs.Rows.{reservation_in, row_in}
@@ -61,6 +63,12 @@ pub push-requires-clause-room : goal.push-requires-clause-room
 push-requires-clause-room c =
     let one : taken_by (step_in c.args.bounds.now (take c.args.before (here_in c.args.packets.now.here.items)) c.args.clock c.args.row.now) ≡ 1 = ap taken_by (brings (goal.at.push-requires-clause-room c).After-has_slot c.if-not-has_slot.false) in
     omega (arith, one, c.requires.room)
+
+pub push-requires-clause-eligible : goal.push-requires-clause-eligible
+push-requires-clause-eligible c =
+    let own = ap (λ (p : Arrival). p.eligible) c.take-packet.ensures.packet in
+    let from = eligible-from (reservation_in c.next_planned.new.self) (row_in c.next_planned.new.self).recent c.args.clock 0 in
+    omega (arith, own, from, c.requires.looked)
 
 pub returns-clause-lost : goal.returns-clause-lost
 returns-clause-lost c = ap dropped_by (sym (brings (goal.at.returns-clause-lost c).After-has_slot c.if-not-has_slot.false))

@@ -10,6 +10,7 @@ use Rattle.link_steps.specs.Kept.{kept_reply, kept_after, kept_with}
 use Rattle.link_steps.specs.Refusals.{full}
 use Rattle.link_steps.specs.Regulator.{eligible_next}
 use Rattle.link_steps.specs.Sources.{arrival_at}
+use Rattle.link_steps.proofs.AccountOfRows.{eligible-from}
 use Rattle.traffic_contract.specs.Eligible.{newest}
 use Rattle.link_server.specs.Account.{account}
 use Rattle.link_server.specs.Packets.{here_in}
@@ -103,6 +104,13 @@ push-requires-clause-room c =
     let free = arrive-room c.args.self.now.shape c.args.self.now.room c.args.self.now.clock c.take-taken.result.eligible c.args.self.now.packets c.args.packet.now c.args.self.now.rows.items c.in-Some.place c.index_mut.result.now place after in
     let roomy = c.args.self.now.roomy in
     omega (arith, free, roomy)
+
+pub push-requires-clause-eligible : goal.push-requires-clause-eligible
+push-requires-clause-eligible c =
+    let own = ap (λ p. p.eligible) c.take-taken.ensures.packet in
+    let from = eligible-from (reservation_in c.index_mut.result.now) (row_in c.index_mut.result.now).recent c.args.self.now.clock c.args.packet.now.due in
+    let looked = c.args.self.now.looked in
+    omega (arith, own, from, looked)
 
 -- what is kept is the account's
 kept : (c : After-push) → IsPlaceOf c.args.packet.now.chan c.args.self.now.rows.items c.in-Some.place

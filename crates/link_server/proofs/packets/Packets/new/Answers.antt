@@ -13,4 +13,4 @@ pub invariant_of-result-2-clause-counts_are : goal.invariant_of-result-2-clause-
 invariant_of-result-2-clause-counts_are c = rw (c.new.ensures.items, c.new-2.ensures.items) none-counted
 
 pub invariant_of-result-2-clause-few : goal.invariant_of-result-2-clause-few
-invariant_of-result-2-clause-few c = (let none : length (ranks_in c.new-3.result) ≡ 0 = ap length c.new-3.ensures.ranks in omega (arith, none))
+invariant_of-result-2-clause-few c = (let none : length (ranks_in c.in_ok-new.field-0) ≡ 0 = ap length c.in_ok-new.ensures.ranks in omega (arith, none))

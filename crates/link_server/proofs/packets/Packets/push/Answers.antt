@@ -17,7 +17,14 @@ pub push-requires : goal.push-requires
 push-requires c =
     let few = c.args.self.now.few in
     let room = c.args.self.now.lines_up in
-    record { room = omega (arith, few, room, c.requires.room) }
+    let latest = c.args.self.now.latest in
+    record {
+      room = omega (arith, few, room, c.requires.room);
+      least = c.args.packet.has_level;
+      most = c.args.packet.has_most;
+      eligible = c.requires.eligible;
+      newest = omega (arith, latest, c.requires.next);
+    }
 
 pub raise-requires : goal.raise-requires
 raise-requires c =
@@ -52,5 +59,6 @@ invariant_of-self c =
             ∙ sym (held-pushed lead (here_in c.args.self.now.here.items) (arrival_in c.args.packet)) ∙ ap (held_packets lead) (sym one);
         all = (let all = c.args.self.now.counts_are.all in let now = ap length one in let parts = length-append (here_in c.args.self.now.here.items) (arrival_in c.args.packet ∷ []) in omega (arith, all, now, parts, c.raise.ensures.all));
       };
+      latest = omega (arith, c.push.ensures.newest, c.requires.next);
       counts_fit = (let fit = c.args.self.now.counts_fit in omega (arith, fit, c.raise.ensures.capacity));
     }

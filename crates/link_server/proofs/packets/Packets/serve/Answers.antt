@@ -44,5 +44,6 @@ invariant_of-self c =
       holds = omega (arith, holds, c.take_out.ensures.capacity);
       lines_up = o.lines_up;
       counts_are = c.take_out.ensures.counts;
+      latest = o.latest;
       counts_fit = (let fit = o.counts_fit in omega (arith, fit, c.take_out.ensures.counts_capacity));
     }
