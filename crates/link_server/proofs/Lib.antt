@@ -1,4 +1,5 @@
 pub mod PlaceFacts
+pub mod IndexFacts
 pub mod SumsFacts
 pub mod AnswerFacts
 pub mod CloseFacts

@@ -1,5 +1,6 @@
 pub mod Planned
 pub mod Rows
+pub mod Index
 pub mod Keeping
 pub mod Sources
 pub mod Strays

@@ -26,7 +26,7 @@ impl LinkState {
         ensures reply { result ≡ kept_reply (whole self.old.shape) (kept_in self.old) (AskSubmit chan count gap size) }
         ensures kept { kept_in self.new ≡ kept_after self.old.shape (kept_in self.old) (AskSubmit chan count gap size) result }
     {
-        let Some(place) = place_at_hop(&self.rows, chan, true) else {
+        let Some(place) = place_at_hop(&self.rows, &self.index, chan, true) else {
             return Reply::Refused(Refusal::NoSuch);
         };
         if let Some(refusal) = self.rows[place].not_committed() {
@@ -56,7 +56,7 @@ impl LinkState {
         ensures reply { result ≡ kept_reply (whole self.old.shape) (kept_in self.old) (AskRelease chan upstream) }
         ensures kept { kept_in self.new ≡ kept_after self.old.shape (kept_in self.old) (AskRelease chan upstream) result }
     {
-        let Some(place) = place_at_hop(&self.rows, chan, upstream.is_none()) else {
+        let Some(place) = place_at_hop(&self.rows, &self.index, chan, upstream.is_none()) else {
             return Reply::Refused(Refusal::NoSuch);
         };
         if let Some(refusal) = self.rows[place].not_committed() {
@@ -79,7 +79,7 @@ impl LinkState {
         ensures reply { result ≡ kept_reply (whole self.old.shape) (kept_in self.old) (AskArrive packet.now) }
         ensures kept { kept_in self.new ≡ kept_after self.old.shape (kept_in self.old) (AskArrive packet.now) result }
     {
-        let Some(place) = place_of(&self.rows, packet.chan) else {
+        let Some(place) = place_of(&self.rows, &self.index, packet.chan) else {
             return Reply::Refused(Refusal::Stray { why: Why::NoRow });
         };
         if let Some(refusal) = self.rows[place].stray(packet) {
@@ -144,6 +144,7 @@ impl LinkState {
         let due = self.due;
         expire(
             &mut self.rows,
+            &mut self.index,
             &mut self.sums,
             &mut self.keeping,
             &bounds,

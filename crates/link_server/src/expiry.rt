@@ -3,12 +3,15 @@ ghost use Rattle.std.specs.Prelude.{◌≡◌, ◌<◌, ◌≤◌, length, map, 
 ghost use Rattle.buffer_budget.specs.Parts.{whole_of};
 ghost use Rattle.rcsp_admission.specs.Sums.{AreAdmitted};
 ghost use Rattle.link_steps.specs.Kept.{kept_stays};
+ghost use Rattle.link_server.specs.Index.{channels_in, IsIndex};
 ghost use Rattle.link_server.specs.Keeping.{IsKeeping};
 ghost use Rattle.link_server.specs.Rows.{reservation_in, row_in, summed, AreWithin};
 ghost use Rattle.link_server.specs.Sources.{AreReady};
 ghost use Rattle.link_server.specs.Quiet.{AreQuiet};
 
 use crate::keeping::Keeping;
+use crate::row_index::RowIndex;
+use crate::rows::take_row;
 use crate::served_row::ServedRow;
 use net_units::Bounds;
 use rcsp_admission::LevelSums;
@@ -17,6 +20,7 @@ use rcsp_admission::LevelSums;
 // Nothing is due for the rows before the tick `due`: where that is ahead, it looks at none of them.
 pub(crate) fn expire(
     rows: &mut Vec<ServedRow>,
+    index: &mut RowIndex,
     sums: &mut LevelSums,
     keeping: &mut Keeping,
     bounds: &Bounds,
@@ -28,12 +32,14 @@ pub(crate) fn expire(
     requires within { AreWithin (length bounds.now) rows.old.items }
     requires admitted { AreAdmitted sums.old }
     requires same { sums.old.rows ≡ map summed rows.old.items }
+    requires indexed { IsIndex index.old.places.items (channels_in rows.old.items) }
     requires keeps { IsKeeping (whole_of keeping.old.budget) bounds.now keeping.old (map reservation_in rows.old.items) }
     ensures rows { map row_in rows.new.items ≡ filter (kept_stays bounds.now clock) (map row_in rows.old.items) }
     ensures within { AreWithin (length bounds.now) rows.new.items }
     ensures admitted { AreAdmitted sums.new }
     ensures server { sums.new.server ≡ sums.old.server }
     ensures same { sums.new.rows ≡ map summed rows.new.items }
+    ensures indexed { IsIndex index.new.places.items (channels_in rows.new.items) }
     ensures keeps { IsKeeping (whole_of keeping.old.budget) bounds.now keeping.new (map reservation_in rows.new.items) }
     ensures ready { AreReady clock rows.new.items }
     ensures few { length rows.new.items ≤ length rows.old.items }
@@ -47,7 +53,7 @@ pub(crate) fn expire(
         if rows[place].has_ended(bounds, clock) {
             keeping.give_back(&rows[place], bounds);
             sums.remove(rows[place].chan.get());
-            rows.remove(place);
+            take_row(rows, index, place);
         } else {
             place += 1;
         }

@@ -21,6 +21,7 @@ mod link_state;
 mod packets;
 mod planned;
 mod ready;
+mod row_index;
 mod rows;
 mod served_row;
 mod setup;

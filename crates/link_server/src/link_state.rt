@@ -4,6 +4,7 @@ ghost use Rattle.rcsp_admission.specs.Sums.{AreAdmitted};
 ghost use Rattle.link_steps.specs.Legal.{AskFits};
 ghost use Rattle.link_steps.specs.Shape.{server_of};
 ghost use Rattle.link_server.specs.Account.{account};
+ghost use Rattle.link_server.specs.Index.{channels_in, IsIndex, IsIndex-prop};
 ghost use Rattle.link_server.specs.Keeping.{IsKeeping, IsKeeping-prop};
 ghost use Rattle.link_server.specs.Rows.{reservation_in, row_in, summed, AreWithin};
 ghost use Rattle.link_server.specs.Quiet.{AreQuiet, AreQuiet-prop};
@@ -14,6 +15,7 @@ ghost use Rattle.link_server.specs.Stood.{IsStood, IsStood-prop};
 use crate::held_row::HeldRow;
 use crate::keeping::Keeping;
 use crate::packets::Packets;
+use crate::row_index::RowIndex;
 use crate::served_row::{ServedRow, Wanted};
 use link_steps::{Ask, LinkShape, LinkStep, Reply};
 use net_units::OutOfMemory;
@@ -28,6 +30,7 @@ pub struct LinkState {
     pub(crate) clock: u64,
     // In the order of their reserves.
     pub(crate) rows: Vec<ServedRow>,
+    pub(crate) index: RowIndex,
     pub(crate) packets: Packets,
     pub(crate) sums: LevelSums,
     // What the rows keep together.
@@ -41,6 +44,7 @@ pub struct LinkState {
     ghost same_server: { sums.server ≡ server_of shape },
     ghost same_rows: { sums.rows ≡ map summed rows.items },
     ghost within: { AreWithin (length shape.bounds) rows.items },
+    ghost indexed: { IsIndex index.places.items (channels_in rows.items) } by { IsIndex-prop index.places.items (channels_in rows.items) },
     ghost keeps: { IsKeeping shape.buffer shape.bounds keeping (map reservation_in rows.items) } by { IsKeeping-prop shape.buffer shape.bounds keeping (map reservation_in rows.items) },
     ghost sound: { IsSound shape room (account clock packets rows.items) } by { IsSound-prop shape room (account clock packets rows.items) },
     ghost quiet: { AreQuiet shape.bounds due (map row_in rows.items) } by { AreQuiet-prop shape.bounds due (map row_in rows.items) },
@@ -72,6 +76,7 @@ impl LinkState {
             shape,
             clock: 0,
             rows: Vec::new(alloc),
+            index: RowIndex::new(alloc),
             keeping: Keeping::new(shape.buffer),
             packets,
             room: u64::from(places),

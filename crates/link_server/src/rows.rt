@@ -1,39 +1,57 @@
 //! The rows of a link together: where a channel's stands, and the need and the reach of a new one.
-ghost use Rattle.std.specs.Prelude.{◌≡◌, ◌≤◌, IfNone, IfSome, length};
+ghost use Rattle.std.specs.Prelude.{◌≡◌, ◌<◌, ◌≤◌, IfNone, IfSome, length, remove};
 ghost use Rattle.net_units.specs.Numbers.{level_number};
 ghost use Rattle.net_units.specs.Limits.{most_bound};
 ghost use Rattle.net_units.specs.LevelBounds.{reach_of};
 ghost use Rattle.link_steps.specs.Buffer.{need_of};
+ghost use Rattle.link_server.specs.Index.{channels_in, IsIndex};
 ghost use Rattle.link_server.specs.Rows.{is_served_at_hop, NoRowPasses, IsFirstPlace, IsAbsent, IsPlaceOf};
 
+use crate::row_index::RowIndex;
 use crate::served_row::{ServedRow, units_for};
 use net_units::{Bounds, ChanNo, Level};
 use traffic_contract::Contract;
 
 // The place of the channel's row.
-pub(crate) fn place_of(rows: &[ServedRow], chan: ChanNo) -> Option<usize>
+pub(crate) fn place_of(rows: &[ServedRow], index: &RowIndex, chan: ChanNo) -> Option<usize>
+    requires { IsIndex index.now.places.items (channels_in rows.now) }
     ensures none { IfNone result (IsAbsent chan rows.now) }
     ensures some { IfSome result (IsPlaceOf chan rows.now) }
 {
-    for (place, row) in rows.iter().enumerate() {
-        if row.chan.get() == chan.get() {
-            return Some(place);
-        }
+    let place = index.place(chan)?;
+    if place < rows.len() && rows[place].chan.get() == chan.get() {
+        return Some(place);
     }
     None
 }
 
 // The place of the channel's row at its first hop, or at a later one.
-pub(crate) fn place_at_hop(rows: &[ServedRow], chan: ChanNo, first: bool) -> Option<usize>
+pub(crate) fn place_at_hop(
+    rows: &[ServedRow],
+    index: &RowIndex,
+    chan: ChanNo,
+    first: bool,
+) -> Option<usize>
+    requires { IsIndex index.now.places.items (channels_in rows.now) }
     ensures none { IfNone result (NoRowPasses (is_served_at_hop chan first) rows.now) }
     ensures some { IfSome result (IsFirstPlace (is_served_at_hop chan first) rows.now) }
 {
-    for (place, row) in rows.iter().enumerate() {
-        if row.is_at_hop(chan, first) {
-            return Some(place);
-        }
+    let place = place_of(rows, index, chan)?;
+    if rows[place].is_at_hop(chan, first) {
+        return Some(place);
     }
     None
+}
+
+// Takes out the row at this place. Those after it move up, and are found at their new places.
+pub(crate) fn take_row(rows: &mut Vec<ServedRow>, index: &mut RowIndex, place: usize)
+    requires inside { place < length rows.old.items }
+    requires indexed { IsIndex index.old.places.items (channels_in rows.old.items) }
+    ensures rows { rows.new.items ≡ remove rows.old.items place }
+    ensures indexed { IsIndex index.new.places.items (channels_in rows.new.items) }
+{
+    rows.remove(place);
+    index.move_up(rows, place);
 }
 
 // The units that a new reservation would keep.

@@ -1,7 +1,7 @@
 //! The asks of a setup at a link: reserve, relax and deny.
 ghost use Rattle.std.specs.Prelude.{◌≡◌, ◌+◌, ◌<◌, ◌≤◌, ◌↔◌, ◌∷◌, List, suc, map, length, IfOk, OnOk, OnErr};
 ghost use Rattle.std.specs.Vec.{vec_capacity};
-ghost use Rattle.net_units.specs.Numbers.{level_number};
+ghost use Rattle.net_units.specs.Numbers.{channel_number, level_number};
 ghost use Rattle.link_steps.specs.declared.asks.Ask.TheVariants.{Relax as AskRelax, Deny as AskDeny};
 ghost use Rattle.link_steps.specs.declared.replies.Entry.{Entry};
 ghost use Rattle.link_steps.specs.declared.replies.Reply.TheVariants.{Offer};
@@ -21,7 +21,7 @@ ghost use Rattle.link_server.specs.State.{kept_in, LinkStands};
 ghost use Rattle.link_server.specs.Wants.{ask_for, offer_reply, MayHold};
 
 use crate::link_state::LinkState;
-use crate::rows::{need_of, place_of, reach_of};
+use crate::rows::{need_of, place_of, reach_of, take_row};
 use crate::served_row::{Offered, ServedRow, Wanted};
 use link_steps::{Ask, Refusal, Reply};
 use net_units::{ChanNo, Level, OutOfMemory};
@@ -106,7 +106,7 @@ impl LinkState {
                 cap: u64::from(self.shape.cap),
             });
         }
-        if let Some(place) = place_of(&self.rows, wanted.chan) {
+        if let Some(place) = place_of(&self.rows, &self.index, wanted.chan) {
             return Err(Refusal::Twice {
                 phase: self.rows[place].phase,
             });
@@ -141,6 +141,8 @@ impl LinkState {
         self.make_room(&row)?;
         let bounds = self.shape.bounds;
         self.keeping.hold(&row, &bounds);
+        let place = self.rows.len() as u32;
+        self.index.put(wanted.chan, place);
         self.rows.push_reserved(row);
         self.sums
             .add(wanted.chan.get(), wanted.contract, offer.level);
@@ -154,6 +156,7 @@ impl LinkState {
         ensures clock { self.new.clock ≡ self.old.clock }
         ensures kept { kept_in self.new ≡ kept_in self.old }
         ensures row_fits { OnOk result (length self.new.rows.items < vec_capacity self.new.rows) }
+        ensures place_fits { OnOk result (channel_number row.now.chan < length self.new.index.places.items) }
         ensures sum_fits { OnOk result (1 ≤ self.new.sums.spare) }
         ensures packets_fit { OnOk result (most_places self.new.shape.bounds (here_in self.new.packets.here.items) (map row_in self.new.rows.items) + suc (slots_of self.new.shape.bounds (reservation_in row.now)) + suc self.new.shape.best ≤ self.new.room) }
     {
@@ -163,6 +166,7 @@ impl LinkState {
         self.rows.reserve(1)?;
         self.sums.reserve(1)?;
         self.packets.reserve(places as usize)?;
+        self.index.reserve(row.chan)?;
         self.room = self.room.max(room);
         Ok(())
     }
@@ -175,7 +179,7 @@ impl LinkState {
         ensures reply { result ≡ kept_reply (whole self.old.shape) (kept_in self.old) (AskRelax chan level up_bound) }
         ensures kept { kept_in self.new ≡ kept_after self.old.shape (kept_in self.old) (AskRelax chan level up_bound) result }
     {
-        let Some(place) = place_of(&self.rows, chan) else {
+        let Some(place) = place_of(&self.rows, &self.index, chan) else {
             return Reply::Refused(Refusal::NoSuch);
         };
         if let Some(refusal) = self.rows[place].not_tentative() {
@@ -199,7 +203,7 @@ impl LinkState {
         ensures reply { result ≡ kept_reply (whole self.old.shape) (kept_in self.old) (AskDeny chan) }
         ensures kept { kept_in self.new ≡ kept_after self.old.shape (kept_in self.old) (AskDeny chan) result }
     {
-        let Some(place) = place_of(&self.rows, chan) else {
+        let Some(place) = place_of(&self.rows, &self.index, chan) else {
             return Reply::Refused(Refusal::NoSuch);
         };
         if let Some(refusal) = self.rows[place].not_tentative() {
@@ -208,7 +212,7 @@ impl LinkState {
         let bounds = self.shape.bounds;
         self.keeping.give_back(&self.rows[place], &bounds);
         self.sums.remove(chan.get());
-        self.rows.remove(place);
+        take_row(&mut self.rows, &mut self.index, place);
         Reply::Denied
     }
 }

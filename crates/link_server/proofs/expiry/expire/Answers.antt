@@ -50,15 +50,15 @@ loop-place-preserved-then-has_ended c =
     let distinct = subst IsDistinct c.loop-place.invariant.same c.loop-place.invariant.admitted.distinct in
     let place = place-distinct c.loop-place.rows.items c.loop-place.place c.index-then-has_ended-2.result.now distinct inside in
     let fewer = length-remove c.loop-place.rows.items c.loop-place.place inside in
-    let len : length c.remove-then-has_ended.new.self.items ≡ length (remove c.loop-place.rows.items c.loop-place.place) = ap length c.remove-then-has_ended.ensures.items in
+    let len : length c.take_row.new.rows.items ≡ length (remove c.loop-place.rows.items c.loop-place.place) = ap length c.take_row.ensures.rows in
     record {
       place = omega (arith, fewer, len, inside);
       stay =
-          ap (staying c.args.bounds.now c.args.clock c.loop-place.place) c.remove-then-has_ended.ensures.items
+          ap (staying c.args.bounds.now c.args.clock c.loop-place.place) c.take_row.ensures.rows
           ∙ staying-without c.args.bounds.now c.args.clock c.loop-place.place c.loop-place.rows.items c.index.result.now inside stays
           ∙ c.loop-place.invariant.stay;
-      ready = rw c.remove-then-has_ended.ensures.items (each-without (IsReady c.args.clock) c.loop-place.rows.items c.loop-place.place c.loop-place.invariant.ready);
-      within = rw c.remove-then-has_ended.ensures.items (all-without (IsWithinLevels _) c.loop-place.rows.items c.loop-place.place c.loop-place.invariant.within);
+      ready = rw c.take_row.ensures.rows (each-without (IsReady c.args.clock) c.loop-place.rows.items c.loop-place.place c.loop-place.invariant.ready);
+      within = rw c.take_row.ensures.rows (all-without (IsWithinLevels _) c.loop-place.rows.items c.loop-place.place c.loop-place.invariant.within);
       admitted = c.remove.ensures.admitted;
       server = c.remove.ensures.server ∙ c.loop-place.invariant.server;
       same =
@@ -66,10 +66,11 @@ loop-place-preserved-then-has_ended c =
           ∙ ap (λ rows. without_key rows c.get.result) c.loop-place.invariant.same
           ∙ ap (λ key. without_key (map summed c.loop-place.rows.items) key) (c.get.ensures.value ∙ ap (λ row. channel_number row.chan) c.index-then-has_ended-2.ensures)
           ∙ summed-without (get_or c.loop-place.rows.items c.loop-place.place c.index-then-has_ended-2.result.now).chan c.loop-place.rows.items c.loop-place.place distinct place
-          ∙ ap (map summed) (sym c.remove-then-has_ended.ensures.items);
+          ∙ ap (map summed) (sym c.take_row.ensures.rows);
       few = let few = c.loop-place.invariant.few in omega (arith, fewer, len, few);
+      indexed = c.take_row.ensures.indexed;
       keeps =
-          subst (λ rows. IsKeeping (whole_of c.args.keeping.now.budget) c.args.bounds.now c.give_back.new.self (map reservation_in rows)) (sym c.remove-then-has_ended.ensures.items)
+          subst (λ rows. IsKeeping (whole_of c.args.keeping.now.budget) c.args.bounds.now c.give_back.new.self (map reservation_in rows)) (sym c.take_row.ensures.rows)
           (keeps-removed (whole_of c.args.keeping.now.budget) c.args.bounds.now c.loop-place.keeping c.give_back.new.self c.loop-place.rows.items c.loop-place.place c.index-then-has_ended.result.now c.loop-place.invariant.keeps inside c.index-then-has_ended.ensures c.give_back.ensures.budget c.give_back.ensures.places);
     }
 

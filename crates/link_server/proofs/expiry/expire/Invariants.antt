@@ -3,6 +3,7 @@ use Rattle.std.specs.Prelude.{filter}
 use Rattle.buffer_budget.specs.Parts.{whole_of}
 use Rattle.rcsp_admission.specs.Sums.{AreAdmitted}
 use Rattle.link_steps.specs.Kept.{kept_stays}
+use Rattle.link_server.specs.Index.{channels_in, IsIndex}
 use Rattle.link_server.specs.Keeping.{IsKeeping}
 use Rattle.link_server.specs.Rows.{reservation_in, row_in, summed, AreWithin}
 use Rattle.link_server.specs.Sources.{AreReady}
@@ -20,6 +21,7 @@ invariant-loop-place l = record {
   server : l.sums.server ≡ l.fn.sums.server;
   same : l.sums.rows ≡ map summed l.rows.items;
   few : length l.rows.items ≤ length l.fn.rows.items;
+  indexed : IsIndex l.index.places.items (channels_in l.rows.items);
   keeps : IsKeeping (whole_of l.fn.keeping.budget) l.bounds l.keeping (map reservation_in l.rows.items);
 }
 

@@ -12,6 +12,8 @@ use Rattle.link_steps.specs.Regulator.{eligible_next}
 use Rattle.link_steps.specs.Sources.{arrival_at}
 use Rattle.link_steps.proofs.AccountOfRows.{eligible-from}
 use Rattle.traffic_contract.specs.Eligible.{newest}
+use Rattle.net_units.specs.Numbers.{channel_number}
+use Rattle.link_server.proofs.IndexFacts.{index-changed}
 use Rattle.link_server.specs.Account.{account}
 use Rattle.link_server.specs.Packets.{here_in}
 use Rattle.link_server.specs.Rows.{reservation_in, row_in, summed, IsAbsent, IsPlaceOf, IsWithinLevels}
@@ -141,6 +143,7 @@ invariant_of-self-2 c =
           All-set (IsWithinLevels _) c.args.self.now.rows.items c.in-Some.place c.take-taken.new.self
           (within-same _ c.take-taken.new.self (get_or c.args.self.now.rows.items c.in-Some.place c.index_mut.result.now) (ap (λ row. row.terms) same) (c.args.self.now.within c.in-Some.place c.index_mut.result.now place.inside))
           c.args.self.now.within;
+      indexed = index-changed c.args.self.now.index.places.items c.args.self.now.rows.items c.in-Some.place c.take-taken.new.self c.index_mut.result.now c.args.self.now.indexed (ap (λ row. channel_number row.terms.chan) same);
       keeps =
           subst (IsKeeping c.args.self.now.shape.buffer c.args.self.now.shape.bounds c.args.self.now.keeping)
           (sym (map-set_same reservation_in c.args.self.now.rows.items c.in-Some.place c.take-taken.new.self c.index_mut.result.now (ap (λ row. row.terms) same))) c.args.self.now.keeps;

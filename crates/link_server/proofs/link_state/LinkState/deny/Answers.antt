@@ -23,7 +23,7 @@ use Rattle.link_steps.specs.declared.asks.Ask.TheVariants.{Deny}
 use Rattle.link_steps.specs.Kept.{kept_reply}
 use Rattle.link_steps.specs.Split.{whole}
 use Rattle.link_server.proofs.link_state.LinkState.deny.Goals as goal
-use Rattle.link_server.proofs.link_state.LinkState.deny.Goals.{After-remove-2}
+use Rattle.link_server.proofs.link_state.LinkState.deny.Goals.{After-take_row}
 
 pub returns-in_default-clause-reply : goal.returns-in_default-clause-reply
 returns-in_default-clause-reply c =
@@ -48,7 +48,7 @@ remove-requires c =
     record { held = rw c.get.ensures.value held }
 
 -- the reply is the account's
-denied : (c : After-remove-2) → Denied ≡ kept_reply (whole c.args.self.now.shape) (kept_in c.args.self.now) (Deny c.args.chan)
+denied : (c : After-take_row) → Denied ≡ kept_reply (whole c.args.self.now.shape) (kept_in c.args.self.now) (Deny c.args.chan)
 denied c =
     deny-denied c.args.self.now.shape c.args.self.now.clock c.args.self.now.packets c.args.chan c.args.self.now.rows.items c.in-Some.place c.index.result.now
     (subst (λ rows. IsPlaceOf c.args.chan rows c.in-Some.place) c.deref.ensures.value c.in-Some.ensures.some)
@@ -59,7 +59,7 @@ invariant_of-self-2 c =
     let place = subst (λ rows. IsPlaceOf c.args.chan rows c.in-Some.place) c.deref.ensures.value c.in-Some.ensures.some in
     let distinct = subst IsDistinct c.args.self.now.same_rows c.args.self.now.admitted.distinct in
     let kept =
-    ap (account c.args.self.now.clock c.args.self.now.packets) c.remove-2.ensures.items
+    ap (account c.args.self.now.clock c.args.self.now.packets) c.take_row.ensures.rows
     ∙ deny-kept c.args.self.now.shape c.args.self.now.clock c.args.self.now.packets c.args.chan c.args.self.now.rows.items c.in-Some.place place in
     record {
       admitted = c.remove.ensures.admitted;
@@ -69,24 +69,25 @@ invariant_of-self-2 c =
           ∙ ap (λ rows. without_key rows c.get.result) c.args.self.now.same_rows
           ∙ ap (λ key. without_key (map summed c.args.self.now.rows.items) key) c.get.ensures.value
           ∙ summed-without c.args.chan c.args.self.now.rows.items c.in-Some.place distinct place
-          ∙ ap (map summed) (sym c.remove-2.ensures.items);
-      within = rw c.remove-2.ensures.items (all-without (IsWithinLevels _) c.args.self.now.rows.items c.in-Some.place c.args.self.now.within);
+          ∙ ap (map summed) (sym c.take_row.ensures.rows);
+      within = rw c.take_row.ensures.rows (all-without (IsWithinLevels _) c.args.self.now.rows.items c.in-Some.place c.args.self.now.within);
+      indexed = c.take_row.ensures.indexed;
       keeps =
-          subst (λ rows. IsKeeping c.args.self.now.shape.buffer c.args.self.now.shape.bounds c.give_back.new.self (map reservation_in rows)) (sym c.remove-2.ensures.items)
+          subst (λ rows. IsKeeping c.args.self.now.shape.buffer c.args.self.now.shape.bounds c.give_back.new.self (map reservation_in rows)) (sym c.take_row.ensures.rows)
           (keeps-removed c.args.self.now.shape.buffer c.args.self.now.shape.bounds c.args.self.now.keeping c.give_back.new.self c.args.self.now.rows.items c.in-Some.place c.index-2.result.now c.args.self.now.keeps place.inside c.index-2.ensures c.give_back.ensures.budget c.give_back.ensures.places);
       sound = subst (IsSound c.args.self.now.shape c.args.self.now.room) (sym kept) (sound-deny c.args.self.now.shape c.args.self.now.room (kept_in c.args.self.now) c.args.chan Denied c.args.self.now.sound);
-      quiet = rw c.remove-2.ensures.items (each-without (IsQuiet c.args.self.now.shape.bounds c.args.self.now.due) c.args.self.now.rows.items c.in-Some.place c.args.self.now.quiet);
+      quiet = rw c.take_row.ensures.rows (each-without (IsQuiet c.args.self.now.shape.bounds c.args.self.now.due) c.args.self.now.rows.items c.in-Some.place c.args.self.now.quiet);
       roomy = c.args.self.now.roomy;
       looked = c.args.self.now.looked;
-      stood = still-stood c.args.self.now (Deny c.args.chan) Denied _ tt (denied (goal.at.invariant_of-self-2 c).After-remove-2) kept;
+      stood = still-stood c.args.self.now (Deny c.args.chan) Denied _ tt (denied (goal.at.invariant_of-self-2 c).After-take_row) kept;
     }
 
 pub returns-clause-reply : goal.returns-clause-reply
-returns-clause-reply c = denied (goal.at.returns-clause-reply c).After-remove-2
+returns-clause-reply c = denied (goal.at.returns-clause-reply c).After-take_row
 
 pub returns-clause-kept : goal.returns-clause-kept
 returns-clause-kept c =
-    ap (account c.args.self.now.clock c.args.self.now.packets) c.remove-2.ensures.items
+    ap (account c.args.self.now.clock c.args.self.now.packets) c.take_row.ensures.rows
     ∙ deny-kept c.args.self.now.shape c.args.self.now.clock c.args.self.now.packets c.args.chan c.args.self.now.rows.items c.in-Some.place
     (subst (λ rows. IsPlaceOf c.args.chan rows c.in-Some.place) c.deref.ensures.value c.in-Some.ensures.some)
 

@@ -1,12 +1,14 @@
 -- The channel had no row, so its number is new to the sums; the row is put at the end of both, and there is room for its
 -- packets.
-use Rattle.std.proofs.Common.{◌≡◌, ◌≤◌, length, map, refl, sym, ap, ◌∙◌, subst, arith}
+use Rattle.std.proofs.Common.{◌≡◌, ◌<◌, ◌≤◌, [], ◌∷◌, ◌++◌, length, map, set, refl, sym, ap, ◌∙◌, subst, arith}
 use Rattle.link_steps.specs.declared.replies.Reply.TheVariants.{Offer}
-use Rattle.net_units.specs.Numbers.{level_number}
+use Rattle.net_units.specs.Numbers.{channel_number, level_number}
 use Rattle.link_steps.specs.Buffer.{kept_units, need_of, free_units}
 use Rattle.link_steps.specs.Kept.{kept_terms, kept_after, new_kept}
 use Rattle.link_steps.proofs.RuleFacts.{need-kept}
 use Rattle.link_steps.proofs.ReplyFacts.{may-reach}
+use Rattle.link_server.proofs.IndexFacts.{row-pushed}
+use Rattle.link_server.specs.Index.{channels_in, IsIndex}
 use Rattle.link_server.specs.Account.{account}
 use Rattle.link_server.specs.Held.{reservations_held}
 use Rattle.link_server.specs.Rows.{reservation_in, row_in, summed, IsWithinLevels, AreWithin}
@@ -19,15 +21,15 @@ use Rattle.link_server.specs.declared.link_state.LinkState.{LinkState}
 use Rattle.link_server.specs.declared.served_row.Offered.{Offered}
 use Rattle.link_server.specs.declared.served_row.ServedRow.{ServedRow}
 use Rattle.link_server.specs.declared.served_row.Wanted.{Wanted}
-use Rattle.link_server.proofs.PlaceFacts.{terms-kept}
+use Rattle.link_server.proofs.PlaceFacts.{terms-kept, terms-none}
 use Rattle.link_server.proofs.KeepingFacts.{keeping-free, keeps-pushed, slots-units, places-few}
-use Rattle.link_server.proofs.SumsFacts.{within-reserved}
+use Rattle.link_server.proofs.SumsFacts.{within-reserved, absent-new}
 use Rattle.link_server.proofs.AnswerFacts.{reserve-kept}
 use Rattle.link_server.proofs.HoldingFacts.{held_terms, sound-held, may-new, may-within, may-passes, summed-pushed, within-pushed}
 use Rattle.link_server.proofs.QuietFacts.{new-quiet, quiet-pushed}
 use Rattle.link_server.specs.Stood.{IsStood}
 use Rattle.link_server.proofs.StepFacts.{rows-have}
-use Rattle.link_server.proofs.StoodFacts.{stood-offered}
+use Rattle.link_server.proofs.StoodFacts.{rows-few, stood-offered}
 use Rattle.link_server.proofs.link_state.LinkState.hold.Goals as goal
 use Rattle.link_server.proofs.link_state.LinkState.hold.Goals.{After-add}
 
@@ -74,6 +76,9 @@ make_room-requires c =
           (may-reach c.args.self.now.shape (reservations_held c.args.self.now) c.args.wanted.now.chan c.args.wanted.now.contract c.args.wanted.now.delay c.args.wanted.now.up_reach c.args.offer.now.level c.args.offer.now.reach c.requires.may);
     }
 
+pub overflow_cast-place : goal.overflow_cast-place
+overflow_cast-place c = (let few = rows-few c.make_room.new.self in (let counted = c.make_room.new.self.rows.ok in omega (arith, few, counted, c.len-place.ensures)))
+
 pub add-requires-clause-new : goal.add-requires-clause-new
 add-requires-clause-new c =
     may-new _ c.make_room.new.self.rows.items c.make_room.new.self.sums c.args.wanted.now c.args.offer.now c.get.result c.make_room.new.self.same_rows c.get.ensures.value
@@ -98,6 +103,8 @@ kept c =
 pub invariant_of-self : goal.invariant_of-self
 invariant_of-self c =
     let may = still-may c.args.self.now c.make_room.new.self c.args.wanted.now c.args.offer.now c.make_room.ensures.shape c.make_room.ensures.kept c.requires.may in
+    let room = subst (λ n. n < length c.make_room.new.self.index.places.items) (ap (λ row. channel_number row.terms.chan) c.in_ok-row.ensures) c.in_ok-make_room.ensures.place_fits in
+    let counted : c.make_room.new.self.rows.len ≡ length c.make_room.new.self.rows.items = c.make_room.new.self.rows.ok.0 in
     let held = sound-held c.make_room.new.self.shape c.make_room.new.self.room (kept_in c.make_room.new.self) c.args.wanted.now c.args.offer.now c.in_ok-row.row c.requires.fits c.make_room.new.self.sound may c.in_ok-row.ensures c.in_ok-make_room.ensures.packets_fit in
     record {
       admitted = c.add.ensures.admitted;
@@ -107,6 +114,10 @@ invariant_of-self c =
           ∙ summed-pushed c.make_room.new.self.rows.items c.in_ok-row.row c.args.wanted.now c.args.offer.now c.get.result c.make_room.new.self.sums.rows c.in_ok-row.ensures c.get.ensures.value c.make_room.new.self.same_rows
           ∙ ap (map summed) (sym c.push_reserved.ensures.items);
       within = subst (AreWithin _) (sym c.push_reserved.ensures.items) (within-pushed _ c.make_room.new.self.rows.items c.in_ok-row.row c.make_room.new.self.within (within-reserved _ c.in_ok-row.row (held_terms c.args.wanted.now c.args.offer.now) c.in_ok-row.ensures may.level_most (may-reach c.make_room.new.self.shape (reservations_held c.make_room.new.self) c.args.wanted.now.chan c.args.wanted.now.contract c.args.wanted.now.delay c.args.wanted.now.up_reach c.args.offer.now.level c.args.offer.now.reach may)));
+      indexed =
+          subst (λ rows. IsIndex c.put.new.self.places.items (channels_in rows)) (sym c.push_reserved.ensures.items)
+          (subst (λ places. IsIndex places (channels_in (c.make_room.new.self.rows.items ++ c.in_ok-row.row ∷ []))) (sym (c.put.ensures ∙ ap (set c.make_room.new.self.index.places.items (channel_number c.args.wanted.now.chan)) (c.len-place.ensures ∙ counted)))
+          (row-pushed c.make_room.new.self.index.places.items c.make_room.new.self.rows.items c.args.wanted.now.chan c.in_ok-row.row c.make_room.new.self.indexed room (absent-new c.args.wanted.now.chan c.make_room.new.self.rows.items (terms-none c.args.wanted.now.chan c.make_room.new.self.rows.items may.new)) (ap (λ row. channel_number row.terms.chan) c.in_ok-row.ensures)));
       keeps =
           subst (λ rows. IsKeeping c.make_room.new.self.shape.buffer c.make_room.new.self.shape.bounds c.hold.new.self (map reservation_in rows)) (sym c.push_reserved.ensures.items)
           (keeps-pushed c.make_room.new.self.shape.buffer c.make_room.new.self.shape.bounds c.make_room.new.self.keeping c.hold.new.self c.make_room.new.self.rows.items c.in_ok-row.row c.make_room.new.self.keeps

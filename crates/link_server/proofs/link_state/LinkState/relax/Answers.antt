@@ -2,7 +2,7 @@
 use Rattle.std.proofs.Common.{◌≡◌, ◌+◌, ◌-◌, ◌≤◌, map, get_or, refl, sym, ap, ◌∙◌, subst, arith}
 use Rattle.std.proofs.lemmas.List.{get_or-set_same}
 use Rattle.std.proofs.lemmas.List.Elements.{All-set}
-use Rattle.net_units.specs.Numbers.{level_number}
+use Rattle.net_units.specs.Numbers.{channel_number, level_number}
 use Rattle.rcsp_admission.specs.Sums.{HoldsUpTo, moved, IsDistinct}
 use Rattle.link_steps.specs.declared.replies.Phase.TheVariants.{Tentative}
 use Rattle.buffer_budget.specs.Parts.{with_held, with_freed}
@@ -10,6 +10,7 @@ use Rattle.link_steps.specs.Buffer.{slots_of, kept_units}
 use Rattle.link_steps.specs.Refusals.{not_in_phase, unfit}
 use Rattle.link_steps.specs.Kept.{kept_relaxed}
 use Rattle.link_steps.proofs.RefusalFacts.{unfit-none}
+use Rattle.link_server.proofs.IndexFacts.{index-changed}
 use Rattle.link_server.specs.Rows.{reservation_in, row_in, summed, IsAbsent, IsPlaceOf, IsWithinLevels}
 use Rattle.link_server.specs.Keeping.{places_for}
 use Rattle.link_server.specs.Sound.{IsSound}
@@ -149,6 +150,7 @@ invariant_of-self-2 c =
           All-set (IsWithinLevels _) c.args.self.now.rows.items c.in-Some.place c.commit.new.self
           (within-committed _ c.commit.new.self (get_or c.args.self.now.rows.items c.in-Some.place c.index_mut.result.now) c.args.level c.args.up_bound same c.requires.fits.level_most (c.args.self.now.within c.in-Some.place c.index_mut.result.now place.inside))
           c.args.self.now.within;
+      indexed = index-changed c.args.self.now.index.places.items c.args.self.now.rows.items c.in-Some.place c.commit.new.self c.index_mut.result.now c.args.self.now.indexed (ap (λ row. channel_number row.terms.chan) same);
       keeps =
           keeps-changed c.args.self.now.shape.buffer c.args.self.now.shape.bounds c.args.self.now.keeping c.give_back.new.self c.hold.new.self c.args.self.now.rows.items c.in-Some.place c.commit.new.self c.index-3.result.now c.args.self.now.keeps place.inside
           (c.give_back.ensures.budget ∙ ap (λ row. with_freed c.args.self.now.keeping.budget (kept_units c.args.self.now.shape.bounds (reservation_in row))) c.index-3.ensures)

@@ -10,6 +10,8 @@ use Rattle.link_steps.specs.Kept.{kept_reply, kept_after, kept_closed}
 use Rattle.link_steps.specs.Refusals.{not_in_phase}
 use Rattle.link_steps.specs.Replies.{count_at_release, cancelled_at_release}
 use Rattle.link_steps.specs.Scan.{names_first_hop}
+use Rattle.net_units.specs.Numbers.{channel_number}
+use Rattle.link_server.proofs.IndexFacts.{index-changed}
 use Rattle.link_server.specs.Account.{account}
 use Rattle.link_server.specs.Planned.{left_in}
 use Rattle.link_server.specs.Rows.{reservation_in, row_in, is_served_at_hop, summed, NoRowPasses, IsFirstPlace, IsWithinLevels}
@@ -64,10 +66,10 @@ kept c place =
     release-kept c.args.self.now.shape c.args.self.now.clock c.args.self.now.packets c.args.chan c.args.upstream c.count_at_release-count.result c.cancelled_at_release-cancelled.result c.args.self.now.rows.items c.in-Some.place c.close.new.self c.index_mut.result.now place
     (c.close.ensures ∙ ap (λ row. kept_closed c.count_at_release-count.result (row_in row)) c.index_mut.ensures.value)
 
-pub invariant_of-self : goal.invariant_of-self
-invariant_of-self c =
-    let place = placed (goal.at.invariant_of-self c).In-Some in
-    let close = (goal.at.invariant_of-self c).After-close in
+pub invariant_of-self-2 : goal.invariant_of-self-2
+invariant_of-self-2 c =
+    let place = placed (goal.at.invariant_of-self-2 c).In-Some in
+    let close = (goal.at.invariant_of-self-2 c).After-close in
     let same = c.close.ensures ∙ ap (λ row. kept_closed c.count_at_release-count.result (row_in row)) c.index_mut.ensures.value in
     record {
       admitted = c.args.self.now.admitted;
@@ -80,6 +82,7 @@ invariant_of-self c =
           All-set (IsWithinLevels _) c.args.self.now.rows.items c.in-Some.place c.close.new.self
           (within-closed _ c.close.new.self (get_or c.args.self.now.rows.items c.in-Some.place c.index_mut.result.now) c.count_at_release-count.result same (c.args.self.now.within c.in-Some.place c.index_mut.result.now place.inside))
           c.args.self.now.within;
+      indexed = index-changed c.args.self.now.index.places.items c.args.self.now.rows.items c.in-Some.place c.close.new.self c.index_mut.result.now c.args.self.now.indexed (ap (λ row. channel_number row.terms.chan) same);
       keeps =
           keeps-closed c.args.self.now.shape.buffer c.args.self.now.shape.bounds c.args.self.now.keeping c.args.self.now.rows.items c.in-Some.place c.close.new.self c.index_mut.result.now c.count_at_release-count.result c.args.self.now.keeps place.inside (ap (λ row. row.terms) same)
           (c.in_default-not_committed.ensures ∙ ap (λ row. not_in_phase Committed (reservation_in row)) (at-place c.args.self.now.rows.items c.in-Some.place c.index.result.now c.index_mut.result.now c.index.ensures place.inside));

@@ -5,6 +5,8 @@ use Rattle.std.proofs.lemmas.List.Elements.{All-set}
 use Rattle.link_steps.specs.declared.replies.Phase.TheVariants.{Committed}
 use Rattle.link_steps.specs.Kept.{kept_planned}
 use Rattle.link_steps.specs.Refusals.{not_in_phase, busy, too_big}
+use Rattle.net_units.specs.Numbers.{channel_number}
+use Rattle.link_server.proofs.IndexFacts.{index-changed}
 use Rattle.link_server.specs.Planned.{left_in}
 use Rattle.link_server.specs.Rows.{reservation_in, row_in, is_served_at_hop, summed, NoRowPasses, IsFirstPlace, IsWithinLevels}
 use Rattle.link_server.specs.Keeping.{IsKeeping}
@@ -63,8 +65,8 @@ plan-requires c =
     let left = c.in_default-busy.ensures ∙ ap (λ row. busy (length (left_in row.planned))) (at-place c.args.self.now.rows.items c.in-Some.place c.index-2.result.now c.index_mut.result.now c.index-2.ensures ((subst (λ rows. IsFirstPlace (is_served_at_hop c.args.chan true) rows c.in-Some.place) c.deref.ensures.value c.in-Some.ensures.some).inside)) ∙ ap (λ row. busy (length (left_in row.planned))) (sym c.index_mut.ensures.value) in
     none-left (length (left_in c.index_mut.result.now.planned)) left
 
-pub invariant_of-self : goal.invariant_of-self
-invariant_of-self c =
+pub invariant_of-self-2 : goal.invariant_of-self-2
+invariant_of-self-2 c =
     let place = subst (λ rows. IsFirstPlace (is_served_at_hop c.args.chan true) rows c.in-Some.place) c.deref.ensures.value c.in-Some.ensures.some in
     let same = c.plan.ensures ∙ ap (λ row. kept_planned c.args.self.now.clock c.args.count c.args.gap c.args.size (row_in row)) c.index_mut.ensures.value in
     let reply =
@@ -88,6 +90,7 @@ invariant_of-self c =
           All-set (IsWithinLevels _) c.args.self.now.rows.items c.in-Some.place c.plan.new.self
           (within-same _ c.plan.new.self (get_or c.args.self.now.rows.items c.in-Some.place c.index_mut.result.now) (ap (λ row. row.terms) same) (c.args.self.now.within c.in-Some.place c.index_mut.result.now place.inside))
           c.args.self.now.within;
+      indexed = index-changed c.args.self.now.index.places.items c.args.self.now.rows.items c.in-Some.place c.plan.new.self c.index_mut.result.now c.args.self.now.indexed (ap (λ row. channel_number row.terms.chan) same);
       keeps =
           subst (IsKeeping c.args.self.now.shape.buffer c.args.self.now.shape.bounds c.args.self.now.keeping)
           (sym (map-set_same reservation_in c.args.self.now.rows.items c.in-Some.place c.plan.new.self c.index_mut.result.now (ap (λ row. row.terms) same))) c.args.self.now.keeps;

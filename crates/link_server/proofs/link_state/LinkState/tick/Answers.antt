@@ -4,6 +4,8 @@ use Rattle.std.proofs.lemmas.List.{length-map, length-append}
 use Rattle.std.specs.Prelude.{find}
 use Rattle.link_steps.specs.Rows.{is_for, left_at}
 use Rattle.link_steps.specs.Sources.{source_step}
+use Rattle.link_server.proofs.IndexFacts.{index-summed}
+use Rattle.link_server.specs.Index.{channels_in, IsIndex}
 use Rattle.link_server.specs.Planned.{left_in, IsPlannedAhead}
 use Rattle.link_server.specs.Sources.{brought_by}
 use Rattle.link_server.proofs.PourFacts.{best-step-is, waiting-is}
@@ -135,6 +137,10 @@ invariant_of-self c =
       same_server = c.expire.ensures.server ∙ c.args.self.now.same_server;
       same_rows = c.expire.ensures.same ∙ ap (map summed) (sym c.deref_mut.ensures.value) ∙ sym c.take_source_packets-full.ensures.summed ∙ ap (map summed) (sym rows);
       within = subst (AreWithin (length c.args.self.now.shape.bounds)) (sym rows) c.take_source_packets-full.ensures.levels;
+      indexed =
+          subst (λ all. IsIndex c.expire.new.index.places.items (channels_in all)) (sym rows)
+          (index-summed c.expire.new.index.places.items c.deref_mut.result.now c.take_source_packets-full.new.rows
+          (subst (λ all. IsIndex c.expire.new.index.places.items (channels_in all)) (sym c.deref_mut.ensures.value) c.expire.ensures.indexed) c.take_source_packets-full.ensures.summed);
       keeps =
           subst (IsKeeping c.args.self.now.shape.buffer c.args.self.now.shape.bounds c.expire.new.keeping)
           (ap (map reservation_in) (sym c.deref_mut.ensures.value)
