@@ -94,7 +94,7 @@ unfolding kept_after
 arrive-same shape k packet refusal = refl
 
 -- a packet with a place is the next one
-rule-kept : (rule : RefusalRule) (rules : List RefusalRule) → None ≡ first_rule (rule ∷ rules) → (rule ≡ None) × (None ≡ first_rule rules)
+pub rule-kept : (rule : RefusalRule) (rules : List RefusalRule) → None ≡ first_rule (rule ∷ rules) → (rule ≡ None) × (None ≡ first_rule rules)
 rule-kept None rules none = (refl, none)
 rule-kept (Some other) rules none = cc
 

@@ -10,7 +10,7 @@ use Rattle.link_steps.specs.Hold.{hold_ended}
 use Rattle.link_steps.specs.Reservation.{Reservation, is_phase}
 
 -- it hasn't where the row isn't closing
-open-phase : (phase : Phase) → (phase ≡ Tentative) ⊎ (phase ≡ Committed) → is_phase phase Closing ≡ false
+pub open-phase : (phase : Phase) → (phase ≡ Tentative) ⊎ (phase ≡ Committed) → is_phase phase Closing ≡ false
 open-phase phase (inl is) = rw is refl
 open-phase phase (inr is) = rw is refl
 

@@ -35,6 +35,9 @@ pub mod SoundTick
 pub mod SoundNumbers
 pub mod SoundServes
 pub mod QuietFacts
+pub mod CalendarFacts
+pub mod CalendarRows
+pub mod CalendarSteps
 pub mod RankFacts
 pub mod NextFacts
 pub mod TurnFacts

@@ -131,7 +131,7 @@ pub quiet-pushed : (bounds : List ℕ) (until : ℕ) (rows : List ServedRow) (ro
 quiet-pushed bounds until rows row quiet new =
     subst (AreQuiet bounds until) (sym (map_push row_in rows row)) (Each-append (IsQuiet bounds until) (map row_in rows) (row_in row ∷ []) quiet (new, tt))
 
-each-set : (P : KeptRow → Type 0) (rows : List ServedRow) (i : ℕ) (new : ServedRow) → P (row_in new) → Each P (map row_in rows) → Each P (map row_in (set rows i new))
+pub each-set : (P : KeptRow → Type 0) (rows : List ServedRow) (i : ℕ) (new : ServedRow) → P (row_in new) → Each P (map row_in rows) → Each P (map row_in (set rows i new))
 each-set P [] i new is each = each
 each-set P (row ∷ rows) zero new is each = (is, each.1)
 each-set P (row ∷ rows) (suc i) new is each = (each.0, each-set P rows i new is each.1)

@@ -96,7 +96,7 @@ rows-soon t [] soon = tt
 rows-soon t (row ∷ rows) soon = (newest-soon (burst_of row.terms.contract) row.ticks soon.0, rows-soon t rows soon.1)
 
 -- and their newest eligible ticks are soon
-newest-stood : (shape : LinkShape) (k : Kept) → k.clock < 2 ^ 61 → IsStood shape k → Each (λ row. newest row.recent < 2 ^ 63) k.rows
+pub newest-stood : (shape : LinkShape) (k : Kept) → k.clock < 2 ^ 61 → IsStood shape k → Each (λ row. newest row.recent < 2 ^ 63) k.rows
 unfolding kept_at
 newest-stood shape k early stood =
     stood-each shape k (λ row. newest row.recent) (2 ^ 63) k.rows stood

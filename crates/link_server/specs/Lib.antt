@@ -16,6 +16,7 @@ pub mod Held
 pub mod Sound
 pub mod SoundProp
 pub mod Quiet
+pub mod Holds
 pub mod Rank
 pub mod HoldsAgree
 pub mod Line

@@ -7,7 +7,7 @@ ghost use Rattle.link_steps.specs.Legal.{SubmitFits, PacketFits};
 ghost use Rattle.link_server.specs.State.{kept_in};
 
 use crate::due::{due_after, row_due};
-use crate::expiry::expire;
+use crate::expiry::{expire, put_hold};
 use crate::link_state::LinkState;
 use crate::planned::Planned;
 use crate::rows::{place_at_hop, place_of};
@@ -51,6 +51,7 @@ impl LinkState {
 
     // Closes a committed reservation: the one at its first hop where no count is told, or else one at a later hop.
     pub(crate) fn release(&mut self, chan: ChanNo, upstream: Option<u64>) -> Reply
+        requires early { self.old.clock < 2 ^ 61 }
         ensures shape { self.new.shape ≡ self.old.shape }
         ensures clock { self.new.clock ≡ self.old.clock }
         ensures reply { result ≡ kept_reply (whole self.old.shape) (kept_in self.old) (AskRelease chan upstream) }
@@ -66,6 +67,7 @@ impl LinkState {
         let cancelled = self.rows[place].cancelled_at_release(upstream);
         self.rows[place].close(count);
         let bounds = self.shape.bounds;
+        put_hold(&mut self.holds, &self.rows[place], &bounds, self.clock);
         self.due = self.due.min(row_due(&self.rows[place], &bounds));
         Reply::Closing { count, cancelled }
     }
@@ -94,6 +96,7 @@ impl LinkState {
         let number = self.packets.taken + 1;
         let taken = self.rows[place].take(packet.size, packet.due, number, clock);
         self.packets.push(taken);
+        put_hold(&mut self.holds, &self.rows[place], &bounds, clock);
         self.due = self.due.min(row_due(&self.rows[place], &bounds));
         Reply::Taken {
             clock,
@@ -143,12 +146,12 @@ impl LinkState {
         let bounds = shape.bounds;
         let due = self.due;
         expire(
+            &mut self.holds,
             &mut self.rows,
             &mut self.index,
             &mut self.sums,
             &mut self.keeping,
             &bounds,
-            due,
             clock,
         );
         let fits = self.packets.best_fits(&shape, clock);

@@ -4,6 +4,7 @@ ghost use Rattle.rcsp_admission.specs.Sums.{AreAdmitted};
 ghost use Rattle.link_steps.specs.Legal.{AskFits};
 ghost use Rattle.link_steps.specs.Shape.{server_of};
 ghost use Rattle.link_server.specs.Account.{account};
+ghost use Rattle.link_server.specs.Holds.{AreListed, AreListed-prop};
 ghost use Rattle.link_server.specs.Index.{channels_in, IsIndex, IsIndex-prop};
 ghost use Rattle.link_server.specs.Keeping.{IsKeeping, IsKeeping-prop};
 ghost use Rattle.link_server.specs.Rows.{reservation_in, row_in, summed, AreWithin};
@@ -21,6 +22,7 @@ use link_steps::{Ask, LinkShape, LinkStep, Reply};
 use net_units::OutOfMemory;
 use rcsp_admission::LevelSums;
 use std::alloc::Global;
+use tick_calendar::Calendar;
 
 /// A link: its shape, its clock, the reservations that it holds, and its packets.
 #[derive(Drop)]
@@ -31,6 +33,8 @@ pub struct LinkState {
     // In the order of their reserves.
     pub(crate) rows: Vec<ServedRow>,
     pub(crate) index: RowIndex,
+    // When the holds of closing rows end, with the numbers of their channels.
+    pub(crate) holds: Calendar,
     pub(crate) packets: Packets,
     pub(crate) sums: LevelSums,
     // What the rows keep together.
@@ -45,6 +49,7 @@ pub struct LinkState {
     ghost same_rows: { sums.rows ≡ map summed rows.items },
     ghost within: { AreWithin (length shape.bounds) rows.items },
     ghost indexed: { IsIndex index.places.items (channels_in rows.items) } by { IsIndex-prop index.places.items (channels_in rows.items) },
+    ghost listed: { AreListed shape.bounds clock holds (map row_in rows.items) } by { AreListed-prop shape.bounds clock holds (map row_in rows.items) },
     ghost keeps: { IsKeeping shape.buffer shape.bounds keeping (map reservation_in rows.items) } by { IsKeeping-prop shape.buffer shape.bounds keeping (map reservation_in rows.items) },
     ghost sound: { IsSound shape room (account clock packets rows.items) } by { IsSound-prop shape room (account clock packets rows.items) },
     ghost quiet: { AreQuiet shape.bounds due (map row_in rows.items) } by { AreQuiet-prop shape.bounds due (map row_in rows.items) },
@@ -77,6 +82,7 @@ impl LinkState {
             clock: 0,
             rows: Vec::new(alloc),
             index: RowIndex::new(alloc),
+            holds: Calendar::new(alloc)?,
             keeping: Keeping::new(shape.buffer),
             packets,
             room: u64::from(places),

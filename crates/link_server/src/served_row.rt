@@ -1,5 +1,5 @@
 //! A row of a link: a reservation that is held, its regulator, its planned packets, and the units that it keeps.
-ghost use Rattle.std.specs.Prelude.{◌≡◌, ◌+◌, ◌^◌, ◌<◌, ◌≤◌, suc, true, nat_lt, find, IfSome, IfOk, length};
+ghost use Rattle.std.specs.Prelude.{◌≡◌, ◌+◌, ◌^◌, ◌<◌, ◌≤◌, suc, true, nat_lt, find, IfNone, IfSome, IfOk, length};
 ghost use Rattle.net_units.specs.Limits.{most_bound};
 ghost use Rattle.traffic_contract.specs.Contract.{IsContract};
 ghost use Rattle.traffic_contract.specs.Eligible.{newest};
@@ -75,6 +75,7 @@ impl ServedRow {
     ghost use Rattle.link_steps.specs.Reservation.{tentative};
     ghost use Rattle.link_steps.specs.Rows.{is_for};
     ghost use Rattle.link_steps.specs.Sources.{arrival_at};
+    ghost use Rattle.link_server.specs.Holds.{is_open, EndsBy};
     ghost use Rattle.link_server.specs.Packets.{arrival_in};
     ghost use Rattle.link_server.specs.Planned.{left_in, size_of, IsPlannedAhead};
     ghost use Rattle.link_server.specs.Rows.{reservation_in, row_in, is_served_at_hop, IsWithinLevels};
@@ -331,6 +332,22 @@ impl ServedRow {
                 };
                 draining.due(clock, u64::from(bounds.last()))
             }
+        }
+    }
+
+    // The first tick, from that of the clock on, by which its hold has ended, once no packet is left to wait for.
+    pub(crate) fn hold_end(&self, bounds: &Bounds, clock: u64) -> Option<u64>
+        requires { self.now.last < 2 ^ 63 }
+        ensures none { IfNone result (is_open (row_in self.now) ≡ true) }
+        ensures some { IfSome result (EndsBy bounds.now clock (row_in self.now)) }
+    {
+        match self.phase {
+            Phase::Tentative | Phase::Committed => None,
+            Phase::Closing if self.count == 0 => Some(clock),
+            Phase::Closing if self.taken == self.count => {
+                Some(clock.max(self.last + u64::from(bounds.last())))
+            }
+            Phase::Closing => None,
         }
     }
 

@@ -1,20 +1,20 @@
-use Rattle.std.proofs.Common.{◌≡◌, ◌≤◌, ◌-◌, length, map}
+use Rattle.std.proofs.Common.{◌≡◌, ◌≤◌, length, map}
 use Rattle.std.specs.Prelude.{filter}
 use Rattle.buffer_budget.specs.Parts.{whole_of}
 use Rattle.rcsp_admission.specs.Sums.{AreAdmitted}
 use Rattle.link_steps.specs.Kept.{kept_stays}
+use Rattle.link_server.specs.Holds.{AreListed}
 use Rattle.link_server.specs.Index.{channels_in, IsIndex}
 use Rattle.link_server.specs.Keeping.{IsKeeping}
 use Rattle.link_server.specs.Rows.{reservation_in, row_in, summed, AreWithin}
 use Rattle.link_server.specs.Sources.{AreReady}
-use Rattle.link_server.proofs.ExpiryFacts.{staying}
 use Rattle.link_server.proofs.expiry.expire.Given as goal
 
--- the rows before the place stay, and those from it on are still to be judged
-abbrev pub invariant-loop-place : goal.invariant-loop-place
-invariant-loop-place l = record {
-  place : l.place ≤ length l.rows.items;
-  stay : staying l.bounds l.clock l.place l.rows.items ≡ filter (kept_stays l.bounds l.clock) (map row_in l.fn.rows.items);
+-- no row that stays was taken out
+abbrev pub invariant-loop-key : goal.invariant-loop-key
+invariant-loop-key l = record {
+  stay : filter (kept_stays l.bounds l.clock) (map row_in l.rows.items) ≡ filter (kept_stays l.bounds l.clock) (map row_in l.fn.rows.items);
+  listed : AreListed l.bounds l.clock l.holds (map row_in l.rows.items);
   ready : AreReady l.clock l.rows.items;
   within : AreWithin (length l.bounds) l.rows.items;
   admitted : AreAdmitted l.sums;
@@ -25,6 +25,6 @@ invariant-loop-place l = record {
   keeps : IsKeeping (whole_of l.fn.keeping.budget) l.bounds l.keeping (map reservation_in l.rows.items);
 }
 
--- each turn passes a row or takes one out
-abbrev pub decreases-loop-place : goal.decreases-loop-place
-decreases-loop-place l = length l.rows.items - l.place
+-- each turn takes an entry out
+abbrev pub decreases-loop-key : goal.decreases-loop-key
+decreases-loop-key l = length l.holds.entries

@@ -1,6 +1,7 @@
 -- The row of the packet's channel is found, and judges it; the packet is then put after those here.
-use Rattle.std.proofs.Common.{◌≡◌, ◌+◌, ◌<◌, ◌^◌, suc, get_or, set, sym, ap, ◌∙◌, subst, arith}
+use Rattle.std.proofs.Common.{◌≡◌, ◌+◌, ◌<◌, ◌≤◌, ◌^◌, suc, true, length, get_or, set, sym, ap, ◌∙◌, subst, arith}
 use Rattle.std.proofs.Math.Seq.{map-set_same}
+use Rattle.std.proofs.lemmas.List.{length-set, get_or-set_same}
 use Rattle.std.proofs.lemmas.List.Elements.{All-set}
 use Rattle.link_steps.specs.declared.asks.Ask.TheVariants.{Arrive}
 use Rattle.link_steps.specs.declared.replies.Reply.TheVariants.{Taken}
@@ -14,6 +15,9 @@ use Rattle.link_steps.proofs.AccountOfRows.{eligible-from}
 use Rattle.traffic_contract.specs.Eligible.{newest}
 use Rattle.net_units.specs.Numbers.{channel_number}
 use Rattle.link_server.proofs.IndexFacts.{index-changed}
+use Rattle.link_server.specs.Holds.{is_open, IsListed, PlansNone, open_count}
+use Rattle.link_server.proofs.CalendarRows.{listed-put, open-room}
+use Rattle.link_server.proofs.CalendarSteps.{stray-open}
 use Rattle.link_server.specs.Account.{account}
 use Rattle.link_server.specs.Packets.{here_in}
 use Rattle.link_server.specs.Rows.{reservation_in, row_in, summed, IsAbsent, IsPlaceOf, IsWithinLevels}
@@ -28,9 +32,9 @@ use Rattle.link_server.proofs.QuietFacts.{quiet-changed}
 use Rattle.link_server.proofs.PlaceFacts.{at-place}
 use Rattle.link_server.proofs.SumsFacts.{summed-same, within-same}
 use Rattle.link_server.proofs.SoundTaking.{sound-arrive}
-use Rattle.link_server.proofs.StoodFacts.{all-ready, still-stood}
+use Rattle.link_server.proofs.StoodFacts.{all-ready, newest-stood, still-stood}
 use Rattle.link_server.proofs.link_state.LinkState.arrive.Goals as goal
-use Rattle.link_server.proofs.link_state.LinkState.arrive.Goals.{In-Some, After-take-taken, After-push}
+use Rattle.link_server.proofs.link_state.LinkState.arrive.Goals.{In-Some, After-take-taken, After-push, After-index-4}
 
 pub returns-in_default-clause-reply : goal.returns-in_default-clause-reply
 returns-in_default-clause-reply c =
@@ -126,9 +130,35 @@ kept c place =
     (c.take-taken.ensures.packet ∙ ap (λ row. arrival_at (reservation_in row) row.lead (c.args.self.now.packets.taken + 1) (suc row.taken) c.args.packet.now.size c.args.self.now.clock (eligible_next (reservation_in row) (row_in row).recent c.args.self.now.clock c.args.packet.now.due)) c.index_mut.ensures.value)
     c.push.ensures.taken c.push.ensures.here c.push.ensures.on c.push.ensures.best
 
+-- the row was open, and it is the one whose end is put
+opened : (c : After-take-taken) → IsPlaceOf c.args.packet.now.chan c.args.self.now.rows.items c.in-Some.place → is_open (row_in (get_or c.args.self.now.rows.items c.in-Some.place c.index_mut.result.now)) ≡ true
+opened c place =
+    stray-open c.args.packet.now (row_in (get_or c.args.self.now.rows.items c.in-Some.place c.index_mut.result.now))
+    (c.in_default-stray.ensures ∙ ap (λ row. stray c.args.packet.now (reservation_in row) row.taken) (at-place c.args.self.now.rows.items c.in-Some.place c.index.result.now c.index_mut.result.now c.index.ensures place.inside))
+
+put-row : (c : After-index-4) → c.in-Some.place < length c.args.self.now.rows.items → c.index-4.result.now ≡ c.take-taken.new.self
+put-row c inside = c.index-4.ensures ∙ get_or-set_same c.args.self.now.rows.items c.in-Some.place c.take-taken.new.self c.index-4.result.now inside
+
+pub put_hold-requires-clause-begun : goal.put_hold-requires-clause-begun
+put_hold-requires-clause-begun c = c.args.self.now.listed.begun
+
+pub put_hold-requires-clause-room : goal.put_hold-requires-clause-room
+put_hold-requires-clause-room c =
+    let place = placed (goal.at.put_hold-requires-clause-room c).In-Some in
+    open-room c.args.self.now.shape.bounds c.args.self.now.clock c.args.self.now.holds c.args.self.now.rows.items c.in-Some.place c.index_mut.result.now c.args.self.now.listed place.inside (opened (goal.at.put_hold-requires-clause-room c).After-take-taken place)
+
+pub put_hold-requires-clause-last : goal.put_hold-requires-clause-last
+put_hold-requires-clause-last c =
+    let at = goal.at.put_hold-requires-clause-last c in
+    let place = placed at.In-Some in
+    let stood = still-stood c.args.self.now (Arrive c.args.packet.now) (Taken c.args.self.now.clock c.take-taken.result.eligible) _ c.requires.fits (replied at.After-take-taken place) (kept at.After-push place) in
+    let last = each-at (λ row. newest row.recent < 2 ^ 63) (set c.args.self.now.rows.items c.in-Some.place c.take-taken.new.self) c.in-Some.place c.index-4.result.now (let long = length-set c.args.self.now.rows.items c.in-Some.place c.take-taken.new.self in let inside = place.inside in omega (arith, long, inside)) (newest-stood c.args.self.now.shape _ c.requires.early stood) in
+    subst (λ n. n < 2 ^ 63) (sym (c.index-4.result.now.newest ∙ ap (λ row. newest (row_in row).recent) c.index-4.ensures)) last
+
 pub invariant_of-self-2 : goal.invariant_of-self-2
 invariant_of-self-2 c =
     let place = placed (goal.at.invariant_of-self-2 c).In-Some in
+    let put = (goal.at.invariant_of-self-2 c).After-index-4 in
     let after = sound (goal.at.invariant_of-self-2 c).After-take-taken place in
     let same = c.take-taken.ensures.row ∙ ap (λ row. kept_with (c.args.self.now.packets.taken + 1) (eligible_next (reservation_in row) (row_in row).recent c.args.self.now.clock c.args.packet.now.due) (row_in row)) c.index_mut.ensures.value in
     let roomy = c.args.self.now.roomy in
@@ -143,13 +173,20 @@ invariant_of-self-2 c =
           All-set (IsWithinLevels _) c.args.self.now.rows.items c.in-Some.place c.take-taken.new.self
           (within-same _ c.take-taken.new.self (get_or c.args.self.now.rows.items c.in-Some.place c.index_mut.result.now) (ap (λ row. row.terms) same) (c.args.self.now.within c.in-Some.place c.index_mut.result.now place.inside))
           c.args.self.now.within;
+      listed =
+          listed-put c.args.self.now.shape.bounds c.args.self.now.clock c.args.self.now.holds c.put_hold.new.holds c.args.self.now.rows.items c.in-Some.place c.take-taken.new.self c.index_mut.result.now c.args.self.now.listed place.inside
+          (opened (goal.at.invariant_of-self-2 c).After-take-taken place)
+          c.put_hold.ensures.clock c.put_hold.ensures.others
+          (subst (λ row. IsListed c.args.self.now.shape.bounds c.args.self.now.clock c.put_hold.new.holds.entries (row_in row)) (put-row put place.inside)
+          (c.put_hold.ensures.own (subst (λ row. PlansNone (row_in row)) (sym (put-row put place.inside)) (subst PlansNone (sym same) (each-at (IsListed c.args.self.now.shape.bounds c.args.self.now.clock c.args.self.now.holds.entries) c.args.self.now.rows.items c.in-Some.place c.index_mut.result.now place.inside c.args.self.now.listed.listed).plans_none))))
+          (subst (λ row. open_count (row_in row) + c.args.self.now.holds.spare ≤ c.put_hold.new.holds.spare + 1) (put-row put place.inside) c.put_hold.ensures.room);
       indexed = index-changed c.args.self.now.index.places.items c.args.self.now.rows.items c.in-Some.place c.take-taken.new.self c.index_mut.result.now c.args.self.now.indexed (ap (λ row. channel_number row.terms.chan) same);
       keeps =
           subst (IsKeeping c.args.self.now.shape.buffer c.args.self.now.shape.bounds c.args.self.now.keeping)
           (sym (map-set_same reservation_in c.args.self.now.rows.items c.in-Some.place c.take-taken.new.self c.index_mut.result.now (ap (λ row. row.terms) same))) c.args.self.now.keeps;
       sound = subst (IsSound c.args.self.now.shape c.args.self.now.room) (sym (kept (goal.at.invariant_of-self-2 c).After-push place)) after;
       quiet =
-          quiet-changed c.args.self.now.shape.bounds c.args.self.now.due c.row_due.result c.min-self.result c.args.self.now.rows.items c.in-Some.place c.take-taken.new.self c.index-4.result.now c.args.self.now.quiet place.inside c.index-4.ensures c.row_due.ensures
+          quiet-changed c.args.self.now.shape.bounds c.args.self.now.due c.row_due.result c.min-self.result c.args.self.now.rows.items c.in-Some.place c.take-taken.new.self c.index-5.result.now c.args.self.now.quiet place.inside c.index-5.ensures c.row_due.ensures
           (omega (arith, c.min-self.ensures)) (omega (arith, c.min-self.ensures));
       roomy = omega (arith, roomy, c.push.ensures.room);
       looked = (let looked = c.args.self.now.looked in omega (arith, looked, c.push.ensures.looked));

@@ -5,6 +5,7 @@ use Rattle.rcsp_admission.specs.Sums.{Holds, without_key, IsDistinct}
 use Rattle.link_steps.specs.declared.replies.Phase.TheVariants.{Tentative}
 use Rattle.link_steps.specs.Buffer.{kept_units}
 use Rattle.link_steps.specs.Refusals.{not_in_phase}
+use Rattle.link_server.proofs.CalendarRows.{listed-removed}
 use Rattle.link_server.specs.Rows.{reservation_in, summed, IsAbsent, IsPlaceOf, IsWithinLevels}
 use Rattle.link_server.specs.Account.{account}
 use Rattle.link_server.specs.Keeping.{IsKeeping, places_for}
@@ -71,6 +72,7 @@ invariant_of-self-2 c =
           ∙ summed-without c.args.chan c.args.self.now.rows.items c.in-Some.place distinct place
           ∙ ap (map summed) (sym c.take_row.ensures.rows);
       within = rw c.take_row.ensures.rows (all-without (IsWithinLevels _) c.args.self.now.rows.items c.in-Some.place c.args.self.now.within);
+      listed = rw c.take_row.ensures.rows (listed-removed c.args.self.now.shape.bounds c.args.self.now.clock c.args.self.now.holds c.args.self.now.rows.items c.in-Some.place c.args.self.now.listed);
       indexed = c.take_row.ensures.indexed;
       keeps =
           subst (λ rows. IsKeeping c.args.self.now.shape.buffer c.args.self.now.shape.bounds c.give_back.new.self (map reservation_in rows)) (sym c.take_row.ensures.rows)

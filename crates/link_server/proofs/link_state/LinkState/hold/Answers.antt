@@ -1,12 +1,15 @@
 -- The channel had no row, so its number is new to the sums; the row is put at the end of both, and there is room for its
 -- packets.
-use Rattle.std.proofs.Common.{◌≡◌, ◌<◌, ◌≤◌, [], ◌∷◌, ◌++◌, length, map, set, refl, sym, ap, ◌∙◌, subst, arith}
+use Rattle.std.proofs.Common.{inl, ◌≡◌, ◌<◌, ◌≤◌, [], ◌∷◌, ◌++◌, length, map, set, refl, sym, ap, ◌∙◌, subst, arith}
 use Rattle.link_steps.specs.declared.replies.Reply.TheVariants.{Offer}
 use Rattle.net_units.specs.Numbers.{channel_number, level_number}
 use Rattle.link_steps.specs.Buffer.{kept_units, need_of, free_units}
 use Rattle.link_steps.specs.Kept.{kept_terms, kept_after, new_kept}
 use Rattle.link_steps.proofs.RuleFacts.{need-kept}
 use Rattle.link_steps.proofs.ReplyFacts.{may-reach}
+use Rattle.link_server.proofs.CalendarFacts.{phase-listed}
+use Rattle.link_server.proofs.CalendarRows.{listed-pushed}
+use Rattle.link_server.specs.Holds.{AreListed}
 use Rattle.link_server.proofs.IndexFacts.{row-pushed}
 use Rattle.link_server.specs.Index.{channels_in, IsIndex}
 use Rattle.link_server.specs.Account.{account}
@@ -114,6 +117,10 @@ invariant_of-self c =
           ∙ summed-pushed c.make_room.new.self.rows.items c.in_ok-row.row c.args.wanted.now c.args.offer.now c.get.result c.make_room.new.self.sums.rows c.in_ok-row.ensures c.get.ensures.value c.make_room.new.self.same_rows
           ∙ ap (map summed) (sym c.push_reserved.ensures.items);
       within = subst (AreWithin _) (sym c.push_reserved.ensures.items) (within-pushed _ c.make_room.new.self.rows.items c.in_ok-row.row c.make_room.new.self.within (within-reserved _ c.in_ok-row.row (held_terms c.args.wanted.now c.args.offer.now) c.in_ok-row.ensures may.level_most (may-reach c.make_room.new.self.shape (reservations_held c.make_room.new.self) c.args.wanted.now.chan c.args.wanted.now.contract c.args.wanted.now.delay c.args.wanted.now.up_reach c.args.offer.now.level c.args.offer.now.reach may)));
+      listed =
+          subst (λ rows. AreListed c.make_room.new.self.shape.bounds c.make_room.new.self.clock c.make_room.new.self.holds (map row_in rows)) (sym c.push_reserved.ensures.items)
+          (listed-pushed c.make_room.new.self.shape.bounds c.make_room.new.self.clock c.make_room.new.self.holds c.make_room.new.self.rows.items c.in_ok-row.row c.make_room.new.self.listed
+          (phase-listed c.make_room.new.self.shape.bounds c.make_room.new.self.clock c.make_room.new.self.holds.entries (row_in c.in_ok-row.row) (inl (ap (λ row. row.terms.phase) c.in_ok-row.ensures))) c.in_ok-make_room.ensures.hold_fits);
       indexed =
           subst (λ rows. IsIndex c.put.new.self.places.items (channels_in rows)) (sym c.push_reserved.ensures.items)
           (subst (λ places. IsIndex places (channels_in (c.make_room.new.self.rows.items ++ c.in_ok-row.row ∷ []))) (sym (c.put.ensures ∙ ap (set c.make_room.new.self.index.places.items (channel_number c.args.wanted.now.chan)) (c.len-place.ensures ∙ counted)))

@@ -1,6 +1,8 @@
 -- The memory that is taken changes nothing that the link keeps.
 use Rattle.std.proofs.Common.{◌≡◌, map, length, sym, ap, ◌∙◌, subst, arith}
 use Rattle.traffic_contract.specs.Admission.{total}
+use Rattle.link_server.specs.Holds.{AreListed}
+use Rattle.link_server.proofs.CalendarRows.{listed-reserved}
 use Rattle.link_server.specs.Index.{channels_in, IsIndex}
 use Rattle.link_server.specs.Rows.{reservation_in, row_in, summed, AreWithin}
 use Rattle.link_server.specs.Keeping.{IsKeeping}
@@ -26,6 +28,7 @@ invariant_of-self-2 c =
       same_server = c.reserve-2.ensures.server ∙ c.args.self.now.same_server;
       same_rows = c.reserve-2.ensures.rows ∙ c.args.self.now.same_rows ∙ ap (map summed) (sym c.reserve.ensures.items);
       within = subst (AreWithin (length c.args.self.now.shape.bounds)) (sym c.reserve.ensures.items) c.args.self.now.within;
+      listed = listed-reserved c.args.self.now.shape.bounds c.args.self.now.clock c.args.self.now.holds c.reserve-5.new.self (map row_in c.reserve.new.self.items) c.reserve-5.ensures.kept c.reserve-5.ensures.grows (subst (λ rows. AreListed c.args.self.now.shape.bounds c.args.self.now.clock c.args.self.now.holds (map row_in rows)) (sym c.reserve.ensures.items) c.args.self.now.listed);
       indexed = subst (λ rows. IsIndex c.reserve-4.new.self.places.items (channels_in rows)) (sym c.reserve.ensures.items) (c.reserve-4.ensures.leads (channels_in c.args.self.now.rows.items) c.args.self.now.indexed);
       keeps = subst (λ rows. IsKeeping c.args.self.now.shape.buffer c.args.self.now.shape.bounds c.args.self.now.keeping (map reservation_in rows)) (sym c.reserve.ensures.items) c.args.self.now.keeps;
       sound = subst (IsSound c.args.self.now.shape c.max-self.result) (sym same) larger;
@@ -45,6 +48,7 @@ invariant_of-self-in-Break-branch-3 c =
       same_server = c.reserve-2.ensures.server ∙ c.args.self.now.same_server;
       same_rows = c.reserve-2.ensures.rows ∙ c.args.self.now.same_rows ∙ ap (map summed) (sym c.reserve.ensures.items);
       within = subst (AreWithin (length c.args.self.now.shape.bounds)) (sym c.reserve.ensures.items) c.args.self.now.within;
+      listed = subst (λ rows. AreListed c.args.self.now.shape.bounds c.args.self.now.clock c.args.self.now.holds (map row_in rows)) (sym c.reserve.ensures.items) c.args.self.now.listed;
       indexed = subst (λ rows. IsIndex c.args.self.now.index.places.items (channels_in rows)) (sym c.reserve.ensures.items) c.args.self.now.indexed;
       keeps = subst (λ rows. IsKeeping c.args.self.now.shape.buffer c.args.self.now.shape.bounds c.args.self.now.keeping (map reservation_in rows)) (sym c.reserve.ensures.items) c.args.self.now.keeps;
       sound = subst (IsSound c.args.self.now.shape c.args.self.now.room) (sym same) c.args.self.now.sound;
@@ -64,6 +68,27 @@ invariant_of-self-in-Break-branch-4 c =
       same_server = c.reserve-2.ensures.server ∙ c.args.self.now.same_server;
       same_rows = c.reserve-2.ensures.rows ∙ c.args.self.now.same_rows ∙ ap (map summed) (sym c.reserve.ensures.items);
       within = subst (AreWithin (length c.args.self.now.shape.bounds)) (sym c.reserve.ensures.items) c.args.self.now.within;
+      listed = subst (λ rows. AreListed c.args.self.now.shape.bounds c.args.self.now.clock c.args.self.now.holds (map row_in rows)) (sym c.reserve.ensures.items) c.args.self.now.listed;
+      indexed = subst (λ rows. IsIndex c.reserve-4.new.self.places.items (channels_in rows)) (sym c.reserve.ensures.items) (c.reserve-4.ensures.leads (channels_in c.args.self.now.rows.items) c.args.self.now.indexed);
+      keeps = subst (λ rows. IsKeeping c.args.self.now.shape.buffer c.args.self.now.shape.bounds c.args.self.now.keeping (map reservation_in rows)) (sym c.reserve.ensures.items) c.args.self.now.keeps;
+      sound = subst (IsSound c.args.self.now.shape c.args.self.now.room) (sym same) c.args.self.now.sound;
+      quiet = subst (λ rows. AreQuiet c.args.self.now.shape.bounds c.args.self.now.due (map row_in rows)) (sym c.reserve.ensures.items) c.args.self.now.quiet;
+      roomy = omega (arith, grows, roomy);
+      looked = (let looked = c.args.self.now.looked in omega (arith, looked, c.reserve-3.ensures.looked));
+      stood = subst (IsStood c.args.self.now.shape) (sym same) c.args.self.now.stood;
+    }
+
+pub invariant_of-self-in-Break-branch-5 : goal.invariant_of-self-in-Break-branch-5
+invariant_of-self-in-Break-branch-5 c =
+    let same = account-same c.args.self.now.clock c.args.self.now.packets c.reserve-3.new.self c.args.self.now.rows.items c.reserve.new.self.items c.reserve-3.ensures.taken c.reserve-3.ensures.here c.reserve-3.ensures.on c.reserve-3.ensures.best c.reserve.ensures.items in
+    let grows = c.reserve-3.ensures.grows in
+    let roomy = c.args.self.now.roomy in
+    record {
+      admitted = c.reserve-2.ensures.admitted;
+      same_server = c.reserve-2.ensures.server ∙ c.args.self.now.same_server;
+      same_rows = c.reserve-2.ensures.rows ∙ c.args.self.now.same_rows ∙ ap (map summed) (sym c.reserve.ensures.items);
+      within = subst (AreWithin (length c.args.self.now.shape.bounds)) (sym c.reserve.ensures.items) c.args.self.now.within;
+      listed = listed-reserved c.args.self.now.shape.bounds c.args.self.now.clock c.args.self.now.holds c.reserve-5.new.self (map row_in c.reserve.new.self.items) c.reserve-5.ensures.kept c.reserve-5.ensures.grows (subst (λ rows. AreListed c.args.self.now.shape.bounds c.args.self.now.clock c.args.self.now.holds (map row_in rows)) (sym c.reserve.ensures.items) c.args.self.now.listed);
       indexed = subst (λ rows. IsIndex c.reserve-4.new.self.places.items (channels_in rows)) (sym c.reserve.ensures.items) (c.reserve-4.ensures.leads (channels_in c.args.self.now.rows.items) c.args.self.now.indexed);
       keeps = subst (λ rows. IsKeeping c.args.self.now.shape.buffer c.args.self.now.shape.bounds c.args.self.now.keeping (map reservation_in rows)) (sym c.reserve.ensures.items) c.args.self.now.keeps;
       sound = subst (IsSound c.args.self.now.shape c.args.self.now.room) (sym same) c.args.self.now.sound;

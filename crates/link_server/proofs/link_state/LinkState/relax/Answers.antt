@@ -1,5 +1,5 @@
 -- The row of the channel is found, judged by its phase and its offer, and committed, and the sums move it.
-use Rattle.std.proofs.Common.{◌≡◌, ◌+◌, ◌-◌, ◌≤◌, map, get_or, refl, sym, ap, ◌∙◌, subst, arith}
+use Rattle.std.proofs.Common.{inl, inr, ◌≡◌, ◌+◌, ◌-◌, ◌≤◌, map, get_or, refl, sym, ap, ◌∙◌, subst, arith}
 use Rattle.std.proofs.lemmas.List.{get_or-set_same}
 use Rattle.std.proofs.lemmas.List.Elements.{All-set}
 use Rattle.net_units.specs.Numbers.{channel_number, level_number}
@@ -10,6 +10,8 @@ use Rattle.link_steps.specs.Buffer.{slots_of, kept_units}
 use Rattle.link_steps.specs.Refusals.{not_in_phase, unfit}
 use Rattle.link_steps.specs.Kept.{kept_relaxed}
 use Rattle.link_steps.proofs.RefusalFacts.{unfit-none}
+use Rattle.link_server.proofs.CalendarFacts.{phase-listed, open-in-phase}
+use Rattle.link_server.proofs.CalendarRows.{listed-set}
 use Rattle.link_server.proofs.IndexFacts.{index-changed}
 use Rattle.link_server.specs.Rows.{reservation_in, row_in, summed, IsAbsent, IsPlaceOf, IsWithinLevels}
 use Rattle.link_server.specs.Keeping.{places_for}
@@ -150,6 +152,10 @@ invariant_of-self-2 c =
           All-set (IsWithinLevels _) c.args.self.now.rows.items c.in-Some.place c.commit.new.self
           (within-committed _ c.commit.new.self (get_or c.args.self.now.rows.items c.in-Some.place c.index_mut.result.now) c.args.level c.args.up_bound same c.requires.fits.level_most (c.args.self.now.within c.in-Some.place c.index_mut.result.now place.inside))
           c.args.self.now.within;
+      listed =
+          listed-set c.args.self.now.shape.bounds c.args.self.now.clock c.args.self.now.holds c.args.self.now.rows.items c.in-Some.place c.commit.new.self c.index.result.now c.args.self.now.listed place.inside
+          (phase-listed c.args.self.now.shape.bounds c.args.self.now.clock c.args.self.now.holds.entries (row_in c.commit.new.self) (inr (ap (λ row. row.terms.phase) same)))
+          (open-in-phase Tentative (row_in (get_or c.args.self.now.rows.items c.in-Some.place c.index.result.now)) (inl refl) (c.in_default-not_tentative.ensures ∙ ap (λ row. not_in_phase Tentative (reservation_in row)) c.index.ensures));
       indexed = index-changed c.args.self.now.index.places.items c.args.self.now.rows.items c.in-Some.place c.commit.new.self c.index_mut.result.now c.args.self.now.indexed (ap (λ row. channel_number row.terms.chan) same);
       keeps =
           keeps-changed c.args.self.now.shape.buffer c.args.self.now.shape.bounds c.args.self.now.keeping c.give_back.new.self c.hold.new.self c.args.self.now.rows.items c.in-Some.place c.commit.new.self c.index-3.result.now c.args.self.now.keeps place.inside

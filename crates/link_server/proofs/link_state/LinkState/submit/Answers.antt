@@ -1,11 +1,13 @@
 -- The row of the channel at its first hop is found, judged by its phase, its plan and its contract, and planned for.
-use Rattle.std.proofs.Common.{length, true, get_or, sym, ap, ◌∙◌, subst, arith}
+use Rattle.std.proofs.Common.{inr, length, true, get_or, sym, ap, ◌∙◌, subst, arith}
 use Rattle.std.proofs.Math.Seq.{map-set_same}
 use Rattle.std.proofs.lemmas.List.Elements.{All-set}
 use Rattle.link_steps.specs.declared.replies.Phase.TheVariants.{Committed}
 use Rattle.link_steps.specs.Kept.{kept_planned}
 use Rattle.link_steps.specs.Refusals.{not_in_phase, busy, too_big}
 use Rattle.net_units.specs.Numbers.{channel_number}
+use Rattle.link_server.proofs.CalendarFacts.{phase-listed, phase-open, in-phase}
+use Rattle.link_server.proofs.CalendarRows.{listed-set}
 use Rattle.link_server.proofs.IndexFacts.{index-changed}
 use Rattle.link_server.specs.Planned.{left_in}
 use Rattle.link_server.specs.Rows.{reservation_in, row_in, is_served_at_hop, summed, NoRowPasses, IsFirstPlace, IsWithinLevels}
@@ -90,6 +92,11 @@ invariant_of-self-2 c =
           All-set (IsWithinLevels _) c.args.self.now.rows.items c.in-Some.place c.plan.new.self
           (within-same _ c.plan.new.self (get_or c.args.self.now.rows.items c.in-Some.place c.index_mut.result.now) (ap (λ row. row.terms) same) (c.args.self.now.within c.in-Some.place c.index_mut.result.now place.inside))
           c.args.self.now.within;
+      listed =
+          (let committed = in-phase Committed (row_in (get_or c.args.self.now.rows.items c.in-Some.place c.index_mut.result.now)) (c.in_default-not_committed.ensures ∙ ap (λ row. not_in_phase Committed (reservation_in row)) (at-place c.args.self.now.rows.items c.in-Some.place c.index.result.now c.index_mut.result.now c.index.ensures place.inside)) in
+          listed-set c.args.self.now.shape.bounds c.args.self.now.clock c.args.self.now.holds c.args.self.now.rows.items c.in-Some.place c.plan.new.self c.index_mut.result.now c.args.self.now.listed place.inside
+          (phase-listed c.args.self.now.shape.bounds c.args.self.now.clock c.args.self.now.holds.entries (row_in c.plan.new.self) (inr (ap (λ row. row.terms.phase) same ∙ committed)))
+          (phase-open (row_in (get_or c.args.self.now.rows.items c.in-Some.place c.index_mut.result.now)) (inr committed)));
       indexed = index-changed c.args.self.now.index.places.items c.args.self.now.rows.items c.in-Some.place c.plan.new.self c.index_mut.result.now c.args.self.now.indexed (ap (λ row. channel_number row.terms.chan) same);
       keeps =
           subst (IsKeeping c.args.self.now.shape.buffer c.args.self.now.shape.bounds c.args.self.now.keeping)

@@ -4,6 +4,8 @@ use Rattle.std.proofs.lemmas.List.{length-map, length-append}
 use Rattle.std.specs.Prelude.{find}
 use Rattle.link_steps.specs.Rows.{is_for, left_at}
 use Rattle.link_steps.specs.Sources.{source_step}
+use Rattle.link_server.proofs.CalendarSteps.{listed-stepped}
+use Rattle.link_server.specs.Holds.{AreListed}
 use Rattle.link_server.proofs.IndexFacts.{index-summed}
 use Rattle.link_server.specs.Index.{channels_in, IsIndex}
 use Rattle.link_server.specs.Planned.{left_in, IsPlannedAhead}
@@ -12,12 +14,13 @@ use Rattle.link_server.proofs.PourFacts.{best-step-is, waiting-is}
 use Rattle.link_server.proofs.SoundSources.{from_best}
 use Rattle.link_steps.specs.declared.replies.Reply.TheVariants.{Ticked}
 use Rattle.link_steps.specs.declared.asks.Ask.TheVariants.{Tick}
-use Rattle.link_steps.specs.Kept.{held_rows, from_sources, kept_reply, kept_after}
+use Rattle.link_steps.proofs.ListFacts.{Each-filter}
+use Rattle.link_steps.specs.Kept.{kept_stays, held_rows, from_sources, kept_reply, kept_after}
 use Rattle.link_steps.specs.Split.{whole}
 use Rattle.link_server.specs.Account.{account}
 use Rattle.link_server.specs.Packets.{arrival_in, here_in, on_in}
 use Rattle.link_server.specs.Rows.{reservation_in, row_in, summed, AreWithin}
-use Rattle.link_server.specs.Quiet.{AreQuiet}
+use Rattle.link_server.specs.Quiet.{IsQuiet, AreQuiet}
 use Rattle.link_server.specs.Serving.{CanServe}
 use Rattle.link_server.specs.Keeping.{IsKeeping}
 use Rattle.link_server.specs.Sound.{IsSound}
@@ -37,6 +40,11 @@ expire-requires-clause-ready c = all-ready c.args.self.now c.requires.early
 -- the rows that stay are those of the account
 stay : (c : After-deref_mut) → map row_in c.deref_mut.result.now ≡ held_rows c.args.self.now.shape (kept_in c.args.self.now)
 stay c = ap (map row_in) c.deref_mut.ensures.value ∙ c.expire.ensures.rows
+
+pub take_source_packets-full-requires-clause-quiet : goal.take_source_packets-full-requires-clause-quiet
+take_source_packets-full-requires-clause-quiet c = λ before.
+    subst (AreQuiet c.args.self.now.shape.bounds c.args.self.now.due) (sym (stay (goal.at.take_source_packets-full-requires-clause-quiet c).After-deref_mut))
+    (Each-filter (IsQuiet c.args.self.now.shape.bounds c.args.self.now.due) (kept_stays c.args.self.now.shape.bounds c.args.self.now.clock) (kept_in c.args.self.now).rows c.args.self.now.quiet)
 
 pub best_fits-fits-requires : goal.best_fits-fits-requires
 best_fits-fits-requires c = record { ahead = ahead-from c.args.self.now.clock c.args.self.now.clock (left_in c.args.self.now.packets.best) (omega arith) c.args.self.now.sound.best_ahead }
@@ -137,6 +145,11 @@ invariant_of-self c =
       same_server = c.expire.ensures.server ∙ c.args.self.now.same_server;
       same_rows = c.expire.ensures.same ∙ ap (map summed) (sym c.deref_mut.ensures.value) ∙ sym c.take_source_packets-full.ensures.summed ∙ ap (map summed) (sym rows);
       within = subst (AreWithin (length c.args.self.now.shape.bounds)) (sym rows) c.take_source_packets-full.ensures.levels;
+      listed =
+          subst (λ all. AreListed c.args.self.now.shape.bounds (c.args.self.now.clock + 1) c.expire.new.holds (map row_in all)) (sym rows)
+          (subst (AreListed c.args.self.now.shape.bounds (c.args.self.now.clock + 1) c.expire.new.holds) (sym c.take_source_packets-full.ensures.rows)
+          (listed-stepped c.args.self.now.shape.bounds (here_in c.args.self.now.packets.here.items) c.args.self.now.clock (c.args.self.now.clock + 1) c.args.self.now.packets.taken c.expire.new.holds (map row_in c.deref_mut.result.now) (omega arith)
+          (subst (λ all. AreListed c.args.self.now.shape.bounds c.args.self.now.clock c.expire.new.holds (map row_in all)) (sym c.deref_mut.ensures.value) c.expire.ensures.listed)));
       indexed =
           subst (λ all. IsIndex c.expire.new.index.places.items (channels_in all)) (sym rows)
           (index-summed c.expire.new.index.places.items c.deref_mut.result.now c.take_source_packets-full.new.rows
