@@ -29,9 +29,9 @@ use Rattle.channel_report.specs.declared.channel_tally.ChannelTally.{ChannelTall
 use Rattle.channel_report.specs.declared.delay_tally.DelayTally.{DelayTally}
 use Rattle.channel_report.specs.declared.findings.Findings.{Findings}
 use Rattle.channel_report.specs.declared.link_tally.LinkTally.{LinkTally}
-use Rattle.channel_report.proofs.LinkFacts.{clock-most}
 use Rattle.channel_report.proofs.LinkTallies.{nothing, part-short}
 use Rattle.channel_report.proofs.TickFacts.{made-within}
+use Rattle.link_steps.proofs.ClockFacts.{clock_of-most}
 
 -- the first link of a request is one of the plan's
 first-hop : (links : List Link) (route : List Hop) → 1 ≤ length route → Each (IsHopOf links) route → first_link route < length links
@@ -56,7 +56,7 @@ offered-is parts entries findings number entry tally clock ticks plan are found 
     let counted = are.links.tells first nothing (first-within parts number entry plan found some) in
     let at_clock : clock ≡ clock_of h = clocks ∙ ap (λ (t : LinkTally). t.clock) counted.is in
     let kept = are.channels.tells number entry tally found at in
-    let small : clock_of h ≤ never = omega (arith, clock-most h, part-short first (reverse entries), length-reverse entries, are.short) in
+    let small : clock_of h ≤ never = omega (arith, clock_of-most h, part-short first (reverse entries), length-reverse entries, are.short) in
     is ∙ ap (λ c. filter (is_made c) tally.ticks.items) at_clock ∙ ap (filter (is_made (clock_of h))) kept.ticks ∙ made-within (clock_of h) never (planned_in number h) small
     ∙ ap (λ n. filter (is_made (clock_of h)) (planned_in n h)) (sym (plan.planned.requests number entry found))
 

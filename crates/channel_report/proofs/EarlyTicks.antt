@@ -1,6 +1,6 @@
 -- Each tick of a run is told early: its clock is at most the number of the entries before it.
-use Rattle.std.proofs.Common.{◌≡◌, ◌^◌, ◌<◌, List, [], ◌∷◌, ◌++◌, length, reverse, sym, ◌∙◌, subst, arith}
-use Rattle.std.proofs.lemmas.List.{length-reverse, reverse-append}
+use Rattle.std.proofs.Common.{◌≡◌, ◌^◌, ◌<◌, List, [], ◌∷◌, length, reverse, sym, ◌∙◌, subst, arith}
+use Rattle.std.proofs.lemmas.List.{length-reverse, reverse-reverse}
 use Rattle.net_units.specs.Numbers.{link_number}
 use Rattle.link_steps.specs.Lists.{Each}
 use Rattle.link_steps.specs.Replies.{reply_to}
@@ -24,8 +24,9 @@ use Rattle.channel_laws.proofs.SentFacts.{tick-answer}
 use Rattle.run_record.specs.Rows.{IsEarly}
 use Rattle.run_record.specs.Runs.{part_of}
 use Rattle.run_record.specs.declared.done.Done.{Done}
-use Rattle.channel_report.proofs.LinkFacts.{clock-most}
 use Rattle.channel_report.proofs.LinkTallies.{part-short}
+use Rattle.link_steps.proofs.ClockFacts.{clock_of-most}
+use Rattle.link_steps.proofs.ListParts.{Each-reverse}
 
 reserve-early : (reply : Reply) → IsReserveReply reply → IsEarly reply
 reserve-early (Is.Ticked clock full sent best_sent best_lost) is = absurd is
@@ -66,18 +67,11 @@ run-early parts [] plan is short = tt
 run-early parts (done ∷ past) plan is short =
     let next = is.1 in
     let h = part_of (link_number done.link) past in (
-      answer-early next.link h done.ask done.reply (asks-answered (network_of parts) past done (plan-fits parts plan) (all-owned parts plan) is.0 next) next.answered (omega (arith, clock-most h, part-short (link_number done.link) past, short)),
+      answer-early next.link h done.ask done.reply (asks-answered (network_of parts) past done (plan-fits parts plan) (all-owned parts plan) is.0 next) next.answered (omega (arith, clock_of-most h, part-short (link_number done.link) past, short)),
       run-early parts past plan is.0 (omega arith),
     )
 
-each-front : {X : Type 0} (P : X → Type 0) (xs ys : List X) → Each P (xs ++ ys) → Each P xs × Each P ys
-each-front P [] ys all = (tt, all)
-each-front P (x ∷ xs) ys all = (let rest = each-front P xs ys all.1 in ((all.0, rest.0), rest.1))
-
-each-reverse : {X : Type 0} (P : X → Type 0) (xs : List X) → Each P (reverse xs) → Each P xs
-each-reverse P [] all = tt
-each-reverse P (x ∷ xs) all = (let parts = each-front P (reverse xs) (x ∷ []) (subst (Each P) (reverse-append (x ∷ []) xs) all) in (parts.1.0, each-reverse P xs parts.0))
-
 -- in the order of time
 pub entries-early : (parts : PlanParts) (entries : List Done) → IsPlan parts → IsRun (network_of parts) (reverse entries) → length entries < 2 ^ 63 → Each early entries
-entries-early parts entries plan is short = each-reverse early entries (run-early parts (reverse entries) plan is (omega (arith, length-reverse entries, short)))
+entries-early parts entries plan is short =
+    subst (Each early) (reverse-reverse entries) (Each-reverse early (reverse entries) (run-early parts (reverse entries) plan is (omega (arith, length-reverse entries, short))))

@@ -1,11 +1,11 @@
 -- The lines of a report, by the items of a plan that they speak of.
-use Rattle.std.proofs.Common.{◌≡◌, ℕ, zero, suc, ◌<◌, Bool, Some, List, [], ◌∷◌, ◌++◌, length, get_or, refl, sym, ap, ◌∙◌, append-nil, append_assoc, Result, Ok, Err, OnOk}
+use Rattle.std.proofs.Common.{◌≡◌, ℕ, ◌<◌, Bool, Some, List, [], ◌∷◌, ◌++◌, length, get_or, refl, sym, ap, ◌∙◌, append-nil, append_assoc, Result, Ok, Err, OnOk}
 use Rattle.std.specs.Prelude.{map, codes}
 use Rattle.std.specs.Fmt.{decimal}
 use Rattle.std.specs.List.{flat_map, join_with_byte}
 use Rattle.setup_protocol.specs.Setup.{Accepts}
 use Rattle.channel_report.specs.Verdicts.{verdict_line}
-use Rattle.std.proofs.lemmas.Option.{same_Some, slice_get_read}
+use Rattle.std.proofs.lemmas.Option.{slice_get_read}
 use Rattle.std.specs.List.{slice_get}
 use Rattle.call_script.specs.Parts.{PlanParts}
 use Rattle.call_script.specs.Plans.{IsPlan}
@@ -41,9 +41,3 @@ accepted-parts text name levels_text delay levels is =
 pub on-ok : {T E : Type 0} {P Q : Type 0} (answer : Result T E) → OnOk answer P → (P → Q) → OnOk answer Q
 on-ok (Ok x) own more = more own
 on-ok (Err e) own more = own
-
--- the item at an index is what is read there
-pub read-item : {X : Type 0} (xs : List X) (i : ℕ) (x : X) → slice_get xs i ≡ Some x → x ≡ get_or xs i x
-read-item [] i x found = cc
-read-item (y ∷ ys) zero x found = sym (same_Some y x found)
-read-item (y ∷ ys) (suc i) x found = read-item ys i x found

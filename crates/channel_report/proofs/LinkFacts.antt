@@ -6,22 +6,17 @@ use Rattle.link_steps.specs.declared.replies.Entry.{Entry}
 use Rattle.link_steps.specs.declared.replies.Reply.{Reply}
 use Rattle.link_steps.specs.declared.replies.Reply.TheVariants as Is
 use Rattle.link_steps.specs.Scan.{clock_of, clock_with}
-use Rattle.link_steps.proofs.WindowFits.{clock_with-most}
 use Rattle.channel_report.specs.Links.{one_if, sent_by, dropped_by, best_sent_by, best_lost_by, pours_refused_by, total_in}
 use Rattle.channel_report.specs.Tallies.{IsTally}
 use Rattle.channel_report.specs.declared.link_tally.LinkTally.{LinkTally}
-
-pub clock-most : (h : List Entry) → clock_of h ≤ length h
-unfolding clock_of
-clock-most [] = omega arith
-clock-most (e ∷ past) = omega (arith, clock_with-most e.ask (clock_of past), clock-most past)
+use Rattle.link_steps.proofs.ClockFacts.{clock_of-most}
 
 total-most : (count : Entry → ℕ) → ((e : Entry) → count e ≤ 1) → (h : List Entry) → total_in count h ≤ length h
 unfolding total_in
 total-most count one [] = omega arith
 total-most count one (e ∷ past) = omega (arith, one e, total-most count one past)
 
-one-most : (b : Bool) → one_if b ≤ 1
+pub one-most : (b : Bool) → one_if b ≤ 1
 one-most true = omega arith
 one-most false = omega arith
 
@@ -89,7 +84,7 @@ pub record AreSmall (tally : LinkTally) : Type 0 where
 
 pub are-small : (h : List Entry) (tally : LinkTally) → IsTally h tally → length h < 2 ^ 60 → AreSmall tally
 are-small h tally is short = record {
-  clock = omega (arith, ap (λ (t : LinkTally). t.clock) is.is, clock-most h, short);
+  clock = omega (arith, ap (λ (t : LinkTally). t.clock) is.is, clock_of-most h, short);
   sent = omega (arith, ap (λ (t : LinkTally). t.sent) is.is, total-most (λ e. sent_by e.reply) (λ e. some-most e.reply) h, short);
   best_sent = omega (arith, ap (λ (t : LinkTally). t.best_sent) is.is, total-most (λ e. best_sent_by e.reply) (λ e. best-sent-most e.reply) h, short);
   best_lost = omega (arith, ap (λ (t : LinkTally). t.best_lost) is.is, total-most (λ e. best_lost_by e.reply) (λ e. best-lost-most e.reply) h, short);

@@ -1,8 +1,5 @@
 -- The sums over the requests of a run, one request after the other.
-use Rattle.std.proofs.Common.{◌≡◌, ℕ, ◌+◌, ◌*◌, ◌<◌, ◌≤◌, Bool, true, false, Option, List, [], ◌∷◌, ◌++◌, length, take, drop, get_or, sym, ap, ◌∙◌, subst, arith}
-use Rattle.std.proofs.lemmas.List.{take-append-drop}
-use Rattle.byte_ends.specs.Gathering.{WritesPart}
-use Rattle.byte_ends.specs.Writing.{WritesFront}
+use Rattle.std.proofs.Common.{◌≡◌, ℕ, ◌+◌, ◌*◌, ◌<◌, ◌≤◌, Option, List, [], ◌∷◌, length, take, get_or, sym, ap, ◌∙◌, subst, arith}
 use Rattle.traffic_contract.specs.Admission.{total}
 use Rattle.traffic_contract.proofs.AdmissionFacts.{total-append}
 use Rattle.setup_protocol.specs.Setup.{Outcome}
@@ -11,10 +8,10 @@ use Rattle.call_script.specs.declared.entries.RequestEntry.{RequestEntry}
 use Rattle.run_record.specs.declared.done.Done.{Done}
 use Rattle.run_record.specs.declared.rows.HopRow.{HopRow}
 use Rattle.channel_report.specs.Channels.{was_accepted}
-use Rattle.channel_report.specs.Links.{one_if}
 use Rattle.channel_report.specs.Summary.{accepts, denies, delivers, is_denied, sums_of, with_request}
 use Rattle.channel_report.specs.Verdicts.{verdict_in}
 use Rattle.channel_report.specs.declared.summary.Sums.{Sums}
+use Rattle.channel_report.proofs.LinkFacts.{one-most}
 
 -- the total over one element more
 total-more : {X : Type 0} (f : X → ℕ) (xs : List X) (i : ℕ) (x : X) → i < length xs → x ≡ get_or xs i x → total f (take (i + 1) xs) ≡ total f (take i xs) + f x
@@ -37,16 +34,8 @@ pub record AreFew (sums : Sums) (i : ℕ) : Type 0 where
   pub denied : sums.denied ≤ i
   pub delivered : sums.delivered ≤ 18446744073709551616 * i
 
-one-at-most : (b : Bool) → one_if b ≤ 1
-one-at-most true = omega arith
-one-at-most false = omega arith
-
 pub few-more : (outcome : Option Outcome) (delivered : ℕ) (sums new : Sums) (i : ℕ) → new ≡ with_request outcome delivered sums → delivered < 18446744073709551616 → sums.accepted ≤ i → sums.denied ≤ i → sums.delivered ≤ 18446744073709551616 * i → AreFew new (i + 1)
 few-more outcome delivered sums new i is small accepted denied all =
-    let yes = one-at-most (was_accepted outcome) in
-    let no = one-at-most (is_denied outcome) in
+    let yes = one-most (was_accepted outcome) in
+    let no = one-most (is_denied outcome) in
     subst (λ s. AreFew s (i + 1)) (sym is) (record { accepted = omega (arith, accepted, yes); denied = omega (arith, denied, no); delivered = omega (arith, all, small) })
-
--- a front of a line is some of it
-pub front-part : (written written' : Option (List ℕ)) (line : List ℕ) → WritesFront written written' line → WritesPart written written' line
-front-part written written' line front = record { front = take front.count line; rest = drop front.count line; appends = front.appends; joined = take-append-drop front.count line }

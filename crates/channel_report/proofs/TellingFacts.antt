@@ -52,7 +52,7 @@ part-within line xs i x a b c gathered gathered' inside is so_far part =
 
 -- ---- answers
 
-why-later : (why : ReportFault) (f f' f'' : ℕ) → f ≤ f' → IsWhy why f' f'' → IsWhy why f f''
+pub why-later : (why : ReportFault) (f f' f'' : ℕ) → f ≤ f' → IsWhy why f' f'' → IsWhy why f f''
 why-later Memory f f' f'' first later = omega (arith, first, later)
 why-later WriteFault f f' f'' first later = rises-later f f' f'' first later
 

@@ -2,9 +2,9 @@ use Rattle.std.proofs.Common.{◌<◌, length, reverse, refl, arith}
 use Rattle.interleave_core.proofs.Lookups.{held}
 use Rattle.run_record.specs.Rows.{rows_of}
 use Rattle.channel_report.specs.Channels.{channel_line}
-use Rattle.channel_report.proofs.LineFacts.{read-item}
 use Rattle.channel_report.proofs.TellingFacts.{item-failed, item-told}
 use Rattle.channel_report.proofs.channel_lines.tell_channels.Goals as goal
+use Rattle.call_script.proofs.Walks.{read-at}
 
 pub returns-in_err-tell_request : goal.returns-in_err-tell_request
 returns-in_err-tell_request g c = λ entries found.
@@ -14,7 +14,7 @@ returns-in_err-tell_request g c = λ entries found.
     let entry = held requests number inside in
     let line = channel_line (rows_of entries) (reverse entries) in
     item-failed line requests number entry.item (line entry.item) _ (g.K.Sink.written c.loop-number.sink) _ c.args.gather.now c.loop-number.gather c.tell_request.new.gather _ (g.K.Sink.faults c.loop-number.sink) _
-    c.from_residual.result c.in_err-tell_request.field-0.0 c.from_residual.ensures.1 inside (read-item requests number entry.item entry.found) refl c.loop-number.invariant.counts (c.loop-number.invariant.told entries found) (c.in_err-tell_request.ensures entries entry.item found entry.found)
+    c.from_residual.result c.in_err-tell_request.field-0.0 c.from_residual.ensures.1 inside (read-at requests number entry.item entry.found) refl c.loop-number.invariant.counts (c.loop-number.invariant.told entries found) (c.in_err-tell_request.ensures entries entry.item found entry.found)
 
 pub loop-number-preserved : goal.loop-number-preserved
 loop-number-preserved g c =
@@ -27,5 +27,5 @@ loop-number-preserved g c =
       counts = omega (arith, c.loop-number.invariant.counts, (c.in_ok-tell_request.ensures any.0 entry.item any.1 entry.found).1);
       told = λ entries found.
           let line = channel_line (rows_of entries) (reverse entries) in
-          item-told line requests number entry.item (line entry.item) _ (g.K.Sink.written c.loop-number.sink) _ c.args.gather.now c.loop-number.gather c.tell_request.new.gather inside (read-item requests number entry.item entry.found) refl (c.loop-number.invariant.told entries found) (c.in_ok-tell_request.ensures entries entry.item found entry.found).0;
+          item-told line requests number entry.item (line entry.item) _ (g.K.Sink.written c.loop-number.sink) _ c.args.gather.now c.loop-number.gather c.tell_request.new.gather inside (read-at requests number entry.item entry.found) refl (c.loop-number.invariant.told entries found) (c.in_ok-tell_request.ensures entries entry.item found entry.found).0;
     }

@@ -4,9 +4,9 @@ use Rattle.std.specs.Prelude.{option_map}
 use Rattle.interleave_core.proofs.Lookups.{held}
 use Rattle.run_record.specs.Rows.{rows_of}
 use Rattle.setup_protocol.specs.State.{outcome_of}
-use Rattle.channel_report.proofs.LineFacts.{read-item}
 use Rattle.channel_report.proofs.SummaryFacts.{few-more, sums-more}
 use Rattle.channel_report.proofs.summary.sum_up.Goals as goal
+use Rattle.call_script.proofs.Walks.{read-at}
 
 pub loop-number-preserved : goal.loop-number-preserved
 loop-number-preserved c =
@@ -22,6 +22,6 @@ loop-number-preserved c =
       delivered = few.delivered;
       told = λ entries found.
           c.add.ensures
-          ∙ sums-more (rows_of entries) (reverse entries) requests number entry.item outcome c.delivered_on.result c.loop-number.sums inside (read-item requests number entry.item entry.found) (c.verdict-verdict.ensures (reverse entries) entry.item found.run found.actors entry.found)
+          ∙ sums-more (rows_of entries) (reverse entries) requests number entry.item outcome c.delivered_on.result c.loop-number.sums inside (read-at requests number entry.item entry.found) (c.verdict-verdict.ensures (reverse entries) entry.item found.run found.actors entry.found)
           (c.delivered_on.ensures.told c.args.plan.now entries entry.item found entry.found) (c.loop-number.invariant.told entries found);
     }
