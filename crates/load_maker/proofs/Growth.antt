@@ -13,7 +13,7 @@ use Rattle.link_steps.specs.Lists.{Each}
 use Rattle.traffic_contract.proofs.AdmissionFacts.{total-append}
 use Rattle.traffic_contract.specs.Admission.{total}
 use Rattle.call_script.proofs.Growing.{caller-keeps, open-keeps, send-keeps, close-keeps, rounds-keep, tail-keeps, grown-is-plan}
-use Rattle.call_script.specs.Growing.{add_op, last_ops, with_its_op, with_rounds, MayOpen, MaySend, IsOpenedThere, KeepSoFar}
+use Rattle.call_script.specs.Growing.{last_ops, with_rounds, MayOpen, MaySend, IsOpenedThere, KeepSoFar}
 use Rattle.call_script.specs.Parts.{PlanParts, parts_of, openings_of}
 use Rattle.call_script.specs.Plans.{IsPlan}
 use Rattle.call_script.specs.Rules.{each_after, have_version, have_names, are_there, are_in_range, are_few, are_joined, are_unclosed, pours_are_taken, is_new, caller_names, opens, closes, load_of, load_in}
@@ -30,6 +30,7 @@ use Rattle.load_maker.proofs.ShareFacts.{share-below, first-below}
 use Rattle.load_maker.specs.Draws.{state_after}
 use Rattle.load_maker.specs.Loads.{load_at}
 use Rattle.load_maker.specs.Made.{short_name, made_links, request_entry_of, belongs_to, share, first_channel, close_before, ops_for, own_requests, own_ops, requests_to, callers_to, made_parts}
+use Rattle.call_script.proofs.GrowthFacts.{added-last, last-of}
 
 -- ---- the caller at hand
 
@@ -40,16 +41,6 @@ caller_of name ops = record { name = name; ops = ops }
 -- the parts with these requests and callers, and after them the caller at hand
 abbrev at_hand : List RequestEntry → List CallerEntry → List ℕ → List Op → PlanParts
 at_hand requests before name ops = parts_of One made_links requests (before ++ caller_of name ops ∷ []) 0 0
-
-added-last : (op : Op) (before : List CallerEntry) (caller : CallerEntry) → add_op op (before ++ caller ∷ []) ≡ before ++ with_its_op op caller ∷ []
-added-last op [] caller = refl
-added-last op (first ∷ []) caller = refl
-added-last op (first ∷ next ∷ before) caller = ap (λ (callers : List CallerEntry). first ∷ callers) (added-last op (next ∷ before) caller)
-
-last-of : (before : List CallerEntry) (caller : CallerEntry) → last_ops (before ++ caller ∷ []) ≡ caller.ops
-last-of [] caller = refl
-last-of (first ∷ []) caller = refl
-last-of (first ∷ next ∷ before) caller = last-of (next ∷ before) caller
 
 -- a channel of this number is opened, and not closed
 opened-there : (requests : List RequestEntry) (before : List CallerEntry) (name : List ℕ) (ops : List Op) (n : ℕ) → n < 1048576 → list_any (opens n) ops ≡ true → list_any (closes n) ops ≡ false → IsOpenedThere (at_hand requests before name ops) (channel_at n)

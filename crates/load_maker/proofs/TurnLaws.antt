@@ -1,11 +1,9 @@
 -- A plan has one run by turns.
 use Rattle.std.proofs.Common.{◌≡◌, ℕ, zero, suc, ◌+◌, ◌-◌, ◌%◌, ◌<◌, ◌≤◌, ◌⊎◌, inl, inr, Bool, true, false, Option, Some, None, IsSome, List, [], ◌∷◌, length, refl, sym, ap, ◌∙◌, subst, arith}
-use Rattle.std.proofs.Math.Bridge.{le_prop}
 use Rattle.std.proofs.Math.Nat.{add-mod_left, mod-eq_of_lt}
 use Rattle.std.proofs.lemmas.Bool.{cases_eq, cases_lt, cases_order}
 use Rattle.std.proofs.lemmas.Nat.{mod_below}
 use Rattle.std.proofs.lemmas.Option.{slice_get_past}
-use mathlib.Core.HLevel.{is_prop→PathP}
 use Rattle.net_units.specs.Numbers.{actor_number, actor_at}
 use Rattle.net_units.specs.declared.numbers.ActorNo.{ActorNo}
 use Rattle.link_steps.specs.declared.replies.Reply.{Reply}
@@ -29,6 +27,7 @@ use Rattle.load_maker.proofs.ScriptFacts.{actor-is}
 use Rattle.load_maker.specs.TurnRuns.{goes_on_at, further, IsItsTurn, NobodyIsLeft, GoesByTurns, IsTurnsRun, TurnsMakeOneRun}
 use Rattle.run_record.specs.Runs.{replies_to}
 use Rattle.run_record.specs.declared.done.Done.{Done}
+use Rattle.net_units.proofs.NumberFacts.{same-actor}
 
 -- ---- actors without a step
 
@@ -109,9 +108,6 @@ turn-once network past one other turn again =
     ]
 
 -- actors are told apart by their numbers
-same-actor : (a b : ActorNo) → actor_number a ≡ actor_number b → a ≡ b
-same-actor a b same = λ i. record { number = same i; small = is_prop→PathP (λ j. same j < 65) (λ j. le_prop) a.small b.small i }
-
 -- ---- one run
 
 same-turns : (network : Network) (run other : List Done) → IsRun network run → GoesByTurns network run → IsRun network other → GoesByTurns network other → length run ≡ length other → run ≡ other
