@@ -262,6 +262,21 @@ mod tests {
         Ok(())
     }
 
+    #[test]
+    fn a_reply_of_another_ask_changes_nothing(rt: HostRuntime) -> Result<(), Fail> {
+        let mut plane = Plane::new(rt.alloc(), 1, 1)?;
+        let odd = Unexpected {
+            ask: Ask::Tick,
+            reply: Reply::Denied,
+        };
+        plane.ready()?;
+        match plane.next_ask() {
+            Some(_) => assert_eq!(rt; plane.take(Reply::Denied), Err(odd)),
+            None => assert!(rt; false, "a tick is next"),
+        }
+        asks(&rt, &mut plane, 0, Ask::Tick, ticked(0, None))
+    }
+
     // a packet leaves link 0 in the first of three rounds and reaches link 1 in the third
     #[test]
     fn a_packet_arrives_before_the_ticks_of_its_round(rt: HostRuntime) -> Result<(), Fail> {
