@@ -1,17 +1,15 @@
 -- The network of every plan fits.
-use Rattle.std.proofs.Common.{◌≡◌, ◌≢◌, ℕ, zero, suc, ◌+◌, ◌<◌, ◌≤◌, Bool, true, false, Option, Some, None, List, [], ◌∷◌, length, map, refl, sym, ap, ◌∙◌, subst, inl, inr, option_map, IsTrue, arith}
-use Rattle.std.proofs.lemmas.Bool.{cases_Bool, leb-true, ltb-true}
+use Rattle.std.proofs.Common.{◌≡◌, ℕ, ◌<◌, ◌≤◌, true, Option, Some, None, List, [], ◌∷◌, length, map, refl, sym, ap, ◌∙◌, subst, inl, inr, option_map, IsTrue, arith}
+use Rattle.std.proofs.lemmas.Bool.{leb-true, ltb-true}
 use Rattle.std.proofs.lemmas.List.{length-map}
-use Rattle.std.proofs.lemmas.Option.{slice_get-map, slice_get_cases, same_Some}
+use Rattle.std.proofs.lemmas.Option.{slice_get-map, slice_get_cases}
 use Rattle.std.specs.List.{list_all, slice_get}
-use Rattle.std.specs.Prelude.{nat_le, nat_lt, ◌&&◌}
+use Rattle.std.specs.Prelude.{nat_le, ◌&&◌}
 use Rattle.net_units.specs.LevelBounds.{are_bounds}
 use Rattle.net_units.specs.Numbers.{link_number, channel_number}
-use Rattle.net_units.specs.declared.numbers.ChanNo.{ChanNo}
 use Rattle.net_units.specs.declared.numbers.LinkNo.{LinkNo}
 use Rattle.hop_reservation.specs.declared.route.Hop.{Hop}
 use Rattle.link_steps.proofs.LegalAdmissible.{whole-fits}
-use Rattle.link_steps.proofs.ListFacts.{Each-both, Each-if, Each-map}
 use Rattle.link_steps.specs.Lists.{Each}
 use Rattle.link_steps.specs.Split.{Link, SplitFits}
 use Rattle.relaxation.specs.Laws.{HaveBounds}
@@ -21,38 +19,15 @@ use Rattle.setup_protocol.specs.Hops.{IsHopOf, RequestFits}
 use Rattle.call_script.specs.Parts.{PlanParts, FollowsLink}
 use Rattle.call_script.specs.Plans.{HasTerms, IsPlan}
 use Rattle.call_script.specs.Rules.{have_links, has_link, route_is_there, pour_is_there, are_opened, are_there, request_in_range, op_in_range, rounds_in_range, are_in_range, are_few, takes_best_effort, pour_is_taken, pours_are_taken}
-use Rattle.call_script.specs.Tasks.{Network, request_of, entry_link, task_of, with_task, tasks_of, script_of, network_of}
+use Rattle.call_script.specs.Tasks.{request_of, entry_link, task_of, with_task, tasks_of, script_of, network_of}
 use Rattle.call_script.specs.declared.entries.CallerEntry.{CallerEntry}
 use Rattle.call_script.specs.declared.entries.LinkEntry.{LinkEntry}
 use Rattle.call_script.specs.declared.entries.RequestEntry.{RequestEntry}
 use Rattle.call_script.specs.declared.operations.Op.{Op}
 use Rattle.call_script.specs.declared.operations.Op.TheVariants.{Open, Send, Close, Pour}
 use Rattle.call_script.specs.declared.tasks.Task.{Task}
-use Rattle.call_script.proofs.RuleFacts.{both, each-of, packets-fit, KeepsRules, keeps-rules}
-
--- ---- by index
-
--- what each element has, the one at an index has
-pub each-at : {X : Type 0} (P : X → Type 0) (xs : List X) (i : ℕ) (x : X) → Each P xs → slice_get xs i ≡ Some x → P x
-each-at P [] i x each found = cc
-each-at P (y ∷ ys) zero x each found = subst P (same_Some y x found) each.0
-each-at P (y ∷ ys) (suc i) x each found = each-at P ys i x each.1 found
-
--- what holds at every index, each element has
-pub each-by : {X : Type 0} (P : X → Type 0) (xs : List X) → ((i : ℕ) (x : X) → slice_get xs i ≡ Some x → P x) → Each P xs
-each-by P [] all = tt
-each-by P (y ∷ ys) all = (all 0 y refl, each-by P ys (λ i x found. all (suc i) x found))
-
--- an element of a mapped list comes from one of the list
-pub record ComesFrom {X Y : Type 0} (f : X → Y) (xs : List X) (i : ℕ) (y : Y) : Type 0 where
-  pub from : X
-  pub found : slice_get xs i ≡ Some from
-  pub is : f from ≡ y
-
-pub comes-from : {X Y : Type 0} (f : X → Y) (xs : List X) (i : ℕ) (y : Y) → slice_get (map f xs) i ≡ Some y → ComesFrom f xs i y
-comes-from f [] i y found = cc
-comes-from f (x ∷ xs) zero y found = record { from = x; found = refl; is = same_Some (f x) y found }
-comes-from f (x ∷ xs) (suc i) y found = (let rest = comes-from f xs i y found in record { from = rest.from; found = rest.found; is = rest.is })
+use Rattle.call_script.proofs.RuleFacts.{both, each-of, packets-fit, keeps-rules}
+use Rattle.link_steps.proofs.ListParts.{Each-at, comes-from}
 
 -- ---- requests
 
@@ -91,9 +66,9 @@ request-fits parts n entry plan found =
     let rules = keeps-rules parts plan.kept in
     let first = both (list_all (route_is_there parts.links) parts.requests && list_all (λ (caller : CallerEntry). list_all (pour_is_there parts.links) caller.ops) parts.callers) (are_opened parts.callers) rules.there in
     let routes = both (list_all (route_is_there parts.links) parts.requests) (list_all (λ (caller : CallerEntry). list_all (pour_is_there parts.links) caller.ops) parts.callers) first.0 in
-    let there = each-at (λ e. route_is_there parts.links e ≡ true) parts.requests n entry (each-of (route_is_there parts.links) parts.requests routes.0) found in
+    let there = Each-at (λ e. route_is_there parts.links e ≡ true) parts.requests n entry (each-of (route_is_there parts.links) parts.requests routes.0) found in
     let follows = plan.planned.hops n entry found in
-    let terms = each-at HasTerms parts.requests n entry plan.terms found in
+    let terms = Each-at HasTerms parts.requests n entry plan.terms found in
     record { contract = terms.contract; bounds = hops-bounds parts.links entry.request.route there follows; route = terms.route; hops = hops-there parts.links entry.request.route there follows }
 
 -- ---- tasks

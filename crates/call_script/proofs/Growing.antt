@@ -21,7 +21,7 @@ use Rattle.call_script.specs.declared.entries.RequestEntry.{RequestEntry}
 use Rattle.call_script.specs.declared.operations.Op.{Op}
 use Rattle.call_script.specs.declared.operations.Op.TheVariants.{Open, Send, Close, Pour}
 use Rattle.call_script.specs.declared.version.Version.{Version}
-use Rattle.call_script.proofs.FitFacts.{each-by}
+use Rattle.link_steps.proofs.ListParts.{Each-by_place}
 use Rattle.call_script.proofs.GrowthFacts.{all-more, after-more, get-before, get-more, added-all, added-after, added-names, added-length, added-total, added-openings, added-opens-none, new-opens-none}
 use Rattle.call_script.proofs.OpeningFacts.{opened-has}
 use Rattle.call_script.proofs.OwnerFacts.{any-later, twice-not}
@@ -331,7 +331,7 @@ callers-load requests entry (caller ∷ callers) opened have =
 
 -- what the callers of planned parts open has a request
 pub all-have : (parts : PlanParts) → ArePlanned parts → Each (λ (c : CallerEntry). HaveRequests parts.requests c.ops) parts.callers
-all-have parts planned = each-by (λ (c : CallerEntry). HaveRequests parts.requests c.ops) parts.callers (λ n caller found c any.
+all-have parts planned = Each-by_place (λ (c : CallerEntry). HaveRequests parts.requests c.ops) parts.callers (λ n caller found c any.
     let has = opened-has parts n c caller planned found any in
     slice_get_within parts.requests c has.entry has.found)
 

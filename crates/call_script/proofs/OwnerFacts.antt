@@ -21,7 +21,8 @@ use Rattle.call_script.specs.declared.operations.Op.{Op}
 use Rattle.call_script.specs.declared.operations.Op.TheVariants.{Open, Send, Close, Pour}
 use Rattle.call_script.specs.declared.tasks.Task.{Task}
 use Rattle.call_script.specs.declared.tasks.Task.TheVariants.{Opens, Sends, Closes}
-use Rattle.call_script.proofs.FitFacts.{each-at, comes-from, request-fits}
+use Rattle.link_steps.proofs.ListParts.{Each-at, comes-from}
+use Rattle.call_script.proofs.FitFacts.{request-fits}
 use Rattle.call_script.proofs.OpeningFacts.{AreNumbered, caller-numbered, IsOpenedBy, opened-has, owner-inside}
 use Rattle.call_script.proofs.RuleFacts.{both, not-true, each-of, keeps-rules}
 use Rattle.std.proofs.Math.Bool.{or-true}
@@ -238,8 +239,8 @@ keeps-order parts n caller plan found =
     let rules = keeps-rules parts plan.kept in
     let there = both (list_all (route_is_there parts.links) parts.requests && list_all (λ (c : CallerEntry). list_all (pour_is_there parts.links) c.ops) parts.callers) (are_opened parts.callers) rules.there in
     record {
-      opened = each-at (λ (c : CallerEntry). each_after is_opened [] c.ops ≡ true) parts.callers n caller (each-of (λ (c : CallerEntry). each_after is_opened [] c.ops) parts.callers there.1) found;
-      unclosed = each-at (λ (c : CallerEntry). each_after is_unclosed [] c.ops ≡ true) parts.callers n caller (each-of (λ (c : CallerEntry). each_after is_unclosed [] c.ops) parts.callers rules.unclosed) found;
+      opened = Each-at (λ (c : CallerEntry). each_after is_opened [] c.ops ≡ true) parts.callers n caller (each-of (λ (c : CallerEntry). each_after is_opened [] c.ops) parts.callers there.1) found;
+      unclosed = Each-at (λ (c : CallerEntry). each_after is_unclosed [] c.ops ≡ true) parts.callers n caller (each-of (λ (c : CallerEntry). each_after is_unclosed [] c.ops) parts.callers rules.unclosed) found;
     }
 
 -- a caller that opens other channels alone names others alone

@@ -19,7 +19,7 @@ use Rattle.call_script.specs.declared.entries.CallerEntry.{CallerEntry}
 use Rattle.call_script.specs.declared.entries.RequestEntry.{RequestEntry}
 use Rattle.call_script.specs.declared.operations.Op.{Op}
 use Rattle.call_script.specs.declared.operations.Op.TheVariants.{Open, Send, Close, Pour}
-use Rattle.call_script.proofs.FitFacts.{each-at}
+use Rattle.link_steps.proofs.ListParts.{Each-at}
 use Rattle.call_script.proofs.Growing.{few-in, ranges-in, used-in}
 use Rattle.call_script.proofs.OpeningFacts.{opened-has}
 use Rattle.call_script.proofs.OwnerFacts.{any-later, twice-not}
@@ -129,7 +129,7 @@ closings-few ops kept = length-le_from_distinct_below (closings ops) 1048576 (cl
 send-loaded : (parts : PlanParts) (n : ℕ) (caller : CallerEntry) (chan : ChanNo) (count : ℕ) → IsPlan parts → slice_get parts.callers n ≡ Some caller → list_any (opens (channel_number chan)) caller.ops ≡ true → 1 ≤ count → 1 ≤ count * hops_of (slice_get parts.requests (channel_number chan))
 send-loaded parts n caller chan count plan found any some =
     let opened = opened-has parts n (channel_number chan) caller plan.planned found any in
-    let least = (each-at HasTerms parts.requests (channel_number chan) opened.entry plan.terms opened.found).route.least in
+    let least = (Each-at HasTerms parts.requests (channel_number chan) opened.entry plan.terms opened.found).route.least in
     let hops : 1 ≤ hops_of (slice_get parts.requests (channel_number chan)) = subst (λ entry. 1 ≤ hops_of entry) (sym opened.found) least in
     mul-le 1 1 count (hops_of (slice_get parts.requests (channel_number chan))) some hops
 
@@ -175,9 +175,9 @@ pub ops-few : (parts : PlanParts) (n : ℕ) (caller : CallerEntry) → IsPlan pa
 unfolding are_unclosed
 ops-few parts n caller plan found =
     let rules = keeps-rules parts plan.kept in
-    let range = each-at (λ (c : CallerEntry). list_all op_in_range c.ops ≡ true) parts.callers n caller (each-of (λ (c : CallerEntry). list_all op_in_range c.ops) parts.callers (ranges-in parts rules.range).ops) found in
-    let opened = each-at (λ (c : CallerEntry). each_after is_opened [] c.ops ≡ true) parts.callers n caller (each-of (λ (c : CallerEntry). each_after is_opened [] c.ops) parts.callers (used-in parts rules.there).opened) found in
-    let unclosed = each-at (λ (c : CallerEntry). each_after is_unclosed [] c.ops ≡ true) parts.callers n caller (each-of (λ (c : CallerEntry). each_after is_unclosed [] c.ops) parts.callers rules.unclosed) found in
+    let range = Each-at (λ (c : CallerEntry). list_all op_in_range c.ops ≡ true) parts.callers n caller (each-of (λ (c : CallerEntry). list_all op_in_range c.ops) parts.callers (ranges-in parts rules.range).ops) found in
+    let opened = Each-at (λ (c : CallerEntry). each_after is_opened [] c.ops ≡ true) parts.callers n caller (each-of (λ (c : CallerEntry). each_after is_opened [] c.ops) parts.callers (used-in parts rules.there).opened) found in
+    let unclosed = Each-at (λ (c : CallerEntry). each_after is_unclosed [] c.ops ≡ true) parts.callers n caller (each-of (λ (c : CallerEntry). each_after is_unclosed [] c.ops) parts.callers rules.unclosed) found in
     let most = kinds-most parts.requests n caller.ops (all-loaded parts n caller plan found [] caller.ops refl range opened) in
     let openings = openings-few parts n caller plan found in
     let closes = closings-few caller.ops unclosed in

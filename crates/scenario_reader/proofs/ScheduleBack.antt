@@ -15,7 +15,7 @@ use Rattle.call_script.specs.Rules.{are_distinct, caller_names}
 use Rattle.call_script.specs.declared.entries.CallerEntry.{CallerEntry}
 use Rattle.call_script.specs.declared.schedule.Do.{Do}
 use Rattle.call_script.specs.declared.schedule.Schedule.{Schedule}
-use Rattle.call_script.proofs.FitFacts.{each-at}
+use Rattle.link_steps.proofs.ListParts.{Each-at}
 use Rattle.scenario_reader.specs.BothWays.{unnumbered, SameSchedule}
 use Rattle.scenario_reader.specs.Causes.{unless}
 use Rattle.scenario_reader.specs.Drafts.{Said, is_complete, parts_said, schedule_said, caller_named}
@@ -47,7 +47,7 @@ actor_back : (callers : List CallerEntry) (n : ℕ) → Each (λ (caller : Calle
 actor_back callers n names apart within =
     elim (slice_get_cases callers n).1 [
       | inl at ↦ (
-          let name = each-at (λ (caller : CallerEntry). is_name caller.name ≡ true) callers n at.0 names at.2 in
+          let name = Each-at (λ (caller : CallerEntry). is_name caller.name ≡ true) callers n at.0 names at.2 in
           let place = position_back (λ (c : CallerEntry). c.name) callers n at.0 apart at.2 in
           let no_plane : is_plane at.0.name ≡ false = (name_no_word at.0.name name).1 in
           subst (λ (found : Option CallerEntry). IsFound callers n found) (sym at.2) (record {

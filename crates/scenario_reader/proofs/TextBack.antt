@@ -14,7 +14,7 @@ use Rattle.call_script.specs.declared.entries.RequestEntry.{RequestEntry}
 use Rattle.call_script.specs.declared.operations.Op.{Op}
 use Rattle.call_script.specs.declared.schedule.Schedule.{Schedule}
 use Rattle.call_script.specs.declared.version.Version.{Version}
-use Rattle.call_script.proofs.FitFacts.{each-at, each-by}
+use Rattle.link_steps.proofs.ListParts.{Each-at, Each-by_place}
 use Rattle.call_script.proofs.Growing.{nothing-keeps, names-in, used-in, ranges-in, few-in}
 use Rattle.call_script.proofs.RuleFacts.{each-of, keeps-rules}
 use Rattle.scenario_reader.specs.BothWays.{AreNamed, unnumbered, APlansTextIsRead, ATextIsOfOnePlan}
@@ -104,13 +104,13 @@ plan_leads parts schedule plan named is =
     let callers_few = few.callers in
     let stand : LinksStand l = record { some = says.some; named = named.links; apart = names.links; numbers = plan.planned.links } in
     let links = links_read v [] l (nothing-keeps v) (record { named = named.links; kept = says.kept; new = names.links; few = omega (arith, links_few); numbers = λ k e found. plan.planned.links k e found ∙ omega arith }) in
-    let sound : Each (IsSound l) rs = each-by (IsSound l) rs (λ n e found. record {
-      name = each-at (λ (x : RequestEntry). is_name x.name ≡ true) rs n e named.requests found;
-      there = each-at (λ (x : RequestEntry). route_is_there l x ≡ true) rs n e (each-of (route_is_there l) rs used.routes) found;
-      joined = each-at (λ (x : RequestEntry). is_joined l x.request.route ≡ true) rs n e (each-of (λ (x : RequestEntry). is_joined l x.request.route) rs says.joined) found;
-      range = each-at (λ (x : RequestEntry). request_in_range x ≡ true) rs n e (each-of request_in_range rs ranges.requests) found;
+    let sound : Each (IsSound l) rs = Each-by_place (IsSound l) rs (λ n e found. record {
+      name = Each-at (λ (x : RequestEntry). is_name x.name ≡ true) rs n e named.requests found;
+      there = Each-at (λ (x : RequestEntry). route_is_there l x ≡ true) rs n e (each-of (route_is_there l) rs used.routes) found;
+      joined = Each-at (λ (x : RequestEntry). is_joined l x.request.route ≡ true) rs n e (each-of (λ (x : RequestEntry). is_joined l x.request.route) rs says.joined) found;
+      range = Each-at (λ (x : RequestEntry). request_in_range x ≡ true) rs n e (each-of request_in_range rs ranges.requests) found;
       hops = plan.planned.hops n e found;
-      terms = each-at HasTerms rs n e plan.terms found;
+      terms = Each-at HasTerms rs n e plan.terms found;
     }) in
     let load = says.load in
     let callers = callers_read v l rs [] rs [] cs stand links.keeps

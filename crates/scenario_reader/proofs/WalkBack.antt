@@ -24,7 +24,7 @@ use Rattle.call_script.specs.declared.entries.RequestEntry.{RequestEntry}
 use Rattle.call_script.specs.declared.operations.Op.{Op}
 use Rattle.call_script.specs.declared.operations.Op.TheVariants.{Open, Send, Close, Pour}
 use Rattle.call_script.specs.declared.version.Version.{Version}
-use Rattle.call_script.proofs.FitFacts.{each-at}
+use Rattle.link_steps.proofs.ListParts.{Each-at}
 use Rattle.call_script.proofs.GrowthFacts.{get-before, added-last, last-of}
 use Rattle.call_script.proofs.Growing.{open-keeps, send-keeps, close-keeps, pour-keeps, length-more}
 use Rattle.call_script.proofs.OpeningFacts.{opened-has}
@@ -69,7 +69,7 @@ is_there links link stand there =
         entry = at.0;
         found = at.2;
         same = same-link link at.0.shape.link (sym (stand.numbers (link_number link) at.0 at.2));
-        name = (each-at HasNames links (link_number link) at.0 stand.named at.2).name;
+        name = (Each-at HasNames links (link_number link) at.0 stand.named at.2).name;
         named = find_back (λ (e : LinkEntry). e.name) [] links (link_number link) at.0 stand.apart at.2;
       }
       | inr past ↦ (let within : link_number link < length links = ltb-true (link_number link) (length links) there in absurd (omega (arith, past.0, within)))
@@ -196,7 +196,7 @@ is_ours version links all requests rest callers caller chan s opened unclosed =
       entry = has.entry;
       there = record { opened = ap (list_any (opens (channel_number chan))) (last-of callers caller) ∙ opened; unclosed = last };
       here = record {
-        name = each-at (λ (e : RequestEntry). is_name e.name ≡ true) requests (channel_number chan) has.entry s.named has.found;
+        name = Each-at (λ (e : RequestEntry). is_name e.name ≡ true) requests (channel_number chan) has.entry s.named has.found;
         own = ap (if_own (length (callers ++ caller ∷ []) - 1)) find ∙ rw ours refl;
         same = same-channel chan has.entry.request.chan (sym (s.keeps.planned.requests (channel_number chan) has.entry has.found));
         unclosed = last;
