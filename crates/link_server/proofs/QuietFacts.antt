@@ -1,24 +1,18 @@
--- Where nothing is due for the rows in a tick, they stay as they are, bring no packet and lose none.
-use Rattle.std.proofs.Common.{◌≡◌, ℕ, zero, suc, ◌+◌, ◌<◌, ◌≤◌, true, false, not, List, [], ◌∷◌, ◌++◌, map, get_or, set, take, length, None, inl, inr, ◌⊎◌, refl, sym, ap, ◌∙◌, subst, arith}
+-- Where no packet is planned for a tick, the rows stay as they are in it, bring no packet and lose none.
+use Rattle.std.proofs.Common.{◌≡◌, ℕ, zero, suc, ◌+◌, ◌<◌, ◌≤◌, List, [], ◌∷◌, ◌++◌, map, get_or, set, take, length, None, refl, sym, ap, ◌∙◌, subst, arith}
 use Rattle.std.proofs.lemmas.Bool.{ne_eqb, le-leb}
 use Rattle.std.proofs.lemmas.List.{take_more, map_push, get_or-set_same}
-use Rattle.std.specs.Prelude.{filter, find}
-use Rattle.net_units.specs.LevelBounds.{last_bound}
-use Rattle.link_steps.specs.declared.replies.Phase.TheVariants.{Tentative, Committed, Closing}
-use Rattle.link_steps.specs.Hold.{hold_ended}
-use Rattle.link_steps.specs.Kept.{KeptRow, kept_stays, kept_step, kept_packets, kept_rows_after, kept_lost, new_kept, kept_relaxed, past_tick}
+use Rattle.std.specs.Prelude.{find}
+use Rattle.link_steps.specs.Kept.{KeptRow, kept_step, kept_packets, kept_rows_after, kept_lost, past_tick}
 use Rattle.link_steps.specs.Lists.{Each}
-use Rattle.link_steps.specs.Reservation.{Reservation}
 use Rattle.link_steps.specs.Rows.{SourcePacket, planned_from, is_for, left_at}
 use Rattle.link_steps.specs.Service.{Arrival}
 use Rattle.link_steps.specs.Sources.{Rests}
 use Rattle.link_steps.proofs.ListFacts.{Each-append, Each-from, Each-if}
-use Rattle.net_units.specs.declared.numbers.Level.{Level}
 use Rattle.link_server.specs.Planned.{IsPlannedFrom}
-use Rattle.link_server.specs.Quiet.{StaysUntil, IsQuiet, AreQuiet}
-use Rattle.link_server.specs.Rows.{reservation_in, row_in}
+use Rattle.link_server.specs.Quiet.{IsQuiet, AreQuiet}
+use Rattle.link_server.specs.Rows.{row_in}
 use Rattle.link_server.specs.declared.served_row.ServedRow.{ServedRow}
-use Rattle.link_server.proofs.HoldFacts.{hold-open, hold-closing}
 
 -- ---- a quiet tick
 
@@ -36,34 +30,28 @@ quiet-left until t (p ∷ left) plans before =
     rw (le-leb (suc t) p.tick (omega (arith, from, before))) (ap (λ rest. p ∷ rest) (quiet-left until t left plans.1 before))
 
 -- and the row rests
-quiet-step : (bounds : List ℕ) (here : List Arrival) (until t : ℕ) (row : KeptRow) → IsQuiet bounds until row → t < until → kept_step bounds here t row ≡ Rests
+quiet-step : (bounds : List ℕ) (here : List Arrival) (until t : ℕ) (row : KeptRow) → IsQuiet until row → t < until → kept_step bounds here t row ≡ Rests
 unfolding kept_step
-quiet-step bounds here until t row quiet before = rw (quiet-plan until t row.left quiet.plans before) refl
+quiet-step bounds here until t row quiet before = rw (quiet-plan until t row.left quiet before) refl
 
-quiet-past : (bounds : List ℕ) (until t : ℕ) (row : KeptRow) → IsQuiet bounds until row → t < until → past_tick t row ≡ row
-quiet-past bounds until t row quiet before = ap (λ left. record row { left = left }) (quiet-left until t row.left quiet.plans before)
-
--- all rows stay
-pub quiet-stay : (bounds : List ℕ) (until t : ℕ) (rows : List KeptRow) → AreQuiet bounds until rows → t < until → filter (kept_stays bounds t) rows ≡ rows
-quiet-stay bounds until t [] quiet before = refl
-quiet-stay bounds until t (row ∷ rows) quiet before =
-    rw (quiet.0.stays t before) (ap (λ rest. row ∷ rest) (quiet-stay bounds until t rows quiet.1 before))
+quiet-past : (bounds : List ℕ) (until t : ℕ) (row : KeptRow) → IsQuiet until row → t < until → past_tick t row ≡ row
+quiet-past bounds until t row quiet before = ap (λ left. record row { left = left }) (quiet-left until t row.left quiet before)
 
 -- they bring no packet and lose none
-pub quiet-packets : (bounds : List ℕ) (here : List Arrival) (until t taken : ℕ) (rows : List KeptRow) → AreQuiet bounds until rows → t < until → kept_packets bounds here t taken rows ≡ []
+pub quiet-packets : (bounds : List ℕ) (here : List Arrival) (until t taken : ℕ) (rows : List KeptRow) → AreQuiet until rows → t < until → kept_packets bounds here t taken rows ≡ []
 unfolding kept_packets
 quiet-packets bounds here until t taken [] quiet before = refl
 quiet-packets bounds here until t taken (row ∷ rows) quiet before =
     rw (quiet-step bounds here until t row quiet.0 before) (quiet-packets bounds here until t (taken + 0) rows quiet.1 before)
 
-pub quiet-rows : (bounds : List ℕ) (here : List Arrival) (until t taken : ℕ) (rows : List KeptRow) → AreQuiet bounds until rows → t < until → kept_rows_after bounds here t taken rows ≡ rows
+pub quiet-rows : (bounds : List ℕ) (here : List Arrival) (until t taken : ℕ) (rows : List KeptRow) → AreQuiet until rows → t < until → kept_rows_after bounds here t taken rows ≡ rows
 unfolding kept_rows_after
 quiet-rows bounds here until t taken [] quiet before = refl
 quiet-rows bounds here until t taken (row ∷ rows) quiet before =
     rw (quiet-step bounds here until t row quiet.0 before)
     (ap (λ first. first ∷ kept_rows_after bounds here t (taken + 0) rows) (quiet-past bounds until t row quiet.0 before) ∙ ap (λ rest. row ∷ rest) (quiet-rows bounds here until t (taken + 0) rows quiet.1 before))
 
-pub quiet-lost : (bounds : List ℕ) (here : List Arrival) (until t : ℕ) (rows : List KeptRow) → AreQuiet bounds until rows → t < until → kept_lost bounds here t rows ≡ 0
+pub quiet-lost : (bounds : List ℕ) (here : List Arrival) (until t : ℕ) (rows : List KeptRow) → AreQuiet until rows → t < until → kept_lost bounds here t rows ≡ 0
 unfolding kept_lost
 quiet-lost bounds here until t [] quiet before = refl
 quiet-lost bounds here until t (row ∷ rows) quiet before =
@@ -72,21 +60,11 @@ quiet-lost bounds here until t (row ∷ rows) quiet before =
 -- ---- until when
 
 -- what is quiet is so until every earlier tick
-quiet-less : (bounds : List ℕ) (until earlier : ℕ) (row : KeptRow) → earlier ≤ until → IsQuiet bounds until row → IsQuiet bounds earlier row
-quiet-less bounds until earlier row less quiet = record {
-  plans = Each-if (IsPlannedFrom until) (IsPlannedFrom earlier) row.left (λ p from. omega (arith, from, less)) quiet.plans;
-  stays = λ t before. quiet.stays t (omega (arith, before, less));
-}
+quiet-less : (until earlier : ℕ) (row : KeptRow) → earlier ≤ until → IsQuiet until row → IsQuiet earlier row
+quiet-less until earlier row less = Each-if (IsPlannedFrom until) (IsPlannedFrom earlier) row.left (λ p from. omega (arith, from, less))
 
-pub all-quiet-less : (bounds : List ℕ) (until earlier : ℕ) (rows : List KeptRow) → earlier ≤ until → AreQuiet bounds until rows → AreQuiet bounds earlier rows
-all-quiet-less bounds until earlier rows less = Each-if (IsQuiet bounds until) (IsQuiet bounds earlier) rows (λ row. quiet-less bounds until earlier row less)
-
--- a row's plan and its hold
-pub quiet-both : (bounds : List ℕ) (planned held until : ℕ) (row : KeptRow) → until ≤ planned → until ≤ held → Each (IsPlannedFrom planned) row.left → StaysUntil bounds held row → IsQuiet bounds until row
-quiet-both bounds planned held until row first second plans stays = record {
-  plans = Each-if (IsPlannedFrom planned) (IsPlannedFrom until) row.left (λ p from. omega (arith, from, first)) plans;
-  stays = λ t before. stays t (omega (arith, before, second));
-}
+pub all-quiet-less : (until earlier : ℕ) (rows : List KeptRow) → earlier ≤ until → AreQuiet until rows → AreQuiet earlier rows
+all-quiet-less until earlier rows less = Each-if (IsQuiet until) (IsQuiet earlier) rows (λ row. quiet-less until earlier row less)
 
 -- packets that are planned from a tick on are for none before it
 pub planned-quiet : (until u gap size count : ℕ) → until ≤ u → Each (IsPlannedFrom until) (planned_from u gap size count)
@@ -99,59 +77,34 @@ unfolding planned_from
 none-quiet until u gap size zero none = tt
 none-quiet until u gap size (suc count) none = absurd (omega (arith, none))
 
--- ---- holds
-
--- that of a row that isn't closing doesn't end
-pub open-stays : (bounds : List ℕ) (until : ℕ) (row : KeptRow) → (row.terms.phase ≡ Tentative) ⊎ (row.terms.phase ≡ Committed) → StaysUntil bounds until row
-open-stays bounds until row phase t before = ap not (sym (hold-open bounds row.terms row.taken _ t phase))
-
--- that of a closing row ends once all its packets were taken, and then not before the last was eligible so long
-closing-stays : (bounds : List ℕ) (terms : Reservation) (taken last t : ℕ) → terms.phase ≡ Closing → (terms.count ≡ 0 → ⊥) → (taken ≡ terms.count → t < last + last_bound bounds) → false ≡ hold_ended bounds terms taken last t
-closing-stays bounds terms taken last t phase some later =
-    hold-closing bounds terms taken last (last_bound bounds) t false phase refl
-    ((λ wrong. absurd (let f : false ≡ true = wrong in cc)), λ ended. elim ended [ inl none ↦ absurd (some none) | inr all ↦ absurd (let before = later all.0 in let over = all.1 in omega (arith, before, over)) ])
-
-pub row-stays : (bounds : List ℕ) (until : ℕ) (row : ServedRow) → row.phase ≡ Closing → (row.count ≡ 0 → ⊥) → (row.taken ≡ row.count → until ≤ row.last + last_bound bounds) → StaysUntil bounds until (row_in row)
-row-stays bounds until row phase some later t before =
-    ap (λ last. not (hold_ended bounds (reservation_in row) row.taken last t)) (sym row.newest)
-    ∙ ap not (sym (closing-stays bounds (reservation_in row) row.taken row.last t phase some (λ all. (let most = later all in omega (arith, most, before)))))
-
--- ---- rows that come, change and go
-
--- a new row is quiet
-pub new-quiet : (bounds : List ℕ) (until : ℕ) (terms : Reservation) → terms.phase ≡ Tentative → IsQuiet bounds until (new_kept terms)
-new-quiet bounds until terms phase = record { plans = tt; stays = open-stays bounds until (new_kept terms) (inl phase) }
-
--- one that is committed stays so
-pub relaxed-quiet : (bounds : List ℕ) (until : ℕ) (level : Level) (up_bound : ℕ) (row : KeptRow) → IsQuiet bounds until row → IsQuiet bounds until (kept_relaxed level up_bound row)
-relaxed-quiet bounds until level up_bound row quiet = record { plans = quiet.plans; stays = open-stays bounds until (kept_relaxed level up_bound row) (inr refl) }
+-- ---- rows that come and change
 
 -- rows with one more, and with one changed
-pub quiet-pushed : (bounds : List ℕ) (until : ℕ) (rows : List ServedRow) (row : ServedRow) → AreQuiet bounds until (map row_in rows) → IsQuiet bounds until (row_in row) → AreQuiet bounds until (map row_in (rows ++ row ∷ []))
-quiet-pushed bounds until rows row quiet new =
-    subst (AreQuiet bounds until) (sym (map_push row_in rows row)) (Each-append (IsQuiet bounds until) (map row_in rows) (row_in row ∷ []) quiet (new, tt))
+pub quiet-pushed : (until : ℕ) (rows : List ServedRow) (row : ServedRow) → AreQuiet until (map row_in rows) → IsQuiet until (row_in row) → AreQuiet until (map row_in (rows ++ row ∷ []))
+quiet-pushed until rows row quiet new =
+    subst (AreQuiet until) (sym (map_push row_in rows row)) (Each-append (IsQuiet until) (map row_in rows) (row_in row ∷ []) quiet (new, tt))
 
 pub each-set : (P : KeptRow → Type 0) (rows : List ServedRow) (i : ℕ) (new : ServedRow) → P (row_in new) → Each P (map row_in rows) → Each P (map row_in (set rows i new))
 each-set P [] i new is each = each
 each-set P (row ∷ rows) zero new is each = (is, each.1)
 each-set P (row ∷ rows) (suc i) new is each = (each.0, each-set P rows i new is each.1)
 
-pub quiet-set : (bounds : List ℕ) (until : ℕ) (rows : List ServedRow) (i : ℕ) (new : ServedRow) → IsQuiet bounds until (row_in new) → AreQuiet bounds until (map row_in rows) → AreQuiet bounds until (map row_in (set rows i new))
-quiet-set bounds until rows i new = each-set (IsQuiet bounds until) rows i new
+pub quiet-set : (until : ℕ) (rows : List ServedRow) (i : ℕ) (new : ServedRow) → IsQuiet until (row_in new) → AreQuiet until (map row_in rows) → AreQuiet until (map row_in (set rows i new))
+quiet-set until rows i new = each-set (IsQuiet until) rows i new
 
--- where one has changed, they are quiet until something is due for it, or for another
-pub quiet-changed : (bounds : List ℕ) (until due least : ℕ) (rows : List ServedRow) (i : ℕ) (new seen : ServedRow) → AreQuiet bounds until (map row_in rows) → i < length rows → seen ≡ get_or (set rows i new) i seen → IsQuiet bounds due (row_in seen) → least ≤ until → least ≤ due → AreQuiet bounds least (map row_in (set rows i new))
-quiet-changed bounds until due least rows i new seen quiet inside is its first second =
-    quiet-set bounds least rows i new
-    (quiet-less bounds due least (row_in new) second (subst (λ row. IsQuiet bounds due (row_in row)) (is ∙ get_or-set_same rows i new seen inside) its))
-    (all-quiet-less bounds until least (map row_in rows) first quiet)
+-- where one has changed, they are quiet until it plans a packet, or another does
+pub quiet-changed : (until due least : ℕ) (rows : List ServedRow) (i : ℕ) (new seen : ServedRow) → AreQuiet until (map row_in rows) → i < length rows → seen ≡ get_or (set rows i new) i seen → IsQuiet due (row_in seen) → least ≤ until → least ≤ due → AreQuiet least (map row_in (set rows i new))
+quiet-changed until due least rows i new seen quiet inside is its first second =
+    quiet-set least rows i new
+    (quiet-less due least (row_in new) second (subst (λ row. IsQuiet due (row_in row)) (is ∙ get_or-set_same rows i new seen inside) its))
+    (all-quiet-less until least (map row_in rows) first quiet)
 
 -- the rows seen so far are quiet, and so is the next one
-pub quiet-more : (bounds : List ℕ) (until due least : ℕ) (rows : List ServedRow) (i : ℕ) (row : ServedRow) → AreQuiet bounds until (map row_in (take i rows)) → i < length rows → row ≡ get_or rows i row → IsQuiet bounds due (row_in row) → least ≤ until → least ≤ due → AreQuiet bounds least (map row_in (take (i + 1) rows))
-quiet-more bounds until due least rows i row quiet inside is its first second =
-    subst (λ all. AreQuiet bounds least (map row_in all)) (sym (take_more rows i row inside ∙ ap (λ r. take i rows ++ r ∷ []) (sym is)))
-    (quiet-pushed bounds least (take i rows) row (all-quiet-less bounds until least (map row_in (take i rows)) first quiet) (quiet-less bounds due least (row_in row) second its))
+pub quiet-more : (until due least : ℕ) (rows : List ServedRow) (i : ℕ) (row : ServedRow) → AreQuiet until (map row_in (take i rows)) → i < length rows → row ≡ get_or rows i row → IsQuiet due (row_in row) → least ≤ until → least ≤ due → AreQuiet least (map row_in (take (i + 1) rows))
+quiet-more until due least rows i row quiet inside is its first second =
+    subst (λ all. AreQuiet least (map row_in all)) (sym (take_more rows i row inside ∙ ap (λ r. take i rows ++ r ∷ []) (sym is)))
+    (quiet-pushed least (take i rows) row (all-quiet-less until least (map row_in (take i rows)) first quiet) (quiet-less due least (row_in row) second its))
 
--- nothing is known to be due before the first tick
-pub quiet-at-once : (bounds : List ℕ) (rows : List KeptRow) → AreQuiet bounds 0 rows
-quiet-at-once bounds rows = Each-from (IsQuiet bounds 0) rows (λ row. record { plans = Each-from (IsPlannedFrom 0) row.left (λ p. omega arith); stays = λ t before. absurd (omega (arith, before)) })
+-- no row plans a packet before the first tick
+pub quiet-at-once : (rows : List KeptRow) → AreQuiet 0 rows
+quiet-at-once rows = Each-from (IsQuiet 0) rows (λ row. Each-from (IsPlannedFrom 0) row.left (λ p. omega arith))

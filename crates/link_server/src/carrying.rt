@@ -6,7 +6,7 @@ ghost use Rattle.link_steps.specs.Kept.{kept_reply, kept_after};
 ghost use Rattle.link_steps.specs.Legal.{SubmitFits, PacketFits};
 ghost use Rattle.link_server.specs.State.{kept_in};
 
-use crate::due::{due_after, row_due};
+use crate::due::due_after;
 use crate::expiry::{expire, put_hold};
 use crate::link_state::LinkState;
 use crate::planned::Planned;
@@ -44,8 +44,7 @@ impl LinkState {
             size,
             count,
         });
-        let bounds = self.shape.bounds;
-        self.due = self.due.min(row_due(&self.rows[place], &bounds));
+        self.due = self.due.min(self.rows[place].planned.due());
         Reply::Planned { clock: self.clock }
     }
 
@@ -68,7 +67,6 @@ impl LinkState {
         self.rows[place].close(count);
         let bounds = self.shape.bounds;
         put_hold(&mut self.holds, &self.rows[place], &bounds, self.clock);
-        self.due = self.due.min(row_due(&self.rows[place], &bounds));
         Reply::Closing { count, cancelled }
     }
 
@@ -97,7 +95,6 @@ impl LinkState {
         let taken = self.rows[place].take(packet.size, packet.due, number, clock);
         self.packets.push(taken);
         put_hold(&mut self.holds, &self.rows[place], &bounds, clock);
-        self.due = self.due.min(row_due(&self.rows[place], &bounds));
         Reply::Taken {
             clock,
             eligible: taken.eligible,
@@ -156,7 +153,7 @@ impl LinkState {
         );
         let fits = self.packets.best_fits(&shape, clock);
         let full = take_source_packets(&mut self.rows, &mut self.packets, &bounds, due, clock);
-        self.due = due_after(&self.rows, &bounds, due, clock);
+        self.due = due_after(&self.rows, due, clock);
         let best_lost = self.packets.take_best(fits, &shape, clock);
         let left = self.packets.serve(&shape, clock);
         self.clock += 1;

@@ -42,7 +42,7 @@ pub struct LinkState {
     // How many packets there is room for at least: those of channels that are here, one in each free slot, one more a
     // row, and the best-effort packets that may be here.
     pub(crate) room: u64,
-    // Nothing is due for the rows before this tick. It is 0 where that isn't known.
+    // No row plans a packet for a tick before this one. It is 0 where that isn't known.
     pub(crate) due: u64,
     ghost admitted: { AreAdmitted sums },
     ghost same_server: { sums.server ≡ server_of shape },
@@ -52,7 +52,7 @@ pub struct LinkState {
     ghost listed: { AreListed shape.bounds clock holds (map row_in rows.items) } by { AreListed-prop shape.bounds clock holds (map row_in rows.items) },
     ghost keeps: { IsKeeping shape.buffer shape.bounds keeping (map reservation_in rows.items) } by { IsKeeping-prop shape.buffer shape.bounds keeping (map reservation_in rows.items) },
     ghost sound: { IsSound shape room (account clock packets rows.items) } by { IsSound-prop shape room (account clock packets rows.items) },
-    ghost quiet: { AreQuiet shape.bounds due (map row_in rows.items) } by { AreQuiet-prop shape.bounds due (map row_in rows.items) },
+    ghost quiet: { AreQuiet due (map row_in rows.items) } by { AreQuiet-prop due (map row_in rows.items) },
     ghost roomy: { room ≤ packets.room },
     ghost looked: { packets.line.until ≤ clock },
     ghost stood: { IsStood shape (account clock packets rows.items) } by { IsStood-prop shape (account clock packets rows.items) },

@@ -12,7 +12,7 @@ use crate::served_row::ServedRow;
 use net_units::Bounds;
 
 // The rows, in their order, take the packets that are planned for this tick. It answers how many packets found no slot
-// free, and so were dropped. Nothing is due for the rows before the tick `due`: where that is ahead, it looks at none.
+// free, and so were dropped. No row plans a packet before the tick `due`: where that is ahead, it looks at none.
 pub(crate) fn take_source_packets(
     rows: &mut [ServedRow],
     packets: &mut Packets,
@@ -20,7 +20,7 @@ pub(crate) fn take_source_packets(
     due: u64,
     clock: u64,
 ) -> u32
-    requires quiet { clock < due → AreQuiet bounds.now due (map row_in rows.old) }
+    requires quiet { clock < due → AreQuiet due (map row_in rows.old) }
     requires early { clock < 2 ^ 61 }
     requires few { length rows.old < 2 ^ 32 }
     requires ready { AreReady clock rows.old }
@@ -38,7 +38,7 @@ pub(crate) fn take_source_packets(
     ensures looked { packets.new.line.until ≡ packets.old.line.until }
     ensures summed { map summed rows.new ≡ map summed rows.old }
     ensures levels { AreWithin (length bounds.now) rows.new }
-    ensures quiet { clock < due → AreQuiet bounds.now due (map row_in rows.new) }
+    ensures quiet { clock < due → AreQuiet due (map row_in rows.new) }
 {
     if clock < due {
         return 0;

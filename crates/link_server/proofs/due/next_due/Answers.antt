@@ -8,8 +8,8 @@ use Rattle.link_server.proofs.due.next_due.Goals as goal
 
 pub loop-row-preserved : goal.loop-row-preserved
 loop-row-preserved c =
-    quiet-more c.args.bounds.now c.loop-row.due c.row_due.result _ c.args.rows.now c.loop-row.row-index c.row-item.result c.loop-row.invariant c.loop-row-test.true c.row-item.is c.row_due.ensures (omega (arith, c.min-due.ensures)) (omega (arith, c.min-due.ensures))
+    quiet-more c.loop-row.due c.due.result _ c.args.rows.now c.loop-row.row-index c.row-item.result c.loop-row.invariant c.loop-row-test.true c.row-item.is c.due.ensures (omega (arith, c.min-due.ensures)) (omega (arith, c.min-due.ensures))
 
 pub returns : goal.returns
 returns c =
-    subst (λ rows. AreQuiet c.args.bounds.now c.loop-row.due (map row_in rows)) (take_all c.loop-row.row-index c.args.rows.now c.loop-row-test.false) c.loop-row.invariant
+    subst (λ rows. AreQuiet c.loop-row.due (map row_in rows)) (take_all c.loop-row.row-index c.args.rows.now c.loop-row-test.false) c.loop-row.invariant

@@ -5,4 +5,4 @@ use Rattle.link_server.proofs.due.next_due.Given as goal
 
 -- nothing is due for the rows seen so far
 abbrev pub invariant-loop-row : goal.invariant-loop-row
-invariant-loop-row l = AreQuiet l.bounds l.due (map row_in (take l.row-index l.rows))
+invariant-loop-row l = AreQuiet l.due (map row_in (take l.row-index l.rows))

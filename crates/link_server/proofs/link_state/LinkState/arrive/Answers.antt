@@ -28,7 +28,8 @@ use Rattle.link_server.specs.State.{kept_in}
 use Rattle.link_server.specs.Strays.{stray}
 use Rattle.link_server.proofs.ArriveFacts.{arrive-absent, arrive-stray, arrive-full, arrive-taken, arrive-same, arrive-kept, next-number, arrive-room}
 use Rattle.link_server.proofs.ExpiryFacts.{each-at}
-use Rattle.link_server.proofs.QuietFacts.{quiet-changed}
+use Rattle.link_server.specs.Quiet.{IsQuiet}
+use Rattle.link_server.proofs.QuietFacts.{quiet-set}
 use Rattle.link_server.proofs.PlaceFacts.{at-place}
 use Rattle.link_server.proofs.SumsFacts.{summed-same, within-same}
 use Rattle.link_server.proofs.SoundTaking.{sound-arrive}
@@ -185,9 +186,7 @@ invariant_of-self-2 c =
           subst (IsKeeping c.args.self.now.shape.buffer c.args.self.now.shape.bounds c.args.self.now.keeping)
           (sym (map-set_same reservation_in c.args.self.now.rows.items c.in-Some.place c.take-taken.new.self c.index_mut.result.now (ap (λ row. row.terms) same))) c.args.self.now.keeps;
       sound = subst (IsSound c.args.self.now.shape c.args.self.now.room) (sym (kept (goal.at.invariant_of-self-2 c).After-push place)) after;
-      quiet =
-          quiet-changed c.args.self.now.shape.bounds c.args.self.now.due c.row_due.result c.min-self.result c.args.self.now.rows.items c.in-Some.place c.take-taken.new.self c.index-5.result.now c.args.self.now.quiet place.inside c.index-5.ensures c.row_due.ensures
-          (omega (arith, c.min-self.ensures)) (omega (arith, c.min-self.ensures));
+      quiet = quiet-set c.args.self.now.due c.args.self.now.rows.items c.in-Some.place c.take-taken.new.self (subst (IsQuiet c.args.self.now.due) (sym same) (each-at (IsQuiet c.args.self.now.due) c.args.self.now.rows.items c.in-Some.place c.index_mut.result.now place.inside c.args.self.now.quiet)) c.args.self.now.quiet;
       roomy = omega (arith, roomy, c.push.ensures.room);
       looked = (let looked = c.args.self.now.looked in omega (arith, looked, c.push.ensures.looked));
       stood = still-stood c.args.self.now (Arrive c.args.packet.now) (Taken c.args.self.now.clock c.take-taken.result.eligible) _ c.requires.fits (replied (goal.at.invariant_of-self-2 c).After-take-taken place) (kept (goal.at.invariant_of-self-2 c).After-push place);

@@ -78,7 +78,7 @@ invariant_of-self-2 c =
           subst (λ rows. IsKeeping c.args.self.now.shape.buffer c.args.self.now.shape.bounds c.give_back.new.self (map reservation_in rows)) (sym c.take_row.ensures.rows)
           (keeps-removed c.args.self.now.shape.buffer c.args.self.now.shape.bounds c.args.self.now.keeping c.give_back.new.self c.args.self.now.rows.items c.in-Some.place c.index-2.result.now c.args.self.now.keeps place.inside c.index-2.ensures c.give_back.ensures.budget c.give_back.ensures.places);
       sound = subst (IsSound c.args.self.now.shape c.args.self.now.room) (sym kept) (sound-deny c.args.self.now.shape c.args.self.now.room (kept_in c.args.self.now) c.args.chan Denied c.args.self.now.sound);
-      quiet = rw c.take_row.ensures.rows (each-without (IsQuiet c.args.self.now.shape.bounds c.args.self.now.due) c.args.self.now.rows.items c.in-Some.place c.args.self.now.quiet);
+      quiet = rw c.take_row.ensures.rows (each-without (IsQuiet c.args.self.now.due) c.args.self.now.rows.items c.in-Some.place c.args.self.now.quiet);
       roomy = c.args.self.now.roomy;
       looked = c.args.self.now.looked;
       stood = still-stood c.args.self.now (Deny c.args.chan) Denied _ tt (denied (goal.at.invariant_of-self-2 c).After-take_row) kept;

@@ -1,6 +1,6 @@
 -- The channel had no row, so its number is new to the sums; the row is put at the end of both, and there is room for its
 -- packets.
-use Rattle.std.proofs.Common.{inl, ◌≡◌, ◌<◌, ◌≤◌, [], ◌∷◌, ◌++◌, length, map, set, refl, sym, ap, ◌∙◌, subst, arith}
+use Rattle.std.proofs.Common.{inl, ◌≡◌, ◌<◌, ◌≤◌, [], ◌∷◌, ◌++◌, length, map, set, sym, ap, ◌∙◌, subst, arith}
 use Rattle.link_steps.specs.declared.replies.Reply.TheVariants.{Offer}
 use Rattle.net_units.specs.Numbers.{channel_number, level_number}
 use Rattle.link_steps.specs.Buffer.{kept_units, need_of, free_units}
@@ -29,7 +29,7 @@ use Rattle.link_server.proofs.KeepingFacts.{keeping-free, keeps-pushed, slots-un
 use Rattle.link_server.proofs.SumsFacts.{within-reserved, absent-new}
 use Rattle.link_server.proofs.AnswerFacts.{reserve-kept}
 use Rattle.link_server.proofs.HoldingFacts.{held_terms, sound-held, may-new, may-within, may-passes, summed-pushed, within-pushed}
-use Rattle.link_server.proofs.QuietFacts.{new-quiet, quiet-pushed}
+use Rattle.link_server.proofs.QuietFacts.{quiet-pushed}
 use Rattle.link_server.specs.Stood.{IsStood}
 use Rattle.link_server.proofs.StepFacts.{rows-have}
 use Rattle.link_server.proofs.StoodFacts.{rows-few, stood-offered}
@@ -130,9 +130,9 @@ invariant_of-self c =
           (keeps-pushed c.make_room.new.self.shape.buffer c.make_room.new.self.shape.bounds c.make_room.new.self.keeping c.hold.new.self c.make_room.new.self.rows.items c.in_ok-row.row c.make_room.new.self.keeps
           (fits-free c.make_room.new.self c.args.wanted.now c.args.offer.now c.in_ok-row.row may c.in_ok-row.ensures) c.hold.ensures.budget c.hold.ensures.places);
       sound = subst (IsSound c.make_room.new.self.shape c.make_room.new.self.room) (sym (kept (goal.at.invariant_of-self c).After-add)) held;
-      quiet = subst (λ rows. AreQuiet c.make_room.new.self.shape.bounds c.make_room.new.self.due (map row_in rows)) (sym c.push_reserved.ensures.items)
-          (quiet-pushed c.make_room.new.self.shape.bounds c.make_room.new.self.due c.make_room.new.self.rows.items c.in_ok-row.row c.make_room.new.self.quiet
-          (subst (IsQuiet c.make_room.new.self.shape.bounds c.make_room.new.self.due) (sym c.in_ok-row.ensures) (new-quiet c.make_room.new.self.shape.bounds c.make_room.new.self.due _ refl)));
+      quiet =
+          subst (λ rows. AreQuiet c.make_room.new.self.due (map row_in rows)) (sym c.push_reserved.ensures.items)
+          (quiet-pushed c.make_room.new.self.due c.make_room.new.self.rows.items c.in_ok-row.row c.make_room.new.self.quiet (subst (IsQuiet c.make_room.new.self.due) (sym c.in_ok-row.ensures) tt));
       roomy = c.make_room.new.self.roomy;
       looked = c.make_room.new.self.looked;
       stood = subst (IsStood c.make_room.new.self.shape) (sym (kept (goal.at.invariant_of-self c).After-add)) (stood-offered c.make_room.new.self.shape (kept_in c.make_room.new.self) c.args.wanted.now c.args.offer.now (rows-have c.make_room.new.self.rows.items) c.requires.fits may c.make_room.new.self.stood);

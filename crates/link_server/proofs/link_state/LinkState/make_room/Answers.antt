@@ -32,7 +32,7 @@ invariant_of-self-2 c =
       indexed = subst (λ rows. IsIndex c.reserve-4.new.self.places.items (channels_in rows)) (sym c.reserve.ensures.items) (c.reserve-4.ensures.leads (channels_in c.args.self.now.rows.items) c.args.self.now.indexed);
       keeps = subst (λ rows. IsKeeping c.args.self.now.shape.buffer c.args.self.now.shape.bounds c.args.self.now.keeping (map reservation_in rows)) (sym c.reserve.ensures.items) c.args.self.now.keeps;
       sound = subst (IsSound c.args.self.now.shape c.max-self.result) (sym same) larger;
-      quiet = subst (λ rows. AreQuiet c.args.self.now.shape.bounds c.args.self.now.due (map row_in rows)) (sym c.reserve.ensures.items) c.args.self.now.quiet;
+      quiet = subst (λ rows. AreQuiet c.args.self.now.due (map row_in rows)) (sym c.reserve.ensures.items) c.args.self.now.quiet;
       roomy = omega (arith, c.max-self.ensures, grows, roomy, taken, c.len.ensures, ap length c.reserve-3.ensures.here);
       looked = (let looked = c.args.self.now.looked in omega (arith, looked, c.reserve-3.ensures.looked));
       stood = subst (IsStood c.args.self.now.shape) (sym same) c.args.self.now.stood;
@@ -52,7 +52,7 @@ invariant_of-self-in-Break-branch-3 c =
       indexed = subst (λ rows. IsIndex c.args.self.now.index.places.items (channels_in rows)) (sym c.reserve.ensures.items) c.args.self.now.indexed;
       keeps = subst (λ rows. IsKeeping c.args.self.now.shape.buffer c.args.self.now.shape.bounds c.args.self.now.keeping (map reservation_in rows)) (sym c.reserve.ensures.items) c.args.self.now.keeps;
       sound = subst (IsSound c.args.self.now.shape c.args.self.now.room) (sym same) c.args.self.now.sound;
-      quiet = subst (λ rows. AreQuiet c.args.self.now.shape.bounds c.args.self.now.due (map row_in rows)) (sym c.reserve.ensures.items) c.args.self.now.quiet;
+      quiet = subst (λ rows. AreQuiet c.args.self.now.due (map row_in rows)) (sym c.reserve.ensures.items) c.args.self.now.quiet;
       roomy = omega (arith, grows, roomy);
       looked = (let looked = c.args.self.now.looked in omega (arith, looked, c.reserve-3.ensures.looked));
       stood = subst (IsStood c.args.self.now.shape) (sym same) c.args.self.now.stood;
@@ -72,7 +72,7 @@ invariant_of-self-in-Break-branch-4 c =
       indexed = subst (λ rows. IsIndex c.reserve-4.new.self.places.items (channels_in rows)) (sym c.reserve.ensures.items) (c.reserve-4.ensures.leads (channels_in c.args.self.now.rows.items) c.args.self.now.indexed);
       keeps = subst (λ rows. IsKeeping c.args.self.now.shape.buffer c.args.self.now.shape.bounds c.args.self.now.keeping (map reservation_in rows)) (sym c.reserve.ensures.items) c.args.self.now.keeps;
       sound = subst (IsSound c.args.self.now.shape c.args.self.now.room) (sym same) c.args.self.now.sound;
-      quiet = subst (λ rows. AreQuiet c.args.self.now.shape.bounds c.args.self.now.due (map row_in rows)) (sym c.reserve.ensures.items) c.args.self.now.quiet;
+      quiet = subst (λ rows. AreQuiet c.args.self.now.due (map row_in rows)) (sym c.reserve.ensures.items) c.args.self.now.quiet;
       roomy = omega (arith, grows, roomy);
       looked = (let looked = c.args.self.now.looked in omega (arith, looked, c.reserve-3.ensures.looked));
       stood = subst (IsStood c.args.self.now.shape) (sym same) c.args.self.now.stood;
@@ -92,7 +92,7 @@ invariant_of-self-in-Break-branch-5 c =
       indexed = subst (λ rows. IsIndex c.reserve-4.new.self.places.items (channels_in rows)) (sym c.reserve.ensures.items) (c.reserve-4.ensures.leads (channels_in c.args.self.now.rows.items) c.args.self.now.indexed);
       keeps = subst (λ rows. IsKeeping c.args.self.now.shape.buffer c.args.self.now.shape.bounds c.args.self.now.keeping (map reservation_in rows)) (sym c.reserve.ensures.items) c.args.self.now.keeps;
       sound = subst (IsSound c.args.self.now.shape c.args.self.now.room) (sym same) c.args.self.now.sound;
-      quiet = subst (λ rows. AreQuiet c.args.self.now.shape.bounds c.args.self.now.due (map row_in rows)) (sym c.reserve.ensures.items) c.args.self.now.quiet;
+      quiet = subst (λ rows. AreQuiet c.args.self.now.due (map row_in rows)) (sym c.reserve.ensures.items) c.args.self.now.quiet;
       roomy = omega (arith, grows, roomy);
       looked = (let looked = c.args.self.now.looked in omega (arith, looked, c.reserve-3.ensures.looked));
       stood = subst (IsStood c.args.self.now.shape) (sym same) c.args.self.now.stood;

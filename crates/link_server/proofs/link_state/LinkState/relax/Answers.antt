@@ -21,7 +21,7 @@ use Rattle.link_server.specs.State.{kept_in}
 use Rattle.link_steps.specs.declared.replies.Reply.TheVariants.{Relaxed}
 use Rattle.link_server.proofs.SoundSetup.{sound-relax}
 use Rattle.link_server.proofs.ExpiryFacts.{each-at}
-use Rattle.link_server.proofs.QuietFacts.{relaxed-quiet, quiet-set}
+use Rattle.link_server.proofs.QuietFacts.{quiet-set}
 use Rattle.link_server.proofs.PlaceFacts.{at-place}
 use Rattle.link_server.proofs.SumsFacts.{place-holds-upto, summed-moved, summed-committed, within-committed}
 use Rattle.link_server.proofs.AnswerFacts.{relax-absent, relax-phase, relax-unfit, relax-relaxed, relax-same, relax-kept}
@@ -165,12 +165,7 @@ invariant_of-self-2 c =
           (c.hold.ensures.budget ∙ ap (λ row. with_held c.give_back.new.self.budget (kept_units c.args.self.now.shape.bounds (reservation_in row))) (c.index-4.ensures ∙ get_or-set_same c.args.self.now.rows.items c.in-Some.place c.commit.new.self c.index-4.result.now place.inside))
           (c.hold.ensures.places ∙ ap (λ row. c.give_back.new.self.places + places_for c.args.self.now.shape.bounds (reservation_in row)) (c.index-4.ensures ∙ get_or-set_same c.args.self.now.rows.items c.in-Some.place c.commit.new.self c.index-4.result.now place.inside));
       sound = subst (IsSound c.args.self.now.shape c.args.self.now.room) (sym kept) (sound-relax c.args.self.now.shape c.args.self.now.room (kept_in c.args.self.now) c.args.chan c.args.level c.args.up_bound (Relaxed c.args.self.now.clock) c.requires.fits c.args.self.now.sound reply);
-      quiet =
-          quiet-set c.args.self.now.shape.bounds c.args.self.now.due c.args.self.now.rows.items c.in-Some.place c.commit.new.self
-          (subst (IsQuiet c.args.self.now.shape.bounds c.args.self.now.due) (sym same)
-          (relaxed-quiet c.args.self.now.shape.bounds c.args.self.now.due c.args.level c.args.up_bound (row_in (get_or c.args.self.now.rows.items c.in-Some.place c.index_mut.result.now))
-          (each-at (IsQuiet c.args.self.now.shape.bounds c.args.self.now.due) c.args.self.now.rows.items c.in-Some.place c.index_mut.result.now place.inside c.args.self.now.quiet)))
-          c.args.self.now.quiet;
+      quiet = quiet-set c.args.self.now.due c.args.self.now.rows.items c.in-Some.place c.commit.new.self (subst (IsQuiet c.args.self.now.due) (sym same) (each-at (IsQuiet c.args.self.now.due) c.args.self.now.rows.items c.in-Some.place c.index_mut.result.now place.inside c.args.self.now.quiet)) c.args.self.now.quiet;
       roomy = c.args.self.now.roomy;
       looked = c.args.self.now.looked;
       stood = still-stood c.args.self.now (Relax c.args.chan c.args.level c.args.up_bound) (Relaxed c.args.self.now.clock) _ c.requires.fits reply kept;

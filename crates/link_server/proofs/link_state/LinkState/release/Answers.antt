@@ -1,5 +1,5 @@
 -- The row of the channel is found at the hop that is named, judged by its phase, and closed.
-use Rattle.std.proofs.Common.{inr, refl, true, ◌≡◌, ◌+◌, ◌^◌, ◌<◌, ◌≤◌, length, get_or, set, sym, ap, ◌∙◌, subst, arith}
+use Rattle.std.proofs.Common.{inr, refl, true, ◌≡◌, ◌+◌, ◌^◌, ◌<◌, ◌≤◌, length, get_or, set, sym, ap, ◌∙◌, subst}
 use Rattle.std.proofs.Math.Seq.{map-set_same}
 use Rattle.std.proofs.lemmas.List.{get_or-set_same}
 use Rattle.std.proofs.lemmas.List.Elements.{All-set}
@@ -26,7 +26,8 @@ use Rattle.link_server.proofs.KeepingFacts.{keeps-closed}
 use Rattle.link_server.specs.Sources.{IsReady}
 use Rattle.traffic_contract.specs.Eligible.{newest}
 use Rattle.link_server.proofs.ExpiryFacts.{each-at}
-use Rattle.link_server.proofs.QuietFacts.{quiet-changed}
+use Rattle.link_server.specs.Quiet.{IsQuiet}
+use Rattle.link_server.proofs.QuietFacts.{quiet-set}
 use Rattle.link_server.proofs.PlaceFacts.{at-place}
 use Rattle.link_server.proofs.SoundSetup.{sound-release}
 use Rattle.link_server.proofs.StoodFacts.{all-ready, still-stood}
@@ -126,9 +127,7 @@ invariant_of-self-2 c =
           keeps-closed c.args.self.now.shape.buffer c.args.self.now.shape.bounds c.args.self.now.keeping c.args.self.now.rows.items c.in-Some.place c.close.new.self c.index_mut.result.now c.count_at_release-count.result c.args.self.now.keeps place.inside (ap (λ row. row.terms) same)
           (c.in_default-not_committed.ensures ∙ ap (λ row. not_in_phase Committed (reservation_in row)) (at-place c.args.self.now.rows.items c.in-Some.place c.index.result.now c.index_mut.result.now c.index.ensures place.inside));
       sound = subst (IsSound c.args.self.now.shape c.args.self.now.room) (sym (kept close place)) (sound-release c.args.self.now.shape c.args.self.now.room (kept_in c.args.self.now) c.args.chan c.args.upstream (Closing c.count_at_release-count.result c.cancelled_at_release-cancelled.result) c.args.self.now.sound (replied close place));
-      quiet =
-          quiet-changed c.args.self.now.shape.bounds c.args.self.now.due c.row_due.result c.min-self.result c.args.self.now.rows.items c.in-Some.place c.close.new.self c.index-5.result.now c.args.self.now.quiet place.inside c.index-5.ensures c.row_due.ensures
-          (omega (arith, c.min-self.ensures)) (omega (arith, c.min-self.ensures));
+      quiet = quiet-set c.args.self.now.due c.args.self.now.rows.items c.in-Some.place c.close.new.self (subst (IsQuiet c.args.self.now.due) (sym same) tt) c.args.self.now.quiet;
       roomy = c.args.self.now.roomy;
       looked = c.args.self.now.looked;
       stood = still-stood c.args.self.now (Release c.args.chan c.args.upstream) (Closing c.count_at_release-count.result c.cancelled_at_release-cancelled.result) _ tt (replied close place) (kept close place);

@@ -103,7 +103,7 @@ invariant_of-self-2 c =
           (sym (map-set_same reservation_in c.args.self.now.rows.items c.in-Some.place c.plan.new.self c.index_mut.result.now (ap (λ row. row.terms) same))) c.args.self.now.keeps;
       sound = subst (IsSound c.args.self.now.shape c.args.self.now.room) (sym kept) (sound-submit c.args.self.now.shape c.args.self.now.room (kept_in c.args.self.now) c.args.chan c.args.count c.args.gap c.args.size (Planned c.args.self.now.clock) c.requires.fits c.args.self.now.sound reply);
       quiet =
-          quiet-changed c.args.self.now.shape.bounds c.args.self.now.due c.row_due.result c.min-self.result c.args.self.now.rows.items c.in-Some.place c.plan.new.self c.index-4.result.now c.args.self.now.quiet place.inside c.index-4.ensures c.row_due.ensures
+          quiet-changed c.args.self.now.due c.due.result c.min-self.result c.args.self.now.rows.items c.in-Some.place c.plan.new.self c.index-4.result.now c.args.self.now.quiet place.inside c.index-4.ensures c.due.ensures
           (omega (arith, c.min-self.ensures)) (omega (arith, c.min-self.ensures));
       roomy = c.args.self.now.roomy;
       looked = c.args.self.now.looked;

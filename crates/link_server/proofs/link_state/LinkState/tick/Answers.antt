@@ -43,8 +43,8 @@ stay c = ap (map row_in) c.deref_mut.ensures.value ∙ c.expire.ensures.rows
 
 pub take_source_packets-full-requires-clause-quiet : goal.take_source_packets-full-requires-clause-quiet
 take_source_packets-full-requires-clause-quiet c = λ before.
-    subst (AreQuiet c.args.self.now.shape.bounds c.args.self.now.due) (sym (stay (goal.at.take_source_packets-full-requires-clause-quiet c).After-deref_mut))
-    (Each-filter (IsQuiet c.args.self.now.shape.bounds c.args.self.now.due) (kept_stays c.args.self.now.shape.bounds c.args.self.now.clock) (kept_in c.args.self.now).rows c.args.self.now.quiet)
+    subst (AreQuiet c.args.self.now.due) (sym (stay (goal.at.take_source_packets-full-requires-clause-quiet c).After-deref_mut))
+    (Each-filter (IsQuiet c.args.self.now.due) (kept_stays c.args.self.now.shape.bounds c.args.self.now.clock) (kept_in c.args.self.now).rows c.args.self.now.quiet)
 
 pub best_fits-fits-requires : goal.best_fits-fits-requires
 best_fits-fits-requires c = record { ahead = ahead-from c.args.self.now.clock c.args.self.now.clock (left_in c.args.self.now.packets.best) (omega arith) c.args.self.now.sound.best_ahead }
@@ -161,7 +161,7 @@ invariant_of-self c =
           ∙ ap (map reservation_in) (sym rows))
           (subst (λ buffer. IsKeeping buffer c.args.self.now.shape.bounds c.expire.new.keeping (map reservation_in c.expire.new.rows.items)) c.args.self.now.keeps.whole c.expire.ensures.keeps);
       sound = subst (IsSound c.args.self.now.shape c.args.self.now.room) (sym after) (sound-tick c.args.self.now.shape c.args.self.now.room (kept_in c.args.self.now) (Ticked c.args.self.now.clock c.take_source_packets-full.result c.serve-left.result.sent c.serve-left.result.best_sent c.take_best-best_lost.result) c.args.self.now.sound);
-      quiet = subst (λ all. AreQuiet c.args.self.now.shape.bounds c.due_after-self.result (map row_in all)) c.deref.ensures.value c.due_after-self.ensures;
+      quiet = subst (λ all. AreQuiet c.due_after-self.result (map row_in all)) c.deref.ensures.value c.due_after-self.ensures;
       roomy = omega (arith, roomy, first, second, third);
       looked = omega (arith, c.serve-left.ensures.looked);
       stood = still-stood c.args.self.now Tick (Ticked c.args.self.now.clock c.take_source_packets-full.result c.serve-left.result.sent c.serve-left.result.best_sent c.take_best-best_lost.result) _ tt (replied (goal.at.invariant_of-self c).After-serve-left) after;
