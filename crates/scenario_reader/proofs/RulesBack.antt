@@ -8,14 +8,10 @@ use Rattle.scenario_reader.specs.Causes.{Rule, unless, first_cause, judged, stat
 use Rattle.scenario_reader.specs.Forms.{is_among, name_rule, new_name_rule, used_name_rule}
 use Rattle.scenario_reader.specs.declared.cause.Cause.{Cause}
 use Rattle.scenario_reader.specs.declared.cause.Cause.TheVariants as cause
+use Rattle.scenario_reader.proofs.PassFacts.{RulesPass}
 
--- each rule lets the line pass
-abbrev pub AllPass : List Rule → Type 0
-AllPass [] = Unit {0}
-AllPass (rule ∷ rules) = (rule ≡ None) × AllPass rules
-
--- then all of them do
-pub pass_all : (rules : List Rule) → AllPass rules → first_cause rules ≡ None
+-- rules that pass each pass together
+pub pass_all : (rules : List Rule) → RulesPass rules → first_cause rules ≡ None
 pass_all [] p = refl
 pass_all (rule ∷ rules) p = rw p.0 (pass_all rules p.1)
 
