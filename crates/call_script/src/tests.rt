@@ -7,7 +7,7 @@ ghost use Rattle.call_script.specs.Standing.{CallerStands};
 
 use super::*;
 use hop_reservation::{Hop, Route};
-use link_steps::{Ask, LinkShape, Reply};
+use link_steps::{Ask, LinkShape, Reply, Unexpected};
 use net_units::{ActorNo, Bounds, ChanNo, Kind, Level, LinkNo, Name};
 use setup_protocol::{Control, Request, Verdict};
 use std::alloc::Global;
@@ -149,6 +149,61 @@ fn asks(
     }
 }
 
+// The next ask is this one, and the reply isn't one of its own.
+fn refuses(
+    rt: &impl Abort,
+    actor: &mut Actor,
+    plan: &Plan,
+    ask: &Ask,
+    reply: Reply,
+) -> Result<(), Fail>
+    requires { (replies : List Replied) × CallerStands plan.now actor.old replies }
+    ensures { OnOk result (actor.new ≡ actor.old) }
+{
+    match actor.next_ask(plan) {
+        Some(_) => match actor.take(plan, reply) {
+            Ok(()) => Err(Fail::from("a reply to the ask")),
+            Err(odd) => {
+                assert_eq!(rt; odd, Unexpected { ask: *ask, reply });
+                Ok(())
+            }
+        },
+        None => Err(Fail::from("no ask is left")),
+    }
+}
+
+// The first ask of the request that the caller opens.
+fn reserve(request: &Request) -> Ask {
+    Ask::Reserve {
+        chan: request.chan,
+        contract: request.contract,
+        kind: Kind::Rate,
+        delay: 12,
+        up_reach: 0,
+        first: true,
+        next: None,
+    }
+}
+
+const OFFER: Reply = Reply::Offer {
+    level: Level::LEAST,
+    reach: Level::LEAST,
+};
+
+#[test]
+fn a_reply_of_another_ask_changes_nothing(rt: HostRuntime) -> Result<(), Fail> {
+    let alloc = rt.alloc();
+    let RequestEntry {
+        caller,
+        request,
+        ..
+    } = request()?;
+    let plan = plan(alloc, Version::One, link(Test::Whole, 0)?, false, 0)??;
+    let mut actor = Actor::new(alloc, &plan, caller)?;
+    refuses(&rt, &mut actor, &plan, &reserve(&request), Reply::Denied)?;
+    asks(&rt, &mut actor, &plan, &reserve(&request), OFFER)
+}
+
 #[test]
 fn a_caller_opens_its_request(rt: HostRuntime) -> Result<(), Fail> {
     let alloc = rt.alloc();
@@ -159,20 +214,7 @@ fn a_caller_opens_its_request(rt: HostRuntime) -> Result<(), Fail> {
     } = request()?;
     let plan = plan(alloc, Version::One, link(Test::Whole, 0)?, false, 0)??;
     let mut actor = Actor::new(alloc, &plan, caller)?;
-    let reserve = Ask::Reserve {
-        chan: request.chan,
-        contract: request.contract,
-        kind: Kind::Rate,
-        delay: 12,
-        up_reach: 0,
-        first: true,
-        next: None,
-    };
-    let offer = Reply::Offer {
-        level: Level::LEAST,
-        reach: Level::LEAST,
-    };
-    asks(&rt, &mut actor, &plan, &reserve, offer)?;
+    asks(&rt, &mut actor, &plan, &reserve(&request), OFFER)?;
     assert!(rt; actor.verdict(request.chan).is_none());
     let relax = Ask::Relax {
         chan: request.chan,
