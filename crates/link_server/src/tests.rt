@@ -175,6 +175,7 @@ fn ticked(clock: u64, full: u32, sent: Option<Sent>) -> Reply {
     }
 }
 
+mod arrivals;
 mod best_effort;
 mod chosen;
 mod generated;
