@@ -38,12 +38,8 @@ entries-one n waits = rw waits refl
 pub entries-put : (ps : List Place) (n : Place) → n.waits ≡ true → entries_in (ps ++ n ∷ []) ≡ entries_in ps ++ (n.tick, n.key) ∷ []
 entries-put ps n waits = entries-append ps (n ∷ []) ∙ ap (λ es. entries_in ps ++ es) (entries-one n waits)
 
-gone-one : (y : Place) (b : List Place) → y.waits ≡ false → entries_in (y ∷ b) ≡ entries_in b
-unfolding entries_in
-gone-one y b gone = rw gone refl
-
 pub entries-gone : (a b : List Place) (y : Place) → y.waits ≡ false → entries_in (a ++ y ∷ b) ≡ entries_in a ++ entries_in b
-entries-gone a b y gone = entries-append a (y ∷ b) ∙ ap (λ es. entries_in a ++ es) (gone-one y b gone)
+entries-gone a b y gone = entries-append a (y ∷ b) ∙ ap (λ es. entries_in a ++ es) (entries-skip y b gone)
 
 pub first_at-past : (t i : ℕ) (ps : List Place) (n : Place) → waits_at t n ≡ false → first_at t i (ps ++ n ∷ []) ≡ first_at t i ps
 unfolding first_at
