@@ -23,6 +23,7 @@ use Rattle.setup_protocol.proofs.ProgressFacts.{progress-on_the_way, progress-te
 
 -- ---- what a hop holds
 
+-- the level bounds of a hop, if it is there
 abbrev pub bounds_in : Option Hop → List ℕ
 bounds_in None = []
 bounds_in (Some hop) = hop.bounds
@@ -35,6 +36,7 @@ abbrev pub reach_bound : Request → List ℕ → ℕ → ℕ
 reach_bound request offers zero = 0
 reach_bound request offers (suc i) = bound_at (bounds_in (slice_get request.route i)) (reach_at request offers i)
 
+-- a hop that has offered holds a tentative reservation with its offer's level and reach
 pub record IsTent {X : Type 0} (holds : Reservation → X) (request : Request) (offers : List ℕ) (i : ℕ) (held : X) : Type 0 where
   pub terms : Reservation
   pub is : held ≡ holds terms
@@ -44,6 +46,7 @@ pub record IsTent {X : Type 0} (holds : Reservation → X) (request : Request) (
   pub up_reach : terms.up_reach ≡ reach_bound request offers i
   pub first : terms.first ≡ nat_eq i 0
 
+-- a hop that was relaxed holds a committed one, with the level that it is allotted
 pub record IsComm {X : Type 0} (holds : Reservation → X) (request : Request) (levels : List ℕ) (i : ℕ) (held : X) : Type 0 where
   pub terms : Reservation
   pub is : held ≡ holds terms
@@ -66,12 +69,14 @@ IsTail free holds request (Relaxing left levels) i held = IsComm holds request l
 IsTail free holds request (Settled (Accepts levels delay)) i held = IsComm holds request levels i held
 IsTail free holds request (Settled (Denies deny)) i held = held ≡ free
 
+-- what the hop at a place, from 0, holds where a setup has come so far
 pub record HopStands {X : Type 0} (free : X) (holds : Reservation → X) (request : Request) (offers : List ℕ) (p : Progress) (i : ℕ) (held : X) : Type 0 where
   pub tent : i < reserved_of offers p → IsTent holds request offers i held
   pub tail : reserved_of offers p ≤ i → IsTail free holds request p i held
 
 -- ---- how far a setup is
 
+-- hops reserve, give their rows back, or are relaxed to the levels allotted; so many are left
 pub data View (request : Request) (replies : List Reply) : Type 0 where
   OnWay : length (offers_in replies) < length request.route → after_offers replies ≡ [] → progress_of request replies ≡ Reserving (offers_in replies) (reach_after 0 request.route replies) → View request replies
   Back : (left : ℕ) (deny : Denial) → left ≤ length request.route → progress_of request replies ≡ undoing left deny → View request replies
