@@ -107,7 +107,6 @@ turn-once network past one other turn again =
       | inr (inr more) ↦ absurd (turn-before network past other one again turn more)
     ]
 
--- actors are told apart by their numbers
 -- ---- one run
 
 same-turns : (network : Network) (run other : List Done) → IsRun network run → GoesByTurns network run → IsRun network other → GoesByTurns network other → length run ≡ length other → run ≡ other
