@@ -6,21 +6,14 @@ use Rattle.link_steps.specs.Lists.{Each}
 use Rattle.call_script.specs.Parts.{PlanParts}
 use Rattle.call_script.specs.declared.schedule.Do.{Do}
 use Rattle.call_script.specs.declared.schedule.Schedule.{Schedule}
-use Rattle.interleave_core.specs.Schedules.{lined_turns, turns_of, repeated}
-use Rattle.interleave_core.proofs.ScheduleFacts.{turns-append, turns-one}
+use Rattle.interleave_core.specs.Schedules.{turns_of, repeated}
 use Rattle.race_run.specs.Turns.{BeginsOtherThan, Alternate, IsUnwritten, AreMaximalRuns, actors_of}
 use Rattle.run_record.specs.declared.done.Done.{Done}
 use Rattle.shared_network.specs.declared.closing.Closed.{Closed}
 use Rattle.tenet_app.specs.Racing.{IsRaceOf, race_text}
+use Rattle.race_run.proofs.TurnFacts.{turns-first, turns-nothing}
 
 -- ---- a list of turns
-
-turns-first : (item : Do) (items : List Do) → turns_of (item ∷ items) ≡ repeated item.count item.actor ++ turns_of items
-turns-first item items = turns-append (item ∷ []) items ∙ ap (λ ts. ts ++ turns_of items) (turns-one item)
-
-turns-nothing : turns_of [] ≡ []
-unfolding lined_turns
-turns-nothing = refl
 
 -- the list doesn't begin with this actor
 abbrev StartsOther : ActorNo → List ActorNo → Type 0

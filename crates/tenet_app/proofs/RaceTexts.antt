@@ -3,15 +3,12 @@ use Rattle.std.proofs.Common.{◌≡◌, ℕ, ◌≤◌, Option, Result, Ok, Err
 use Rattle.std.proofs.KnownBytes.{Appends-trans}
 use Rattle.std.specs.Io.KnownBytes.{Appends}
 use Rattle.std.specs.Prelude.{IsErrAnd}
-use Rattle.byte_ends.proofs.Gathering.{part-of-longer, rises-later}
+use Rattle.byte_ends.proofs.Gathering.{part-of-longer}
 use Rattle.byte_ends.specs.Gathering.{WritesPart}
 use Rattle.channel_report.specs.Telling.{IsWhy, WritesText}
 use Rattle.channel_report.specs.declared.fault.ReportFault.{ReportFault}
 use Rattle.channel_report.specs.declared.fault.ReportFault.TheVariants as fault
-
-why-later : (why : ReportFault) (f f' f'' : ℕ) → f ≤ f' → IsWhy why f' f'' → IsWhy why f f''
-why-later fault.Memory f f' f'' first later = omega (arith, first, later)
-why-later fault.WriteFault f f' f'' first later = rises-later f f' f'' first later
+use Rattle.channel_report.proofs.TellingFacts.{why-later}
 
 -- the first was written whole
 pub then-written : (result : Result (Unit {0}) ReportFault) (a b c : Option (List ℕ)) (f f' f'' : ℕ) (text more : List ℕ) → Appends a b text × (f ≤ f') → WritesText result b c f' f'' more → WritesText result a c f f'' (text ++ more)
