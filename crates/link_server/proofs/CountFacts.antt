@@ -1,17 +1,19 @@
 -- What a packet more, and one less, make of the counts.
 use Rattle.std.proofs.Common.{◌≡◌, ℕ, zero, suc, ◌+◌, ◌<◌, ◌≤◌, Bool, true, false, List, [], ◌∷◌, ◌++◌, length, get_or, set, take, drop, ⊎_elim, refl, sym, ap, ◌∙◌, arith}
-use Rattle.std.proofs.lemmas.Bool.{cases_Bool, eq-eqb, eqb-true}
+use Rattle.std.proofs.lemmas.Bool.{cases_Bool, eq-eqb, eqb-true, ne_eqb}
 use Rattle.std.proofs.lemmas.List.{take_more, length-map}
 use Rattle.std.proofs.lemmas.List.Edits.{length-remove}
-use Rattle.std.specs.List.{remove}
-use Rattle.std.specs.Prelude.{filter, nat_eq, if◌then◌else◌}
+use Rattle.std.proofs.lemmas.List.Sorted.{IsPartitionedBy-ltb}
+use Rattle.std.specs.List.{insert, remove}
+use Rattle.std.specs.List.Sorted.{IsPartitionedBy}
+use Rattle.std.specs.Prelude.{filter, nat_eq, nat_lt, if◌then◌else◌}
 use Rattle.traffic_contract.specs.Admission.{total}
 use Rattle.traffic_contract.proofs.AdmissionFacts.{total-push}
 use Rattle.link_steps.specs.Buffer.{has_lead, held_packets}
 use Rattle.link_steps.specs.Service.{Arrival}
 use Rattle.link_server.specs.declared.lead_count.Count.{Count}
 use Rattle.link_server.specs.declared.held_packet.HeldPacket.{HeldPacket}
-use Rattle.link_server.specs.Counts.{is_count_of, share_of, counted, packets_in, all_counted, one_of, IsCountAt, IsUncounted, AreCounts}
+use Rattle.link_server.specs.Counts.{share_of, counted, packets_in, all_counted, one_of, IsCountAt, IsGapFor, AreByLead, AreCounts}
 use Rattle.link_server.specs.Packets.{arrival_in, here_in}
 
 -- ---- sums over counts
@@ -31,33 +33,87 @@ total-set f [] i new d inside = absurd (omega arith)
 total-set f (x ∷ xs) zero new d inside = omega arith
 total-set f (x ∷ xs) (suc i) new d inside = (let rest = total-set f xs i new d (omega (arith, inside)) in omega (arith, rest))
 
-pub total-more : (f : Count → ℕ) (xs : List Count) (i : ℕ) (x : Count) → i < length xs → x ≡ get_or xs i x → total f (take (i + 1) xs) ≡ total f (take i xs) + f x
-total-more f xs i x inside is =
-    ap (total f) (take_more xs i x inside) ∙ total-push f (take i xs) (get_or xs i x) ∙ ap (λ y. total f (take i xs) + f y) (sym is)
-
--- the first so many counts, with the next one, have no more packets than all
-pub share-within : (lead : ℕ) (xs : List Count) (i : ℕ) (d : Count) → i < length xs → total (share_of lead) (take i xs) + (get_or xs i d).packets ≤ total packets_in xs
-share-within lead [] i d inside = absurd (omega arith)
-share-within lead (x ∷ xs) zero d inside = omega arith
-share-within lead (x ∷ xs) (suc i) d inside =
-    let rest = share-within lead xs i d (omega (arith, inside)) in
-    let own = share-upto (is_count_of lead x) x.packets in
-    omega (arith, rest, own) where
-      share-upto : (b : Bool) (n : ℕ) → (if b then n else 0) ≤ n
-      share-upto true n = omega arith
-      share-upto false n = omega arith
-
 -- each count has a packet, so there are no more counts than packets
 pub counts-few : (xs : List Count) → length xs ≤ all_counted xs
 counts-few [] = omega arith
 counts-few (x ∷ xs) = (let some = x.some in omega (arith, some, counts-few xs))
 
--- where no count is of the lead none of its packets is counted
-pub uncounted-none : (lead : ℕ) (xs : List Count) → IsUncounted lead xs → counted lead xs ≡ 0
-uncounted-none lead [] none = refl
-uncounted-none lead (x ∷ xs) none =
-    let rest = uncounted-none lead xs (λ k d inside. none (suc k) d (omega (arith, inside))) in
-    rw (none 0 x (omega arith)) (omega (arith, rest))
+-- ---- the order of the leads
+
+lead-from : (low : ℕ) (xs : List Count) (i : ℕ) (d : Count) → AreByLead low xs → i < length xs → low ≤ (get_or xs i d).lead
+lead-from low [] i d sorted inside = absurd (omega arith)
+lead-from low (x ∷ xs) zero d sorted inside = sorted.0
+lead-from low (x ∷ xs) (suc i) d sorted inside = let rest = lead-from (suc x.lead) xs i d sorted.1 (omega (arith, inside)) in let own = sorted.0 in omega (arith, rest, own)
+
+leads-rise : (low : ℕ) (xs : List Count) → AreByLead low xs → (i j : ℕ) (d : Count) → i ≤ j → j < length xs → (get_or xs i d).lead ≤ (get_or xs j d).lead
+leads-rise low [] sorted i j d upto inside = absurd (omega arith)
+leads-rise low (x ∷ xs) sorted zero zero d upto inside = omega arith
+leads-rise low (x ∷ xs) sorted zero (suc j) d upto inside = let above = lead-from (suc x.lead) xs j d sorted.1 (omega (arith, inside)) in omega (arith, above)
+leads-rise low (x ∷ xs) sorted (suc i) zero d upto inside = absurd (omega (arith, upto))
+leads-rise low (x ∷ xs) sorted (suc i) (suc j) d upto inside = leads-rise (suc x.lead) xs sorted.1 i j d (omega (arith, upto)) (omega (arith, inside))
+
+pub leads-part : (low lead : ℕ) (xs : List Count) → AreByLead low xs → IsPartitionedBy (λ count. nat_lt count.lead lead) xs
+leads-part low lead xs sorted = IsPartitionedBy-ltb (λ (count : Count). count.lead) xs lead (leads-rise low xs sorted)
+
+by-lead-lower : (low high : ℕ) (xs : List Count) → low ≤ high → AreByLead high xs → AreByLead low xs
+by-lead-lower low high [] lower sorted = tt
+by-lead-lower low high (x ∷ xs) lower sorted = ((let own = sorted.0 in omega (arith, own, lower)), sorted.1)
+
+pub sorted-set : (low : ℕ) (xs : List Count) (i : ℕ) (new d : Count) → AreByLead low xs → i < length xs → new.lead ≡ (get_or xs i d).lead → AreByLead low (set xs i new)
+sorted-set low [] i new d sorted inside same = tt
+sorted-set low (x ∷ xs) zero new d sorted inside same = ((let own = sorted.0 in omega (arith, own, same)), by-lead-lower (suc new.lead) (suc x.lead) xs (omega (arith, same)) sorted.1)
+sorted-set low (x ∷ xs) (suc i) new d sorted inside same = (sorted.0, sorted-set (suc x.lead) xs i new d sorted.1 (omega (arith, inside)) same)
+
+pub sorted-remove : (low : ℕ) (xs : List Count) (i : ℕ) → AreByLead low xs → AreByLead low (remove xs i)
+sorted-remove low [] zero sorted = tt
+sorted-remove low [] (suc i) sorted = tt
+sorted-remove low (x ∷ xs) zero sorted = by-lead-lower low (suc x.lead) xs (let own = sorted.0 in omega (arith, own)) sorted.1
+sorted-remove low (x ∷ xs) (suc i) sorted = (sorted.0, sorted-remove (suc x.lead) xs i sorted.1)
+
+gap-later : (lead : ℕ) (x : Count) (xs : List Count) (i : ℕ) → IsGapFor lead (x ∷ xs) (suc i) → IsGapFor lead xs i
+gap-later lead x xs i gap = record {
+  within = let w = gap.within in omega (arith, w);
+  below = λ k d before. gap.below (suc k) d (omega (arith, before));
+  above = λ d inside. gap.above d (omega (arith, inside));
+}
+
+pub sorted-insert : (low : ℕ) (xs : List Count) (i : ℕ) (new : Count) → AreByLead low xs → low ≤ new.lead → IsGapFor new.lead xs i → AreByLead low (insert xs i new)
+sorted-insert low [] zero new sorted from gap = (from, tt)
+sorted-insert low [] (suc i) new sorted from gap = (from, tt)
+sorted-insert low (x ∷ xs) zero new sorted from gap = (from, (gap.above x (omega arith), sorted.1))
+sorted-insert low (x ∷ xs) (suc i) new sorted from gap = (sorted.0, sorted-insert (suc x.lead) xs i new sorted.1 (gap.below 0 x (omega arith)) (gap-later new.lead x xs i gap))
+
+-- ---- what is counted of a lead
+
+higher-none : (low lead : ℕ) (xs : List Count) → lead < low → AreByLead low xs → counted lead xs ≡ 0
+higher-none low lead [] below sorted = refl
+higher-none low lead (x ∷ xs) below sorted =
+    let own = sorted.0 in
+    let rest = higher-none (suc x.lead) lead xs (omega (arith, below, own)) sorted.1 in
+    rw (ne_eqb x.lead lead (λ same. absurd (omega (arith, same, below, own)))) (omega (arith, rest))
+
+-- none where no count is of it
+pub gap-none : (low lead : ℕ) (xs : List Count) (i : ℕ) → AreByLead low xs → IsGapFor lead xs i → counted lead xs ≡ 0
+gap-none low lead [] i sorted gap = refl
+gap-none low lead (x ∷ xs) zero sorted gap =
+    let above = gap.above x (omega arith) in
+    let rest = higher-none (suc x.lead) lead xs (omega (arith, above)) sorted.1 in
+    rw (ne_eqb x.lead lead (λ same. absurd (omega (arith, same, above)))) (omega (arith, rest))
+gap-none low lead (x ∷ xs) (suc i) sorted gap =
+    let below = gap.below 0 x (omega arith) in
+    let rest = gap-none (suc x.lead) lead xs i sorted.1 (gap-later lead x xs i gap) in
+    rw (ne_eqb x.lead lead (λ same. absurd (omega (arith, same, below)))) (omega (arith, rest))
+
+-- or the packets of its count
+pub one-at : (low lead : ℕ) (xs : List Count) (i : ℕ) (d : Count) → AreByLead low xs → i < length xs → (get_or xs i d).lead ≡ lead → counted lead xs ≡ (get_or xs i d).packets
+one-at low lead [] i d sorted inside same = absurd (omega arith)
+one-at low lead (x ∷ xs) zero d sorted inside same =
+    let rest = higher-none (suc x.lead) lead xs (omega (arith, same)) sorted.1 in
+    rw (eq-eqb x.lead lead same) (omega (arith, rest))
+one-at low lead (x ∷ xs) (suc i) d sorted inside same =
+    let above = lead-from (suc x.lead) xs i d sorted.1 (omega (arith, inside)) in
+    let rest = one-at (suc x.lead) lead xs i d sorted.1 (omega (arith, inside)) same in
+    rw (ne_eqb x.lead lead (λ own. absurd (omega (arith, own, above, same)))) (omega (arith, rest))
 
 -- where no packet is here nothing is counted
 pub none-counted : AreCounts [] []
@@ -108,13 +164,19 @@ pub all-removed : (xs : List Count) (i : ℕ) (d : Count) → i < length xs → 
 all-removed xs i d inside one = (let sum = total-removed packets_in xs i d inside in omega (arith, sum, one))
 
 -- a new count
-pub counted-pushed : (lead other : ℕ) (xs : List Count) (new : Count) → new.lead ≡ lead → new.packets ≡ 1 → counted other (xs ++ new ∷ []) ≡ counted other xs + one_of lead other
-counted-pushed lead other xs new own one =
-    total-push (share_of other) xs new
+total-inserted : (f : Count → ℕ) (xs : List Count) (i : ℕ) (new : Count) → total f (insert xs i new) ≡ total f xs + f new
+total-inserted f [] zero new = omega arith
+total-inserted f [] (suc i) new = omega arith
+total-inserted f (x ∷ xs) zero new = omega arith
+total-inserted f (x ∷ xs) (suc i) new = let rest = total-inserted f xs i new in omega (arith, rest)
+
+pub counted-inserted : (lead other : ℕ) (xs : List Count) (i : ℕ) (new : Count) → new.lead ≡ lead → new.packets ≡ 1 → counted other (insert xs i new) ≡ counted other xs + one_of lead other
+counted-inserted lead other xs i new own one =
+    total-inserted (share_of other) xs i new
     ∙ ap (λ n. counted other xs + n) (ap (λ n. if nat_eq n other then new.packets else 0) own ∙ ap (λ n. if nat_eq lead other then n else 0) one)
 
-pub all-pushed : (xs : List Count) (new : Count) → new.packets ≡ 1 → all_counted (xs ++ new ∷ []) ≡ all_counted xs + 1
-all-pushed xs new one = total-push packets_in xs new ∙ ap (λ n. all_counted xs + n) one
+pub all-inserted : (xs : List Count) (i : ℕ) (new : Count) → new.packets ≡ 1 → all_counted (insert xs i new) ≡ all_counted xs + 1
+all-inserted xs i new one = total-inserted packets_in xs i new ∙ ap (λ n. all_counted xs + n) one
 
 -- ---- packets
 

@@ -1,7 +1,8 @@
 -- A link counts how many of the packets here are of each reservation, told apart by its lead, the arrival number of its first
--- packet. A count stands only for a reservation that has a packet here, so there are no more counts than packets.
-use Rattle.std.specs.Prelude.{◌≡◌, ℕ, ◌<◌, Bool, true, false, nat_eq, if◌then◌else◌, List, length, slice_index_or}
-use Rattle.std.specs.List.{All}
+-- packet. A count stands only for a reservation that has a packet here, so there are no more counts than packets. The counts
+-- stand in the order of their leads.
+use Rattle.std.specs.Prelude.{◌≡◌, ℕ, suc, ◌<◌, ◌≤◌, Bool, true, nat_eq, if◌then◌else◌, List, [], ◌∷◌, length, slice_index_or}
+use Rattle.std.specs.Coded.{×_prop, Unit-prop, le_prop}
 use native.Mathlib.Nat.{ℕ_set}
 use Rattle.traffic_contract.specs.Admission.{total}
 use Rattle.link_steps.specs.Buffer.{held_packets}
@@ -36,9 +37,16 @@ pub record IsCountAt (lead : ℕ) (counts : List Count) (i : ℕ) : Type 0 where
   pub inside : i < length counts
   pub here : (d : Count) → is_count_of lead (slice_index_or counts i d) ≡ true
 
--- no count is of the lead
-abbrev pub IsUncounted : ℕ → List Count → Type 0
-IsUncounted lead counts = All (λ count. is_count_of lead count ≡ false) counts
+-- the leads rise, from `low` on
+abbrev pub AreByLead : ℕ → List Count → Type 0
+AreByLead low [] = Unit {0}
+AreByLead low (count ∷ counts) = (low ≤ count.lead) × AreByLead (suc count.lead) counts
+
+-- no count is of the lead, and one would stand at this place
+pub record IsGapFor (lead : ℕ) (counts : List Count) (i : ℕ) : Type 0 where
+  pub within : i ≤ length counts
+  pub below : (k : ℕ) (d : Count) → k < i → (slice_index_or counts k d).lead < lead
+  pub above : (d : Count) → i < length counts → lead < (slice_index_or counts i d).lead
 
 -- the counts are those of these packets
 pub record AreCounts (counts : List Count) (here : List Arrival) : Type 0 where
@@ -46,5 +54,9 @@ pub record AreCounts (counts : List Count) (here : List Arrival) : Type 0 where
   pub all : all_counted counts ≡ length here
 
 -- there is one proof of it at most
+pub AreByLead-prop : (low : ℕ) (counts : List Count) → IsProp (AreByLead low counts)
+AreByLead-prop low [] = Unit-prop
+AreByLead-prop low (count ∷ counts) = ×_prop le_prop (AreByLead-prop (suc count.lead) counts)
+
 pub AreCounts-prop : (counts : List Count) (here : List Arrival) → IsProp (AreCounts counts here)
 AreCounts-prop counts here = Prim.hlevel ℕ_set

@@ -9,7 +9,7 @@ ghost use Rattle.link_steps.specs.Kept.{is_eligible_by, is_other, start_at, wait
 ghost use Rattle.link_steps.specs.Service.{first_in_line};
 ghost use Rattle.link_server.specs.Packets.{arrival_in, start_in, here_in};
 ghost use Rattle.link_server.specs.InLine.{is_rank_of, count_on, AreIn, AreRising, HasRank, IsStale};
-ghost use Rattle.link_server.specs.Counts.{AreCounts};
+ghost use Rattle.link_server.specs.Counts.{AreByLead, AreCounts};
 ghost use Rattle.link_server.specs.Line.{ranks_in, room_in};
 ghost use Rattle.link_server.specs.Parting.{PartsAt};
 
@@ -119,11 +119,13 @@ pub(crate) fn take_out(
 )
     requires rising { AreRising 0 (here_in packets.old.items) }
     requires counts { AreCounts counts.old.items (here_in packets.old.items) }
+    requires sorted { AreByLead 0 counts.old.items }
     ensures others { here_in packets.new.items ≡ filter (is_other (start_in running.now)) (here_in packets.old.items) }
     ensures one { length packets.old.items ≤ length packets.new.items + 1 }
     ensures fewer { length packets.new.items ≤ length packets.old.items }
     ensures capacity { deque_capacity packets.new ≡ deque_capacity packets.old }
     ensures counts { AreCounts counts.new.items (here_in packets.new.items) }
+    ensures sorted { AreByLead 0 counts.new.items }
     ensures counts_capacity { vec_capacity counts.new ≡ vec_capacity counts.old }
 {
     let place = running.packet.place;

@@ -3,7 +3,7 @@ ghost use Rattle.std.specs.Prelude.{◌≡◌, ◌+◌, ◌^◌, ◌<◌, ◌≤
 ghost use Rattle.std.specs.Vec.{vec_capacity};
 ghost use Rattle.std.specs.VecDeque.{deque_capacity};
 ghost use Rattle.link_server.specs.InLine.{count_on, AreIn, AreIn-prop};
-ghost use Rattle.link_server.specs.Counts.{AreCounts, AreCounts-prop};
+ghost use Rattle.link_server.specs.Counts.{AreByLead, AreByLead-prop, AreCounts, AreCounts-prop};
 ghost use Rattle.link_server.specs.Line.{ranks_in, room_in};
 ghost use Rattle.link_server.specs.Packets.{here_in, on_in};
 ghost use Rattle.link_server.specs.Sound.{AreNumberedWithin};
@@ -28,7 +28,7 @@ pub(crate) struct Packets {
     pub(crate) taken: u64,
     // In the order of their arrival.
     pub(crate) here: VecDeque<HeldPacket>,
-    // How many of them are of each reservation.
+    // How many of them are of each reservation, in the order of their leads.
     pub(crate) counts: Vec<Count>,
     // The ranks of those that haven't started.
     pub(crate) line: Line,
@@ -47,6 +47,7 @@ pub(crate) struct Packets {
     ghost counts_are: { AreCounts counts.items (here_in here.items) } by { AreCounts-prop counts.items (here_in here.items) },
     ghost counts_fit: { room ≤ vec_capacity counts },
     ghost latest: { line.newest ≤ taken },
+    ghost counts_sorted: { AreByLead 0 counts.items } by { AreByLead-prop 0 counts.items },
 }
 
 // What leaves a link at the end of a tick: a packet of a channel, or a best-effort packet, if any.

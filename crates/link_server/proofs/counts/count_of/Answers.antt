@@ -1,27 +1,14 @@
--- Each count of the lead adds its packets, and no sum passes that of all.
-use Rattle.std.proofs.Common.{◌≡◌, refl, ap, arith}
-use Rattle.std.proofs.lemmas.Bool.{eq-eqb, ne_eqb}
-use Rattle.link_server.specs.Counts.{share_of}
-use Rattle.link_server.proofs.CountFacts.{total-more, share-within}
+-- The count of the lead tells its packets, and where none stands there are none.
+use Rattle.std.proofs.Common.{get_or, sym}
+use Rattle.std.proofs.lemmas.Bool.{eqb-true}
+use Rattle.link_server.proofs.CountFacts.{gap-none, one-at}
 use Rattle.link_server.proofs.counts.count_of.Goals as goal
-use Rattle.link_server.proofs.counts.count_of.Goals.{then-count-lead, else-count-lead}
 
-pub overflow_add-packets : goal.overflow_add-packets
-overflow_add-packets c =
-    let within = share-within c.args.lead c.args.counts.now c.loop-count.count-index c.count-item.result c.loop-count-test.true in
-    let own = ap (λ count. count.packets) c.count-item.is in
-    omega (arith, within, own, c.loop-count.invariant, c.requires)
+pub returns-in-Ok : goal.returns-in-Ok
+returns-in-Ok c =
+    let xs = c.args.counts.now in
+    let own = c.index-counts-place.result in
+    sym (one-at 0 c.args.lead xs c.in-Ok.place own c.requires c.in-Ok.ensures.found.inside (eqb-true (get_or xs c.in-Ok.place own).lead c.args.lead (c.in-Ok.ensures.found.here own)))
 
-pub loop-count-preserved : goal.loop-count-preserved
-loop-count-preserved c =
-    let step = total-more (share_of c.args.lead) c.args.counts.now c.loop-count.count-index c.count-item.result c.loop-count-test.true c.count-item.is in
-    elim c.if-count-lead.branch [
-      | then-count-lead w ↦
-          let own : share_of c.args.lead c.count-item.result ≡ c.count-item.result.packets = rw (eq-eqb c.count-item.result.lead c.args.lead w.if-count-lead.true) refl in
-          let now = w.packets-is in
-          omega (arith, step, own, c.loop-count.invariant, now)
-      | else-count-lead w ↦
-          let own : share_of c.args.lead c.count-item.result ≡ 0 = rw (ne_eqb c.count-item.result.lead c.args.lead w.if-count-lead.false) refl in
-          let now = w.packets-is in
-          omega (arith, step, own, c.loop-count.invariant, now)
-    ]
+pub returns-in-Err : goal.returns-in-Err
+returns-in-Err c = sym (gap-none 0 c.args.lead c.args.counts.now c.in-Err.field-0 c.requires c.in-Err.ensures.absent)

@@ -35,8 +35,8 @@ returns-else-index-len-clause-others c =
           (λ d inside same. absurd (omega (arith, len, inside, w.if-index-len.false, c.len.ensures)))
     ]
 
-pub lower-requires : goal.lower-requires
-lower-requires c =
+pub lower-requires-clause-some : goal.lower-requires-clause-some
+lower-requires-clause-some c =
     let inside : c.place_in-index.result < length c.args.packets.now.items = (let len = c.args.packets.now.ok.0 in omega (arith, len, c.if-index-len.true, c.len.ensures)) in
     one-counted c.args.counts.now.items c.args.packets.now.items c.place_in-index.result c.index-then-index-place.result.now c.requires.counts inside c.index-then-index-place.ensures
 

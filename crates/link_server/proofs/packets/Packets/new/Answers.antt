@@ -14,3 +14,6 @@ invariant_of-result-2-clause-counts_are c = rw (c.new.ensures.items, c.new-2.ens
 
 pub invariant_of-result-2-clause-few : goal.invariant_of-result-2-clause-few
 invariant_of-result-2-clause-few c = (let none : length (ranks_in c.in_ok-new.field-0) ≡ 0 = ap length c.in_ok-new.ensures.ranks in omega (arith, none))
+
+pub invariant_of-result-2-clause-counts_sorted : goal.invariant_of-result-2-clause-counts_sorted
+invariant_of-result-2-clause-counts_sorted c = rw c.new-2.ensures.items tt

@@ -32,7 +32,7 @@ raise-requires c =
     let long = length-map c.args.self.now.here.items arrival_in in
     let fit = c.args.self.now.counts_fit in
     let small = c.args.self.now.here.small in
-    record { room = omega (arith, all, long, fit, c.requires.room); small = omega (arith, all, long, small) }
+    record { sorted = c.args.self.now.counts_sorted; room = omega (arith, all, long, fit, c.requires.room); small = omega (arith, all, long, small) }
 
 pub invariant_of-self : goal.invariant_of-self
 invariant_of-self c =
@@ -60,5 +60,6 @@ invariant_of-self c =
         all = (let all = c.args.self.now.counts_are.all in let now = ap length one in let parts = length-append (here_in c.args.self.now.here.items) (arrival_in c.args.packet ∷ []) in omega (arith, all, now, parts, c.raise.ensures.all));
       };
       latest = omega (arith, c.push.ensures.newest, c.requires.next);
+      counts_sorted = c.raise.ensures.sorted;
       counts_fit = (let fit = c.args.self.now.counts_fit in omega (arith, fit, c.raise.ensures.capacity));
     }

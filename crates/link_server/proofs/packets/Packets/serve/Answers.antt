@@ -45,5 +45,6 @@ invariant_of-self c =
       lines_up = o.lines_up;
       counts_are = c.take_out.ensures.counts;
       latest = o.latest;
+      counts_sorted = c.take_out.ensures.sorted;
       counts_fit = (let fit = o.counts_fit in omega (arith, fit, c.take_out.ensures.counts_capacity));
     }
