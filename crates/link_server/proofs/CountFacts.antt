@@ -1,14 +1,13 @@
 -- What a packet more, and one less, make of the counts.
 use Rattle.std.proofs.Common.{◌≡◌, ℕ, zero, suc, ◌+◌, ◌<◌, ◌≤◌, Bool, true, false, List, [], ◌∷◌, ◌++◌, length, get_or, set, take, drop, ⊎_elim, refl, sym, ap, ◌∙◌, arith}
 use Rattle.std.proofs.lemmas.Bool.{cases_Bool, eq-eqb, eqb-true, ne_eqb}
-use Rattle.std.proofs.lemmas.List.{take_more, length-map}
+use Rattle.std.proofs.lemmas.List.{length-map}
 use Rattle.std.proofs.lemmas.List.Edits.{length-remove}
 use Rattle.std.proofs.lemmas.List.Sorted.{IsPartitionedBy-ltb}
 use Rattle.std.specs.List.{insert, remove}
 use Rattle.std.specs.List.Sorted.{IsPartitionedBy}
 use Rattle.std.specs.Prelude.{filter, nat_eq, nat_lt, if◌then◌else◌}
 use Rattle.traffic_contract.specs.Admission.{total}
-use Rattle.traffic_contract.proofs.AdmissionFacts.{total-push}
 use Rattle.link_steps.specs.Buffer.{has_lead, held_packets}
 use Rattle.link_steps.specs.Service.{Arrival}
 use Rattle.link_server.specs.declared.lead_count.Count.{Count}
