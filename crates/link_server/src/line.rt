@@ -91,8 +91,10 @@ impl Line {
         ensures newest { self.new.newest ≡ self.old.newest }
         ensures own_room { self.new.room ≡ self.old.room }
     {
-        if self.ranks.capacity() < room {
-            self.ranks = grown(&self.ranks, room)?;
+        let capacity = self.ranks.capacity();
+        if capacity < room {
+            // Twice as many at least, so that copies stay few.
+            self.ranks = grown(&self.ranks, room.max(capacity.saturating_mul(2)))?;
         }
         Ok(())
     }
