@@ -79,3 +79,6 @@ fn work_times(alloc: Global, words: &Words) -> Option<Made> {
     }
     Some(made)
 }
+
+#[cfg(test)]
+mod tests;

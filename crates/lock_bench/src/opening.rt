@@ -80,7 +80,9 @@ pub fn ticked<R: Threads + Wait + Sync>(
     requires threads { (1 ≤ threads) × (threads ≤ 65) }
     requires few { ticks ≤ 2 ^ 40 }
 {
-    let (stamps, seat, seats) = opened(alloc, threads).ok()?;
+    let Ok((stamps, seat, seats)) = opened(alloc, threads) else {
+        return None;
+    };
     let state = link(alloc)?;
     journal_of::<Brand, _>(rt, alloc, &stamps, state, seat, seats, ticks).ok()
 }

@@ -5,7 +5,8 @@ ghost use Rattle.link_steps.specs.Legal.{AskFits, SubmitFits};
 ghost use Rattle.link_steps.specs.declared.shape.LinkShape.{LinkShape as Shape};
 
 use super::plain::PlainLink;
-use super::{LinkState, open, step};
+use super::{open, step};
+use link_server::LinkState;
 use link_steps::{Ask, LinkStep, Packet};
 use net_units::{ChanNo, Kind, Level};
 use std::test::Fail;
