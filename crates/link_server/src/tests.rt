@@ -1,13 +1,13 @@
-//! One link asked through `step`: what its worked histories share.
+//! One link asked through `step`: what its worked arrivals share.
 ghost use Rattle.std.specs.Prelude.{◌≡◌, ◌^◌, ◌<◌, ◌∷◌, [], IfOk};
 ghost use Rattle.traffic_contract.specs.Contract.{IsContract, terms_of};
 ghost use Rattle.traffic_contract.specs.declared.admission.Test.TheVariants.{Whole};
-ghost use Rattle.link_steps.specs.Legal.{AskFits, SubmitFits};
+ghost use Rattle.link_steps.specs.Legal.{AskFits};
 ghost use Rattle.link_steps.specs.Shape.{IsShapeOf};
 ghost use Rattle.link_server.specs.State.{LinkStands};
 
 use super::LinkState;
-use link_steps::{Ask, LinkShape, LinkStep, Packet, Reply, Sent};
+use link_steps::{Ask, LinkShape, LinkStep, Packet, Reply};
 use net_units::{Bounds, ChanNo, Kind, Level, LinkNo};
 use std::alloc::Global;
 use std::test::Fail;
@@ -22,14 +22,6 @@ fn open(alloc: Global, buffer: u32) -> Result<LinkState, Fail>
     let number = LinkNo::new(0).ok_or("link")?;
     let bounds = Bounds::new(&[10, 20, 40]).ok_or("bounds")?;
     let shape = LinkShape::new(number, 1, 4, 2, buffer, bounds, Test::Whole, 1)?;
-    Ok(LinkState::new(alloc, shape)?)
-}
-
-// Such a link with one level, with a bound of 23 ticks, and this test.
-fn open_one_level(alloc: Global, test: Test) -> Result<LinkState, Fail> {
-    let number = LinkNo::new(0).ok_or("link")?;
-    let bounds = Bounds::new(&[23]).ok_or("bounds")?;
-    let shape = LinkShape::new(number, 1, 4, 2, 100, bounds, test, 0)?;
     Ok(LinkState::new(alloc, shape)?)
 }
 
@@ -79,24 +71,6 @@ fn relax(link: &mut LinkState, chan: u32, level: u8) -> Result<Reply, Fail> {
     step(link, &ask)
 }
 
-fn deny(link: &mut LinkState, chan: u32) -> Result<Reply, Fail> {
-    let chan = ChanNo::new(chan).ok_or("channel")?;
-    step(link, &Ask::Deny { chan })
-}
-
-fn submit(link: &mut LinkState, chan: u32, count: u64, gap: u64, size: u32) -> Result<Reply, Fail>
-    requires { SubmitFits count gap size }
-{
-    let chan = ChanNo::new(chan).ok_or("channel")?;
-    let ask = Ask::Submit {
-        chan,
-        count,
-        gap,
-        size,
-    };
-    step(link, &ask)
-}
-
 fn offer(level: u8, reach: u8) -> Result<Reply, Fail> {
     let level = Level::new(level).ok_or("level")?;
     let reach = Level::new(reach).ok_or("reach")?;
@@ -109,29 +83,6 @@ fn voice() -> Result<Contract, Fail>
     ensures valid { IfOk result IsContract }
 {
     Ok(Contract::new(5, 10, 20, 2)?)
-}
-
-// Best-effort packets, where the link has a place for them.
-fn pour(link: &mut LinkState, count: u64, gap: u64, size: u32) -> Result<Reply, Fail>
-    requires { SubmitFits count gap size }
-{
-    if link.shape().best == 0 {
-        return Err(Fail::from("the link has no place for best-effort packets"));
-    }
-    step(link, &Ask::Pour { count, gap, size })
-}
-
-fn tick(link: &mut LinkState) -> Result<Reply, Fail> {
-    step(link, &Ask::Tick)
-}
-
-fn release(link: &mut LinkState, chan: u32) -> Result<Reply, Fail> {
-    let chan = ChanNo::new(chan).ok_or("channel")?;
-    let ask = Ask::Release {
-        chan,
-        upstream: None,
-    };
-    step(link, &ask)
 }
 
 // A packet of two units, number 1, from the link before.
@@ -147,37 +98,4 @@ fn arrive(link: &mut LinkState, chan: u32, due: u64) -> Result<Reply, Fail>
     step(link, &Ask::Arrive { packet })
 }
 
-// A packet of two units of channel 1, as it leaves the link at the end of its route.
-fn voice_packet(number: u64, at: u64, eligible: u64, due: u64, arrives: u64) -> Result<Sent, Fail> {
-    let packet = Packet {
-        chan: ChanNo::new(1).ok_or("channel")?,
-        number,
-        size: 2,
-        due,
-    };
-    Ok(Sent {
-        packet,
-        at,
-        eligible,
-        arrives,
-        next: None,
-    })
-}
-
-// The reply to a tick in which no best-effort packet leaves or is lost.
-fn ticked(clock: u64, full: u32, sent: Option<Sent>) -> Reply {
-    Reply::Ticked {
-        clock,
-        full,
-        sent,
-        best_sent: false,
-        best_lost: false,
-    }
-}
-
 mod arrivals;
-mod best_effort;
-mod chosen;
-mod releases;
-mod setup;
-mod ticks;
