@@ -5,7 +5,7 @@ use link_steps::{Packet as Leaving, Reply, Sent};
 use net_units::{ChanNo, Level, LinkNo};
 use std::test::Fail;
 
-// A packet here. A best-effort packet has level 4 and is of row 0.
+// A packet here. A best-effort packet has level 4 and is of no row, which is told by the number 0.
 #[derive(Clone, Copy)]
 pub(super) struct Packet {
     // Its arrival number, and the number of its row.
