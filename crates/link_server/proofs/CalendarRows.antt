@@ -1,5 +1,5 @@
 -- The calendar of holds goes with the rows: those that come, change and go, and those whose entries are taken.
-use Rattle.std.proofs.Common.{◌≡◌, ℕ, zero, suc, ◌+◌, ◌<◌, ◌≤◌, Bool, true, false, not, ◌&&◌, ◌||◌, ◌⊎◌, inl, inr, ⊎_elim, List, [], ◌∷◌, ◌++◌, length, map, get_or, set, refl, sym, ap, ◌∙◌, subst, All, arith}
+use Rattle.std.proofs.Common.{◌≡◌, ℕ, suc, ◌+◌, ◌<◌, ◌≤◌, Bool, true, false, not, ◌&&◌, ◌||◌, ◌⊎◌, inl, inr, ⊎_elim, List, [], ◌∷◌, ◌++◌, length, map, get_or, set, refl, sym, ap, ◌∙◌, subst, All, arith}
 use Rattle.std.proofs.lemmas.Bool.{cases_Bool, cases_lt, eq-eqb, eqb-true, le-leb, leb-true, lt-leb}
 use Rattle.std.proofs.lemmas.List.{map_push, length-map, get_or-map, get_or_default}
 use Rattle.std.proofs.lemmas.List.Folds.{list_any_none}
@@ -16,15 +16,14 @@ use Rattle.link_steps.specs.Kept.{KeptRow, kept_stays}
 use Rattle.link_steps.specs.Lists.{Each}
 use Rattle.link_steps.specs.Reservation.{is_phase}
 use Rattle.link_steps.proofs.ListFacts.{Each-append, Each-if, Each-both, filter-all}
-use Rattle.tick_calendar.specs.Calendar.{Entry, Schedule, TakesDue, left_after}
-use Rattle.tick_calendar.proofs.DueLemmas.{due_place-ahead}
+use Rattle.tick_calendar.specs.Calendar.{Entry, Schedule, TakesDue}
 use Rattle.link_server.specs.Holds.{is_open, open_count, open_in, tells_end, IsListed, AreListed, HasEnded, StaysIfOf}
 use Rattle.link_server.specs.Index.{channel_in, channels_in, LeadsTo, IsIndex, IsAheadFrom}
 use Rattle.link_server.specs.Rows.{row_in, IsAbsent, IsPlaceOf}
 use Rattle.link_server.specs.declared.served_row.ServedRow.{ServedRow}
 use Rattle.link_server.proofs.CalendarFacts.{listed-without}
-use Rattle.link_server.proofs.ExpiryFacts.{each-without}
-use Rattle.link_server.proofs.QuietFacts.{each-set}
+use Rattle.link_server.proofs.ExpiryFacts.{each-without, each-set}
+use Rattle.link_server.proofs.RowTotals.{rows-few, row-part, row-set, row-gone}
 use Rattle.link_server.proofs.IndexFacts.{index-without, leads-once}
 
 -- ---- which rows an entry that is due tells of
@@ -133,10 +132,6 @@ stays-on bounds clock entries row later listed =
 pub all-stay : (bounds : List ℕ) (clock : ℕ) (entries : List Entry) (rows : List KeptRow) → All (λ entry. clock < entry.0) entries → Each (IsListed bounds clock entries) rows → filter (kept_stays bounds clock) rows ≡ rows
 all-stay bounds clock entries rows later listed = filter-all (kept_stays bounds clock) rows (Each-if (IsListed bounds clock entries) (λ row. kept_stays bounds clock row ≡ true) rows (λ row is. stays-on bounds clock entries row later is) listed)
 
--- and none is taken
-pub none-taken : (entries : List Entry) (clock : ℕ) → All (λ entry. clock < entry.0) entries → left_after entries clock ≡ entries
-none-taken entries clock later = rw (due_place-ahead entries clock later) refl
-
 -- ---- rows that come, change and go
 
 -- the rows that have yet to get an entry
@@ -146,26 +141,6 @@ open-most row = most (is_open row) where
   most true = omega arith
   most false = omega arith
 
-open-few : (rows : List ServedRow) → open_in (map row_in rows) ≤ length rows
-open-few [] = omega arith
-open-few (row ∷ rows) = (let first = open-most (row_in row) in let rest = open-few rows in omega (arith, first, rest))
-
-open-at : (rows : List ServedRow) (i : ℕ) (d : ServedRow) → i < length rows → open_count (row_in (get_or rows i d)) ≤ open_in (map row_in rows)
-open-at [] i d inside = absurd (omega arith)
-open-at (row ∷ rows) zero d inside = omega arith
-open-at (row ∷ rows) (suc i) d inside = (let rest = open-at rows i d (omega (arith, inside)) in omega (arith, rest))
-
-open-set : (rows : List ServedRow) (i : ℕ) (new d : ServedRow) → i < length rows → open_in (map row_in (set rows i new)) + open_count (row_in (get_or rows i d)) ≡ open_in (map row_in rows) + open_count (row_in new)
-open-set [] i new d inside = absurd (omega arith)
-open-set (row ∷ rows) zero new d inside = omega arith
-open-set (row ∷ rows) (suc i) new d inside = (let rest = open-set rows i new d (omega (arith, inside)) in omega (arith, rest))
-
-pub open-without : (rows : List ServedRow) (i : ℕ) → open_in (map row_in (remove rows i)) ≤ open_in (map row_in rows)
-open-without [] zero = omega arith
-open-without [] (suc i) = omega arith
-open-without (row ∷ rows) zero = omega arith
-open-without (row ∷ rows) (suc i) = (let rest = open-without rows i in omega (arith, rest))
-
 -- an open row counts as one
 pub open-one : (row : KeptRow) → is_open row ≡ true → open_count row ≡ 1
 open-one row is = rw is refl
@@ -173,7 +148,7 @@ open-one row is = rw is refl
 -- room for an open row
 pub open-room : (bounds : List ℕ) (clock : ℕ) (holds : Schedule) (rows : List ServedRow) (i : ℕ) (d : ServedRow) → AreListed bounds clock holds (map row_in rows) → i < length rows → is_open (row_in (get_or rows i d)) ≡ true → 1 ≤ holds.spare
 open-room bounds clock holds rows i d listed inside is =
-    let at = open-at rows i d inside in
+    let at = row-part open_count rows i d inside in
     let one = open-one (row_in (get_or rows i d)) is in
     let room = listed.room in
     omega (arith, at, one, room)
@@ -193,7 +168,7 @@ listed-pushed bounds clock holds rows row listed own room = record {
   listed = subst (Each (IsListed bounds clock holds.entries)) (sym (map_push row_in rows row)) (Each-append (IsListed bounds clock holds.entries) (map row_in rows) (row_in row ∷ []) listed.listed (own, tt));
   room =
       let all = ap open_in (map_push row_in rows row) ∙ total-push open_count (map row_in rows) (row_in row) in
-      let few = open-few rows in
+      let few = rows-few open_count rows open-most in
       let one = open-most (row_in row) in
       omega (arith, all, few, one, room);
 }
@@ -204,7 +179,7 @@ listed-set bounds clock holds rows i new d listed inside own is = record {
   begun = listed.begun;
   listed = each-set (IsListed bounds clock holds.entries) rows i new own listed.listed;
   room =
-      let all = open-set rows i new d inside in
+      let all = row-set open_count rows i new d inside in
       let was = open-one (row_in (get_or rows i d)) is in
       let one = open-most (row_in new) in
       let room = listed.room in
@@ -218,7 +193,7 @@ listed-put bounds clock old new rows i row d listed inside is same others own sp
   begun = (let begun = listed.begun in omega (arith, begun, same));
   listed = each-set (IsListed bounds clock new.entries) rows i row own (Each-if (IsListed bounds clock old.entries) (IsListed bounds clock new.entries) (map row_in rows) others listed.listed);
   room =
-      let all = open-set rows i row d inside in
+      let all = row-set open_count rows i row d inside in
       let was = open-one (row_in (get_or rows i d)) is in
       let room = listed.room in
       omega (arith, all, was, room, spare);
@@ -229,5 +204,5 @@ pub listed-removed : (bounds : List ℕ) (clock : ℕ) (holds : Schedule) (rows 
 listed-removed bounds clock holds rows i listed = record {
   begun = listed.begun;
   listed = each-without (IsListed bounds clock holds.entries) rows i listed.listed;
-  room = (let fewer = open-without rows i in let room = listed.room in omega (arith, fewer, room));
+  room = (let fewer = row-gone open_count rows i in let room = listed.room in omega (arith, fewer, room));
 }

@@ -1,5 +1,5 @@
 -- A row that expires is taken out, and the others stay.
-use Rattle.std.proofs.Common.{◌≡◌, ℕ, zero, suc, ◌<◌, Bool, false, not, List, [], ◌∷◌, length, map, get_or, refl, sym, ap, ◌∙◌, arith}
+use Rattle.std.proofs.Common.{◌≡◌, ℕ, zero, suc, ◌<◌, Bool, false, not, List, [], ◌∷◌, length, map, get_or, set, refl, sym, ap, ◌∙◌, arith}
 use Rattle.std.proofs.lemmas.Bool.{eq-eqb, ne_eqb}
 use Rattle.std.proofs.lemmas.List.{length-map, get_or-map}
 use Rattle.std.specs.List.{remove}
@@ -46,7 +46,7 @@ filter-without test [] i d inside is = absurd (omega (arith, inside))
 filter-without test (row ∷ rows) zero d inside is = rw is refl
 filter-without test (row ∷ rows) (suc i) d inside is = ap (λ rest. if test (row_in row) then row_in row ∷ rest else rest) (filter-without test rows i d (omega (arith, inside)) is)
 
--- a fact of each row stays where one is taken out, and is one of the row at a place
+-- a fact of each row stays where one is taken out, is one of the row at a place, and stays where one that has it is put
 pub each-without : (P : KeptRow → Type 0) (rows : List ServedRow) (i : ℕ) → Each P (map row_in rows) → Each P (map row_in (remove rows i))
 each-without P [] zero each = each
 each-without P [] (suc i) each = each
@@ -57,3 +57,8 @@ pub each-at : (P : KeptRow → Type 0) (rows : List ServedRow) (i : ℕ) (d : Se
 each-at P [] i d inside each = absurd (omega arith)
 each-at P (row ∷ rows) zero d inside each = each.0
 each-at P (row ∷ rows) (suc i) d inside each = each-at P rows i d (omega arith) each.1
+
+pub each-set : (P : KeptRow → Type 0) (rows : List ServedRow) (i : ℕ) (new : ServedRow) → P (row_in new) → Each P (map row_in rows) → Each P (map row_in (set rows i new))
+each-set P [] i new is each = each
+each-set P (row ∷ rows) zero new is each = (is, each.1)
+each-set P (row ∷ rows) (suc i) new is each = (each.0, each-set P rows i new is each.1)

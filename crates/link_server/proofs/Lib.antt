@@ -35,6 +35,11 @@ pub mod SoundTick
 pub mod SoundNumbers
 pub mod SoundServes
 pub mod QuietFacts
+pub mod RisingFacts
+pub mod RowTotals
+pub mod PlansFacts
+pub mod PlansRows
+pub mod SourceTurns
 pub mod CalendarFacts
 pub mod CalendarRows
 pub mod CalendarSteps

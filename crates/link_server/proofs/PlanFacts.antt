@@ -8,7 +8,7 @@ use Rattle.link_steps.specs.Refusals.{busy}
 use Rattle.link_steps.proofs.AccountOfRows.{left_at-planned}
 use Rattle.link_steps.proofs.RefusalFacts.{unless-none}
 use Rattle.link_steps.specs.Rows.{SourcePacket, planned_from, is_for, left_at}
-use Rattle.link_server.specs.Planned.{IsPlannedFrom, size_of}
+use Rattle.link_server.specs.Planned.{IsPlannedFrom, first_tick, size_of}
 
 -- as many packets are planned as are counted
 pub planned-length : (u gap size count : ℕ) → length (planned_from u gap size count) ≡ count
@@ -76,3 +76,14 @@ due-left t u gap size zero apart some now = absurd (some refl)
 due-left t u gap size (suc count) apart some now =
     let e : suc count - 1 ≡ count = omega arith in
     rw (now, e, lt-leb (t + 1) t (omega arith)) (sym (left_at-planned (t + 1) (t + gap) gap size count (omega (arith, apart))))
+
+-- the first of them is the next one
+pub no-first : (u gap size count : ℕ) → count ≡ 0 → None ≡ first_tick (planned_from u gap size count)
+unfolding planned_from
+no-first u gap size zero none = refl
+no-first u gap size (suc count) none = absurd (omega (arith, none))
+
+pub first-is : (u gap size count : ℕ) → (count ≡ 0 → ⊥) → Some u ≡ first_tick (planned_from u gap size count)
+unfolding planned_from
+first-is u gap size zero some = absurd (some refl)
+first-is u gap size (suc count) some = refl

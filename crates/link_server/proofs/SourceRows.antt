@@ -1,17 +1,19 @@
 -- The rows make their steps of a tick one after another: what the first have done, and what those after do after them,
 -- is together what all do.
-use Rattle.std.proofs.Common.{◌≡◌, ℕ, zero, suc, ◌+◌, ◌<◌, ◌≤◌, Bool, true, false, List, [], ◌∷◌, ◌++◌, length, map, take, drop, get_or, set, refl, sym, ap, ◌∙◌, subst, arith}
+use Rattle.std.proofs.Common.{◌≡◌, ℕ, zero, suc, ◌+◌, ◌-◌, ◌<◌, ◌≤◌, Bool, true, false, List, [], ◌∷◌, ◌++◌, length, map, take, drop, get_or, set, refl, sym, ap, ◌∙◌, subst, arith}
 use Rattle.std.specs.Prelude.{if◌then◌else◌}
-use Rattle.std.proofs.lemmas.List.{drop_more, drop-drop, drop-set-lt, take_more_set, map_push, append_assoc, length-append, append-nil, length-map, take-append-le, drop_all, take_all}
+use Rattle.std.proofs.lemmas.List.{drop_more, drop-drop, get_or-drop, set-get_or, drop-set-lt, take_more_set, map_push, append_assoc, length-append, append-nil, length-map, take-append-le, drop_all, take_all}
 use Rattle.link_steps.specs.Kept.{KeptRow, kept_packet, kept_after_step, kept_packets, kept_rows_after, kept_lost}
 use Rattle.link_steps.specs.Lists.{Each}
 use Rattle.link_steps.specs.Service.{Arrival}
 use Rattle.link_steps.specs.Sources.{SourceStep, Rests, Brings, Drops, taken_by, dropped_by}
+use Rattle.link_server.specs.Plans.{IsQuiet}
 use Rattle.link_server.specs.Rows.{reservation_in, row_in}
 use Rattle.link_server.specs.Sources.{step_in, brought_by, served_rows_after, lost_by_rows, IsReady, AreReady}
 use Rattle.link_server.specs.Packets.{arrival_in, here_in}
 use Rattle.link_server.specs.declared.served_row.ServedRow.{ServedRow}
 use Rattle.link_server.specs.declared.held_packet.HeldPacket.{HeldPacket}
+use Rattle.link_server.proofs.QuietFacts.{quiet-step, quiet-past}
 use Rattle.link_server.proofs.SourceFacts.{packet-length, lost_by-most}
 
 -- the first i of the rows have made their step
@@ -100,6 +102,53 @@ one-stepped bounds was t before old i rows here taken lost d new now taken' lost
       lost = let all = so.lost in omega (arith, all, losses, dropped);
       few = let few = so.few in let one = lost_by-most step in omega (arith, few, one, dropped);
     }
+
+-- rows that are the same from one on have the same row there
+pub same-row : (old : List ServedRow) (i : ℕ) (rows : List ServedRow) (d : ServedRow) → drop i rows ≡ drop i old → get_or rows i d ≡ get_or old i d
+same-row old i rows d after =
+    let first : i + 0 ≡ i = omega arith in
+    ap (λ n. get_or rows n d) (sym first)
+    ∙ sym (get_or-drop i rows 0 d)
+    ∙ ap (λ all. get_or all 0 d) after
+    ∙ get_or-drop i old 0 d
+    ∙ ap (λ n. get_or old n d) first
+
+-- a row with no packet for the tick has made its step as it is
+quiet-stepped : (bounds : List ℕ) (was : List Arrival) (t before : ℕ) (old : List ServedRow) (i : ℕ) (rows : List ServedRow) (here : List Arrival) (taken lost : ℕ) (d : ServedRow)
+    → HaveStepped bounds was t before old i rows here taken lost → i < length rows → IsQuiet (suc t) (row_in (get_or old i d)) → HaveStepped bounds was t before old (i + 1) rows here taken lost
+quiet-stepped bounds was t before old i rows here taken lost d so inside quiet =
+    let row = get_or rows i d in
+    let its : IsQuiet (suc t) (row_in row) = subst (λ r. IsQuiet (suc t) (row_in r)) (sym (same-row old i rows d so.after)) quiet in
+    let rests : step_in bounds was t row ≡ Rests = quiet-step bounds was (suc t) t (row_in row) its (omega arith) in
+    subst (λ all. HaveStepped bounds was t before old (i + 1) all here taken lost) (set-get_or rows i d)
+    (one-stepped bounds was t before old i rows here taken lost d row here taken lost so inside
+    (sym (ap (λ step. kept_after_step step t (suc taken) (row_in row)) rests ∙ quiet-past bounds (suc t) t (row_in row) its (omega arith)))
+    (sym (ap (λ step. here ++ kept_packet step t (suc taken) (row_in row)) rests ∙ append-nil here))
+    (let none : taken_by (step_in bounds was t row) ≡ 0 = ap taken_by rests in omega (arith, none))
+    (let none : dropped_by (step_in bounds was t row) ≡ 0 = ap dropped_by rests in omega (arith, none)))
+
+-- and so for rows one after another
+a-row : (rows : List ServedRow) (i : ℕ) → i < length rows → ServedRow
+a-row [] i inside = absurd (omega arith)
+a-row (row ∷ rows) i inside = row
+
+quiet-between : (bounds : List ℕ) (was : List Arrival) (t before : ℕ) (old : List ServedRow) (i n : ℕ) (rows : List ServedRow) (here : List Arrival) (taken lost : ℕ)
+    → HaveStepped bounds was t before old i rows here taken lost → i + n ≤ length rows → ((place : ℕ) (d : ServedRow) → i ≤ place → place < i + n → IsQuiet (suc t) (row_in (get_or old place d))) → HaveStepped bounds was t before old (i + n) rows here taken lost
+quiet-between bounds was t before old i zero rows here taken lost so within quiet =
+    subst (λ n. HaveStepped bounds was t before old n rows here taken lost) (omega arith) so
+quiet-between bounds was t before old i (suc n) rows here taken lost so within quiet =
+    let d = a-row rows i (omega (arith, within)) in
+    subst (λ m. HaveStepped bounds was t before old m rows here taken lost) (omega arith)
+    (quiet-between bounds was t before old (i + 1) n rows here taken lost
+    (quiet-stepped bounds was t before old i rows here taken lost d so (omega (arith, within)) (quiet i d (omega arith) (omega arith)))
+    (omega (arith, within))
+    (λ place d from below. quiet place d (omega (arith, from)) (omega (arith, below))))
+
+pub quiet-up-to : (bounds : List ℕ) (was : List Arrival) (t before : ℕ) (old : List ServedRow) (i j : ℕ) (rows : List ServedRow) (here : List Arrival) (taken lost : ℕ)
+    → HaveStepped bounds was t before old i rows here taken lost → i ≤ j → j ≤ length rows → ((place : ℕ) (d : ServedRow) → i ≤ place → place < j → IsQuiet (suc t) (row_in (get_or old place d))) → HaveStepped bounds was t before old j rows here taken lost
+quiet-up-to bounds was t before old i j rows here taken lost so from within quiet =
+    subst (λ m. HaveStepped bounds was t before old m rows here taken lost) (omega (arith, from))
+    (quiet-between bounds was t before old i (j - i) rows here taken lost so (omega (arith, from, within)) (λ place d after below. quiet place d after (omega (arith, below, from))))
 
 -- at the end all have
 pub record StandsStepped (bounds : List ℕ) (was : List Arrival) (t before : ℕ) (old rows : List ServedRow) (now : List Arrival) (count dropped : ℕ) : Type 0 where

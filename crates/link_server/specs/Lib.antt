@@ -15,8 +15,8 @@ pub mod State
 pub mod Held
 pub mod Sound
 pub mod SoundProp
-pub mod Quiet
 pub mod Holds
+pub mod Plans
 pub mod Rank
 pub mod HoldsAgree
 pub mod Line

@@ -6,10 +6,10 @@ ghost use Rattle.link_steps.specs.Kept.{kept_reply, kept_after};
 ghost use Rattle.link_steps.specs.Legal.{SubmitFits, PacketFits};
 ghost use Rattle.link_server.specs.State.{kept_in};
 
-use crate::due::due_after;
 use crate::expiry::{expire, put_hold};
 use crate::link_state::LinkState;
 use crate::planned::Planned;
+use crate::plans::put_plan;
 use crate::rows::{place_at_hop, place_of};
 use crate::served_row::busy_with;
 use crate::sources::take_source_packets;
@@ -44,7 +44,7 @@ impl LinkState {
             size,
             count,
         });
-        self.due = self.due.min(self.rows[place].planned.due());
+        put_plan(&mut self.plans.calendar, &self.rows[place]);
         Reply::Planned { clock: self.clock }
     }
 
@@ -141,7 +141,6 @@ impl LinkState {
         let clock = self.clock;
         let shape = self.shape;
         let bounds = shape.bounds;
-        let due = self.due;
         expire(
             &mut self.holds,
             &mut self.rows,
@@ -152,8 +151,14 @@ impl LinkState {
             clock,
         );
         let fits = self.packets.best_fits(&shape, clock);
-        let full = take_source_packets(&mut self.rows, &mut self.packets, &bounds, due, clock);
-        self.due = due_after(&self.rows, due, clock);
+        let full = take_source_packets(
+            &mut self.rows,
+            &self.index,
+            &mut self.plans,
+            &mut self.packets,
+            &bounds,
+            clock,
+        );
         let best_lost = self.packets.take_best(fits, &shape, clock);
         let left = self.packets.serve(&shape, clock);
         self.clock += 1;

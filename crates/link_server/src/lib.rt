@@ -8,7 +8,6 @@
 mod best_effort;
 mod carrying;
 mod counts;
-mod due;
 mod expiry;
 mod held_packet;
 mod held_row;
@@ -20,6 +19,7 @@ mod line;
 mod link_state;
 mod packets;
 mod planned;
+mod plans;
 mod ready;
 mod row_index;
 mod rows;

@@ -1,5 +1,6 @@
 //! The state of a link, and its steps.
 ghost use Rattle.std.specs.Prelude.{◌≡◌, ◌^◌, ◌<◌, ◌≤◌, ◌∷◌, [], List, map, length, IfOk, OnErr, IsOk};
+ghost use Rattle.std.specs.Vec.{vec_capacity};
 ghost use Rattle.rcsp_admission.specs.Sums.{AreAdmitted};
 ghost use Rattle.link_steps.specs.Legal.{AskFits};
 ghost use Rattle.link_steps.specs.Shape.{server_of};
@@ -8,7 +9,7 @@ ghost use Rattle.link_server.specs.Holds.{AreListed, AreListed-prop};
 ghost use Rattle.link_server.specs.Index.{channels_in, IsIndex, IsIndex-prop};
 ghost use Rattle.link_server.specs.Keeping.{IsKeeping, IsKeeping-prop};
 ghost use Rattle.link_server.specs.Rows.{reservation_in, row_in, summed, AreWithin};
-ghost use Rattle.link_server.specs.Quiet.{AreQuiet, AreQuiet-prop};
+ghost use Rattle.link_server.specs.Plans.{ArePlanned, ArePlanned-prop};
 ghost use Rattle.link_server.specs.Sound.{IsSound};
 ghost use Rattle.link_server.specs.SoundProp.{IsSound-prop};
 ghost use Rattle.link_server.specs.Stood.{IsStood, IsStood-prop};
@@ -16,6 +17,7 @@ ghost use Rattle.link_server.specs.Stood.{IsStood, IsStood-prop};
 use crate::held_row::HeldRow;
 use crate::keeping::Keeping;
 use crate::packets::Packets;
+use crate::plans::Plans;
 use crate::row_index::RowIndex;
 use crate::served_row::{ServedRow, Wanted};
 use link_steps::{Ask, LinkShape, LinkStep, Reply};
@@ -35,6 +37,7 @@ pub struct LinkState {
     pub(crate) index: RowIndex,
     // When the holds of closing rows end, with the numbers of their channels.
     pub(crate) holds: Calendar,
+    pub(crate) plans: Plans,
     pub(crate) packets: Packets,
     pub(crate) sums: LevelSums,
     // What the rows keep together.
@@ -42,8 +45,6 @@ pub struct LinkState {
     // How many packets there is room for at least: those of channels that are here, one in each free slot, one more a
     // row, and the best-effort packets that may be here.
     pub(crate) room: u64,
-    // No row plans a packet for a tick before this one. It is 0 where that isn't known.
-    pub(crate) due: u64,
     ghost admitted: { AreAdmitted sums },
     ghost same_server: { sums.server ≡ server_of shape },
     ghost same_rows: { sums.rows ≡ map summed rows.items },
@@ -52,7 +53,8 @@ pub struct LinkState {
     ghost listed: { AreListed shape.bounds clock holds (map row_in rows.items) } by { AreListed-prop shape.bounds clock holds (map row_in rows.items) },
     ghost keeps: { IsKeeping shape.buffer shape.bounds keeping (map reservation_in rows.items) } by { IsKeeping-prop shape.buffer shape.bounds keeping (map reservation_in rows.items) },
     ghost sound: { IsSound shape room (account clock packets rows.items) } by { IsSound-prop shape room (account clock packets rows.items) },
-    ghost quiet: { AreQuiet due (map row_in rows.items) } by { AreQuiet-prop due (map row_in rows.items) },
+    ghost planned: { ArePlanned clock plans.calendar (map row_in rows.items) } by { ArePlanned-prop clock plans.calendar (map row_in rows.items) },
+    ghost turns: { length rows.items ≤ vec_capacity plans.turns },
     ghost roomy: { room ≤ packets.room },
     ghost looked: { packets.line.until ≤ clock },
     ghost stood: { IsStood shape (account clock packets rows.items) } by { IsStood-prop shape (account clock packets rows.items) },
@@ -83,10 +85,10 @@ impl LinkState {
             rows: Vec::new(alloc),
             index: RowIndex::new(alloc),
             holds: Calendar::new(alloc)?,
+            plans: Plans::new(alloc)?,
             keeping: Keeping::new(shape.buffer),
             packets,
             room: u64::from(places),
-            due: u64::MAX,
         })
     }
 

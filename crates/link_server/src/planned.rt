@@ -15,8 +15,7 @@ pub(crate) struct Planned {
 
 impl Planned {
     ghost use Rattle.link_steps.specs.Rows.{is_for, left_at};
-    ghost use Rattle.link_steps.specs.Lists.{Each};
-    ghost use Rattle.link_server.specs.Planned.{left_in, size_of, IsPlannedFrom, IsPlannedAhead};
+    ghost use Rattle.link_server.specs.Planned.{left_in, first_tick, size_of, IsPlannedAhead};
 
     // None are planned.
     pub(crate) const NONE: Planned = Planned {
@@ -26,11 +25,14 @@ impl Planned {
         count: 0,
     };
 
-    // A tick before which none is planned.
-    pub(crate) fn due(&self) -> u64
-        ensures { Each (IsPlannedFrom result) (left_in self.now) }
+    // The tick of the next one, if any is left.
+    pub(crate) fn next(&self) -> Option<u64>
+        ensures { result ≡ first_tick (left_in self.now) }
     {
-        if self.count == 0 { u64::MAX } else { self.tick }
+        if self.count == 0 {
+            return None;
+        }
+        Some(self.tick)
     }
 
     // Whether one is planned for this tick.

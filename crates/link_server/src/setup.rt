@@ -158,6 +158,8 @@ impl LinkState {
         ensures row_fits { OnOk result (length self.new.rows.items < vec_capacity self.new.rows) }
         ensures place_fits { OnOk result (channel_number row.now.chan < length self.new.index.places.items) }
         ensures hold_fits { OnOk result (length self.new.rows.items + 1 ≤ self.new.holds.spare) }
+        ensures plan_fits { OnOk result (length self.new.rows.items + 1 ≤ self.new.plans.calendar.spare) }
+        ensures turn_fits { OnOk result (length self.new.rows.items + 1 ≤ vec_capacity self.new.plans.turns) }
         ensures sum_fits { OnOk result (1 ≤ self.new.sums.spare) }
         ensures packets_fit { OnOk result (most_places self.new.shape.bounds (here_in self.new.packets.here.items) (map row_in self.new.rows.items) + suc (slots_of self.new.shape.bounds (reservation_in row.now)) + suc self.new.shape.best ≤ self.new.room) }
     {
@@ -169,6 +171,7 @@ impl LinkState {
         self.packets.reserve(places as usize)?;
         self.index.reserve(row.chan)?;
         self.holds.reserve(self.rows.len() + 1)?;
+        self.plans.reserve(self.rows.len() + 1)?;
         self.room = self.room.max(room);
         Ok(())
     }

@@ -1,26 +1,34 @@
 //! The sources' part of a tick: the packets that are planned for it arrive.
-ghost use Rattle.std.specs.Prelude.{◌≡◌, ◌+◌, ◌^◌, ◌<◌, ◌≤◌, ◌++◌, suc, if◌then◌else◌, length, map, take};
+ghost use Rattle.std.specs.Prelude.{◌≡◌, ◌+◌, ◌^◌, ◌<◌, ◌≤◌, ◌++◌, suc, if◌then◌else◌, All, length, map, take};
+ghost use Rattle.std.specs.Vec.{vec_capacity};
 ghost use Rattle.link_steps.specs.Kept.{kept_packet, kept_after_step};
 ghost use Rattle.link_steps.specs.Sources.{taken_by, dropped_by};
 ghost use Rattle.link_server.specs.Packets.{here_in};
-ghost use Rattle.link_server.specs.Quiet.{AreQuiet};
+ghost use Rattle.link_server.specs.Index.{channels_in, IsIndex};
+ghost use Rattle.link_server.specs.Plans.{ArePlanned, AreCalled};
 ghost use Rattle.link_server.specs.Rows.{row_in, summed, IsWithinLevels, AreWithin};
 ghost use Rattle.link_server.specs.Sources.{step_in, brought_by, served_rows_after, lost_by_rows, IsReady, AreReady};
 
 use crate::packets::Packets;
+use crate::plans::{Plans, put_plan};
+use crate::row_index::RowIndex;
 use crate::served_row::ServedRow;
 use net_units::Bounds;
+use tick_calendar::Calendar;
 
 // The rows, in their order, take the packets that are planned for this tick. It answers how many packets found no slot
-// free, and so were dropped. No row plans a packet before the tick `due`: where that is ahead, it looks at none.
+// free, and so were dropped. It looks only at the rows for which an entry of the calendar is due.
 pub(crate) fn take_source_packets(
     rows: &mut [ServedRow],
+    index: &RowIndex,
+    plans: &mut Plans,
     packets: &mut Packets,
     bounds: &Bounds,
-    due: u64,
     clock: u64,
 ) -> u32
-    requires quiet { clock < due → AreQuiet due (map row_in rows.old) }
+    requires planned { ArePlanned clock plans.old.calendar (map row_in rows.old) }
+    requires indexed { IsIndex index.now.places.items (channels_in rows.old) }
+    requires turns { length rows.old ≤ vec_capacity plans.old.turns }
     requires early { clock < 2 ^ 61 }
     requires few { length rows.old < 2 ^ 32 }
     requires ready { AreReady clock rows.old }
@@ -38,17 +46,58 @@ pub(crate) fn take_source_packets(
     ensures looked { packets.new.line.until ≡ packets.old.line.until }
     ensures summed { map summed rows.new ≡ map summed rows.old }
     ensures levels { AreWithin (length bounds.now) rows.new }
-    ensures quiet { clock < due → AreQuiet due (map row_in rows.new) }
+    ensures planned { ArePlanned clock plans.new.calendar (map row_in rows.new) }
+    ensures turns { vec_capacity plans.new.turns ≡ vec_capacity plans.old.turns }
 {
-    if clock < due {
-        return 0;
-    }
+    plans.call(rows, index, clock);
+    take_turns(
+        rows,
+        &plans.turns,
+        &mut plans.calendar,
+        packets,
+        bounds,
+        clock,
+    )
+}
+
+// The rows that have their turn, in their order, take the packets that are planned for this tick, and their next ones come on
+// the calendar. The others have none for it.
+fn take_turns(
+    rows: &mut [ServedRow],
+    turns: &[usize],
+    calendar: &mut Calendar,
+    packets: &mut Packets,
+    bounds: &Bounds,
+    clock: u64,
+) -> u32
+    requires called { AreCalled clock calendar.old turns.now rows.old }
+    requires later { All (λ entry. clock < entry.0) calendar.old.entries }
+    requires early { clock < 2 ^ 61 }
+    requires few { length rows.old < 2 ^ 32 }
+    requires ready { AreReady clock rows.old }
+    requires within { AreWithin (length bounds.now) rows.old }
+    requires looked { packets.old.line.until ≤ clock }
+    requires room { length packets.old.here.items + length (brought_by bounds.now (here_in packets.old.here.items) clock packets.old.taken rows.old) ≤ packets.old.room }
+    requires numbers { packets.old.taken + length (brought_by bounds.now (here_in packets.old.here.items) clock packets.old.taken rows.old) < 2 ^ 64 }
+    ensures lost { result ≡ lost_by_rows bounds.now (here_in packets.old.here.items) clock rows.old }
+    ensures rows { map row_in rows.new ≡ served_rows_after bounds.now (here_in packets.old.here.items) clock packets.old.taken rows.old }
+    ensures here { here_in packets.new.here.items ≡ here_in packets.old.here.items ++ brought_by bounds.now (here_in packets.old.here.items) clock packets.old.taken rows.old }
+    ensures taken { packets.new.taken ≡ packets.old.taken + length (brought_by bounds.now (here_in packets.old.here.items) clock packets.old.taken rows.old) }
+    ensures on { packets.new.on ≡ packets.old.on }
+    ensures best { packets.new.best ≡ packets.old.best }
+    ensures room { packets.new.room ≡ packets.old.room }
+    ensures looked { packets.new.line.until ≡ packets.old.line.until }
+    ensures summed { map summed rows.new ≡ map summed rows.old }
+    ensures levels { AreWithin (length bounds.now) rows.new }
+    ensures planned { ArePlanned clock calendar.new (map row_in rows.new) }
+{
     let before = packets.here.len();
     let mut lost = 0;
-    for row in rows.iter_mut() {
-        if take_source_packet(row, packets, before, bounds, clock) {
+    for place in turns {
+        if take_source_packet(&mut rows[*place], packets, before, bounds, clock) {
             lost += 1;
         }
+        put_plan(calendar, &rows[*place]);
     }
     lost
 }

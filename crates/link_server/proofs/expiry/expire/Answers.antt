@@ -9,15 +9,16 @@ use Rattle.rcsp_admission.specs.Sums.{Holds, without_key, IsDistinct}
 use Rattle.link_steps.specs.Buffer.{kept_units}
 use Rattle.link_steps.specs.Kept.{kept_stays}
 use Rattle.link_steps.specs.Lists.{Each}
-use Rattle.link_server.specs.Holds.{IsListed, AreListed, HasEnded, StaysIfOf}
+use Rattle.link_server.specs.Holds.{open_count, IsListed, AreListed, HasEnded, StaysIfOf}
 use Rattle.link_server.specs.Keeping.{places_for, IsKeeping}
 use Rattle.link_server.specs.Rows.{reservation_in, row_in, summed, IsWithinLevels, IsPlaceOf}
 use Rattle.link_server.specs.Sources.{IsReady}
 use Rattle.link_server.specs.declared.served_row.ServedRow.{ServedRow}
-use Rattle.link_server.proofs.CalendarRows.{due-taken, others-stay, open-without, all-stay}
+use Rattle.link_server.proofs.CalendarRows.{due-taken, others-stay, all-stay}
 use Rattle.link_server.proofs.ExpiryFacts.{filter-without, place-distinct, each-without}
 use Rattle.link_server.proofs.KeepingFacts.{keeps-removed, row-held, row-places}
 use Rattle.link_server.proofs.PlaceFacts.{all-without}
+use Rattle.link_server.proofs.RowTotals.{row-gone}
 use Rattle.link_server.proofs.SumsFacts.{place-holds, summed-without}
 use Rattle.link_server.proofs.expiry.expire.Goals as goal
 use Rattle.link_server.proofs.expiry.expire.Goals.{After-index}
@@ -71,7 +72,7 @@ loop-key-preserved-in-Some-ended_place c =
       listed =
           subst (λ rows. AreListed bounds clock c.take_due.new.self (map row_in rows)) (sym c.take_row.ensures.rows)
           (due-taken bounds clock c.in-Some.key c.loop-key.holds c.take_due.new.self (map row_in (remove rows i)) c.in-Some.ensures.taken c.in-Some.ensures.spare c.take_due.ensures.clock
-          (each-without (IsListed bounds clock c.loop-key.holds.entries) rows i listed.listed) (let less = open-without rows i in omega (arith, less, most))
+          (each-without (IsListed bounds clock c.loop-key.holds.entries) rows i listed.listed) (let less = row-gone open_count rows i in omega (arith, less, most))
           (others-stay bounds clock c.in-Some.key i rows c.loop-key.index.places.items c.index.result.now c.loop-key.invariant.indexed gone));
       ready = rw c.take_row.ensures.rows (each-without (IsReady clock) rows i c.loop-key.invariant.ready);
       within = rw c.take_row.ensures.rows (all-without (IsWithinLevels _) rows i c.loop-key.invariant.within);

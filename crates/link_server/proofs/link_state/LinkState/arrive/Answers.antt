@@ -28,12 +28,15 @@ use Rattle.link_server.specs.State.{kept_in}
 use Rattle.link_server.specs.Strays.{stray}
 use Rattle.link_server.proofs.ArriveFacts.{arrive-absent, arrive-stray, arrive-full, arrive-taken, arrive-same, arrive-kept, next-number, arrive-room}
 use Rattle.link_server.proofs.ExpiryFacts.{each-at}
-use Rattle.link_server.specs.Quiet.{IsQuiet}
-use Rattle.link_server.proofs.QuietFacts.{quiet-set}
+use Rattle.link_server.specs.Plans.{IsTold}
+use Rattle.link_server.proofs.PlansFacts.{told-same}
+use Rattle.link_server.proofs.PlansRows.{planned-set, same-idle}
 use Rattle.link_server.proofs.PlaceFacts.{at-place}
 use Rattle.link_server.proofs.SumsFacts.{summed-same, within-same}
 use Rattle.link_server.proofs.SoundTaking.{sound-arrive}
 use Rattle.link_server.proofs.StoodFacts.{all-ready, newest-stood, still-stood}
+use Rattle.link_steps.specs.declared.replies.Phase.TheVariants.{Closing}
+use Rattle.link_steps.specs.Reservation.{is_phase}
 use Rattle.link_server.proofs.link_state.LinkState.arrive.Goals as goal
 use Rattle.link_server.proofs.link_state.LinkState.arrive.Goals.{In-Some, After-take-taken, After-push, After-index-4}
 
@@ -186,7 +189,12 @@ invariant_of-self-2 c =
           subst (IsKeeping c.args.self.now.shape.buffer c.args.self.now.shape.bounds c.args.self.now.keeping)
           (sym (map-set_same reservation_in c.args.self.now.rows.items c.in-Some.place c.take-taken.new.self c.index_mut.result.now (ap (λ row. row.terms) same))) c.args.self.now.keeps;
       sound = subst (IsSound c.args.self.now.shape c.args.self.now.room) (sym (kept (goal.at.invariant_of-self-2 c).After-push place)) after;
-      quiet = quiet-set c.args.self.now.due c.args.self.now.rows.items c.in-Some.place c.take-taken.new.self (subst (IsQuiet c.args.self.now.due) (sym same) (each-at (IsQuiet c.args.self.now.due) c.args.self.now.rows.items c.in-Some.place c.index_mut.result.now place.inside c.args.self.now.quiet)) c.args.self.now.quiet;
+      planned =
+          planned-set c.args.self.now.clock c.args.self.now.plans.calendar c.args.self.now.rows.items c.in-Some.place c.take-taken.new.self c.index_mut.result.now c.args.self.now.planned place.inside
+          (told-same c.args.self.now.plans.calendar.entries (row_in c.take-taken.new.self) (row_in (get_or c.args.self.now.rows.items c.in-Some.place c.index_mut.result.now)) (ap (λ row. row.left) same) (ap (λ row. channel_number row.terms.chan) same)
+          (each-at (IsTold c.args.self.now.plans.calendar.entries) c.args.self.now.rows.items c.in-Some.place c.index_mut.result.now place.inside c.args.self.now.planned.told))
+          (same-idle (row_in c.take-taken.new.self) (row_in (get_or c.args.self.now.rows.items c.in-Some.place c.index_mut.result.now)) (ap (λ row. row.left) same) (ap (λ row. is_phase row.terms.phase Closing) same));
+      turns = (let turns = c.args.self.now.turns in let long = length-set c.args.self.now.rows.items c.in-Some.place c.take-taken.new.self in omega (arith, turns, long));
       roomy = omega (arith, roomy, c.push.ensures.room);
       looked = (let looked = c.args.self.now.looked in omega (arith, looked, c.push.ensures.looked));
       stood = still-stood c.args.self.now (Arrive c.args.packet.now) (Taken c.args.self.now.clock c.take-taken.result.eligible) _ c.requires.fits (replied (goal.at.invariant_of-self-2 c).After-take-taken place) (kept (goal.at.invariant_of-self-2 c).After-push place);

@@ -1,5 +1,5 @@
 -- The row of the channel is found, judged by its phase, and taken out of the rows and of the sums.
-use Rattle.std.proofs.Common.{◌≡◌, ◌≤◌, map, sym, ap, ◌∙◌, subst}
+use Rattle.std.proofs.Common.{◌≡◌, ◌+◌, ◌≤◌, length, map, sym, ap, ◌∙◌, subst, arith}
 use Rattle.net_units.specs.Numbers.{channel_number}
 use Rattle.rcsp_admission.specs.Sums.{Holds, without_key, IsDistinct}
 use Rattle.link_steps.specs.declared.replies.Phase.TheVariants.{Tentative}
@@ -10,8 +10,6 @@ use Rattle.link_server.specs.Rows.{reservation_in, summed, IsAbsent, IsPlaceOf, 
 use Rattle.link_server.specs.Account.{account}
 use Rattle.link_server.specs.Keeping.{IsKeeping, places_for}
 use Rattle.link_server.specs.Sound.{IsSound}
-use Rattle.link_server.specs.Quiet.{IsQuiet}
-use Rattle.link_server.proofs.ExpiryFacts.{each-without}
 use Rattle.link_server.specs.State.{kept_in}
 use Rattle.link_steps.specs.declared.replies.Reply.TheVariants.{Denied}
 use Rattle.link_server.proofs.KeepingFacts.{keeps-removed, row-held, row-places}
@@ -23,6 +21,8 @@ use Rattle.link_server.proofs.StoodFacts.{still-stood}
 use Rattle.link_steps.specs.declared.asks.Ask.TheVariants.{Deny}
 use Rattle.link_steps.specs.Kept.{kept_reply}
 use Rattle.link_steps.specs.Split.{whole}
+use Rattle.std.proofs.lemmas.List.Edits.{length-remove}
+use Rattle.link_server.proofs.PlansRows.{planned-removed}
 use Rattle.link_server.proofs.link_state.LinkState.deny.Goals as goal
 use Rattle.link_server.proofs.link_state.LinkState.deny.Goals.{After-take_row}
 
@@ -78,7 +78,11 @@ invariant_of-self-2 c =
           subst (λ rows. IsKeeping c.args.self.now.shape.buffer c.args.self.now.shape.bounds c.give_back.new.self (map reservation_in rows)) (sym c.take_row.ensures.rows)
           (keeps-removed c.args.self.now.shape.buffer c.args.self.now.shape.bounds c.args.self.now.keeping c.give_back.new.self c.args.self.now.rows.items c.in-Some.place c.index-2.result.now c.args.self.now.keeps place.inside c.index-2.ensures c.give_back.ensures.budget c.give_back.ensures.places);
       sound = subst (IsSound c.args.self.now.shape c.args.self.now.room) (sym kept) (sound-deny c.args.self.now.shape c.args.self.now.room (kept_in c.args.self.now) c.args.chan Denied c.args.self.now.sound);
-      quiet = rw c.take_row.ensures.rows (each-without (IsQuiet c.args.self.now.due) c.args.self.now.rows.items c.in-Some.place c.args.self.now.quiet);
+      planned = rw c.take_row.ensures.rows (planned-removed c.args.self.now.clock c.args.self.now.plans.calendar c.args.self.now.rows.items c.in-Some.place c.args.self.now.planned);
+      turns =
+          (let turns = c.args.self.now.turns in
+          let fewer : length c.take_row.new.rows.items + 1 ≡ length c.args.self.now.rows.items = ap (λ rows. length rows + 1) c.take_row.ensures.rows ∙ length-remove c.args.self.now.rows.items c.in-Some.place place.inside in
+          omega (arith, turns, fewer));
       roomy = c.args.self.now.roomy;
       looked = c.args.self.now.looked;
       stood = still-stood c.args.self.now (Deny c.args.chan) Denied _ tt (denied (goal.at.invariant_of-self-2 c).After-take_row) kept;

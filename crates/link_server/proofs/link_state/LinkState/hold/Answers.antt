@@ -1,6 +1,7 @@
 -- The channel had no row, so its number is new to the sums; the row is put at the end of both, and there is room for its
 -- packets.
-use Rattle.std.proofs.Common.{inl, ◌≡◌, ◌<◌, ◌≤◌, [], ◌∷◌, ◌++◌, length, map, set, sym, ap, ◌∙◌, subst, arith}
+use Rattle.std.proofs.Common.{inl, ◌≡◌, ◌+◌, ◌<◌, ◌≤◌, [], ◌∷◌, ◌++◌, length, map, set, sym, ap, ◌∙◌, subst, arith}
+use Rattle.std.proofs.lemmas.List.{length-append}
 use Rattle.link_steps.specs.declared.replies.Reply.TheVariants.{Offer}
 use Rattle.net_units.specs.Numbers.{channel_number, level_number}
 use Rattle.link_steps.specs.Buffer.{kept_units, need_of, free_units}
@@ -17,7 +18,8 @@ use Rattle.link_server.specs.Held.{reservations_held}
 use Rattle.link_server.specs.Rows.{reservation_in, row_in, summed, IsWithinLevels, AreWithin}
 use Rattle.link_server.specs.Keeping.{IsKeeping}
 use Rattle.link_server.specs.Sound.{IsSound}
-use Rattle.link_server.specs.Quiet.{IsQuiet, AreQuiet}
+use Rattle.link_server.specs.Planned.{first_tick}
+use Rattle.link_server.specs.Plans.{ArePlanned}
 use Rattle.link_server.specs.State.{kept_in}
 use Rattle.link_server.specs.Wants.{ask_for, MayHold}
 use Rattle.link_server.specs.declared.link_state.LinkState.{LinkState}
@@ -29,7 +31,8 @@ use Rattle.link_server.proofs.KeepingFacts.{keeping-free, keeps-pushed, slots-un
 use Rattle.link_server.proofs.SumsFacts.{within-reserved, absent-new}
 use Rattle.link_server.proofs.AnswerFacts.{reserve-kept}
 use Rattle.link_server.proofs.HoldingFacts.{held_terms, sound-held, may-new, may-within, may-passes, summed-pushed, within-pushed}
-use Rattle.link_server.proofs.QuietFacts.{quiet-pushed}
+use Rattle.link_server.proofs.PlansFacts.{told-none}
+use Rattle.link_server.proofs.PlansRows.{planned-pushed}
 use Rattle.link_server.specs.Stood.{IsStood}
 use Rattle.link_server.proofs.StepFacts.{rows-have}
 use Rattle.link_server.proofs.StoodFacts.{rows-few, stood-offered}
@@ -130,9 +133,12 @@ invariant_of-self c =
           (keeps-pushed c.make_room.new.self.shape.buffer c.make_room.new.self.shape.bounds c.make_room.new.self.keeping c.hold.new.self c.make_room.new.self.rows.items c.in_ok-row.row c.make_room.new.self.keeps
           (fits-free c.make_room.new.self c.args.wanted.now c.args.offer.now c.in_ok-row.row may c.in_ok-row.ensures) c.hold.ensures.budget c.hold.ensures.places);
       sound = subst (IsSound c.make_room.new.self.shape c.make_room.new.self.room) (sym (kept (goal.at.invariant_of-self c).After-add)) held;
-      quiet =
-          subst (λ rows. AreQuiet c.make_room.new.self.due (map row_in rows)) (sym c.push_reserved.ensures.items)
-          (quiet-pushed c.make_room.new.self.due c.make_room.new.self.rows.items c.in_ok-row.row c.make_room.new.self.quiet (subst (IsQuiet c.make_room.new.self.due) (sym c.in_ok-row.ensures) tt));
+      planned =
+          subst (λ rows. ArePlanned c.make_room.new.self.clock c.make_room.new.self.plans.calendar (map row_in rows)) (sym c.push_reserved.ensures.items)
+          (planned-pushed c.make_room.new.self.clock c.make_room.new.self.plans.calendar c.make_room.new.self.rows.items c.in_ok-row.row c.make_room.new.self.planned (told-none c.make_room.new.self.plans.calendar.entries (row_in c.in_ok-row.row) (ap (λ row. first_tick row.left) c.in_ok-row.ensures)) c.in_ok-make_room.ensures.plan_fits);
+      turns =
+          (let one : length c.push_reserved.new.self.items ≡ length c.make_room.new.self.rows.items + 1 = ap length c.push_reserved.ensures.items ∙ length-append c.make_room.new.self.rows.items (c.in_ok-row.row ∷ []) in
+          omega (arith, one, c.in_ok-make_room.ensures.turn_fits));
       roomy = c.make_room.new.self.roomy;
       looked = c.make_room.new.self.looked;
       stood = subst (IsStood c.make_room.new.self.shape) (sym (kept (goal.at.invariant_of-self c).After-add)) (stood-offered c.make_room.new.self.shape (kept_in c.make_room.new.self) c.args.wanted.now c.args.offer.now (rows-have c.make_room.new.self.rows.items) c.requires.fits may c.make_room.new.self.stood);

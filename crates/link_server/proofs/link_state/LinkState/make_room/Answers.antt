@@ -7,10 +7,11 @@ use Rattle.link_server.specs.Index.{channels_in, IsIndex}
 use Rattle.link_server.specs.Rows.{reservation_in, row_in, summed, AreWithin}
 use Rattle.link_server.specs.Keeping.{IsKeeping}
 use Rattle.link_server.specs.Sound.{all_places_of, IsSound}
-use Rattle.link_server.specs.Quiet.{AreQuiet}
+use Rattle.link_server.specs.Plans.{ArePlanned}
 use Rattle.link_server.specs.State.{kept_in}
 use Rattle.link_server.proofs.AccountFacts.{account-same}
 use Rattle.link_server.proofs.KeepingFacts.{keeping-places}
+use Rattle.link_server.proofs.PlansRows.{planned-reserved}
 use Rattle.link_server.proofs.RoomFacts.{most_places-are}
 use Rattle.link_server.proofs.SoundSetup.{sound-larger}
 use Rattle.link_server.specs.Stood.{IsStood}
@@ -32,7 +33,8 @@ invariant_of-self-2 c =
       indexed = subst (λ rows. IsIndex c.reserve-4.new.self.places.items (channels_in rows)) (sym c.reserve.ensures.items) (c.reserve-4.ensures.leads (channels_in c.args.self.now.rows.items) c.args.self.now.indexed);
       keeps = subst (λ rows. IsKeeping c.args.self.now.shape.buffer c.args.self.now.shape.bounds c.args.self.now.keeping (map reservation_in rows)) (sym c.reserve.ensures.items) c.args.self.now.keeps;
       sound = subst (IsSound c.args.self.now.shape c.max-self.result) (sym same) larger;
-      quiet = subst (λ rows. AreQuiet c.args.self.now.due (map row_in rows)) (sym c.reserve.ensures.items) c.args.self.now.quiet;
+      planned = planned-reserved c.args.self.now.clock c.args.self.now.plans.calendar c.reserve-6.new.self.calendar (map row_in c.reserve.new.self.items) c.reserve-6.ensures.kept c.reserve-6.ensures.grows (subst (λ rows. ArePlanned c.args.self.now.clock c.args.self.now.plans.calendar (map row_in rows)) (sym c.reserve.ensures.items) c.args.self.now.planned);
+      turns = (let turns = c.args.self.now.turns in omega (arith, turns, c.reserve-6.ensures.wider, ap length c.reserve.ensures.items));
       roomy = omega (arith, c.max-self.ensures, grows, roomy, taken, c.len.ensures, ap length c.reserve-3.ensures.here);
       looked = (let looked = c.args.self.now.looked in omega (arith, looked, c.reserve-3.ensures.looked));
       stood = subst (IsStood c.args.self.now.shape) (sym same) c.args.self.now.stood;
@@ -52,7 +54,8 @@ invariant_of-self-in-Break-branch-3 c =
       indexed = subst (λ rows. IsIndex c.args.self.now.index.places.items (channels_in rows)) (sym c.reserve.ensures.items) c.args.self.now.indexed;
       keeps = subst (λ rows. IsKeeping c.args.self.now.shape.buffer c.args.self.now.shape.bounds c.args.self.now.keeping (map reservation_in rows)) (sym c.reserve.ensures.items) c.args.self.now.keeps;
       sound = subst (IsSound c.args.self.now.shape c.args.self.now.room) (sym same) c.args.self.now.sound;
-      quiet = subst (λ rows. AreQuiet c.args.self.now.due (map row_in rows)) (sym c.reserve.ensures.items) c.args.self.now.quiet;
+      planned = subst (λ rows. ArePlanned c.args.self.now.clock c.args.self.now.plans.calendar (map row_in rows)) (sym c.reserve.ensures.items) c.args.self.now.planned;
+      turns = (let turns = c.args.self.now.turns in omega (arith, turns, ap length c.reserve.ensures.items));
       roomy = omega (arith, grows, roomy);
       looked = (let looked = c.args.self.now.looked in omega (arith, looked, c.reserve-3.ensures.looked));
       stood = subst (IsStood c.args.self.now.shape) (sym same) c.args.self.now.stood;
@@ -72,7 +75,8 @@ invariant_of-self-in-Break-branch-4 c =
       indexed = subst (λ rows. IsIndex c.reserve-4.new.self.places.items (channels_in rows)) (sym c.reserve.ensures.items) (c.reserve-4.ensures.leads (channels_in c.args.self.now.rows.items) c.args.self.now.indexed);
       keeps = subst (λ rows. IsKeeping c.args.self.now.shape.buffer c.args.self.now.shape.bounds c.args.self.now.keeping (map reservation_in rows)) (sym c.reserve.ensures.items) c.args.self.now.keeps;
       sound = subst (IsSound c.args.self.now.shape c.args.self.now.room) (sym same) c.args.self.now.sound;
-      quiet = subst (λ rows. AreQuiet c.args.self.now.due (map row_in rows)) (sym c.reserve.ensures.items) c.args.self.now.quiet;
+      planned = subst (λ rows. ArePlanned c.args.self.now.clock c.args.self.now.plans.calendar (map row_in rows)) (sym c.reserve.ensures.items) c.args.self.now.planned;
+      turns = (let turns = c.args.self.now.turns in omega (arith, turns, ap length c.reserve.ensures.items));
       roomy = omega (arith, grows, roomy);
       looked = (let looked = c.args.self.now.looked in omega (arith, looked, c.reserve-3.ensures.looked));
       stood = subst (IsStood c.args.self.now.shape) (sym same) c.args.self.now.stood;
@@ -92,7 +96,29 @@ invariant_of-self-in-Break-branch-5 c =
       indexed = subst (λ rows. IsIndex c.reserve-4.new.self.places.items (channels_in rows)) (sym c.reserve.ensures.items) (c.reserve-4.ensures.leads (channels_in c.args.self.now.rows.items) c.args.self.now.indexed);
       keeps = subst (λ rows. IsKeeping c.args.self.now.shape.buffer c.args.self.now.shape.bounds c.args.self.now.keeping (map reservation_in rows)) (sym c.reserve.ensures.items) c.args.self.now.keeps;
       sound = subst (IsSound c.args.self.now.shape c.args.self.now.room) (sym same) c.args.self.now.sound;
-      quiet = subst (λ rows. AreQuiet c.args.self.now.due (map row_in rows)) (sym c.reserve.ensures.items) c.args.self.now.quiet;
+      planned = subst (λ rows. ArePlanned c.args.self.now.clock c.args.self.now.plans.calendar (map row_in rows)) (sym c.reserve.ensures.items) c.args.self.now.planned;
+      turns = (let turns = c.args.self.now.turns in omega (arith, turns, ap length c.reserve.ensures.items));
+      roomy = omega (arith, grows, roomy);
+      looked = (let looked = c.args.self.now.looked in omega (arith, looked, c.reserve-3.ensures.looked));
+      stood = subst (IsStood c.args.self.now.shape) (sym same) c.args.self.now.stood;
+    }
+
+pub invariant_of-self-in-Break-branch-6 : goal.invariant_of-self-in-Break-branch-6
+invariant_of-self-in-Break-branch-6 c =
+    let same = account-same c.args.self.now.clock c.args.self.now.packets c.reserve-3.new.self c.args.self.now.rows.items c.reserve.new.self.items c.reserve-3.ensures.taken c.reserve-3.ensures.here c.reserve-3.ensures.on c.reserve-3.ensures.best c.reserve.ensures.items in
+    let grows = c.reserve-3.ensures.grows in
+    let roomy = c.args.self.now.roomy in
+    record {
+      admitted = c.reserve-2.ensures.admitted;
+      same_server = c.reserve-2.ensures.server ∙ c.args.self.now.same_server;
+      same_rows = c.reserve-2.ensures.rows ∙ c.args.self.now.same_rows ∙ ap (map summed) (sym c.reserve.ensures.items);
+      within = subst (AreWithin (length c.args.self.now.shape.bounds)) (sym c.reserve.ensures.items) c.args.self.now.within;
+      listed = listed-reserved c.args.self.now.shape.bounds c.args.self.now.clock c.args.self.now.holds c.reserve-5.new.self (map row_in c.reserve.new.self.items) c.reserve-5.ensures.kept c.reserve-5.ensures.grows (subst (λ rows. AreListed c.args.self.now.shape.bounds c.args.self.now.clock c.args.self.now.holds (map row_in rows)) (sym c.reserve.ensures.items) c.args.self.now.listed);
+      indexed = subst (λ rows. IsIndex c.reserve-4.new.self.places.items (channels_in rows)) (sym c.reserve.ensures.items) (c.reserve-4.ensures.leads (channels_in c.args.self.now.rows.items) c.args.self.now.indexed);
+      keeps = subst (λ rows. IsKeeping c.args.self.now.shape.buffer c.args.self.now.shape.bounds c.args.self.now.keeping (map reservation_in rows)) (sym c.reserve.ensures.items) c.args.self.now.keeps;
+      sound = subst (IsSound c.args.self.now.shape c.args.self.now.room) (sym same) c.args.self.now.sound;
+      planned = planned-reserved c.args.self.now.clock c.args.self.now.plans.calendar c.reserve-6.new.self.calendar (map row_in c.reserve.new.self.items) c.reserve-6.ensures.kept c.reserve-6.ensures.grows (subst (λ rows. ArePlanned c.args.self.now.clock c.args.self.now.plans.calendar (map row_in rows)) (sym c.reserve.ensures.items) c.args.self.now.planned);
+      turns = (let turns = c.args.self.now.turns in omega (arith, turns, c.reserve-6.ensures.wider, ap length c.reserve.ensures.items));
       roomy = omega (arith, grows, roomy);
       looked = (let looked = c.args.self.now.looked in omega (arith, looked, c.reserve-3.ensures.looked));
       stood = subst (IsStood c.args.self.now.shape) (sym same) c.args.self.now.stood;

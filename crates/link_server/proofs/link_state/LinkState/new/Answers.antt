@@ -15,9 +15,6 @@ invariant_of-result-clause-sound c =
     (sym (account-nothing c.reserve.new.self c.new-3.result.items (c.reserve.ensures.taken ∙ c.in_ok-packets.ensures.taken) (c.reserve.ensures.here ∙ c.in_ok-packets.ensures.here) (c.reserve.ensures.on ∙ c.in_ok-packets.ensures.on) (ap left_in c.reserve.ensures.best ∙ c.in_ok-packets.ensures.best) c.new-3.ensures.items))
     (nothing-sound c.args.shape c.from.result (omega (arith, c.from.ensures)))
 
-pub invariant_of-result-clause-quiet : goal.invariant_of-result-clause-quiet
-invariant_of-result-clause-quiet c = rw c.new-3.ensures.items tt
-
 pub invariant_of-result-clause-stood : goal.invariant_of-result-clause-stood
 invariant_of-result-clause-stood c =
     subst (IsStood c.args.shape)

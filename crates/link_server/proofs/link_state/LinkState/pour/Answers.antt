@@ -37,4 +37,4 @@ invariant_of-self-2 c =
     let sound = subst (IsSound c.args.self.now.shape c.args.self.now.room) (sym kept) (sound-pour c.args.self.now.shape c.args.self.now.room (kept_in c.args.self.now) c.args.count c.args.gap c.args.size (Planned c.args.self.now.clock) c.requires.fits c.args.self.now.sound planned) in
     let stood = still-stood c.args.self.now (Pour c.args.count c.args.gap c.args.size) (Planned c.args.self.now.clock) _ (c.requires.some, c.requires.fits) planned kept in
     let l = c.args.self.now in
-    ((l.packets.numbered, (l.packets.ranked, (l.packets.few, (l.packets.fits, (l.packets.holds, (l.packets.lines_up, (l.packets.counts_are, (l.packets.counts_fit, (l.packets.latest, (l.packets.counts_sorted, tt)))))))))), (l.admitted, (l.same_server, (l.same_rows, (l.within, (l.indexed, (l.listed, (l.keeps, (sound, (l.quiet, (l.roomy, (l.looked, (stood, tt)))))))))))))
+    ((l.packets.numbered, (l.packets.ranked, (l.packets.few, (l.packets.fits, (l.packets.holds, (l.packets.lines_up, (l.packets.counts_are, (l.packets.counts_fit, (l.packets.latest, (l.packets.counts_sorted, tt)))))))))), (l.admitted, (l.same_server, (l.same_rows, (l.within, (l.indexed, (l.listed, (l.keeps, (sound, (l.planned, (l.turns, (l.roomy, (l.looked, (stood, tt))))))))))))))

@@ -1,27 +1,29 @@
 -- The row of the channel is found, judged by its phase and its offer, and committed, and the sums move it.
 use Rattle.std.proofs.Common.{inl, inr, ◌≡◌, ◌+◌, ◌-◌, ◌≤◌, map, get_or, refl, sym, ap, ◌∙◌, subst, arith}
-use Rattle.std.proofs.lemmas.List.{get_or-set_same}
+use Rattle.std.proofs.lemmas.List.{get_or-set_same, get_or_default, length-set}
 use Rattle.std.proofs.lemmas.List.Elements.{All-set}
 use Rattle.net_units.specs.Numbers.{channel_number, level_number}
 use Rattle.rcsp_admission.specs.Sums.{HoldsUpTo, moved, IsDistinct}
-use Rattle.link_steps.specs.declared.replies.Phase.TheVariants.{Tentative}
+use Rattle.link_steps.specs.declared.replies.Phase.TheVariants.{Tentative, Closing}
 use Rattle.buffer_budget.specs.Parts.{with_held, with_freed}
 use Rattle.link_steps.specs.Buffer.{slots_of, kept_units}
 use Rattle.link_steps.specs.Refusals.{not_in_phase, unfit}
 use Rattle.link_steps.specs.Kept.{kept_relaxed}
 use Rattle.link_steps.proofs.RefusalFacts.{unfit-none}
-use Rattle.link_server.proofs.CalendarFacts.{phase-listed, open-in-phase}
+use Rattle.link_server.proofs.CalendarFacts.{phase-listed, open-in-phase, in-phase}
 use Rattle.link_server.proofs.CalendarRows.{listed-set}
 use Rattle.link_server.proofs.IndexFacts.{index-changed}
 use Rattle.link_server.specs.Rows.{reservation_in, row_in, summed, IsAbsent, IsPlaceOf, IsWithinLevels}
 use Rattle.link_server.specs.Keeping.{places_for}
 use Rattle.link_server.specs.Sound.{IsSound}
-use Rattle.link_server.specs.Quiet.{IsQuiet}
 use Rattle.link_server.specs.State.{kept_in}
 use Rattle.link_steps.specs.declared.replies.Reply.TheVariants.{Relaxed}
 use Rattle.link_server.proofs.SoundSetup.{sound-relax}
 use Rattle.link_server.proofs.ExpiryFacts.{each-at}
-use Rattle.link_server.proofs.QuietFacts.{quiet-set}
+use Rattle.link_steps.specs.Reservation.{is_phase}
+use Rattle.link_server.specs.Plans.{IsTold}
+use Rattle.link_server.proofs.PlansFacts.{told-same}
+use Rattle.link_server.proofs.PlansRows.{planned-set, same-idle}
 use Rattle.link_server.proofs.PlaceFacts.{at-place}
 use Rattle.link_server.proofs.SumsFacts.{place-holds-upto, summed-moved, summed-committed, within-committed}
 use Rattle.link_server.proofs.AnswerFacts.{relax-absent, relax-phase, relax-unfit, relax-relaxed, relax-same, relax-kept}
@@ -165,7 +167,16 @@ invariant_of-self-2 c =
           (c.hold.ensures.budget ∙ ap (λ row. with_held c.give_back.new.self.budget (kept_units c.args.self.now.shape.bounds (reservation_in row))) (c.index-4.ensures ∙ get_or-set_same c.args.self.now.rows.items c.in-Some.place c.commit.new.self c.index-4.result.now place.inside))
           (c.hold.ensures.places ∙ ap (λ row. c.give_back.new.self.places + places_for c.args.self.now.shape.bounds (reservation_in row)) (c.index-4.ensures ∙ get_or-set_same c.args.self.now.rows.items c.in-Some.place c.commit.new.self c.index-4.result.now place.inside));
       sound = subst (IsSound c.args.self.now.shape c.args.self.now.room) (sym kept) (sound-relax c.args.self.now.shape c.args.self.now.room (kept_in c.args.self.now) c.args.chan c.args.level c.args.up_bound (Relaxed c.args.self.now.clock) c.requires.fits c.args.self.now.sound reply);
-      quiet = quiet-set c.args.self.now.due c.args.self.now.rows.items c.in-Some.place c.commit.new.self (subst (IsQuiet c.args.self.now.due) (sym same) (each-at (IsQuiet c.args.self.now.due) c.args.self.now.rows.items c.in-Some.place c.index_mut.result.now place.inside c.args.self.now.quiet)) c.args.self.now.quiet;
+      planned =
+          (let was = get_or c.args.self.now.rows.items c.in-Some.place c.index.result.now in
+          let tentative = in-phase Tentative (row_in was) (c.in_default-not_tentative.ensures ∙ ap (λ row. not_in_phase Tentative (reservation_in row)) c.index.ensures) in
+          let other = ap (λ phase. is_phase phase Closing) tentative in
+          planned-set c.args.self.now.clock c.args.self.now.plans.calendar c.args.self.now.rows.items c.in-Some.place c.commit.new.self c.index_mut.result.now c.args.self.now.planned place.inside
+          (told-same c.args.self.now.plans.calendar.entries (row_in c.commit.new.self) (row_in (get_or c.args.self.now.rows.items c.in-Some.place c.index_mut.result.now)) (ap (λ row. row.left) same) (ap (λ row. channel_number row.terms.chan) same)
+          (each-at (IsTold c.args.self.now.plans.calendar.entries) c.args.self.now.rows.items c.in-Some.place c.index_mut.result.now place.inside c.args.self.now.planned.told))
+          (same-idle (row_in c.commit.new.self) (row_in (get_or c.args.self.now.rows.items c.in-Some.place c.index_mut.result.now)) (ap (λ row. row.left) same)
+          (ap (λ row. is_phase row.terms.phase Closing) same ∙ sym (ap (λ row. is_phase row.phase Closing) (get_or_default c.args.self.now.rows.items c.in-Some.place c.index_mut.result.now c.index.result.now place.inside) ∙ other))));
+      turns = (let turns = c.args.self.now.turns in let long = length-set c.args.self.now.rows.items c.in-Some.place c.commit.new.self in omega (arith, turns, long));
       roomy = c.args.self.now.roomy;
       looked = c.args.self.now.looked;
       stood = still-stood c.args.self.now (Relax c.args.chan c.args.level c.args.up_bound) (Relaxed c.args.self.now.clock) _ c.requires.fits reply kept;

@@ -1,10 +1,10 @@
 -- The row of the channel is found at the hop that is named, judged by its phase, and closed.
-use Rattle.std.proofs.Common.{inr, refl, true, ◌≡◌, ◌+◌, ◌^◌, ◌<◌, ◌≤◌, length, get_or, set, sym, ap, ◌∙◌, subst}
+use Rattle.std.proofs.Common.{inr, refl, true, ◌≡◌, ◌+◌, ◌^◌, ◌<◌, ◌≤◌, length, get_or, set, sym, ap, ◌∙◌, subst, arith}
 use Rattle.std.proofs.Math.Seq.{map-set_same}
-use Rattle.std.proofs.lemmas.List.{get_or-set_same}
+use Rattle.std.proofs.lemmas.List.{get_or-set_same, length-set}
 use Rattle.std.proofs.lemmas.List.Elements.{All-set}
 use Rattle.link_steps.specs.declared.asks.Ask.TheVariants.{Release}
-use Rattle.link_steps.specs.declared.replies.Phase.TheVariants.{Committed}
+use Rattle.link_steps.specs.declared.replies.Phase.TheVariants.{Committed, Closing as PhaseClosing}
 use Rattle.link_steps.specs.declared.replies.Reply.TheVariants.{Closing}
 use Rattle.link_steps.specs.Split.{whole}
 use Rattle.link_steps.specs.Kept.{kept_reply, kept_after, kept_closed}
@@ -26,8 +26,10 @@ use Rattle.link_server.proofs.KeepingFacts.{keeps-closed}
 use Rattle.link_server.specs.Sources.{IsReady}
 use Rattle.traffic_contract.specs.Eligible.{newest}
 use Rattle.link_server.proofs.ExpiryFacts.{each-at}
-use Rattle.link_server.specs.Quiet.{IsQuiet}
-use Rattle.link_server.proofs.QuietFacts.{quiet-set}
+use Rattle.link_server.specs.Planned.{first_tick}
+use Rattle.link_steps.specs.Reservation.{is_phase}
+use Rattle.link_server.proofs.PlansFacts.{told-none}
+use Rattle.link_server.proofs.PlansRows.{planned-set, closing-idle}
 use Rattle.link_server.proofs.PlaceFacts.{at-place}
 use Rattle.link_server.proofs.SoundSetup.{sound-release}
 use Rattle.link_server.proofs.StoodFacts.{all-ready, still-stood}
@@ -127,7 +129,11 @@ invariant_of-self-2 c =
           keeps-closed c.args.self.now.shape.buffer c.args.self.now.shape.bounds c.args.self.now.keeping c.args.self.now.rows.items c.in-Some.place c.close.new.self c.index_mut.result.now c.count_at_release-count.result c.args.self.now.keeps place.inside (ap (λ row. row.terms) same)
           (c.in_default-not_committed.ensures ∙ ap (λ row. not_in_phase Committed (reservation_in row)) (at-place c.args.self.now.rows.items c.in-Some.place c.index.result.now c.index_mut.result.now c.index.ensures place.inside));
       sound = subst (IsSound c.args.self.now.shape c.args.self.now.room) (sym (kept close place)) (sound-release c.args.self.now.shape c.args.self.now.room (kept_in c.args.self.now) c.args.chan c.args.upstream (Closing c.count_at_release-count.result c.cancelled_at_release-cancelled.result) c.args.self.now.sound (replied close place));
-      quiet = quiet-set c.args.self.now.due c.args.self.now.rows.items c.in-Some.place c.close.new.self (subst (IsQuiet c.args.self.now.due) (sym same) tt) c.args.self.now.quiet;
+      planned =
+          planned-set c.args.self.now.clock c.args.self.now.plans.calendar c.args.self.now.rows.items c.in-Some.place c.close.new.self c.index_mut.result.now c.args.self.now.planned place.inside
+          (told-none c.args.self.now.plans.calendar.entries (row_in c.close.new.self) (ap (λ row. first_tick row.left) same))
+          (let none = closing-idle (row_in c.close.new.self) (ap (λ row. is_phase row.terms.phase PhaseClosing) same) in omega (arith, none));
+      turns = (let turns = c.args.self.now.turns in let long = length-set c.args.self.now.rows.items c.in-Some.place c.close.new.self in omega (arith, turns, long));
       roomy = c.args.self.now.roomy;
       looked = c.args.self.now.looked;
       stood = still-stood c.args.self.now (Release c.args.chan c.args.upstream) (Closing c.count_at_release-count.result c.cancelled_at_release-cancelled.result) _ tt (replied close place) (kept close place);

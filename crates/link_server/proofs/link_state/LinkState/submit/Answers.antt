@@ -1,15 +1,19 @@
 -- The row of the channel at its first hop is found, judged by its phase, its plan and its contract, and planned for.
-use Rattle.std.proofs.Common.{inr, length, true, get_or, sym, ap, ◌∙◌, subst, arith}
+use Rattle.std.proofs.Common.{◌≡◌, ◌+◌, ◌≤◌, inr, length, true, get_or, sym, ap, ◌∙◌, subst, arith}
 use Rattle.std.proofs.Math.Seq.{map-set_same}
+use Rattle.std.proofs.lemmas.List.{get_or-set_same, length-set}
 use Rattle.std.proofs.lemmas.List.Elements.{All-set}
-use Rattle.link_steps.specs.declared.replies.Phase.TheVariants.{Committed}
+use Rattle.link_steps.specs.declared.replies.Phase.TheVariants.{Committed, Closing}
 use Rattle.link_steps.specs.Kept.{kept_planned}
+use Rattle.link_steps.specs.Lists.{Each}
 use Rattle.link_steps.specs.Refusals.{not_in_phase, busy, too_big}
+use Rattle.link_steps.specs.Reservation.{is_phase}
 use Rattle.net_units.specs.Numbers.{channel_number}
 use Rattle.link_server.proofs.CalendarFacts.{phase-listed, phase-open, in-phase}
 use Rattle.link_server.proofs.CalendarRows.{listed-set}
 use Rattle.link_server.proofs.IndexFacts.{index-changed}
-use Rattle.link_server.specs.Planned.{left_in}
+use Rattle.link_server.specs.Planned.{left_in, IsPlannedFrom}
+use Rattle.link_server.specs.Plans.{IsTold, idle_count}
 use Rattle.link_server.specs.Rows.{reservation_in, row_in, is_served_at_hop, summed, NoRowPasses, IsFirstPlace, IsWithinLevels}
 use Rattle.link_server.specs.Keeping.{IsKeeping}
 use Rattle.link_server.specs.Sound.{IsSound}
@@ -17,13 +21,14 @@ use Rattle.link_server.specs.State.{kept_in}
 use Rattle.link_steps.specs.declared.replies.Reply.TheVariants.{Planned}
 use Rattle.link_server.proofs.SoundSetup.{sound-submit}
 use Rattle.link_server.proofs.AnswerFacts.{submit-absent, submit-phase, submit-busy, submit-big, submit-planned, submit-same, submit-kept}
-use Rattle.link_server.proofs.QuietFacts.{quiet-changed}
 use Rattle.link_server.proofs.PlaceFacts.{at-place}
 use Rattle.link_server.proofs.SumsFacts.{summed-same, within-same}
 use Rattle.link_server.proofs.PlanFacts.{none-left}
+use Rattle.link_server.proofs.PlansRows.{planned-put, idle-one, idle-room, plan-ahead}
 use Rattle.link_server.proofs.StoodFacts.{still-stood}
 use Rattle.link_steps.specs.declared.asks.Ask.TheVariants.{Submit}
 use Rattle.link_server.proofs.link_state.LinkState.submit.Goals as goal
+use Rattle.link_server.proofs.link_state.LinkState.submit.Goals.{After-index-4}
 
 pub returns-in_default-clause-reply : goal.returns-in_default-clause-reply
 returns-in_default-clause-reply c =
@@ -67,6 +72,34 @@ plan-requires c =
     let left = c.in_default-busy.ensures ∙ ap (λ row. busy (length (left_in row.planned))) (at-place c.args.self.now.rows.items c.in-Some.place c.index-2.result.now c.index_mut.result.now c.index-2.ensures ((subst (λ rows. IsFirstPlace (is_served_at_hop c.args.chan true) rows c.in-Some.place) c.deref.ensures.value c.in-Some.ensures.some).inside)) ∙ ap (λ row. busy (length (left_in row.planned))) (sym c.index_mut.ensures.value) in
     none-left (length (left_in c.index_mut.result.now.planned)) left
 
+-- the row has a place, no packet left, and isn't closing
+placed : (c : After-index-4) → IsFirstPlace (is_served_at_hop c.args.chan true) c.args.self.now.rows.items c.in-Some.place
+placed c = subst (λ rows. IsFirstPlace (is_served_at_hop c.args.chan true) rows c.in-Some.place) c.deref.ensures.value c.in-Some.ensures.some
+
+left : (c : After-index-4) → length (left_in (get_or c.args.self.now.rows.items c.in-Some.place c.index_mut.result.now).planned) ≡ 0
+left c =
+    none-left (length (left_in (get_or c.args.self.now.rows.items c.in-Some.place c.index_mut.result.now).planned))
+    (c.in_default-busy.ensures ∙ ap (λ row. busy (length (left_in row.planned))) (at-place c.args.self.now.rows.items c.in-Some.place c.index-2.result.now c.index_mut.result.now c.index-2.ensures (placed c).inside))
+
+idle : (c : After-index-4) → idle_count (row_in (get_or c.args.self.now.rows.items c.in-Some.place c.index_mut.result.now)) ≡ 1
+idle c =
+    let row = get_or c.args.self.now.rows.items c.in-Some.place c.index_mut.result.now in
+    idle-one (row_in row) (left c) (ap (λ phase. is_phase phase Closing) (in-phase Committed (row_in row) (c.in_default-not_committed.ensures ∙ ap (λ r. not_in_phase Committed (reservation_in r)) (at-place c.args.self.now.rows.items c.in-Some.place c.index.result.now c.index_mut.result.now c.index.ensures (placed c).inside))))
+
+-- and it is the one whose next packet is put
+put-row : (c : After-index-4) → c.index-4.result.now ≡ c.plan.new.self
+put-row c = c.index-4.ensures ∙ get_or-set_same c.args.self.now.rows.items c.in-Some.place c.plan.new.self c.index-4.result.now (placed c).inside
+
+pub put_plan-requires-clause-ahead : goal.put_plan-requires-clause-ahead
+put_plan-requires-clause-ahead c =
+    let same = c.plan.ensures ∙ ap (λ row. kept_planned c.args.self.now.clock c.args.count c.args.gap c.args.size (row_in row)) c.index_mut.ensures.value in
+    let begun = c.args.self.now.planned.begun in
+    subst (Each (IsPlannedFrom c.args.self.now.plans.calendar.clock)) (sym (ap (λ row. (row_in row).left) (put-row c) ∙ ap (λ row. row.left) same))
+    (plan-ahead c.args.self.now.plans.calendar.clock c.args.self.now.clock c.args.gap c.args.size c.args.count (row_in (get_or c.args.self.now.rows.items c.in-Some.place c.index_mut.result.now)).left (left c) begun)
+
+pub put_plan-requires-clause-room : goal.put_plan-requires-clause-room
+put_plan-requires-clause-room c = idle-room c.args.self.now.clock c.args.self.now.plans.calendar c.args.self.now.rows.items c.in-Some.place c.index_mut.result.now c.args.self.now.planned (placed c).inside (idle c)
+
 pub invariant_of-self-2 : goal.invariant_of-self-2
 invariant_of-self-2 c =
     let place = subst (λ rows. IsFirstPlace (is_served_at_hop c.args.chan true) rows c.in-Some.place) c.deref.ensures.value c.in-Some.ensures.some in
@@ -102,9 +135,13 @@ invariant_of-self-2 c =
           subst (IsKeeping c.args.self.now.shape.buffer c.args.self.now.shape.bounds c.args.self.now.keeping)
           (sym (map-set_same reservation_in c.args.self.now.rows.items c.in-Some.place c.plan.new.self c.index_mut.result.now (ap (λ row. row.terms) same))) c.args.self.now.keeps;
       sound = subst (IsSound c.args.self.now.shape c.args.self.now.room) (sym kept) (sound-submit c.args.self.now.shape c.args.self.now.room (kept_in c.args.self.now) c.args.chan c.args.count c.args.gap c.args.size (Planned c.args.self.now.clock) c.requires.fits c.args.self.now.sound reply);
-      quiet =
-          quiet-changed c.args.self.now.due c.due.result c.min-self.result c.args.self.now.rows.items c.in-Some.place c.plan.new.self c.index-4.result.now c.args.self.now.quiet place.inside c.index-4.ensures c.due.ensures
-          (omega (arith, c.min-self.ensures)) (omega (arith, c.min-self.ensures));
+      planned =
+          planned-put c.args.self.now.clock c.args.self.now.plans.calendar c.put_plan.new.calendar c.args.self.now.rows.items c.in-Some.place c.plan.new.self c.index_mut.result.now c.args.self.now.planned place.inside
+          (idle (goal.at.invariant_of-self-2 c).After-index-4)
+          c.put_plan.ensures.clock c.put_plan.ensures.others
+          (subst (λ row. IsTold c.put_plan.new.calendar.entries (row_in row)) (put-row (goal.at.invariant_of-self-2 c).After-index-4) c.put_plan.ensures.own)
+          (subst (λ row. idle_count (row_in row) + c.args.self.now.plans.calendar.spare ≤ c.put_plan.new.calendar.spare + 1) (put-row (goal.at.invariant_of-self-2 c).After-index-4) c.put_plan.ensures.room);
+      turns = (let turns = c.args.self.now.turns in let long = length-set c.args.self.now.rows.items c.in-Some.place c.plan.new.self in omega (arith, turns, long));
       roomy = c.args.self.now.roomy;
       looked = c.args.self.now.looked;
       stood = still-stood c.args.self.now (Submit c.args.chan c.args.count c.args.gap c.args.size) (Planned c.args.self.now.clock) _ c.requires.fits reply kept;

@@ -14,17 +14,17 @@ use Rattle.link_server.proofs.PourFacts.{best-step-is, waiting-is}
 use Rattle.link_server.proofs.SoundSources.{from_best}
 use Rattle.link_steps.specs.declared.replies.Reply.TheVariants.{Ticked}
 use Rattle.link_steps.specs.declared.asks.Ask.TheVariants.{Tick}
-use Rattle.link_steps.proofs.ListFacts.{Each-filter}
 use Rattle.link_steps.specs.Kept.{kept_stays, held_rows, from_sources, kept_reply, kept_after}
 use Rattle.link_steps.specs.Split.{whole}
 use Rattle.link_server.specs.Account.{account}
 use Rattle.link_server.specs.Packets.{arrival_in, here_in, on_in}
 use Rattle.link_server.specs.Rows.{reservation_in, row_in, summed, AreWithin}
-use Rattle.link_server.specs.Quiet.{IsQuiet, AreQuiet}
+use Rattle.link_server.specs.Plans.{ArePlanned}
 use Rattle.link_server.specs.Serving.{CanServe}
 use Rattle.link_server.specs.Keeping.{IsKeeping}
 use Rattle.link_server.specs.Sound.{IsSound}
 use Rattle.link_server.specs.State.{kept_in}
+use Rattle.link_server.proofs.PlansRows.{planned-left, planned-later}
 use Rattle.link_server.proofs.SoundNumbers.{sources-room, best-room, brought-room, ahead-from, brought-small}
 use Rattle.link_server.proofs.KeepingFacts.{reservations-after}
 use Rattle.link_server.proofs.SoundServes.{sound-serves}
@@ -41,10 +41,16 @@ expire-requires-clause-ready c = all-ready c.args.self.now c.requires.early
 stay : (c : After-deref_mut) → map row_in c.deref_mut.result.now ≡ held_rows c.args.self.now.shape (kept_in c.args.self.now)
 stay c = ap (map row_in) c.deref_mut.ensures.value ∙ c.expire.ensures.rows
 
-pub take_source_packets-full-requires-clause-quiet : goal.take_source_packets-full-requires-clause-quiet
-take_source_packets-full-requires-clause-quiet c = λ before.
-    subst (AreQuiet c.args.self.now.due) (sym (stay (goal.at.take_source_packets-full-requires-clause-quiet c).After-deref_mut))
-    (Each-filter (IsQuiet c.args.self.now.due) (kept_stays c.args.self.now.shape.bounds c.args.self.now.clock) (kept_in c.args.self.now).rows c.args.self.now.quiet)
+pub take_source_packets-full-requires-clause-planned : goal.take_source_packets-full-requires-clause-planned
+take_source_packets-full-requires-clause-planned c =
+    subst (ArePlanned c.args.self.now.clock c.args.self.now.plans.calendar) (sym (stay (goal.at.take_source_packets-full-requires-clause-planned c).After-deref_mut))
+    (planned-left c.args.self.now.clock c.args.self.now.plans.calendar (kept_stays c.args.self.now.shape.bounds c.args.self.now.clock) (kept_in c.args.self.now).rows c.args.self.now.planned)
+
+pub take_source_packets-full-requires-clause-turns : goal.take_source_packets-full-requires-clause-turns
+take_source_packets-full-requires-clause-turns c =
+    let turns = c.args.self.now.turns in
+    let shown = ap length c.deref_mut.ensures.value in
+    omega (arith, turns, shown, c.expire.ensures.few)
 
 pub best_fits-fits-requires : goal.best_fits-fits-requires
 best_fits-fits-requires c = record { ahead = ahead-from c.args.self.now.clock c.args.self.now.clock (left_in c.args.self.now.packets.best) (omega arith) c.args.self.now.sound.best_ahead }
@@ -161,7 +167,14 @@ invariant_of-self c =
           ∙ ap (map reservation_in) (sym rows))
           (subst (λ buffer. IsKeeping buffer c.args.self.now.shape.bounds c.expire.new.keeping (map reservation_in c.expire.new.rows.items)) c.args.self.now.keeps.whole c.expire.ensures.keeps);
       sound = subst (IsSound c.args.self.now.shape c.args.self.now.room) (sym after) (sound-tick c.args.self.now.shape c.args.self.now.room (kept_in c.args.self.now) (Ticked c.args.self.now.clock c.take_source_packets-full.result c.serve-left.result.sent c.serve-left.result.best_sent c.take_best-best_lost.result) c.args.self.now.sound);
-      quiet = subst (λ all. AreQuiet c.due_after-self.result (map row_in all)) c.deref.ensures.value c.due_after-self.ensures;
+      planned =
+          subst (λ all. ArePlanned (c.args.self.now.clock + 1) c.take_source_packets-full.new.plans.calendar (map row_in all)) (sym rows)
+          (planned-later c.args.self.now.clock (c.args.self.now.clock + 1) c.take_source_packets-full.new.plans.calendar (map row_in c.take_source_packets-full.new.rows) (omega arith) c.take_source_packets-full.ensures.planned);
+      turns =
+          (let turns = c.args.self.now.turns in
+          let shown = ap length c.deref_mut.ensures.value in
+          let written = ap length rows in
+          omega (arith, turns, shown, written, c.expire.ensures.few, c.take_source_packets-full.auto.rows, c.take_source_packets-full.ensures.turns));
       roomy = omega (arith, roomy, first, second, third);
       looked = omega (arith, c.serve-left.ensures.looked);
       stood = still-stood c.args.self.now Tick (Ticked c.args.self.now.clock c.take_source_packets-full.result c.serve-left.result.sent c.serve-left.result.best_sent c.take_best-best_lost.result) _ tt (replied (goal.at.invariant_of-self c).After-serve-left) after;

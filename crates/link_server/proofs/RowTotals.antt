@@ -1,0 +1,37 @@
+-- A number of each row, summed over the rows: as a row comes, changes and goes.
+use Rattle.std.proofs.Common.{◌≡◌, ℕ, zero, suc, ◌+◌, ◌<◌, ◌≤◌, Bool, true, false, List, [], ◌∷◌, length, map, get_or, set, arith}
+use Rattle.std.specs.List.{remove}
+use Rattle.std.specs.Prelude.{if◌then◌else◌, filter}
+use Rattle.traffic_contract.specs.Admission.{total}
+use Rattle.link_steps.specs.Kept.{KeptRow}
+use Rattle.link_server.specs.Rows.{row_in}
+use Rattle.link_server.specs.declared.served_row.ServedRow.{ServedRow}
+
+-- where it is one at most, the sum is at most the number of the rows
+pub rows-few : (f : KeptRow → ℕ) (rows : List ServedRow) → ((row : KeptRow) → f row ≤ 1) → total f (map row_in rows) ≤ length rows
+rows-few f [] most = omega arith
+rows-few f (row ∷ rows) most = (let first = most (row_in row) in let rest = rows-few f rows most in omega (arith, first, rest))
+
+pub row-part : (f : KeptRow → ℕ) (rows : List ServedRow) (i : ℕ) (d : ServedRow) → i < length rows → f (row_in (get_or rows i d)) ≤ total f (map row_in rows)
+row-part f [] i d inside = absurd (omega arith)
+row-part f (row ∷ rows) zero d inside = omega arith
+row-part f (row ∷ rows) (suc i) d inside = (let rest = row-part f rows i d (omega (arith, inside)) in omega (arith, rest))
+
+pub row-set : (f : KeptRow → ℕ) (rows : List ServedRow) (i : ℕ) (new d : ServedRow) → i < length rows → total f (map row_in (set rows i new)) + f (row_in (get_or rows i d)) ≡ total f (map row_in rows) + f (row_in new)
+row-set f [] i new d inside = absurd (omega arith)
+row-set f (row ∷ rows) zero new d inside = omega arith
+row-set f (row ∷ rows) (suc i) new d inside = (let rest = row-set f rows i new d (omega (arith, inside)) in omega (arith, rest))
+
+pub row-gone : (f : KeptRow → ℕ) (rows : List ServedRow) (i : ℕ) → total f (map row_in (remove rows i)) ≤ total f (map row_in rows)
+row-gone f [] zero = omega arith
+row-gone f [] (suc i) = omega arith
+row-gone f (row ∷ rows) zero = omega arith
+row-gone f (row ∷ rows) (suc i) = (let rest = row-gone f rows i in omega (arith, rest))
+
+-- some of the rows
+pub rows-left : (f : KeptRow → ℕ) (test : KeptRow → Bool) (rows : List KeptRow) → total f (filter test rows) ≤ total f rows
+rows-left f test [] = omega arith
+rows-left f test (row ∷ rows) = left (test row) (rows-left f test rows) where
+  left : (b : Bool) → total f (filter test rows) ≤ total f rows → total f (if b then row ∷ filter test rows else filter test rows) ≤ total f (row ∷ rows)
+  left true rest = omega (arith, rest)
+  left false rest = omega (arith, rest)

@@ -1,0 +1,197 @@
+-- Each turn adds to what the rows before it have done.
+use Rattle.std.proofs.Common.{◌≡◌, ◌+◌, ◌++◌, ◌≤◌, suc, length, get_or, set, take, drop, refl, sym, ap, ◌∙◌, subst, arith}
+use Rattle.std.proofs.Math.Seq.{map-set_same}
+use Rattle.std.specs.Prelude.{if◌then◌else◌}
+use Rattle.std.proofs.lemmas.List.{get_or_past, length-map, length-append, length-set, get_or-set_same, take_all}
+use Rattle.std.proofs.lemmas.List.Elements.{All-set}
+use Rattle.link_steps.specs.Kept.{kept_packet, kept_after_step}
+use Rattle.link_steps.specs.Sources.{taken_by, dropped_by}
+use Rattle.link_steps.proofs.ListFacts.{Each-if}
+use Rattle.link_server.specs.Packets.{arrival_in, here_in}
+use Rattle.link_server.specs.Planned.{IsPlannedFrom, IsPlannedAhead}
+use Rattle.link_server.specs.Plans.{IsTold, idle_count}
+use Rattle.link_server.specs.Rows.{row_in, summed, IsWithinLevels}
+use Rattle.link_server.specs.Sources.{step_in, brought_by}
+use Rattle.link_server.proofs.SourceRows.{StandsStepped, one-stepped, all-stepped, ready-now, packets-now, lost-more, lost-same, front-same, front-within, terms-stepped}
+use Rattle.link_server.proofs.SourceTurns.{first-turn, next-turn, turn-inside, turn-due, stepped-later, told-after, room-after, all-turned}
+use Rattle.link_server.proofs.SumsFacts.{summed-same, within-same}
+use Rattle.link_server.proofs.sources.take_turns.Goals as goal
+use Rattle.link_server.proofs.sources.take_turns.Goals.{After-loop-place, then-take_source_packet, else-take_source_packet}
+
+pub loop-place-init : goal.loop-place-init
+loop-place-init c =
+    let long : length (here_in c.args.packets.now.here.items) ≡ length c.args.packets.now.here.items = length-map c.args.packets.now.here.items arrival_in in
+    let room = c.requires.called.room in
+    record {
+      stepped = first-turn c.args.bounds.now (here_in c.args.packets.now.here.items) c.args.clock c.args.packets.now.taken c.args.calendar.now c.args.turns.now c.args.rows.now c.requires.called c.requires.later;
+      begun = c.requires.called.begun;
+      told = c.requires.called.told;
+      spare = omega (arith, room);
+      before = omega (arith, c.len-before.ensures);
+      front = take_all c.len-before.result (here_in c.args.packets.now.here.items) (omega (arith, c.len-before.ensures, long));
+      on = refl;
+      best = refl;
+      room = refl;
+      looked = refl;
+      summed = refl;
+      levels = c.requires.within;
+    }
+
+pub bounds-rows-place : goal.bounds-rows-place
+bounds-rows-place c = turn-inside c.args.turns.now c.args.rows.now c.loop-place.rows c.loop-place.place-index c.requires.called.rising c.loop-place.auto.rows c.loop-place-test.true
+
+pub offset_bounds-rows-place : goal.offset_bounds-rows-place
+offset_bounds-rows-place c =
+    let inside = turn-inside c.args.turns.now c.args.rows.now c.loop-place.rows c.loop-place.place-index c.requires.called.rising c.loop-place.auto.rows c.loop-place-test.true in
+    omega (arith, inside, c.loop-place.auto.rows, c.requires.few)
+
+pub take_source_packet-requires-clause-ready : goal.take_source_packet-requires-clause-ready
+take_source_packet-requires-clause-ready c =
+    let stepped = turn-due c.args.bounds.now (here_in c.args.packets.now.here.items) c.args.clock c.args.packets.now.taken c.args.turns.now c.args.rows.now c.loop-place.place-index c.loop-place.rows (here_in c.loop-place.packets.here.items) c.loop-place.packets.taken c.loop-place.lost c.loop-place-test.true c.loop-place.invariant.stepped in
+    ready-now c.args.clock c.args.rows.now (get_or c.args.turns.now c.loop-place.place-index 0) c.loop-place.rows c.index-rows-place.result stepped.after c.requires.ready
+    (turn-inside c.args.turns.now c.args.rows.now c.loop-place.rows c.loop-place.place-index c.requires.called.rising c.loop-place.auto.rows c.loop-place-test.true)
+
+pub take_source_packet-requires-clause-within : goal.take_source_packet-requires-clause-within
+take_source_packet-requires-clause-within c =
+    c.loop-place.invariant.levels (get_or c.args.turns.now c.loop-place.place-index 0) c.index-rows-place.result
+    (turn-inside c.args.turns.now c.args.rows.now c.loop-place.rows c.loop-place.place-index c.requires.called.rising c.loop-place.auto.rows c.loop-place-test.true)
+
+pub take_source_packet-requires-clause-room : goal.take_source_packet-requires-clause-room
+take_source_packet-requires-clause-room c =
+    let was = here_in c.args.packets.now.here.items in
+    let place = get_or c.args.turns.now c.loop-place.place-index 0 in
+    let row = get_or c.loop-place.rows place c.index-rows-place.result in
+    let step : taken_by (step_in c.args.bounds.now (take c.len-before.result (here_in c.loop-place.packets.here.items)) c.args.clock row) ≡ taken_by (step_in c.args.bounds.now was c.args.clock row) =
+    ap (λ here. taken_by (step_in c.args.bounds.now here c.args.clock row)) c.loop-place.invariant.front in
+    let stepped = turn-due c.args.bounds.now was c.args.clock c.args.packets.now.taken c.args.turns.now c.args.rows.now c.loop-place.place-index c.loop-place.rows (here_in c.loop-place.packets.here.items) c.loop-place.packets.taken c.loop-place.lost c.loop-place-test.true c.loop-place.invariant.stepped in
+    let inside = turn-inside c.args.turns.now c.args.rows.now c.loop-place.rows c.loop-place.place-index c.requires.called.rising c.loop-place.auto.rows c.loop-place-test.true in
+    let fits = packets-now c.args.bounds.now was c.args.clock c.loop-place.packets.taken c.args.rows.now place c.loop-place.rows c.index-rows-place.result stepped.after inside in
+    let all = ap length stepped.here in
+    let now = length-append (here_in c.loop-place.packets.here.items) (brought_by c.args.bounds.now was c.args.clock c.loop-place.packets.taken (drop place c.args.rows.now)) in
+    let whole = length-append was (brought_by c.args.bounds.now was c.args.clock c.args.packets.now.taken c.args.rows.now) in
+    let long = length-map c.loop-place.packets.here.items arrival_in in
+    let before = length-map c.args.packets.now.here.items arrival_in in
+    omega (arith, step, fits, all, now, whole, long, before, c.requires.room, c.loop-place.invariant.room)
+
+pub take_source_packet-requires-clause-numbers : goal.take_source_packet-requires-clause-numbers
+take_source_packet-requires-clause-numbers c =
+    let was = here_in c.args.packets.now.here.items in
+    let place = get_or c.args.turns.now c.loop-place.place-index 0 in
+    let row = get_or c.loop-place.rows place c.index-rows-place.result in
+    let step : taken_by (step_in c.args.bounds.now (take c.len-before.result (here_in c.loop-place.packets.here.items)) c.args.clock row) ≡ taken_by (step_in c.args.bounds.now was c.args.clock row) =
+    ap (λ here. taken_by (step_in c.args.bounds.now here c.args.clock row)) c.loop-place.invariant.front in
+    let stepped = turn-due c.args.bounds.now was c.args.clock c.args.packets.now.taken c.args.turns.now c.args.rows.now c.loop-place.place-index c.loop-place.rows (here_in c.loop-place.packets.here.items) c.loop-place.packets.taken c.loop-place.lost c.loop-place-test.true c.loop-place.invariant.stepped in
+    let inside = turn-inside c.args.turns.now c.args.rows.now c.loop-place.rows c.loop-place.place-index c.requires.called.rising c.loop-place.auto.rows c.loop-place-test.true in
+    let fits = packets-now c.args.bounds.now was c.args.clock c.loop-place.packets.taken c.args.rows.now place c.loop-place.rows c.index-rows-place.result stepped.after inside in
+    let all = stepped.taken in
+    omega (arith, step, fits, all, c.requires.numbers)
+
+pub overflow_add-lost : goal.overflow_add-lost
+overflow_add-lost c =
+    let stepped = turn-due c.args.bounds.now (here_in c.args.packets.now.here.items) c.args.clock c.args.packets.now.taken c.args.turns.now c.args.rows.now c.loop-place.place-index c.loop-place.rows (here_in c.loop-place.packets.here.items) c.loop-place.packets.taken c.loop-place.lost c.loop-place-test.true c.loop-place.invariant.stepped in
+    let inside = turn-inside c.args.turns.now c.args.rows.now c.loop-place.rows c.loop-place.place-index c.requires.called.rising c.loop-place.auto.rows c.loop-place-test.true in
+    let few = stepped.few in
+    omega (arith, few, inside, c.loop-place.auto.rows, c.requires.few)
+
+pub bounds-rows-place-in-loop-place : goal.bounds-rows-place-in-loop-place
+bounds-rows-place-in-loop-place c =
+    let inside = turn-inside c.args.turns.now c.args.rows.now c.loop-place.rows c.loop-place.place-index c.requires.called.rising c.loop-place.auto.rows c.loop-place-test.true in
+    let same = length-set c.loop-place.rows (get_or c.args.turns.now c.loop-place.place-index 0) c.take_source_packet.new.row in
+    omega (arith, inside, same)
+
+pub offset_bounds-rows-place-in-loop-place : goal.offset_bounds-rows-place-in-loop-place
+offset_bounds-rows-place-in-loop-place c =
+    let inside = turn-inside c.args.turns.now c.args.rows.now c.loop-place.rows c.loop-place.place-index c.requires.called.rising c.loop-place.auto.rows c.loop-place-test.true in
+    omega (arith, inside, c.loop-place.auto.rows, c.requires.few)
+
+-- ---- the step of a turn
+
+pub put_plan-requires-clause-ahead : goal.put_plan-requires-clause-ahead
+put_plan-requires-clause-ahead c =
+    let row = get_or c.loop-place.rows (get_or c.args.turns.now c.loop-place.place-index 0) c.index-rows-place.result in
+    let inside = turn-inside c.args.turns.now c.args.rows.now c.loop-place.rows c.loop-place.place-index c.requires.called.rising c.loop-place.auto.rows c.loop-place-test.true in
+    let put : c.index-rows-place-in-loop-place.result ≡ c.take_source_packet.new.row = c.index-rows-place-in-loop-place.is ∙ get_or-set_same c.loop-place.rows (get_or c.args.turns.now c.loop-place.place-index 0) c.take_source_packet.new.row c.index-rows-place-in-loop-place.result inside in
+    let stepped : row_in c.take_source_packet.new.row ≡ kept_after_step (step_in c.args.bounds.now (here_in c.args.packets.now.here.items) c.args.clock row) c.args.clock (suc c.loop-place.packets.taken) (row_in row) =
+    subst (λ h. row_in c.take_source_packet.new.row ≡ kept_after_step (step_in c.args.bounds.now h c.args.clock row) c.args.clock (suc c.loop-place.packets.taken) (row_in row)) c.loop-place.invariant.front c.take_source_packet.ensures.row in
+    let later = stepped-later (step_in c.args.bounds.now (here_in c.args.packets.now.here.items) c.args.clock row) c.args.clock (suc c.loop-place.packets.taken) (row_in c.take_source_packet.new.row) (row_in row) stepped in
+    subst (λ r. IsPlannedAhead c.loop-place.calendar.clock r.planned) (sym put ∙ c.index-rows-place-in-loop-place.is)
+    (Each-if (IsPlannedFrom (suc c.args.clock)) (IsPlannedFrom c.loop-place.calendar.clock) (row_in c.take_source_packet.new.row).left (λ p from. (let begun = c.loop-place.invariant.begun in omega (arith, from, begun))) later)
+
+pub put_plan-requires-clause-room : goal.put_plan-requires-clause-room
+put_plan-requires-clause-room c =
+    let room = c.loop-place.invariant.spare in
+    omega (arith, room, c.loop-place-test.true)
+
+pub loop-place-preserved : goal.loop-place-preserved
+loop-place-preserved c =
+    let place = get_or c.args.turns.now c.loop-place.place-index 0 in
+    let row = get_or c.loop-place.rows place c.index-rows-place.result in
+    let new = c.take_source_packet.new.row in
+    let was = here_in c.args.packets.now.here.items in
+    let front = c.loop-place.invariant.front in
+    let inside = turn-inside c.args.turns.now c.args.rows.now c.loop-place.rows c.loop-place.place-index c.requires.called.rising c.loop-place.auto.rows c.loop-place-test.true in
+    let put = get_or-set_same c.loop-place.rows place new c.index-rows-place-in-loop-place.result inside in
+    let stepped : row_in c.take_source_packet.new.row ≡ kept_after_step (step_in c.args.bounds.now (here_in c.args.packets.now.here.items) c.args.clock row) c.args.clock (suc c.loop-place.packets.taken) (row_in row) =
+    subst (λ h. row_in c.take_source_packet.new.row ≡ kept_after_step (step_in c.args.bounds.now h c.args.clock row) c.args.clock (suc c.loop-place.packets.taken) (row_in row)) c.loop-place.invariant.front c.take_source_packet.ensures.row in
+    let so = turn-due c.args.bounds.now was c.args.clock c.args.packets.now.taken c.args.turns.now c.args.rows.now c.loop-place.place-index c.loop-place.rows (here_in c.loop-place.packets.here.items) c.loop-place.packets.taken c.loop-place.lost c.loop-place-test.true c.loop-place.invariant.stepped in
+    let terms = terms-stepped (step_in c.args.bounds.now was c.args.clock row) c.args.clock (suc c.loop-place.packets.taken) new row stepped in
+    let brought : here_in c.take_source_packet.new.packets.here.items ≡ here_in c.loop-place.packets.here.items ++ kept_packet (step_in c.args.bounds.now was c.args.clock row) c.args.clock (suc c.loop-place.packets.taken) (row_in row) =
+    subst (λ h. here_in c.take_source_packet.new.packets.here.items ≡ here_in c.loop-place.packets.here.items ++ kept_packet (step_in c.args.bounds.now h c.args.clock row) c.args.clock (suc c.loop-place.packets.taken) (row_in row)) front c.take_source_packet.ensures.here in
+    let taken : c.take_source_packet.new.packets.taken ≡ c.loop-place.packets.taken + taken_by (step_in c.args.bounds.now was c.args.clock row) =
+    subst (λ h. c.take_source_packet.new.packets.taken ≡ c.loop-place.packets.taken + taken_by (step_in c.args.bounds.now h c.args.clock row)) front c.take_source_packet.ensures.taken in
+    let counted = subst (λ h. (if c.take_source_packet.result then 1 else 0) ≡ dropped_by (step_in c.args.bounds.now h c.args.clock row)) front c.take_source_packet.ensures.lost in
+    let lost : c.if-take_source_packet.lost ≡ c.loop-place.lost + dropped_by (step_in c.args.bounds.now was c.args.clock row) = elim c.if-take_source_packet.branch [
+      | then-take_source_packet w ↦ lost-more c.take_source_packet.result c.loop-place.lost _ _ counted w.if-take_source_packet.true w.lost-is
+      | else-take_source_packet w ↦ lost-same c.take_source_packet.result c.loop-place.lost _ _ counted w.if-take_source_packet.false w.lost-is
+    ] in
+    let same = length-set c.loop-place.rows place new in
+    record {
+      stepped =
+          next-turn c.args.bounds.now was c.args.clock c.args.packets.now.taken c.args.calendar.now c.args.turns.now c.args.rows.now c.loop-place.place-index (set c.loop-place.rows place new) (here_in c.take_source_packet.new.packets.here.items) c.take_source_packet.new.packets.taken c.if-take_source_packet.lost
+          c.requires.called c.requires.later (same ∙ c.loop-place.auto.rows) c.loop-place-test.true
+          (one-stepped c.args.bounds.now was c.args.clock c.args.packets.now.taken c.args.rows.now place c.loop-place.rows (here_in c.loop-place.packets.here.items) c.loop-place.packets.taken c.loop-place.lost
+          c.index-rows-place.result new (here_in c.take_source_packet.new.packets.here.items) c.take_source_packet.new.packets.taken c.if-take_source_packet.lost
+          so inside stepped brought taken lost);
+      begun = (let begun = c.loop-place.invariant.begun in omega (arith, begun, c.put_plan.ensures.clock));
+      told =
+          told-after c.args.turns.now c.loop-place.place-index c.loop-place.calendar.entries c.put_plan.new.calendar.entries c.loop-place.rows new c.loop-place-test.true inside
+          c.loop-place.invariant.told c.put_plan.ensures.others (subst (λ r. IsTold c.put_plan.new.calendar.entries (row_in r)) put c.put_plan.ensures.own);
+      spare =
+          room-after (length c.args.turns.now) c.loop-place.place-index c.loop-place.calendar c.put_plan.new.calendar c.loop-place.rows place new c.index-rows-place.result c.loop-place-test.true inside
+          c.loop-place.invariant.spare (subst (λ r. idle_count (row_in r) + c.loop-place.calendar.spare ≤ c.put_plan.new.calendar.spare + 1) put c.put_plan.ensures.room);
+      before = front-within c.len-before.result c.loop-place.packets.here.items c.take_source_packet.new.packets.here.items _ c.loop-place.invariant.before brought;
+      front = front-same c.len-before.result c.loop-place.packets.here.items c.take_source_packet.new.packets.here.items _ c.loop-place.invariant.before brought ∙ front;
+      on = c.take_source_packet.ensures.on ∙ c.loop-place.invariant.on;
+      best = c.take_source_packet.ensures.best ∙ c.loop-place.invariant.best;
+      room = c.take_source_packet.ensures.room ∙ c.loop-place.invariant.room;
+      looked = c.take_source_packet.ensures.looked ∙ c.loop-place.invariant.looked;
+      summed =
+          map-set_same summed c.loop-place.rows place new c.index-rows-place.result (summed-same new row terms)
+          ∙ c.loop-place.invariant.summed;
+      levels =
+          All-set (IsWithinLevels _) c.loop-place.rows place new
+          (within-same _ new row terms (c.loop-place.invariant.levels place c.index-rows-place.result inside))
+          c.loop-place.invariant.levels;
+    }
+
+-- the loop has gone through all turns
+stepped : (c : After-loop-place) → StandsStepped c.args.bounds.now (here_in c.args.packets.now.here.items) c.args.clock c.args.packets.now.taken c.args.rows.now c.loop-place.rows (here_in c.loop-place.packets.here.items) c.loop-place.packets.taken c.loop-place.lost
+stepped c =
+    let end : get_or c.args.turns.now c.loop-place.place-index (length c.args.rows.now) ≡ length c.args.rows.now = get_or_past c.args.turns.now c.loop-place.place-index (length c.args.rows.now) (omega (arith, c.loop-place-test.false)) in
+    all-stepped c.args.bounds.now (here_in c.args.packets.now.here.items) c.args.clock c.args.packets.now.taken c.args.rows.now (get_or c.args.turns.now c.loop-place.place-index (length c.args.rows.now)) c.loop-place.rows (here_in c.loop-place.packets.here.items) c.loop-place.packets.taken c.loop-place.lost
+    c.loop-place.invariant.stepped (omega (arith, end)) (omega (arith, end, c.loop-place.auto.rows))
+
+pub returns-clause-lost : goal.returns-clause-lost
+returns-clause-lost c = (stepped c).lost
+
+pub returns-clause-rows : goal.returns-clause-rows
+returns-clause-rows c = (stepped c).all
+
+pub returns-clause-here : goal.returns-clause-here
+returns-clause-here c = (stepped c).here
+
+pub returns-clause-taken : goal.returns-clause-taken
+returns-clause-taken c = (stepped c).taken
+
+pub returns-clause-planned : goal.returns-clause-planned
+returns-clause-planned c = all-turned c.args.clock c.loop-place.calendar c.args.turns.now c.loop-place.place-index c.loop-place.rows c.loop-place.invariant.begun (omega (arith, c.loop-place-test.false)) c.loop-place.invariant.told c.loop-place.invariant.spare

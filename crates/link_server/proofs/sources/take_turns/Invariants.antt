@@ -1,0 +1,25 @@
+use Rattle.std.proofs.Common.{◌≡◌, ◌+◌, ◌-◌, ◌<◌, ◌≤◌, ℕ, false, length, map, take, drop, get_or}
+use Rattle.link_server.specs.Packets.{here_in}
+use Rattle.link_server.specs.Plans.{IsTold, idle_in, is_turn}
+use Rattle.link_server.specs.Rows.{row_in, summed, AreWithin}
+use Rattle.link_server.specs.declared.served_row.ServedRow.{ServedRow}
+use Rattle.link_server.proofs.SourceRows.{HaveStepped}
+use Rattle.link_server.proofs.sources.take_turns.Given as goal
+
+-- the rows before the one whose turn is next have made their step, and those from it on make theirs after the packets that were
+-- taken so far; the next packets of all but the rows whose turn is yet to come are on the calendar
+abbrev pub invariant-loop-place : goal.invariant-loop-place
+invariant-loop-place l = record {
+  stepped : HaveStepped l.bounds (here_in l.fn.packets.here.items) l.clock l.fn.packets.taken l.fn.rows (get_or l.turns l.place-index (length l.fn.rows)) l.rows (here_in l.packets.here.items) l.packets.taken l.lost;
+  begun : l.calendar.clock ≤ l.clock;
+  told : (place : ℕ) (d : ServedRow) → place < length l.rows → is_turn (drop l.place-index l.turns) place ≡ false → IsTold l.calendar.entries (row_in (get_or l.rows place d));
+  spare : idle_in (map row_in l.rows) + (length l.turns - l.place-index) ≤ l.calendar.spare;
+  before : l.before ≤ length l.packets.here.items;
+  front : take l.before (here_in l.packets.here.items) ≡ here_in l.fn.packets.here.items;
+  on : l.packets.on ≡ l.fn.packets.on;
+  best : l.packets.best ≡ l.fn.packets.best;
+  room : l.packets.room ≡ l.fn.packets.room;
+  looked : l.packets.line.until ≡ l.fn.packets.line.until;
+  summed : map summed l.rows ≡ map summed l.fn.rows;
+  levels : AreWithin (length l.bounds) l.rows;
+}
