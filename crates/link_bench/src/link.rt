@@ -4,7 +4,7 @@ ghost use Rattle.link_steps.specs.Legal.{AskFits};
 use crate::work::{Made, Work};
 use link_server::LinkState;
 use link_steps::{Ask, LinkStep, Reply};
-use net_units::{ChanNo, Kind, Level};
+use net_units::{ChanNo, Kind, Level, OutOfMemory};
 use std::alloc::Global;
 
 /// What a new link makes of the work with so many channels. None where it has no memory for a row.
@@ -27,7 +27,7 @@ fn open_all(link: &mut LinkState, work: &Work, channels: u32) -> Option<u64> {
         send(link, work, chan)?;
         if work.releases(number) {
             let upstream = None;
-            step(link, &Ask::Release { chan, upstream })?;
+            step(link, &Ask::Release { chan, upstream }).ok()?;
         }
     }
     Some(accepted)
@@ -37,22 +37,24 @@ fn open_all(link: &mut LinkState, work: &Work, channels: u32) -> Option<u64> {
 fn make_ticks(link: &mut LinkState, ticks: u32) -> Option<u64> {
     let mut departed = 0_u64;
     for _ in 0..ticks {
-        let reply = step(link, &Ask::Tick)?;
-        if let Reply::Ticked { sent: Some(_), .. } = reply {
-            departed = departed.saturating_add(1);
+        match step(link, &Ask::Tick) {
+            Ok(Reply::Ticked { sent: Some(_), .. }) => departed = departed.saturating_add(1),
+            Ok(_) => {}
+            Err(_) => return None,
         }
     }
     Some(departed)
 }
 
-// One step; None where it has no memory.
-fn step(link: &mut LinkState, ask: &Ask) -> Option<Reply>
+// One step; an `Err` where it has no memory, or the clock is past the range of a step. It answers what the link answers as it
+// stands, since a reply that is copied once more takes as long as a tick of an idle link.
+fn step(link: &mut LinkState, ask: &Ask) -> Result<Reply, OutOfMemory>
     requires { AskFits link.old.shape ask.now }
 {
     if link.clock() >= 1 << 61 {
-        return None;
+        return Err(OutOfMemory);
     }
-    link.step(ask).ok()
+    link.step(ask)
 }
 
 // Reserves and relaxes a channel at the only hop of its route. It answers whether the link has offered a level.
@@ -69,7 +71,7 @@ fn open(link: &mut LinkState, work: &Work, chan: ChanNo) -> Option<bool> {
         first: true,
         next: None,
     };
-    let Reply::Offer { reach, .. } = step(link, &reserve)? else {
+    let Reply::Offer { reach, .. } = step(link, &reserve).ok()? else {
         return Some(false);
     };
     relax(link, chan, reach)?;
@@ -90,6 +92,7 @@ fn relax(link: &mut LinkState, chan: ChanNo, level: Level) -> Option<Reply> {
             up_bound,
         },
     )
+    .ok()
 }
 
 // Plans the packets that its source sends, if any.
@@ -109,6 +112,6 @@ fn send(link: &mut LinkState, work: &Work, chan: ChanNo) -> Option<()> {
         },
         Work::Requests | Work::Closed | Work::Idle => return Some(()),
     };
-    step(link, &ask)?;
+    step(link, &ask).ok()?;
     Some(())
 }

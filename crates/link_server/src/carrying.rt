@@ -131,6 +131,7 @@ impl LinkState {
 
     // Makes a tick: rows whose hold has ended expire, the source packets that are planned for it arrive, then the
     // best-effort packet, and the link serves the packets here.
+    #[inline(never)]
     pub(crate) fn tick(&mut self) -> Reply
         requires early { self.old.clock < 2 ^ 61 }
         ensures shape { self.new.shape ≡ self.old.shape }

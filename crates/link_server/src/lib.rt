@@ -5,6 +5,7 @@
 //! Of the asks a reserve alone takes memory.
 #![tactic(auto)]
 
+mod answer;
 mod best_effort;
 mod carrying;
 mod counts;

@@ -19,7 +19,7 @@ use crate::keeping::Keeping;
 use crate::packets::Packets;
 use crate::plans::Plans;
 use crate::row_index::RowIndex;
-use crate::served_row::{ServedRow, Wanted};
+use crate::served_row::ServedRow;
 use link_steps::{Ask, LinkShape, LinkStep, Reply};
 use net_units::OutOfMemory;
 use rcsp_admission::LevelSums;
@@ -154,40 +154,10 @@ impl LinkStep for LinkState {
         ensures sure { TakesNone ask.now → IsOk result }
         ensures instead { OnErr result ((h : List Entry) → LinkStands self.old h → IsOffer (reply_to (whole self.old.shape) h ask.now)) }
     {
+        // Most steps are ticks, and they wait for none of what the others need.
         match ask {
-            Ask::Reserve {
-                chan,
-                contract,
-                kind,
-                delay,
-                up_reach,
-                first,
-                next,
-            } => self.reserve(&Wanted {
-                chan: *chan,
-                contract: *contract,
-                kind: *kind,
-                delay: *delay,
-                up_reach: *up_reach,
-                first: *first,
-                next: *next,
-            }),
-            Ask::Relax {
-                chan,
-                level,
-                up_bound,
-            } => Ok(self.relax(*chan, *level, *up_bound)),
-            Ask::Deny { chan } => Ok(self.deny(*chan)),
-            Ask::Submit {
-                chan,
-                count,
-                gap,
-                size,
-            } => Ok(self.submit(*chan, *count, *gap, *size)),
-            Ask::Release { chan, upstream } => Ok(self.release(*chan, *upstream)),
-            Ask::Arrive { packet } => Ok(self.arrive(packet)),
             Ask::Tick => Ok(self.tick()),
-            Ask::Pour { count, gap, size } => Ok(self.pour(*count, *gap, *size)),
+            _ => self.answer(ask),
         }
     }
 
