@@ -1,12 +1,11 @@
 -- Where keys differ, the row that is found under a key is the only one of it. So a sum over the rows loses its part alone
 -- where it is taken out, and changes in its part alone where it moves.
-use Rattle.std.proofs.Common.{◌≡◌, ◌≢◌, ℕ, suc, ◌+◌, ◌<◌, ⊎_elim, true, false, eqb, Some, None, List, [], ◌∷◌, length, get_or, refl, sym, ap, ◌∙◌, arith}
-use Rattle.std.proofs.lemmas.Bool.{eqb-true, eqb-false, ne_eqb, cases_Bool}
+use Rattle.std.proofs.Common.{◌≡◌, ◌≢◌, ℕ, suc, ◌+◌, ◌<◌, ⊎_elim, true, false, eqb, Some, List, [], ◌∷◌, length, get_or, refl, sym, ap, ◌∙◌, arith}
+use Rattle.std.proofs.lemmas.Bool.{eqb-true, ne_eqb, cases_Bool}
 use Rattle.std.proofs.lemmas.List.{length-map, get_or-map}
 use Rattle.std.specs.List.{find}
 use Rattle.traffic_contract.specs.Admission.{Admitted, total}
 use Rattle.rcsp_admission.specs.Sums.{Held, key_of, admitted_rows, has_key, Holds, HoldsUpTo, put_at, moved, without_key, IsDistinct}
-use Rattle.rcsp_admission.proofs.SumsFacts.{held_later}
 
 -- the rows after the first differ from each other
 pub distinct-later : (held : Held) (rows : List Held) → IsDistinct (held ∷ rows) → IsDistinct rows
@@ -61,14 +60,6 @@ total-moved f (held ∷ rows) key level found distinct at =
     (λ (other : eqb held.key key ≡ false).
     let rest = total-moved f rows key level found (distinct-later held rows distinct) (found-later held rows key found other at) in
     rw other (omega (arith, rest)))
-    (cases_Bool (eqb held.key key))
-
--- a key that is held is found
-pub held-found : (rows : List Held) (key : ℕ) → Holds rows key → find (has_key key) rows ≡ None → ⊥
-held-found [] key (k, inside, at) none = absurd (omega arith)
-held-found (held ∷ rows) key (k, inside, at) none =
-    ⊎_elim (λ (mine : eqb held.key key ≡ true). (let e = rw mine at none in cc))
-    (λ (other : eqb held.key key ≡ false). held-found rows key (held_later held rows key k inside at (eqb-false held.key key other)) (rw other at none))
     (cases_Bool (eqb held.key key))
 
 -- a row that is held at a level or below it is held

@@ -2,4 +2,6 @@ pub mod RowFacts
 pub mod SumsFacts
 pub mod RoomFacts
 pub mod KeyFacts
+pub mod IndexFacts
+pub mod PlaceFacts
 pub mod LoadsFacts

@@ -1,11 +1,11 @@
 -- What is kept of a link stays admitted through each change.
-use Rattle.std.proofs.Common.{◌≡◌, ◌≢◌, ℕ, zero, suc, ◌+◌, ◌-◌, ◌^◌, ◌<◌, ◌≤◌, ⊎_elim, Bool, true, false, cond, eqb, List, [], ◌∷◌, length, map, get_or, refl, sym, ap, ◌∙◌, subst, arith}
-use Rattle.std.proofs.lemmas.Bool.{eqb-true, eqb-false, ne_eqb, cases_order, cases_Bool}
+use Rattle.std.proofs.Common.{◌≡◌, ◌≢◌, ℕ, ◌-◌, ◌^◌, ◌<◌, ◌≤◌, ⊎_elim, true, false, cond, List, [], length, map, get_or, refl, sym, ap, ◌∙◌, subst, arith}
+use Rattle.std.proofs.lemmas.Bool.{eqb-true, cases_order, cases_Bool}
 use Rattle.std.proofs.lemmas.List.{map_push, length-map, get_or-map, get_or_default}
 use Rattle.std.proofs.lemmas.List.Quantifiers.{all_pairs_push}
 use Rattle.std.proofs.lemmas.List.Kept.{AllPairs-filter}
 use Rattle.std.proofs.lemmas.List.Elements.{Contains-push_cases, All-nil, All-push, All-map, All-filter}
-use Rattle.std.specs.List.{filter, All}
+use Rattle.std.specs.List.{All}
 use Rattle.std.specs.Prelude.{Contains}
 use Rattle.net_units.specs.LevelBounds.{bound_at}
 use Rattle.net_units.proofs.BoundFacts.{bounds_parts, bound_least, bound_at-rising}
@@ -29,7 +29,7 @@ AreAdmitted-new sums server none = record {
 -- ---- a row more
 
 -- a key that isn't held differs from each that is
-keys_differ : (rows : List Held) (key : ℕ) → (Holds rows key → ⊥) → (k : ℕ) (d : Held) → k < length rows → (get_or rows k d).key ≢ key
+pub keys_differ : (rows : List Held) (key : ℕ) → (Holds rows key → ⊥) → (k : ℕ) (d : Held) → k < length rows → (get_or rows k d).key ≢ key
 keys_differ rows key new k d inside same =
     new (k, omega (arith, length-map rows key_of), get_or-map key_of rows k d key inside ∙ same)
 
@@ -95,36 +95,6 @@ AreAdmitted-without before after key held same rows = record {
   passes = rw (same, rows) (Passes-kept before.server admitted_row (has_other_key key) before.rows held.passes);
   distinct = rw rows (record { apart = AllPairs-filter (λ one other. one.key ≢ other.key) (has_other_key key) before.rows held.distinct.apart });
 }
-
--- rows of other keys all stay
-without-none : (rows : List Held) (key : ℕ) → ((k : ℕ) (d : Held) → k < length rows → (get_or rows k d).key ≢ key) → length (without_key rows key) ≡ length rows
-without-none [] key others = refl
-without-none (held ∷ rows) key others =
-    let other : eqb held.key key ≡ false = ne_eqb held.key key (others 0 held (omega arith)) in
-    rw other (ap suc (without-none rows key (λ k d inside. others (suc k) d (omega arith))))
-
--- a key that is held and isn't the first row's is held by a later one
-pub held_later : (held : Held) (rows : List Held) (key k : ℕ) → k < length (map key_of (held ∷ rows)) → get_or (map key_of (held ∷ rows)) k key ≡ key → (held.key ≡ key → ⊥) → Holds rows key
-held_later held rows key zero inside at other = absurd (other at)
-held_later held rows key (suc k) inside at other = (k, omega arith, at)
-
--- where keys differ, taking out one that is held takes out one row
-pub length-without : (rows : List Held) (key : ℕ) → IsDistinct rows → Holds rows key → length (without_key rows key) + 1 ≡ length rows
-length-without [] key distinct (k, inside, at) = absurd (omega arith)
-length-without (held ∷ rows) key distinct (k, inside, at) =
-    let rest : IsDistinct rows = record { apart = λ i j d before within. distinct.apart (suc i) (suc j) d (omega arith) (omega arith) } in
-    ⊎_elim (λ (mine : eqb held.key key ≡ true).
-    let same : held.key ≡ key = eqb-true held.key key mine in
-    rw mine (let e = without-none rows key (λ i d within. λ again. distinct.apart 0 (suc i) d (omega arith) (omega arith) (same ∙ sym again)) in omega (arith, e)))
-    (λ (other : eqb held.key key ≡ false). (rw other (let e = length-without rows key rest (held_later held rows key k inside at (eqb-false held.key key other)) in omega (arith, e))))
-    (cases_Bool (eqb held.key key))
-
--- what is taken out of kept rows is what the key says
-pub map-filter : {X Y : Type 0} (f : X → Y) (test : Y → Bool) (xs : List X) → map f (filter (λ x. test (f x)) xs) ≡ filter test (map f xs)
-map-filter f test [] = refl
-map-filter f test (x ∷ xs) =
-    let rest = map-filter f test xs in
-    ⊎_elim (λ (kept : test (f x) ≡ true). (rw kept (ap (λ ys. f x ∷ ys) rest))) (λ (out : test (f x) ≡ false). (rw out rest)) (cases_Bool (test (f x)))
 
 -- no key is held of a link without rows, and one row more holds no other key
 pub not_held-none : (rows : List Held) (key : ℕ) → rows ≡ [] → Holds rows key → ⊥

@@ -6,7 +6,7 @@ use Rattle.net_units.specs.LevelBounds.{bound_at}
 use Rattle.traffic_contract.specs.Admission.{Admitted, total, work_up_to}
 use Rattle.rcsp_admission.specs.Sums.{AreAdmitted}
 use Rattle.rcsp_admission.specs.Kept.{kept_rows}
-use Rattle.rcsp_admission.specs.Fields.{sums_of}
+use Rattle.rcsp_admission.specs.Fields.{sums_of, KeepsPlaces}
 use Rattle.rcsp_admission.specs.declared.level_sums.LevelSums.TheInside.{Inside}
 
 -- what a row adds to the load of level m
@@ -21,7 +21,8 @@ AreLoads rate bounds rows loads = (i : ℕ) → i < length bounds → slice_inde
 abbrev pub AreRaised : ℕ → List ℕ → Admitted → List ℕ → List ℕ → Type 0
 AreRaised rate bounds row before after = (i : ℕ) → i < length bounds → slice_index after i ≡ slice_index before i + level_work rate bounds (i + 1) row
 
--- what is kept always: the rows are admitted, and the loads are theirs
+-- what is kept always: the rows are admitted, and the loads and the places are theirs
 pub record KeepsLoads (inside : Inside) : Type 0 where
   pub admitted : AreAdmitted (sums_of inside)
   pub loads : AreLoads inside.rate inside.bounds (kept_rows inside.rows.items) inside.loads
+  pub places : KeepsPlaces inside

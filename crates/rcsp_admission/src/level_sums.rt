@@ -9,8 +9,9 @@ ghost use Rattle.traffic_contract.specs.declared.admission.Test.TheVariants.{Who
 ghost use Rattle.rcsp_admission.specs.Room.{IsLastFull, load_with, FitsSome};
 ghost use Rattle.rcsp_admission.specs.Sums.{Holds, HoldsUpTo, AreAdmitted, server_with, admitted_rows, added, moved, without_key};
 
+use crate::key_index::KeyIndex;
 use crate::loads::{add_row, level_at, take_row};
-use crate::rows::{KeptRow, move_in, row_of_key, work, work_of};
+use crate::rows::{KeptRow, work, work_of};
 use net_units::limits::MOST_LEVELS;
 use net_units::{Bounds, Level, OutOfMemory};
 use std::alloc::Global;
@@ -39,6 +40,10 @@ pub struct LevelSums {
     blocking: u32,
     test: Test,
     rows: Vec<KeptRow>,
+    // Where each of them stands.
+    index: KeyIndex,
+    // For how many more both have room.
+    spare: usize,
     // Of each level, the work of the rows at levels up to it in a window as long as its bound.
     loads: [u64; MOST_LEVELS as usize],
 }
@@ -75,6 +80,8 @@ impl LevelSums {
             blocking,
             test,
             rows: Vec::new(alloc),
+            index: KeyIndex::new(alloc),
+            spare: 0,
             loads: [0; MOST_LEVELS as usize],
         }
     }
@@ -91,6 +98,8 @@ impl LevelSums {
         ensures admitted { AreAdmitted self.new }
     {
         self.rows.reserve(more)?;
+        self.index.reserve(more)?;
+        self.spare = self.spare.max(more);
         Ok(())
     }
 
@@ -139,7 +148,9 @@ impl LevelSums {
             level,
         };
         add_row(&mut self.loads, &self.bounds, self.rate, &row);
+        self.index.put(key, self.rows.len());
         self.rows.push_reserved(row);
+        self.spare -= 1;
     }
 
     /// Moves the row of a key to a level that is no smaller.
@@ -151,11 +162,12 @@ impl LevelSums {
         ensures spare { self.new.spare ≡ self.old.spare }
         ensures admitted { AreAdmitted self.new }
     {
-        let before = row_of_key(&self.rows, key);
+        let place = self.index.place(key).unwrap();
+        let before = self.rows[place];
         take_row(&mut self.loads, &self.bounds, self.rate, &before);
         let after = KeptRow { level, ..before };
         add_row(&mut self.loads, &self.bounds, self.rate, &after);
-        move_in(&mut self.rows, key, level);
+        self.rows[place] = after;
     }
 
     /// Takes out the row of a key. All other rows stay.
@@ -166,9 +178,10 @@ impl LevelSums {
         ensures spare { self.new.spare ≡ self.old.spare + 1 }
         ensures admitted { AreAdmitted self.new }
     {
-        let row = row_of_key(&self.rows, key);
+        let place = self.index.remove(key);
+        let row = self.rows.remove(place);
         take_row(&mut self.loads, &self.bounds, self.rate, &row);
-        self.rows.retain(|row| row.key != key);
+        self.spare += 1;
     }
 
     /// The load of the levels up to this one in a window as long as its bound, in ticks: the blocking, and the work of

@@ -1,10 +1,9 @@
-//! The rows of a link: their work, and a change of level.
-ghost use Rattle.std.specs.Prelude.{◌≡◌, ◌^◌, ◌<◌, ◌≤◌, Some, map, find};
+//! The rows of a link and their work.
+ghost use Rattle.std.specs.Prelude.{◌≡◌, ◌^◌, ◌<◌, ◌≤◌};
 ghost use Rattle.net_units.specs.Numbers.{level_number};
 ghost use Rattle.net_units.specs.Limits.{most_bound};
 ghost use Rattle.traffic_contract.specs.Admission.{total, work_in, work_up_to};
-ghost use Rattle.rcsp_admission.specs.Sums.{Holds, has_key, moved};
-ghost use Rattle.rcsp_admission.specs.Kept.{held_of, kept_rows};
+ghost use Rattle.rcsp_admission.specs.Kept.{kept_rows};
 
 use net_units::{Level, ceil_div};
 use traffic_contract::Contract;
@@ -42,28 +41,4 @@ pub(crate) fn work_of(rows: &[KeptRow], rate: u32, level: Level, window: u64) ->
         }
     }
     sum
-}
-
-// The row of the key.
-pub(crate) fn row_of_key(rows: &[KeptRow], key: u32) -> KeptRow
-    requires { Holds (map held_of rows.now) key }
-    ensures { find (has_key key) (map held_of rows.now) ≡ Some (held_of result) }
-{
-    for row in rows {
-        if row.key == key {
-            return *row;
-        }
-    }
-    unreachable!()
-}
-
-// Puts the row of the key at the level.
-pub(crate) fn move_in(rows: &mut [KeptRow], key: u32, level: Level)
-    ensures { map held_of rows.new ≡ moved (map held_of rows.old) key (level_number level) }
-{
-    for row in rows.iter_mut() {
-        if row.key == key {
-            row.level = level;
-        }
-    }
 }
