@@ -4,10 +4,11 @@ use Rattle.std.proofs.lemmas.Bool.{cases_Bool, eq-eqb, eqb-true, eqb-false, ne_e
 use Rattle.std.proofs.lemmas.List.{length-map, get_or-map, map-set}
 use Rattle.std.specs.List.{find, remove, position_from}
 use Rattle.std.specs.Prelude.{nat_eq, if◌then◌else◌, is_some, option_map}
+use Rattle.net_units.specs.Numbers.{level_number}
 use Rattle.traffic_contract.specs.Contract.{Traffic}
 use Rattle.rcsp_admission.specs.Index.{place_in, place_among, place_after, AreByKey, IsIndex}
 use Rattle.rcsp_admission.specs.Kept.{held_of}
-use Rattle.rcsp_admission.specs.Sums.{Held, held_at, key_of, has_key, Holds, added, put_at, moved, without_key, IsDistinct}
+use Rattle.rcsp_admission.specs.Sums.{Held, held_at, key_of, has_key, Holds, HoldsUpTo, added, put_at, moved, without_key, IsDistinct}
 use Rattle.rcsp_admission.specs.declared.key_index.KeyPlace.{KeyPlace}
 use Rattle.rcsp_admission.specs.declared.rows.KeptRow.{KeptRow}
 use Rattle.rcsp_admission.proofs.KeyFacts.{distinct-later, others-differ, without-others, moved-others}
@@ -223,3 +224,24 @@ index-put rows places key place level row new distinct index own at put =
 pub index-out : (rows : List KeptRow) (places : List KeyPlace) (key place : ℕ) → IsDistinct (map held_of rows) → IsIndex (map held_of rows) places → place_in key places ≡ Some place → map held_of (remove rows place) ≡ without_key (map held_of rows) key
 index-out rows places key place distinct index own =
     held-removed rows place ∙ at-without key (map held_of rows) place distinct (index-leads (map held_of rows) places key place index own)
+
+-- ---- what a look-up tells
+
+counted-unfound : (key i : ℕ) (rows : List Held) → position_from (has_key key) i rows ≡ None → find (has_key key) rows ≡ None
+counted-unfound key i [] none = refl
+counted-unfound key i (held ∷ rows) none =
+    ⊎_elim (λ (mine : eqb held.key key ≡ true). absurd (let e = rw mine at none in cc)) (λ (other : eqb held.key key ≡ false). (rw other (counted-unfound key (i + 1) rows (rw other at none)))) (cases_Bool (eqb held.key key))
+
+-- a key without a place has no row
+pub index-unfound : (rows : List Held) (places : List KeyPlace) (key : ℕ) → IsIndex rows places → place_in key places ≡ None → find (has_key key) rows ≡ None
+index-unfound rows places key index none = counted-unfound key 0 rows (sym (index.each key) ∙ none)
+
+pub index-unheld : (rows : List Held) (places : List KeyPlace) (key : ℕ) → IsIndex rows places → place_in key places ≡ None → Holds rows key → ⊥
+index-unheld rows places key index none held = (let is = held-placed key rows held in let same = sym (index.each key) ∙ none in let e = rw same at is in cc)
+
+-- and one with a place is held, at the level of the row there or below any larger one
+pub index-upto : (rows : List KeptRow) (places : List KeyPlace) (key place : ℕ) (row : KeptRow) (m : ℕ) → IsIndex (map held_of rows) places → place_in key places ≡ Some place → row ≡ get_or rows place row → level_number row.level ≤ m → HoldsUpTo (map held_of rows) key m
+index-upto rows places key place row m index own at upto =
+    let leads = index-leads (map held_of rows) places key place index own in
+    let read = row-read rows place row (index-inside rows places key place index own) at in
+    (place, held_of row, leads.inside, read, (sym (ap key_of read) ∙ leads.here (held_of row), upto))

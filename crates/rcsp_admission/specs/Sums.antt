@@ -28,6 +28,10 @@ admitted_row held = held.row
 abbrev pub key_of : Held → ℕ
 key_of held = held.key
 
+-- the level of its row
+abbrev pub level_held : Held → ℕ
+level_held held = held.row.level
+
 -- the rows alone, as the admission test sums them
 abbrev pub admitted_rows : List Held → List Admitted
 admitted_rows rows = map admitted_row rows

@@ -1,5 +1,5 @@
 //! The rows of a link and their sums at its levels.
-ghost use Rattle.std.specs.Prelude.{◌≡◌, ◌+◌, ◌<◌, ◌≤◌, ◌^◌, ◌↔◌, ℕ, [], IsTrue, None, Some, IfOk, IfErr, OnOk, OnErr, MatchResult, IsOk, length};
+ghost use Rattle.std.specs.Prelude.{◌≡◌, ◌+◌, ◌<◌, ◌≤◌, ◌^◌, ◌↔◌, ℕ, [], IsTrue, None, Some, IfOk, IfErr, IfSome, IfNone, OnOk, OnErr, OnSome, MatchResult, IsOk, find, length, option_map};
 ghost use Rattle.net_units.specs.Numbers.{level_number};
 ghost use Rattle.net_units.specs.LevelBounds.{bound_at, last_bound};
 ghost use Rattle.net_units.specs.Limits.{most_bound};
@@ -7,7 +7,7 @@ ghost use Rattle.traffic_contract.specs.Admission.{load, Passes, HasRoom, IsBest
 ghost use Rattle.traffic_contract.specs.declared.admission.Test.{Test};
 ghost use Rattle.traffic_contract.specs.declared.admission.Test.TheVariants.{Whole};
 ghost use Rattle.rcsp_admission.specs.Room.{IsLastFull, load_with, FitsSome};
-ghost use Rattle.rcsp_admission.specs.Sums.{Holds, HoldsUpTo, AreAdmitted, server_with, admitted_rows, added, moved, without_key};
+ghost use Rattle.rcsp_admission.specs.Sums.{Holds, HoldsUpTo, AreAdmitted, server_with, has_key, level_held, admitted_rows, added, moved, without_key};
 
 use crate::key_index::KeyIndex;
 use crate::loads::{add_row, level_at, take_row};
@@ -170,6 +170,18 @@ impl LevelSums {
         self.rows[place] = after;
     }
 
+    /// The level of the row of a key, if one is held. So it tests what `add`, `move_to` and `remove` ask of a key.
+    pub fn level_of(&self, key: u32) -> Option<Level>
+        ensures level { option_map level_number result ≡ option_map level_held (find (has_key key) self.now.rows) }
+        ensures new { IfNone result (¬ Holds self.now.rows key) }
+        ensures held { OnSome result (Holds self.now.rows key) }
+        ensures larger { IfSome result (λ level. (m : ℕ) → level_number level ≤ m → HoldsUpTo self.now.rows key m) }
+        ensures admitted { AreAdmitted self.now }
+    {
+        let place = self.index.place(key)?;
+        Some(self.rows[place].level)
+    }
+
     /// Takes out the row of a key. All other rows stay.
     pub fn remove(&mut self, key: u32)
         requires held { Holds self.old.rows key }
@@ -280,83 +292,5 @@ impl LevelSums {
             }
         }
         full
-    }
-}
-
-#[cfg(test)]
-mod tests {
-    use super::*;
-    use std::test::Fail;
-
-    // The best level of the contract, at which it's then added.
-    fn admit(sums: &mut LevelSums, key: u32, contract: &Contract) -> Result<u8, NoLevel>
-        requires spare { 1 ≤ sums.old.spare }
-        requires new { ¬ Holds sums.old.rows key }
-        ensures server { sums.new.server ≡ sums.old.server }
-        ensures rows { IfOk result (λ level. sums.new.rows ≡ added sums.old.rows key contract.now level) }
-        ensures spare { OnOk result (sums.new.spare + 1 ≡ sums.old.spare) }
-    {
-        let level = sums.best(contract)?;
-        sums.add(key, *contract, level);
-        Ok(level.get())
-    }
-
-    #[test]
-    #[tactic(auto, using(crate::proofs::SumsFacts::not_held))]
-    fn admits_until_no_level_passes(rt: HostRuntime) -> Result<(), Fail> {
-        let bounds = Bounds::new(&[10, 20, 40]).ok_or("bounds")?;
-        assert_eq!(rt; bounds.len(), 3);
-        let contract = Contract::new(5, 10, 20, 2)?;
-        let mut sums = LevelSums::new(rt.alloc(), bounds, 1, 4, Test::Whole);
-        sums.reserve(5)?;
-        assert_eq!(rt; admit(&mut sums, 1, &contract)?, 1);
-        assert_eq!(rt; admit(&mut sums, 2, &contract)?, 2);
-        assert_eq!(rt; admit(&mut sums, 3, &contract)?, 2);
-        assert_eq!(rt; admit(&mut sums, 4, &contract)?, 2);
-        assert_eq!(rt;
-            sums.best(&contract).err(),
-            Some(NoLevel { sum: 44, bound: 40 })
-        );
-        assert_eq!(rt; sums.sum(level_at(1)), 8);
-        assert_eq!(rt; sums.sum(level_at(2)), 20);
-        assert_eq!(rt; sums.sum(level_at(3)), 36);
-        Ok(())
-    }
-
-    // Two packets of two ticks each come within 20 ticks, and four within 40.
-    #[test]
-    fn follows_a_row_that_moves_and_goes(rt: HostRuntime) -> Result<(), Fail> {
-        let bounds = Bounds::new(&[10, 20, 40]).ok_or("bounds")?;
-        assert_eq!(rt; bounds.len(), 3);
-        let contract = Contract::new(5, 10, 20, 2)?;
-        let mut sums = LevelSums::new(rt.alloc(), bounds, 1, 4, Test::Whole);
-        sums.reserve(1)?;
-        assert_eq!(rt; admit(&mut sums, 7, &contract)?, 1);
-        sums.move_to(7, level_at(3));
-        assert_eq!(rt; (sums.sum(level_at(2)), sums.sum(level_at(3))), (4, 12));
-        sums.remove(7);
-        assert_eq!(rt; sums.sum(level_at(3)), 4);
-        Ok(())
-    }
-
-    // In 23 ticks four rows come to 28, and in 20 ticks to 20.
-    #[test]
-    #[tactic(auto, using(crate::proofs::SumsFacts::not_held))]
-    fn finds_a_window_before_the_bound(rt: HostRuntime) -> Result<(), Fail> {
-        let bounds = Bounds::new(&[23]).ok_or("bounds")?;
-        assert_eq!(rt; bounds.len(), 1);
-        let contract = Contract::new(5, 10, 20, 2)?;
-        let mut sums = LevelSums::new(rt.alloc(), bounds, 1, 4, Test::Least);
-        sums.reserve(4)?;
-        assert_eq!(rt; admit(&mut sums, 1, &contract)?, 1);
-        assert_eq!(rt; admit(&mut sums, 2, &contract)?, 1);
-        assert_eq!(rt; admit(&mut sums, 3, &contract)?, 1);
-        assert_eq!(rt; admit(&mut sums, 4, &contract)?, 1);
-        assert_eq!(rt;
-            sums.best(&contract).err(),
-            Some(NoLevel { sum: 34, bound: 23 })
-        );
-        assert_eq!(rt; sums.sum(level_at(1)), 28);
-        Ok(())
     }
 }

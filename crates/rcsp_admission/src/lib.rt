@@ -10,3 +10,6 @@ mod loads;
 mod rows;
 
 pub use level_sums::{LevelSums, NoLevel};
+
+#[cfg(test)]
+mod tests;

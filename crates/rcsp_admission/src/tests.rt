@@ -1,0 +1,84 @@
+//! Admissions worked by hand, and generated lists of calls beside plain rows.
+ghost use Rattle.std.specs.Prelude.{◌≡◌, ◌+◌, ◌≤◌, IfOk, OnOk};
+ghost use Rattle.rcsp_admission.specs.Sums.{Holds, added};
+
+use crate::loads::level_at;
+use crate::{LevelSums, NoLevel};
+use net_units::Bounds;
+use std::test::Fail;
+use traffic_contract::{Contract, Test};
+
+mod generated;
+mod plain;
+
+// The best level of the contract, at which it's then added.
+fn admit(sums: &mut LevelSums, key: u32, contract: &Contract) -> Result<u8, NoLevel>
+    requires spare { 1 ≤ sums.old.spare }
+    requires new { ¬ Holds sums.old.rows key }
+    ensures server { sums.new.server ≡ sums.old.server }
+    ensures rows { IfOk result (λ level. sums.new.rows ≡ added sums.old.rows key contract.now level) }
+    ensures spare { OnOk result (sums.new.spare + 1 ≡ sums.old.spare) }
+{
+    let level = sums.best(contract)?;
+    sums.add(key, *contract, level);
+    Ok(level.get())
+}
+
+#[test]
+#[tactic(auto, using(crate::proofs::SumsFacts::not_held))]
+fn admits_until_no_level_passes(rt: HostRuntime) -> Result<(), Fail> {
+    let bounds = Bounds::new(&[10, 20, 40]).ok_or("bounds")?;
+    assert_eq!(rt; bounds.len(), 3);
+    let contract = Contract::new(5, 10, 20, 2)?;
+    let mut sums = LevelSums::new(rt.alloc(), bounds, 1, 4, Test::Whole);
+    sums.reserve(5)?;
+    assert_eq!(rt; admit(&mut sums, 1, &contract)?, 1);
+    assert_eq!(rt; admit(&mut sums, 2, &contract)?, 2);
+    assert_eq!(rt; admit(&mut sums, 3, &contract)?, 2);
+    assert_eq!(rt; admit(&mut sums, 4, &contract)?, 2);
+    assert_eq!(rt;
+        sums.best(&contract).err(),
+        Some(NoLevel { sum: 44, bound: 40 })
+    );
+    assert_eq!(rt; sums.sum(level_at(1)), 8);
+    assert_eq!(rt; sums.sum(level_at(2)), 20);
+    assert_eq!(rt; sums.sum(level_at(3)), 36);
+    Ok(())
+}
+
+// Two packets of two ticks each come within 20 ticks, and four within 40.
+#[test]
+fn follows_a_row_that_moves_and_goes(rt: HostRuntime) -> Result<(), Fail> {
+    let bounds = Bounds::new(&[10, 20, 40]).ok_or("bounds")?;
+    assert_eq!(rt; bounds.len(), 3);
+    let contract = Contract::new(5, 10, 20, 2)?;
+    let mut sums = LevelSums::new(rt.alloc(), bounds, 1, 4, Test::Whole);
+    sums.reserve(1)?;
+    assert_eq!(rt; admit(&mut sums, 7, &contract)?, 1);
+    sums.move_to(7, level_at(3));
+    assert_eq!(rt; (sums.sum(level_at(2)), sums.sum(level_at(3))), (4, 12));
+    sums.remove(7);
+    assert_eq!(rt; sums.sum(level_at(3)), 4);
+    Ok(())
+}
+
+// In 23 ticks four rows come to 28, and in 20 ticks to 20.
+#[test]
+#[tactic(auto, using(crate::proofs::SumsFacts::not_held))]
+fn finds_a_window_before_the_bound(rt: HostRuntime) -> Result<(), Fail> {
+    let bounds = Bounds::new(&[23]).ok_or("bounds")?;
+    assert_eq!(rt; bounds.len(), 1);
+    let contract = Contract::new(5, 10, 20, 2)?;
+    let mut sums = LevelSums::new(rt.alloc(), bounds, 1, 4, Test::Least);
+    sums.reserve(4)?;
+    assert_eq!(rt; admit(&mut sums, 1, &contract)?, 1);
+    assert_eq!(rt; admit(&mut sums, 2, &contract)?, 1);
+    assert_eq!(rt; admit(&mut sums, 3, &contract)?, 1);
+    assert_eq!(rt; admit(&mut sums, 4, &contract)?, 1);
+    assert_eq!(rt;
+        sums.best(&contract).err(),
+        Some(NoLevel { sum: 34, bound: 23 })
+    );
+    assert_eq!(rt; sums.sum(level_at(1)), 28);
+    Ok(())
+}
