@@ -43,3 +43,10 @@ picks_at queues place level key after counted within head before =
       least = λ smaller from below. before (smaller - 1) (omega arith);
       left = rw place_is refl;
     }
+
+-- a queue stays where its key leaves
+pub as_many_left : (queues : List (List ℕ)) → length (left_of queues) ≡ length queues
+unfolding left_of
+as_many_left [] = refl
+as_many_left ([] ∷ higher) = ap suc (as_many_left higher)
+as_many_left ((key ∷ keys) ∷ higher) = refl
