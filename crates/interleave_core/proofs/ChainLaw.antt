@@ -208,16 +208,13 @@ first-released network request first done past levels fits asked run next on is 
       by-reply (Is.Ticked clock full sent best_sent best_lost) same reply released = absurd (subst IsReleased same released)
       by-reply (Is.Refused refusal) same reply released = absurd (subst IsReleased same released)
 
-same-told : (a b : ℕ) → Some a ≡ Some b → a ≡ b
-same-told a b same = cc
-
 -- the first hop is frozen after a release
 close-frozen : (network : Network) (request : Request) (first : HopAt network request 0) (done : Done) (past : List Done) (levels : List ℕ) (replies : List Reply) (here : HopAt network request (length replies)) (told : ℕ) → NetworkFits network → ChannelAsked request past → IsRun network past → (next : IsNext network past done) → link_number done.link ≡ link_number here.hop.link → done.ask ≡ Release request.chan (first_count replies) → IsComm Some request levels (length replies) (held_at network request (length replies) here past) → ((given : ℕ) → first_count replies ≡ Some given → Frozen network request first past given)
     → first_count (replies ++ done.reply ∷ []) ≡ Some told → Frozen network request first (done ∷ past) told
 close-frozen network request first done past levels [] here told fits asked run next on is comm frozen tells =
     let hop : here.hop ≡ first.hop = same_Some here.hop first.hop (sym here.stands ∙ first.stands) in
     let own = first-released network request first done past levels fits asked run next (on ∙ ap link_of hop) is (subst (IsComm Some request levels 0) (same-held network request 0 0 here first past refl) comm) in
-    let given : own.count ≡ told = same-told own.count told (ap (λ r. Some (told_count r)) (sym own.reply) ∙ tells) in
+    let given : own.count ≡ told = same_Some own.count told (ap (λ r. Some (told_count r)) (sym own.reply) ∙ tells) in
     let same = first-same network request first done past fits asked run next (λ tick. absurd (let clash : Release request.chan None ≡ Tick = sym is ∙ tick in cc)) in
     record {
       upto = (let counts = own.counts in omega (arith, counts, given, same));

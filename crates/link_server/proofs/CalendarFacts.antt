@@ -83,7 +83,7 @@ listed-later bounds clock later entries row less listed = record {
 }
 
 -- an entry of another channel, or for a tick by which the hold hasn't ended, isn't missed
-or-other : (a b c : Bool) → b ≡ false → (a || (b || c)) ≡ (a || c)
+pub or-other : (a b c : Bool) → b ≡ false → (a || (b || c)) ≡ (a || c)
 or-other true b c is = refl
 or-other false b c is = rw is refl
 

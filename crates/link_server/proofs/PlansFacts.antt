@@ -1,10 +1,10 @@
 -- The calendar of plans goes with one row: as its next packet is put, as entries come, and as they are taken.
-use Rattle.std.proofs.Common.{◌≡◌, ℕ, zero, suc, ◌+◌, ◌<◌, ◌≤◌, Bool, true, false, ◌&&◌, ◌||◌, inl, inr, List, [], ◌∷◌, ◌++◌, Some, None, get_or, refl, sym, ap, ◌∙◌, subst, All, arith}
+use Rattle.std.proofs.Common.{◌≡◌, ℕ, zero, suc, ◌+◌, ◌<◌, ◌≤◌, Bool, true, false, ◌&&◌, inl, inr, List, [], ◌∷◌, ◌++◌, Some, None, get_or, refl, sym, ap, ◌∙◌, subst, All, arith}
 use Rattle.std.proofs.lemmas.Bool.{cases_lt, eq-eqb, ne_eqb}
 use Rattle.std.proofs.lemmas.List.Folds.{list_any-append, list_any_none}
-use Rattle.std.proofs.lemmas.Option.{none-some}
+use Rattle.std.proofs.lemmas.Option.{none-some, same_Some}
 use Rattle.std.specs.List.{list_any}
-use Rattle.std.specs.Prelude.{nat_eq, find, unwrap_or}
+use Rattle.std.specs.Prelude.{nat_eq, find}
 use Rattle.net_units.specs.Numbers.{channel_number}
 use Rattle.link_steps.specs.Kept.{KeptRow}
 use Rattle.link_steps.specs.Lists.{Each}
@@ -14,22 +14,20 @@ use Rattle.link_server.specs.Planned.{IsPlannedFrom, first_tick}
 use Rattle.link_server.specs.Plans.{is_entry_of, IsTold, IsQuiet}
 use Rattle.link_server.specs.Rows.{row_in}
 use Rattle.link_server.specs.declared.served_row.ServedRow.{ServedRow}
+use Rattle.link_server.proofs.CalendarFacts.{or-other}
 use Rattle.link_server.proofs.QuietFacts.{planned-quiet}
 
 -- ---- the next packet
 
-same-tick : (a b : ℕ) → Some a ≡ Some b → a ≡ b
-same-tick a b is = ap (λ found. unwrap_or found 0) is
-
 -- where one is left, the next one is planned for no tick before all are
 pub first-from : (from tick : ℕ) (left : List SourcePacket) → Each (IsPlannedFrom from) left → first_tick left ≡ Some tick → from ≤ tick
 first-from from tick [] planned first = absurd (none-some tick first)
-first-from from tick (p ∷ left) planned first = subst (λ t. from ≤ t) (same-tick p.tick tick first) planned.0
+first-from from tick (p ∷ left) planned first = subst (λ t. from ≤ t) (same_Some p.tick tick first) planned.0
 
 -- where it is planned for a tick, one is planned for that
 first-found : (tick : ℕ) (left : List SourcePacket) → first_tick left ≡ Some tick → find (is_for tick) left ≡ None → ⊥
 first-found tick [] first none = none-some tick first
-first-found tick (p ∷ left) first none = absurd (let is : nat_eq p.tick tick ≡ true = eq-eqb p.tick tick (same-tick p.tick tick first) in let found : Some p ≡ None = sym (rw is refl) ∙ none in cc)
+first-found tick (p ∷ left) first none = absurd (let is : nat_eq p.tick tick ≡ true = eq-eqb p.tick tick (same_Some p.tick tick first) in let found : Some p ≡ None = sym (rw is refl) ∙ none in cc)
 
 -- one with no packet left wants none
 pub told-none : (entries : List Entry) (row : KeptRow) → first_tick row.left ≡ None → IsTold entries row
@@ -43,10 +41,6 @@ told-same entries new old left chan told tick first =
 -- ---- entries that are taken
 
 -- an entry that isn't the row's isn't missed
-or-other : (a b c : Bool) → b ≡ false → (a || (b || c)) ≡ (a || c)
-or-other true b c is = refl
-or-other false b c is = rw is refl
-
 pub told-without : (before after : List Entry) (entry : Entry) (row : KeptRow) → ((tick : ℕ) → first_tick row.left ≡ Some tick → is_entry_of tick (channel_number row.terms.chan) entry ≡ false) → IsTold (before ++ entry ∷ after) row → IsTold (before ++ after) row
 told-without before after entry row other told tick first =
     let test = is_entry_of tick (channel_number row.terms.chan) in
