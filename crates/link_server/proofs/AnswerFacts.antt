@@ -1,10 +1,7 @@
 -- The answers to an ask, case by case.
-use Rattle.std.proofs.Common.{◌≡◌, ℕ, ◌+◌, ◌<◌, true, false, List, [], ◌∷◌, ◌++◌, length, map, get_or, set, take, Some, None, refl, sym, ap, ◌∙◌}
+use Rattle.std.proofs.Common.{◌≡◌, ℕ, true, false, List, [], ◌∷◌, ◌++◌, length, map, get_or, set, Some, None, refl, sym, ap, ◌∙◌}
 use Rattle.std.specs.Prelude.{find, nat_le}
-use Rattle.std.proofs.lemmas.List.{map_push, take_more}
-use Rattle.traffic_contract.specs.Admission.{total}
-use Rattle.traffic_contract.proofs.AdmissionFacts.{total-push}
-use Rattle.link_steps.specs.Buffer.{kept_units}
+use Rattle.std.proofs.lemmas.List.{map_push}
 use Rattle.link_steps.specs.Reservation.{Reservation}
 use Rattle.link_server.specs.declared.served_row.ServedRow.{ServedRow}
 use Rattle.link_server.specs.Planned.{left_in}
@@ -37,13 +34,6 @@ use Rattle.link_steps.specs.Replies.{reserve_reply, relax_reply, deny_reply, sub
 use Rattle.link_steps.specs.Reservation.{tentative, admitted, is_of}
 use Rattle.link_steps.specs.Shape.{server_of}
 use Rattle.link_steps.proofs.ReplyFacts.{whole-offer-may}
-
--- one row more keeps its units
-pub units-more : (bounds : List ℕ) (rows : List ServedRow) (i : ℕ) (row : ServedRow) → i < length rows → row ≡ get_or rows i row → total (kept_units bounds) (map reservation_in (take (i + 1) rows)) ≡ total (kept_units bounds) (map reservation_in (take i rows)) + kept_units bounds (reservation_in row)
-units-more bounds rows i row inside same =
-    let front : take (i + 1) rows ≡ take i rows ++ row ∷ [] = take_more rows i row inside ∙ ap (λ r. take i rows ++ r ∷ []) (sym same) in
-    let terms : map reservation_in (take (i + 1) rows) ≡ map reservation_in (take i rows) ++ reservation_in row ∷ [] = ap (map reservation_in) front ∙ map_push reservation_in (take i rows) row in
-    ap (total (kept_units bounds)) terms ∙ total-push (kept_units bounds) (map reservation_in (take i rows)) (reservation_in row)
 
 -- ---- a deny
 

@@ -1,10 +1,9 @@
 -- The calendar of holds goes with the rows as they come, change and go, and as its entries are taken.
-use Rattle.std.proofs.Common.{◌≡◌, ℕ, ◌+◌, ◌≤◌, Bool, true, false, not, ◌&&◌, ◌||◌, ◌⊎◌, inl, inr, ⊎_elim, List, [], ◌∷◌, ◌++◌, length, None, refl, sym, ap, ◌∙◌, arith}
+use Rattle.std.proofs.Common.{◌≡◌, ℕ, ◌+◌, ◌≤◌, Bool, true, false, not, ◌&&◌, ◌||◌, ◌⊎◌, inl, inr, ⊎_elim, List, ◌∷◌, ◌++◌, length, None, refl, sym, ap, ◌∙◌, arith}
 use Rattle.std.proofs.lemmas.Bool.{cases_Bool, eq-eqb, eqb-true, le-leb, leb-true, and_parts, or_right}
 use Rattle.std.proofs.lemmas.List.Folds.{list_any-append}
 use Rattle.std.specs.List.{list_any}
 use Rattle.std.specs.Prelude.{nat_eq, nat_le}
-use Rattle.net_units.specs.Numbers.{channel_number}
 use Rattle.net_units.specs.LevelBounds.{last_bound}
 use Rattle.traffic_contract.specs.Eligible.{newest}
 use Rattle.link_steps.specs.declared.replies.Phase.{Phase}
@@ -55,25 +54,10 @@ open-listed bounds clock entries row none is = record {
   told = λ t from gone. absurd (let f : true ≡ false = sym (open-stays-held bounds t row is) ∙ gone in cc);
 }
 
--- a row has the entry of the tick by which its hold ends
-pub entry-listed : (bounds : List ℕ) (clock tick : ℕ) (entries : List Entry) (row : KeptRow) → (is_phase row.terms.phase Closing ≡ true → length row.left ≡ 0) → EndsBy bounds clock row tick → IsListed bounds clock (entries ++ (tick, channel_number row.terms.chan) ∷ []) row
-entry-listed bounds clock tick entries row none ends = record {
-  plans_none = none;
-  told = λ t from gone.
-      list_any-append (tells_end bounds t row) entries ((tick, channel_number row.terms.chan) ∷ [])
-      ∙ rw (eq-eqb (channel_number row.terms.chan) (channel_number row.terms.chan) refl, le-leb tick t (ends.least t from gone), ends.ended) (or_right (list_any (tells_end bounds t row) entries) true refl);
-}
-
 -- more entries change nothing
 or-more : (a b : Bool) → a ≡ true → (a || b) ≡ true
 or-more true b is = refl
 or-more false b is = absurd (let f : false ≡ true = is in cc)
-
-pub listed-more : (bounds : List ℕ) (clock : ℕ) (entries more : List Entry) (row : KeptRow) → IsListed bounds clock entries row → IsListed bounds clock (entries ++ more) row
-listed-more bounds clock entries more row listed = record {
-  plans_none = listed.plans_none;
-  told = λ t from gone. list_any-append (tells_end bounds t row) entries more ∙ or-more (list_any (tells_end bounds t row) entries) (list_any (tells_end bounds t row) more) (listed.told t from gone);
-}
 
 -- nor does a later clock
 pub listed-later : (bounds : List ℕ) (clock later : ℕ) (entries : List Entry) (row : KeptRow) → clock ≤ later → IsListed bounds clock entries row → IsListed bounds later entries row

@@ -1,10 +1,10 @@
 -- An index leads to the places of the rows as they come, change and go, and by it the row of a channel is found.
-use Rattle.std.proofs.Common.{◌≡◌, ◌≢◌, ℕ, zero, suc, ◌+◌, ◌-◌, ◌<◌, ◌≤◌, Bool, true, false, ◌&&◌, List, [], ◌∷◌, ◌++◌, length, map, get_or, set, take, drop, Some, None, refl, sym, ap, ◌∙◌, subst, arith}
+use Rattle.std.proofs.Common.{◌≡◌, ◌≢◌, ℕ, zero, suc, ◌+◌, ◌<◌, ◌≤◌, Bool, true, false, ◌&&◌, List, [], ◌∷◌, ◌++◌, length, map, get_or, set, Some, None, refl, sym, ap, ◌∙◌, subst, arith}
 use Rattle.std.proofs.Common.{◌⊎◌, inl, inr, ⊎_elim}
 use Rattle.std.proofs.Math.ListN.{get_or-append}
 use Rattle.std.proofs.Math.Seq.{get_or-append_seam, map-set_same}
 use Rattle.std.proofs.lemmas.Bool.{cases_Bool, cases_lt, eq-eqb, eqb-true}
-use Rattle.std.proofs.lemmas.List.{get_or-drop, take_all, length-drop, length-map, length-append, length-set, get_or-map, get_or-set_same, get_or-set_other, get_or_default, map_push}
+use Rattle.std.proofs.lemmas.List.{length-map, length-append, length-set, get_or-map, get_or-set_same, get_or-set_other, get_or_default, map_push}
 use Rattle.std.proofs.lemmas.List.Edits.{length-remove, get_or-remove_below, get_or-remove_above}
 use Rattle.std.proofs.lemmas.Option.{slice_get-get_or, get_or_from_slice_get}
 use Rattle.std.specs.List.{Contains, remove}
@@ -14,7 +14,7 @@ use Rattle.net_units.specs.declared.numbers.ChanNo.{ChanNo}
 use Rattle.rcsp_admission.specs.Sums.{Holds, key_of}
 use Rattle.link_server.specs.declared.served_row.ServedRow.{ServedRow}
 use Rattle.link_server.specs.Index.{channel_in, channels_in, LeadsTo, IsIndex, IsAheadFrom}
-use Rattle.link_server.specs.Rows.{is_served_row_of, is_served_at_hop, summed, NoRowPasses, IsFirstPlace, IsAbsent, IsPlaceOf}
+use Rattle.link_server.specs.Rows.{is_served_row_of, is_served_at_hop, summed, NoRowPasses, IsAbsent, IsPlaceOf}
 
 -- ---- a channel is found
 
@@ -81,16 +81,6 @@ and-false : (a b : Bool) → a ≡ false → a && b ≡ false
 and-false true b is = absurd (let f : true ≡ false = is in cc)
 and-false false b is = refl
 
-pub none-at-hop : (chan : ChanNo) (first : Bool) (rows : List ServedRow) → IsAbsent chan rows → NoRowPasses (is_served_at_hop chan first) rows
-none-at-hop chan first rows absent k d inside = and-false (is_served_row_of chan (get_or rows k d)) _ (absent k d inside)
-
-pub place-at-hop : (chan : ChanNo) (first : Bool) (rows : List ServedRow) (i : ℕ) (d : ServedRow) → IsPlaceOf chan rows i → is_served_at_hop chan first (get_or rows i d) ≡ true → IsFirstPlace (is_served_at_hop chan first) rows i
-place-at-hop chan first rows i d place is = record {
-  inside = place.inside;
-  here = λ other. subst (λ row. is_served_at_hop chan first row ≡ true) (get_or_default rows i d other place.inside) is;
-  before = λ k other below. and-false (is_served_row_of chan (get_or rows k other)) _ (place.before k other below);
-}
-
 -- where the channel's row isn't at it, no row is
 pub no-other-hop : (places : List ℕ) (chan : ChanNo) (first : Bool) (rows : List ServedRow) (i : ℕ) (row : ServedRow) → IsIndex places (channels_in rows) → IsPlaceOf chan rows i → row ≡ get_or rows i row → is_served_at_hop chan first row ≡ false → NoRowPasses (is_served_at_hop chan first) rows
 no-other-hop places chan first rows i row index place at not k d inside =
@@ -102,14 +92,6 @@ no-other-hop places chan first rows i row index place at not k d inside =
     (cases_Bool (is_served_row_of chan (get_or rows k d)))
 
 -- ---- rows that come, change and go
-
--- more places at the end change nothing
-pub index-wider : (places more channels : List ℕ) → IsIndex places channels → IsIndex (places ++ more) channels
-index-wider places more channels index k d inside =
-    let led = index k d inside in
-    let long = length-append places more in
-    let before = led.inside in
-    record { inside = omega (arith, long, before); there = get_or-append places more 0 (get_or channels k d) before ∙ led.there }
 
 -- the place of another channel is put
 others-led : (places : List ℕ) (channel other i k : ℕ) → other ≢ channel → LeadsTo places other k → LeadsTo (set places channel i) other k
@@ -199,9 +181,6 @@ ahead-less places channels i channel ahead inside at = record {
 pub ahead-none : (places channels : List ℕ) (i : ℕ) → IsAheadFrom i places channels → length channels ≤ i → IsIndex places channels
 ahead-none places channels i ahead past k d inside = ahead.before k d (omega (arith, past, inside)) inside
 
--- the rows from a place on, read one after another
-pub row-from : (rows : List ServedRow) (from j : ℕ) (row : ServedRow) → row ≡ get_or (take (length rows - from) (drop from rows)) j row → from + j < length rows → channel_in row ≡ get_or (channels_in rows) (from + j) (channel_in row)
-row-from rows from j row at inside =
-    let left = length-drop from rows in
-    ap channel_in (at ∙ ap (λ all. get_or all j row) (take_all (length rows - from) (drop from rows) (omega (arith, left))) ∙ get_or-drop from rows j row)
-    ∙ sym (get_or-map channel_in rows (from + j) row (channel_in row) inside)
+-- the channel of the row at a place
+pub row-at : (rows : List ServedRow) (place : ℕ) (row : ServedRow) → row ≡ get_or rows place row → place < length rows → channel_in row ≡ get_or (channels_in rows) place (channel_in row)
+row-at rows place row at inside = ap channel_in at ∙ sym (get_or-map channel_in rows place row (channel_in row) inside)

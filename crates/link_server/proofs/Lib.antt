@@ -50,3 +50,4 @@ pub mod QueueFacts
 pub mod KeyFacts
 pub mod DueFacts
 pub mod FirstFacts
+mod KeyedListFacts

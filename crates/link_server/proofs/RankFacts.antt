@@ -111,18 +111,6 @@ order-left later queues until newest order = record {
   ready_newest = Each-left (IsUpTo newest) queues order.ready_newest;
 }
 
--- the link looks in a later tick
-pub order-until : (later : List Rank) (queues : List (List Rank)) (until tick newest : ℕ) → until ≤ tick → AreInOrder later queues until newest → AreInOrder later queues tick newest
-order-until later queues until tick newest upto order = record {
-  arrived = order.arrived;
-  placed = order.placed;
-  levels = order.levels;
-  ahead = order.ahead;
-  by = Each-if (IsBy until) (IsBy tick) (joined queues) (λ r by. omega (arith, by, upto)) order.by;
-  later_newest = order.later_newest;
-  ready_newest = order.ready_newest;
-}
-
 -- ---- it is the next
 
 after-test : (l m e f p q : ℕ) → m ≡ l → e ≤ f → (f ≤ e → p < q) → (nat_lt m l || (nat_eq m l && (nat_lt f e || (nat_eq f e && nat_lt q p)))) ≡ false

@@ -138,9 +138,13 @@ rows-few link =
     let buffer : link.shape.buffer ≤ 262144 = link.shape.buffer_most in
     omega (arith, units, rows, long, buffer)
 
--- its room is that of a vector
+-- its room is that of a vector, as the packets' counts are
 pub room-small : (link : LinkState) → link.room < 2 ^ 63
-room-small link = let small = link.packets.here.small in let roomy = link.roomy in omega (arith, small, roomy)
+room-small link =
+    let small = link.packets.counts.small in
+    let fit = link.packets.counts_fit in
+    let roomy = link.roomy in
+    omega (arith, small, fit, roomy)
 
 -- and each row can make its step in a tick
 pub all-ready : (link : LinkState) → link.clock < 2 ^ 61 → Each (IsReady link.clock) (kept_in link).rows

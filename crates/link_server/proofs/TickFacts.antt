@@ -1,7 +1,6 @@
 -- What the parts of a tick make of a link, one after another, is what the account says of the tick.
-use Rattle.std.proofs.Common.{◌≡◌, ℕ, suc, ◌+◌, List, ◌++◌, Bool, length, map, take, drop, refl, ap, ◌∙◌, arith, append_assoc, length-append}
+use Rattle.std.proofs.Common.{◌≡◌, ℕ, suc, ◌+◌, List, ◌++◌, Bool, length, map, refl, ap, ◌∙◌, arith, append_assoc, length-append}
 use Rattle.std.specs.Prelude.{Option, nat_eq}
-use Rattle.std.proofs.lemmas.List.{append-nil, drop_all, take_all}
 use Rattle.link_steps.specs.declared.asks.Ask.TheVariants.{Tick}
 use Rattle.link_steps.specs.declared.replies.Reply.TheVariants.{Ticked}
 use Rattle.link_steps.specs.declared.replies.Reply.{Reply}
@@ -20,13 +19,6 @@ use Rattle.link_server.specs.Rows.{row_in}
 use Rattle.link_server.specs.Sources.{brought_by, served_rows_after, lost_by_rows}
 use Rattle.link_server.specs.declared.served_row.ServedRow.{ServedRow}
 use Rattle.link_server.specs.declared.packets.Packets.{Packets}
-
--- rows written over as many are those written
-pub all-written : {X : Type 0} (n : ℕ) (new old : List X) → n ≡ length old → length new ≡ length old → take n (new ++ drop (length new) old) ≡ new
-all-written n new old count same =
-    ap (λ after. take n (new ++ after)) (drop_all (length new) old (omega (arith, same)))
-    ∙ ap (take n) (append-nil new)
-    ∙ take_all n new (omega (arith, count, same))
 
 -- the rows that stay bring the packets that the account says
 pub brought-is : (shape : LinkShape) (k : Kept) (rows : List ServedRow) → map row_in rows ≡ held_rows shape k → brought_by shape.bounds k.here k.clock k.taken rows ≡ from_sources shape k

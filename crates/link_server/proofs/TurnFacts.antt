@@ -1,9 +1,8 @@
 -- The packets here stand in the order of their arrival numbers, so one of them is found, and taken out, at its place.
-use Rattle.std.proofs.Common.{◌≡◌, ◌≢◌, ℕ, zero, suc, ◌<◌, ◌≤◌, true, false, not, nat_lt, List, [], ◌∷◌, length, get_or, Some, refl, sym, ap, ◌∙◌, arith}
+use Rattle.std.proofs.Common.{◌≡◌, ◌≢◌, ℕ, zero, suc, ◌+◌, ◌<◌, ◌≤◌, true, false, not, List, [], ◌∷◌, length, get_or, Some, refl, sym, ap, ◌∙◌, arith}
 use Rattle.std.proofs.lemmas.Bool.{eq-eqb, ne_eqb}
-use Rattle.std.proofs.lemmas.List.Sorted.{IsPartitionedBy-ltb}
+use Rattle.std.proofs.lemmas.List.{get_or_default}
 use Rattle.std.specs.List.{remove}
-use Rattle.std.specs.List.Sorted.{IsPartitionedBy}
 use Rattle.std.specs.Prelude.{filter, find}
 use Rattle.link_steps.specs.Kept.{is_other}
 use Rattle.link_steps.specs.Lists.{Each}
@@ -38,8 +37,12 @@ places-rise low (p ∷ items) rising zero (suc j) d upto inside = let above = pl
 places-rise low (p ∷ items) rising (suc i) zero d upto inside = absurd (omega arith)
 places-rise low (p ∷ items) rising (suc i) (suc j) d upto inside = places-rise p.place items rising.1 i j d (omega arith) (omega arith)
 
-pub places-part : (low place : ℕ) (items : List HeldPacket) → AreRising low (here_in items) → IsPartitionedBy (λ p. nat_lt p.place place) items
-places-part low place items rising = IsPartitionedBy-ltb (λ (p : HeldPacket). p.place) items place (places-rise low items rising)
+-- where a packet has a lower number, so has each before it
+pub lower-upto : (place : ℕ) (items : List HeldPacket) (i : ℕ) (p : HeldPacket) → AreRising 0 (here_in items) → i < length items → p ≡ get_or items i p → p.place < place → (k : ℕ) (d : HeldPacket) → k < i + 1 → (get_or items k d).place < place
+lower-upto place items i p rising inside is lower k d upto =
+    let rise = places-rise 0 items rising k i d (omega (arith, upto)) inside in
+    let same = ap (λ (q : HeldPacket). q.place) (is ∙ get_or_default items i p d inside) in
+    omega (arith, rise, same, lower)
 
 -- a place past the first packet is one of the others
 parts-later : (place : ℕ) (p : HeldPacket) (items : List HeldPacket) (i : ℕ) → PartsAt place (p ∷ items) (suc i) → PartsAt place items i

@@ -26,3 +26,5 @@ pub mod Queues
 pub mod Keys
 pub mod Ready
 pub mod LineProp
+pub mod KeyedList
+pub mod KeyedLends

@@ -11,6 +11,7 @@ ghost use Rattle.link_server.specs.Rows.{reservation_in, row_in, summed, AreWith
 ghost use Rattle.link_server.specs.Sources.{AreReady};
 
 use crate::keeping::Keeping;
+use crate::keyed_list::KeyedList;
 use crate::row_index::RowIndex;
 use crate::rows::{place_of, take_row};
 use crate::served_row::ServedRow;
@@ -37,7 +38,7 @@ pub(crate) fn put_hold(holds: &mut Calendar, row: &ServedRow, bounds: &Bounds, c
 // It looks only at the rows for which an entry of the calendar is due.
 pub(crate) fn expire(
     holds: &mut Calendar,
-    rows: &mut Vec<ServedRow>,
+    rows: &mut KeyedList<ServedRow>,
     index: &mut RowIndex,
     sums: &mut LevelSums,
     keeping: &mut Keeping,
@@ -73,16 +74,16 @@ pub(crate) fn expire(
 
 // Where the row of the channel of this number stands, if its hold has ended by this tick.
 fn ended_place(
-    rows: &[ServedRow],
+    rows: &KeyedList<ServedRow>,
     index: &RowIndex,
     bounds: &Bounds,
     clock: u64,
     key: u32,
 ) -> Option<usize>
-    requires indexed { IsIndex index.now.places.items (channels_in rows.now) }
-    requires ready { AreReady clock rows.now }
-    ensures none { IfNone result (Each (StaysIfOf bounds.now clock key) (map row_in rows.now)) }
-    ensures some { IfSome result (HasEnded bounds.now clock key rows.now) }
+    requires indexed { IsIndex index.now.places.items (channels_in rows.now.items) }
+    requires ready { AreReady clock rows.now.items }
+    ensures none { IfNone result (Each (StaysIfOf bounds.now clock key) (map row_in rows.now.items)) }
+    ensures some { IfSome result (HasEnded bounds.now clock key rows.now.items) }
 {
     let place = place_of(rows, index, ChanNo::new(key)?)?;
     if rows[place].has_ended(bounds, clock) {

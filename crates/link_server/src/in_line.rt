@@ -2,7 +2,6 @@
 ghost use Rattle.std.specs.Prelude.{◌≡◌, ◌+◌, ◌≤◌, Some, None, IfSome, IfNone, filter, length, drop};
 ghost use Rattle.std.specs.Option.{option_map};
 ghost use Rattle.std.specs.Vec.{vec_capacity};
-ghost use Rattle.std.specs.VecDeque.{deque_capacity};
 ghost use Rattle.link_steps.specs.BestEffort.{is_best};
 ghost use Rattle.link_steps.specs.Buffer.{held_packets};
 ghost use Rattle.link_steps.specs.Kept.{is_eligible_by, is_other, start_at, waits_here};
@@ -15,53 +14,63 @@ ghost use Rattle.link_server.specs.Parting.{PartsAt};
 
 use crate::counts::lower;
 use crate::held_packet::{HeldPacket, Running};
+use crate::keyed_list::KeyedList;
 use crate::lead_count::Count;
 use crate::line::{Line, Rank};
 use net_units::Bounds;
-use std::collections::VecDeque;
 
 // How many of these packets, from this place on, are of the reservation whose first packet had this number.
-pub(crate) fn held_from(packets: &VecDeque<HeldPacket>, from: usize, lead: u64) -> usize
+pub(crate) fn held_from(packets: &KeyedList<HeldPacket>, from: usize, lead: u64) -> usize
     requires { from ≤ length packets.now.items }
     ensures { result ≡ held_packets lead (here_in (drop from packets.now.items)) }
 {
-    packets
-        .range(from..)
-        .filter(|packet| packet.lead == lead)
-        .count()
+    let mut held = 0;
+    for place in from..packets.len() {
+        if packets[place].lead == lead {
+            held += 1;
+        }
+    }
+    held
 }
 
 // How many of these packets are best-effort packets.
-pub(crate) fn best_here(packets: &VecDeque<HeldPacket>, bounds: &Bounds) -> usize
+pub(crate) fn best_here(packets: &KeyedList<HeldPacket>, bounds: &Bounds) -> usize
     ensures { result ≡ length (filter (is_best bounds.now) (here_in packets.now.items)) }
 {
     let levels = bounds.len();
-    packets
-        .iter()
-        .filter(|packet| packet.level > levels)
-        .count()
+    let mut best = 0;
+    for place in 0..packets.len() {
+        if packets[place].level > levels {
+            best += 1;
+        }
+    }
+    best
 }
 
 // How many are, but for the one that occupies the link.
 pub(crate) fn best_here_but(
-    packets: &VecDeque<HeldPacket>,
+    packets: &KeyedList<HeldPacket>,
     bounds: &Bounds,
     running: &Running,
 ) -> usize
     ensures { result ≡ length (filter (waits_here bounds.now (Some (start_in running.now))) (here_in packets.now.items)) }
 {
     let levels = bounds.len();
-    packets
-        .iter()
-        .filter(|packet| packet.level > levels && packet.place != running.packet.place)
-        .count()
+    let mut best = 0;
+    for place in 0..packets.len() {
+        let packet = &packets[place];
+        if packet.level > levels && packet.place != running.packet.place {
+            best += 1;
+        }
+    }
+    best
 }
 
 // The packet that starts in this tick, where the link is free: the first in line of those that are eligible. Its rank is taken
 // out of the line.
 pub(crate) fn start_next(
     line: &mut Line,
-    here: &VecDeque<HeldPacket>,
+    here: &KeyedList<HeldPacket>,
     tick: u64,
 ) -> Option<HeldPacket>
     requires looked { line.old.until ≤ tick }
@@ -84,7 +93,7 @@ pub(crate) fn start_next(
 }
 
 // The packet of this rank, if it is here.
-fn with_rank(packets: &VecDeque<HeldPacket>, rank: &Rank) -> Option<HeldPacket>
+fn with_rank(packets: &KeyedList<HeldPacket>, rank: &Rank) -> Option<HeldPacket>
     requires { AreRising 0 (here_in packets.now.items) }
     ensures some { IfSome result (λ packet. HasRank (here_in packets.now.items) rank.now (arrival_in packet)) }
     ensures none { IfNone result (IsStale (here_in packets.now.items) rank.now) }
@@ -104,16 +113,26 @@ fn is_rank_of(packet: &HeldPacket, rank: &Rank) -> bool
 }
 
 // Where the packet of this arrival number stands, if it is here: all before it have lower ones, and no other has a lower one.
-fn place_in(packets: &VecDeque<HeldPacket>, place: u64) -> usize
+fn place_in(packets: &KeyedList<HeldPacket>, place: u64) -> usize
     requires { AreRising 0 (here_in packets.now.items) }
     ensures { PartsAt place packets.now.items result }
 {
-    packets.partition_point(|packet| packet.place < place)
+    let mut low = 0;
+    let mut high = packets.len();
+    while low < high {
+        let middle = low + (high - low) / 2;
+        if packets[middle].place < place {
+            low = middle + 1;
+        } else {
+            high = middle;
+        }
+    }
+    low
 }
 
 // Takes the packet that has been on the link out of those here, and out of their counts.
 pub(crate) fn take_out(
-    packets: &mut VecDeque<HeldPacket>,
+    packets: &mut KeyedList<HeldPacket>,
     counts: &mut Vec<Count>,
     running: &Running,
 )
@@ -123,7 +142,7 @@ pub(crate) fn take_out(
     ensures others { here_in packets.new.items ≡ filter (is_other (start_in running.now)) (here_in packets.old.items) }
     ensures one { length packets.old.items ≤ length packets.new.items + 1 }
     ensures fewer { length packets.new.items ≤ length packets.old.items }
-    ensures capacity { deque_capacity packets.new ≡ deque_capacity packets.old }
+    ensures capacity { packets.new.room ≡ packets.old.room }
     ensures counts { AreCounts counts.new.items (here_in packets.new.items) }
     ensures sorted { AreByLead 0 counts.new.items }
     ensures counts_capacity { vec_capacity counts.new ≡ vec_capacity counts.old }

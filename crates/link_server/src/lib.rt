@@ -14,6 +14,7 @@ mod held_packet;
 mod held_row;
 mod in_line;
 mod keeping;
+mod keyed_list;
 pub mod laws;
 mod lead_count;
 mod line;

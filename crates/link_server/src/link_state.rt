@@ -16,6 +16,7 @@ ghost use Rattle.link_server.specs.Stood.{IsStood, IsStood-prop};
 
 use crate::held_row::HeldRow;
 use crate::keeping::Keeping;
+use crate::keyed_list::KeyedList;
 use crate::packets::Packets;
 use crate::plans::Plans;
 use crate::row_index::RowIndex;
@@ -33,7 +34,7 @@ pub struct LinkState {
     pub(crate) shape: LinkShape,
     pub(crate) clock: u64,
     // In the order of their reserves.
-    pub(crate) rows: Vec<ServedRow>,
+    pub(crate) rows: KeyedList<ServedRow>,
     pub(crate) index: RowIndex,
     // When the holds of closing rows end, with the numbers of their channels.
     pub(crate) holds: Calendar,
@@ -82,7 +83,7 @@ impl LinkState {
             sums: LevelSums::new(alloc, shape.bounds, shape.rate, blocking, shape.test),
             shape,
             clock: 0,
-            rows: Vec::new(alloc),
+            rows: KeyedList::new(alloc),
             index: RowIndex::new(alloc),
             holds: Calendar::new(alloc)?,
             plans: Plans::new(alloc)?,
@@ -98,7 +99,11 @@ impl LinkState {
         ensures row { result ≡ seen_at self.now.shape.bounds (reservations_held self.now) place }
         ensures stands { (h : List Entry) → LinkStands self.now h → result ≡ seen_at self.now.shape.bounds (map row_terms (scan_of self.now.shape h).rows) place }
     {
-        let row = self.rows.get(place as usize)?;
+        let place = place as usize;
+        if place >= self.rows.len() {
+            return None;
+        }
+        let row = &self.rows[place];
         Some(HeldRow {
             chan: row.chan,
             contract: row.contract,

@@ -1,7 +1,6 @@
 //! The packets at a link: those that it has taken and that haven't departed, and the one that occupies it.
 ghost use Rattle.std.specs.Prelude.{◌≡◌, ◌+◌, ◌^◌, ◌<◌, ◌≤◌, ◌∷◌, ◌++◌, [], suc, nat_eq, filter, find, length, IsTrue, IsOk, IfOk, OnOk};
 ghost use Rattle.std.specs.Vec.{vec_capacity};
-ghost use Rattle.std.specs.VecDeque.{deque_capacity};
 ghost use Rattle.link_server.specs.InLine.{count_on, AreIn, AreIn-prop};
 ghost use Rattle.link_server.specs.Counts.{AreByLead, AreByLead-prop, AreCounts, AreCounts-prop};
 ghost use Rattle.link_server.specs.Line.{ranks_in, room_in};
@@ -13,13 +12,13 @@ use crate::best_effort::best_packet;
 use crate::counts::{count_of, raise};
 use crate::held_packet::{HeldPacket, Running};
 use crate::in_line::{best_here, best_here_but, held_from, start_next, take_out};
+use crate::keyed_list::KeyedList;
 use crate::lead_count::Count;
 use crate::line::{Line, Rank};
 use crate::planned::Planned;
 use link_steps::{LinkShape, Sent};
 use net_units::{Bounds, OutOfMemory};
 use std::alloc::Global;
-use std::collections::VecDeque;
 
 // The packets at a link.
 #[derive(Drop)]
@@ -27,7 +26,7 @@ pub(crate) struct Packets {
     // How many packets the link has taken.
     pub(crate) taken: u64,
     // In the order of their arrival.
-    pub(crate) here: VecDeque<HeldPacket>,
+    pub(crate) here: KeyedList<HeldPacket>,
     // How many of them are of each reservation, in the order of their leads.
     pub(crate) counts: Vec<Count>,
     // The ranks of those that haven't started.
@@ -42,7 +41,7 @@ pub(crate) struct Packets {
     ghost ranked: { AreIn (ranks_in line) (on_in on) (here_in here.items) } by { AreIn-prop (ranks_in line) (on_in on) (here_in here.items) },
     ghost few: { length (ranks_in line) + count_on (on_in on) ≤ length here.items },
     ghost fits: { length here.items ≤ room },
-    ghost holds: { room ≤ deque_capacity here },
+    ghost holds: { room ≤ here.room },
     ghost lines_up: { room ≤ room_in line },
     ghost counts_are: { AreCounts counts.items (here_in here.items) } by { AreCounts-prop counts.items (here_in here.items) },
     ghost counts_fit: { room ≤ vec_capacity counts },
@@ -77,7 +76,7 @@ impl Packets {
     {
         Ok(Packets {
             taken: 0,
-            here: VecDeque::new(alloc),
+            here: KeyedList::new(alloc),
             counts: Vec::new(alloc),
             line: Line::new(alloc)?,
             room: 0,
@@ -101,7 +100,7 @@ impl Packets {
         if room <= self.room {
             return Ok(());
         }
-        self.here.reserve(more)?;
+        self.here.reserve(room)?;
         self.line.reserve(room)?;
         self.counts.reserve(room.saturating_sub(self.counts.len()))?;
         self.room = room;
@@ -127,7 +126,7 @@ impl Packets {
             place: packet.place,
         });
         raise(&mut self.counts, packet.lead);
-        self.here.push_back_reserved(packet);
+        self.here.push(packet);
         self.taken += 1;
     }
 

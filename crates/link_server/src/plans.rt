@@ -9,6 +9,7 @@ ghost use Rattle.link_server.specs.Plans.{ArePlanned, AreCalled, AreRising, IsPl
 ghost use Rattle.link_server.specs.Rows.{row_in};
 ghost use Rattle.link_server.specs.Sources.{AreReady};
 
+use crate::keyed_list::KeyedList;
 use crate::row_index::RowIndex;
 use crate::rows::place_of;
 use crate::served_row::ServedRow;
@@ -52,12 +53,12 @@ impl Plans {
 
     // Calls the rows for which a packet is planned for this tick, and takes their entries out. It looks only at the rows for
     // which an entry is due.
-    pub(crate) fn call(&mut self, rows: &[ServedRow], index: &RowIndex, clock: u64)
-        requires planned { ArePlanned clock self.old.calendar (map row_in rows.now) }
-        requires ready { AreReady clock rows.now }
-        requires indexed { IsIndex index.now.places.items (channels_in rows.now) }
-        requires room { length rows.now ≤ vec_capacity self.old.turns }
-        ensures called { AreCalled clock self.new.calendar self.new.turns.items rows.now }
+    pub(crate) fn call(&mut self, rows: &KeyedList<ServedRow>, index: &RowIndex, clock: u64)
+        requires planned { ArePlanned clock self.old.calendar (map row_in rows.now.items) }
+        requires ready { AreReady clock rows.now.items }
+        requires indexed { IsIndex index.now.places.items (channels_in rows.now.items) }
+        requires room { length rows.now.items ≤ vec_capacity self.old.turns }
+        ensures called { AreCalled clock self.new.calendar self.new.turns.items rows.now.items }
         ensures later { All (λ entry. clock < entry.0) self.new.calendar.entries }
         ensures capacity { vec_capacity self.new.turns ≡ vec_capacity self.old.turns }
     {
@@ -85,11 +86,16 @@ pub(crate) fn put_plan(calendar: &mut Calendar, row: &ServedRow)
 }
 
 // Where the row of the channel of this number stands, if it has a packet planned for this tick.
-fn planned_place(rows: &[ServedRow], index: &RowIndex, clock: u64, key: u32) -> Option<usize>
-    requires indexed { IsIndex index.now.places.items (channels_in rows.now) }
-    requires ready { AreReady clock rows.now }
-    ensures none { IfNone result (Each (RestsIfOf clock key) (map row_in rows.now)) }
-    ensures some { IfSome result (IsPlaceOfKey key rows.now) }
+fn planned_place(
+    rows: &KeyedList<ServedRow>,
+    index: &RowIndex,
+    clock: u64,
+    key: u32,
+) -> Option<usize>
+    requires indexed { IsIndex index.now.places.items (channels_in rows.now.items) }
+    requires ready { AreReady clock rows.now.items }
+    ensures none { IfNone result (Each (RestsIfOf clock key) (map row_in rows.now.items)) }
+    ensures some { IfSome result (IsPlaceOfKey key rows.now.items) }
 {
     let place = place_of(rows, index, ChanNo::new(key)?)?;
     if rows[place].planned.is_for(clock) {

@@ -3,6 +3,7 @@ ghost use Rattle.std.specs.Prelude.{◌≡◌, ◌<◌, ◌≤◌, ℕ, [], List
 ghost use Rattle.net_units.specs.Numbers.{channel_number};
 ghost use Rattle.link_server.specs.Index.{channels_in, IsIndex, IsAheadFrom};
 
+use crate::keyed_list::KeyedList;
 use crate::served_row::ServedRow;
 use net_units::{ChanNo, OutOfMemory};
 use std::alloc::Global;
@@ -53,13 +54,13 @@ impl RowIndex {
     }
 
     // A row before the place `from` left, so that those from it on moved up by one.
-    pub(crate) fn move_up(&mut self, rows: &[ServedRow], from: usize)
-        requires within { from ≤ length rows.now }
-        requires ahead { IsAheadFrom from self.old.places.items (channels_in rows.now) }
-        ensures { IsIndex self.new.places.items (channels_in rows.now) }
+    pub(crate) fn move_up(&mut self, rows: &KeyedList<ServedRow>, from: usize)
+        requires within { from ≤ length rows.now.items }
+        requires ahead { IsAheadFrom from self.old.places.items (channels_in rows.now.items) }
+        ensures { IsIndex self.new.places.items (channels_in rows.now.items) }
     {
-        for row in &rows[from..] {
-            self.places[row.chan.get() as usize] -= 1;
+        for place in from..rows.len() {
+            self.places[rows[place].chan.get() as usize] -= 1;
         }
     }
 }

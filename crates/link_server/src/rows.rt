@@ -7,16 +7,17 @@ ghost use Rattle.link_steps.specs.Buffer.{need_of};
 ghost use Rattle.link_server.specs.Index.{channels_in, IsIndex};
 ghost use Rattle.link_server.specs.Rows.{is_served_at_hop, NoRowPasses, IsFirstPlace, IsAbsent, IsPlaceOf};
 
+use crate::keyed_list::KeyedList;
 use crate::row_index::RowIndex;
 use crate::served_row::{ServedRow, units_for};
 use net_units::{Bounds, ChanNo, Level};
 use traffic_contract::Contract;
 
 // The place of the channel's row.
-pub(crate) fn place_of(rows: &[ServedRow], index: &RowIndex, chan: ChanNo) -> Option<usize>
-    requires { IsIndex index.now.places.items (channels_in rows.now) }
-    ensures none { IfNone result (IsAbsent chan rows.now) }
-    ensures some { IfSome result (IsPlaceOf chan rows.now) }
+pub(crate) fn place_of(rows: &KeyedList<ServedRow>, index: &RowIndex, chan: ChanNo) -> Option<usize>
+    requires { IsIndex index.now.places.items (channels_in rows.now.items) }
+    ensures none { IfNone result (IsAbsent chan rows.now.items) }
+    ensures some { IfSome result (IsPlaceOf chan rows.now.items) }
 {
     let place = index.place(chan)?;
     if place < rows.len() && rows[place].chan.get() == chan.get() {
@@ -27,14 +28,14 @@ pub(crate) fn place_of(rows: &[ServedRow], index: &RowIndex, chan: ChanNo) -> Op
 
 // The place of the channel's row at its first hop, or at a later one.
 pub(crate) fn place_at_hop(
-    rows: &[ServedRow],
+    rows: &KeyedList<ServedRow>,
     index: &RowIndex,
     chan: ChanNo,
     first: bool,
 ) -> Option<usize>
-    requires { IsIndex index.now.places.items (channels_in rows.now) }
-    ensures none { IfNone result (NoRowPasses (is_served_at_hop chan first) rows.now) }
-    ensures some { IfSome result (IsFirstPlace (is_served_at_hop chan first) rows.now) }
+    requires { IsIndex index.now.places.items (channels_in rows.now.items) }
+    ensures none { IfNone result (NoRowPasses (is_served_at_hop chan first) rows.now.items) }
+    ensures some { IfSome result (IsFirstPlace (is_served_at_hop chan first) rows.now.items) }
 {
     let place = place_of(rows, index, chan)?;
     if rows[place].is_at_hop(chan, first) {
@@ -44,7 +45,7 @@ pub(crate) fn place_at_hop(
 }
 
 // Takes out the row at this place. Those after it move up, and are found at their new places.
-pub(crate) fn take_row(rows: &mut Vec<ServedRow>, index: &mut RowIndex, place: usize)
+pub(crate) fn take_row(rows: &mut KeyedList<ServedRow>, index: &mut RowIndex, place: usize)
     requires inside { place < length rows.old.items }
     requires indexed { IsIndex index.old.places.items (channels_in rows.old.items) }
     ensures rows { rows.new.items ≡ remove rows.old.items place }

@@ -143,7 +143,7 @@ impl LinkState {
         self.keeping.hold(&row, &bounds);
         let place = self.rows.len() as u32;
         self.index.put(wanted.chan, place);
-        self.rows.push_reserved(row);
+        self.rows.push(row);
         self.sums
             .add(wanted.chan.get(), wanted.contract, offer.level);
         Ok(())
@@ -155,7 +155,7 @@ impl LinkState {
         ensures shape { self.new.shape ≡ self.old.shape }
         ensures clock { self.new.clock ≡ self.old.clock }
         ensures kept { kept_in self.new ≡ kept_in self.old }
-        ensures row_fits { OnOk result (length self.new.rows.items < vec_capacity self.new.rows) }
+        ensures row_fits { OnOk result (length self.new.rows.items < self.new.rows.room) }
         ensures place_fits { OnOk result (channel_number row.now.chan < length self.new.index.places.items) }
         ensures hold_fits { OnOk result (length self.new.rows.items + 1 ≤ self.new.holds.spare) }
         ensures plan_fits { OnOk result (length self.new.rows.items + 1 ≤ self.new.plans.calendar.spare) }
@@ -166,12 +166,13 @@ impl LinkState {
         let bounds = self.shape.bounds;
         let places = self.keeping.places + 1 + row.slots(&bounds) + u64::from(self.shape.best) + 1;
         let room = self.packets.here.len() as u64 + places;
-        self.rows.reserve(1)?;
+        let rows = self.rows.len() + 1;
+        self.rows.reserve(rows)?;
         self.sums.reserve(1)?;
         self.packets.reserve(places as usize)?;
         self.index.reserve(row.chan)?;
-        self.holds.reserve(self.rows.len() + 1)?;
-        self.plans.reserve(self.rows.len() + 1)?;
+        self.holds.reserve(rows)?;
+        self.plans.reserve(rows)?;
         self.room = self.room.max(room);
         Ok(())
     }

@@ -9,6 +9,7 @@ ghost use Rattle.link_server.specs.Plans.{ArePlanned, AreCalled};
 ghost use Rattle.link_server.specs.Rows.{row_in, summed, IsWithinLevels, AreWithin};
 ghost use Rattle.link_server.specs.Sources.{step_in, brought_by, served_rows_after, lost_by_rows, IsReady, AreReady};
 
+use crate::keyed_list::KeyedList;
 use crate::packets::Packets;
 use crate::plans::{Plans, put_plan};
 use crate::row_index::RowIndex;
@@ -19,34 +20,34 @@ use tick_calendar::Calendar;
 // The rows, in their order, take the packets that are planned for this tick. It answers how many packets found no slot
 // free, and so were dropped. It looks only at the rows for which an entry of the calendar is due.
 pub(crate) fn take_source_packets(
-    rows: &mut [ServedRow],
+    rows: &mut KeyedList<ServedRow>,
     index: &RowIndex,
     plans: &mut Plans,
     packets: &mut Packets,
     bounds: &Bounds,
     clock: u64,
 ) -> u32
-    requires planned { ArePlanned clock plans.old.calendar (map row_in rows.old) }
-    requires indexed { IsIndex index.now.places.items (channels_in rows.old) }
-    requires turns { length rows.old ≤ vec_capacity plans.old.turns }
+    requires planned { ArePlanned clock plans.old.calendar (map row_in rows.old.items) }
+    requires indexed { IsIndex index.now.places.items (channels_in rows.old.items) }
+    requires turns { length rows.old.items ≤ vec_capacity plans.old.turns }
     requires early { clock < 2 ^ 61 }
-    requires few { length rows.old < 2 ^ 32 }
-    requires ready { AreReady clock rows.old }
-    requires within { AreWithin (length bounds.now) rows.old }
+    requires few { length rows.old.items < 2 ^ 32 }
+    requires ready { AreReady clock rows.old.items }
+    requires within { AreWithin (length bounds.now) rows.old.items }
     requires looked { packets.old.line.until ≤ clock }
-    requires room { length packets.old.here.items + length (brought_by bounds.now (here_in packets.old.here.items) clock packets.old.taken rows.old) ≤ packets.old.room }
-    requires numbers { packets.old.taken + length (brought_by bounds.now (here_in packets.old.here.items) clock packets.old.taken rows.old) < 2 ^ 64 }
-    ensures lost { result ≡ lost_by_rows bounds.now (here_in packets.old.here.items) clock rows.old }
-    ensures rows { map row_in rows.new ≡ served_rows_after bounds.now (here_in packets.old.here.items) clock packets.old.taken rows.old }
-    ensures here { here_in packets.new.here.items ≡ here_in packets.old.here.items ++ brought_by bounds.now (here_in packets.old.here.items) clock packets.old.taken rows.old }
-    ensures taken { packets.new.taken ≡ packets.old.taken + length (brought_by bounds.now (here_in packets.old.here.items) clock packets.old.taken rows.old) }
+    requires room { length packets.old.here.items + length (brought_by bounds.now (here_in packets.old.here.items) clock packets.old.taken rows.old.items) ≤ packets.old.room }
+    requires numbers { packets.old.taken + length (brought_by bounds.now (here_in packets.old.here.items) clock packets.old.taken rows.old.items) < 2 ^ 64 }
+    ensures lost { result ≡ lost_by_rows bounds.now (here_in packets.old.here.items) clock rows.old.items }
+    ensures rows { map row_in rows.new.items ≡ served_rows_after bounds.now (here_in packets.old.here.items) clock packets.old.taken rows.old.items }
+    ensures here { here_in packets.new.here.items ≡ here_in packets.old.here.items ++ brought_by bounds.now (here_in packets.old.here.items) clock packets.old.taken rows.old.items }
+    ensures taken { packets.new.taken ≡ packets.old.taken + length (brought_by bounds.now (here_in packets.old.here.items) clock packets.old.taken rows.old.items) }
     ensures on { packets.new.on ≡ packets.old.on }
     ensures best { packets.new.best ≡ packets.old.best }
     ensures room { packets.new.room ≡ packets.old.room }
     ensures looked { packets.new.line.until ≡ packets.old.line.until }
-    ensures summed { map summed rows.new ≡ map summed rows.old }
-    ensures levels { AreWithin (length bounds.now) rows.new }
-    ensures planned { ArePlanned clock plans.new.calendar (map row_in rows.new) }
+    ensures summed { map summed rows.new.items ≡ map summed rows.old.items }
+    ensures levels { AreWithin (length bounds.now) rows.new.items }
+    ensures planned { ArePlanned clock plans.new.calendar (map row_in rows.new.items) }
     ensures turns { vec_capacity plans.new.turns ≡ vec_capacity plans.old.turns }
 {
     plans.call(rows, index, clock);
@@ -63,33 +64,33 @@ pub(crate) fn take_source_packets(
 // The rows that have their turn, in their order, take the packets that are planned for this tick, and their next ones come on
 // the calendar. The others have none for it.
 fn take_turns(
-    rows: &mut [ServedRow],
+    rows: &mut KeyedList<ServedRow>,
     turns: &[usize],
     calendar: &mut Calendar,
     packets: &mut Packets,
     bounds: &Bounds,
     clock: u64,
 ) -> u32
-    requires called { AreCalled clock calendar.old turns.now rows.old }
+    requires called { AreCalled clock calendar.old turns.now rows.old.items }
     requires later { All (λ entry. clock < entry.0) calendar.old.entries }
     requires early { clock < 2 ^ 61 }
-    requires few { length rows.old < 2 ^ 32 }
-    requires ready { AreReady clock rows.old }
-    requires within { AreWithin (length bounds.now) rows.old }
+    requires few { length rows.old.items < 2 ^ 32 }
+    requires ready { AreReady clock rows.old.items }
+    requires within { AreWithin (length bounds.now) rows.old.items }
     requires looked { packets.old.line.until ≤ clock }
-    requires room { length packets.old.here.items + length (brought_by bounds.now (here_in packets.old.here.items) clock packets.old.taken rows.old) ≤ packets.old.room }
-    requires numbers { packets.old.taken + length (brought_by bounds.now (here_in packets.old.here.items) clock packets.old.taken rows.old) < 2 ^ 64 }
-    ensures lost { result ≡ lost_by_rows bounds.now (here_in packets.old.here.items) clock rows.old }
-    ensures rows { map row_in rows.new ≡ served_rows_after bounds.now (here_in packets.old.here.items) clock packets.old.taken rows.old }
-    ensures here { here_in packets.new.here.items ≡ here_in packets.old.here.items ++ brought_by bounds.now (here_in packets.old.here.items) clock packets.old.taken rows.old }
-    ensures taken { packets.new.taken ≡ packets.old.taken + length (brought_by bounds.now (here_in packets.old.here.items) clock packets.old.taken rows.old) }
+    requires room { length packets.old.here.items + length (brought_by bounds.now (here_in packets.old.here.items) clock packets.old.taken rows.old.items) ≤ packets.old.room }
+    requires numbers { packets.old.taken + length (brought_by bounds.now (here_in packets.old.here.items) clock packets.old.taken rows.old.items) < 2 ^ 64 }
+    ensures lost { result ≡ lost_by_rows bounds.now (here_in packets.old.here.items) clock rows.old.items }
+    ensures rows { map row_in rows.new.items ≡ served_rows_after bounds.now (here_in packets.old.here.items) clock packets.old.taken rows.old.items }
+    ensures here { here_in packets.new.here.items ≡ here_in packets.old.here.items ++ brought_by bounds.now (here_in packets.old.here.items) clock packets.old.taken rows.old.items }
+    ensures taken { packets.new.taken ≡ packets.old.taken + length (brought_by bounds.now (here_in packets.old.here.items) clock packets.old.taken rows.old.items) }
     ensures on { packets.new.on ≡ packets.old.on }
     ensures best { packets.new.best ≡ packets.old.best }
     ensures room { packets.new.room ≡ packets.old.room }
     ensures looked { packets.new.line.until ≡ packets.old.line.until }
-    ensures summed { map summed rows.new ≡ map summed rows.old }
-    ensures levels { AreWithin (length bounds.now) rows.new }
-    ensures planned { ArePlanned clock calendar.new (map row_in rows.new) }
+    ensures summed { map summed rows.new.items ≡ map summed rows.old.items }
+    ensures levels { AreWithin (length bounds.now) rows.new.items }
+    ensures planned { ArePlanned clock calendar.new (map row_in rows.new.items) }
 {
     let before = packets.here.len();
     let mut lost = 0;

@@ -8,8 +8,7 @@ use Rattle.net_units.specs.Numbers.{channel_number}
 use Rattle.rcsp_admission.specs.Sums.{Holds, without_key, IsDistinct}
 use Rattle.link_steps.specs.Buffer.{kept_units}
 use Rattle.link_steps.specs.Kept.{kept_stays}
-use Rattle.link_steps.specs.Lists.{Each}
-use Rattle.link_server.specs.Holds.{open_count, IsListed, AreListed, HasEnded, StaysIfOf}
+use Rattle.link_server.specs.Holds.{open_count, IsListed, AreListed, HasEnded}
 use Rattle.link_server.specs.Keeping.{places_for, IsKeeping}
 use Rattle.link_server.specs.Rows.{reservation_in, row_in, summed, IsWithinLevels, IsPlaceOf}
 use Rattle.link_server.specs.Sources.{IsReady}
@@ -25,7 +24,7 @@ use Rattle.link_server.proofs.expiry.expire.Goals.{After-index}
 
 -- the hold of the row at the place has ended
 ended : (c : After-index) → HasEnded c.args.bounds.now c.args.clock c.in-Some.key c.loop-key.rows.items c.in-Some-ended_place.place
-ended c = subst (λ rows. HasEnded c.args.bounds.now c.args.clock c.in-Some.key rows c.in-Some-ended_place.place) c.deref.ensures.value c.in-Some-ended_place.ensures.some
+ended c = c.in-Some-ended_place.ensures.some
 
 -- the row at the place
 abbrev at-place : After-index → ServedRow
@@ -99,7 +98,7 @@ loop-key-preserved c =
       stay = l.stay;
       listed =
           due-taken c.args.bounds.now c.args.clock c.in-Some.key c.loop-key.holds c.take_due.new.self (map row_in c.loop-key.rows.items) c.in-Some.ensures.taken c.in-Some.ensures.spare c.take_due.ensures.clock listed.listed listed.room
-          (subst (λ rows. Each (StaysIfOf c.args.bounds.now c.args.clock c.in-Some.key) (map row_in rows)) c.deref.ensures.value c.in_default-ended_place.ensures.none);
+          (c.in_default-ended_place.ensures.none);
       ready = l.ready;
       within = l.within;
       admitted = l.admitted;

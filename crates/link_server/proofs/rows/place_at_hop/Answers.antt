@@ -5,4 +5,4 @@ use Rattle.link_server.proofs.rows.place_at_hop.Goals as goal
 
 pub returns-clause-none : goal.returns-clause-none
 returns-clause-none c =
-    no-other-hop c.args.index.now.places.items c.args.chan c.args.first c.args.rows.now c.in_ok-place.place c.index-rows-place.result c.requires c.in_ok-place.ensures.some c.index-rows-place.is (sym c.is_at_hop.ensures ∙ c.if-is_at_hop.false)
+    no-other-hop c.args.index.now.places.items c.args.chan c.args.first c.args.rows.now.items c.in_ok-place.place c.index.result.now c.requires c.in_ok-place.ensures.some c.index.ensures (sym c.is_at_hop.ensures ∙ c.if-is_at_hop.false)

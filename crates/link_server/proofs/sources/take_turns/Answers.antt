@@ -11,7 +11,7 @@ use Rattle.link_server.specs.Packets.{arrival_in, here_in}
 use Rattle.link_server.specs.Planned.{IsPlannedFrom, IsPlannedAhead}
 use Rattle.link_server.specs.Plans.{IsTold, idle_count}
 use Rattle.link_server.specs.Rows.{row_in, summed, IsWithinLevels}
-use Rattle.link_server.specs.Sources.{step_in, brought_by}
+use Rattle.link_server.specs.Sources.{step_in, brought_by, IsReady}
 use Rattle.link_server.proofs.SourceRows.{StandsStepped, one-stepped, all-stepped, ready-now, packets-now, lost-more, lost-same, front-same, front-within, terms-stepped}
 use Rattle.link_server.proofs.SourceTurns.{first-turn, next-turn, turn-inside, turn-due, stepped-later, told-after, room-after, all-turned}
 use Rattle.link_server.proofs.SumsFacts.{summed-same, within-same}
@@ -23,7 +23,8 @@ loop-place-init c =
     let long : length (here_in c.args.packets.now.here.items) ≡ length c.args.packets.now.here.items = length-map c.args.packets.now.here.items arrival_in in
     let room = c.requires.called.room in
     record {
-      stepped = first-turn c.args.bounds.now (here_in c.args.packets.now.here.items) c.args.clock c.args.packets.now.taken c.args.calendar.now c.args.turns.now c.args.rows.now c.requires.called c.requires.later;
+      stepped = first-turn c.args.bounds.now (here_in c.args.packets.now.here.items) c.args.clock c.args.packets.now.taken c.args.calendar.now c.args.turns.now c.args.rows.now.items c.requires.called c.requires.later;
+      long = refl;
       begun = c.requires.called.begun;
       told = c.requires.called.told;
       spare = omega (arith, room);
@@ -37,38 +38,35 @@ loop-place-init c =
       levels = c.requires.within;
     }
 
-pub bounds-rows-place : goal.bounds-rows-place
-bounds-rows-place c = turn-inside c.args.turns.now c.args.rows.now c.loop-place.rows c.loop-place.place-index c.requires.called.rising c.loop-place.auto.rows c.loop-place-test.true
-
-pub offset_bounds-rows-place : goal.offset_bounds-rows-place
-offset_bounds-rows-place c =
-    let inside = turn-inside c.args.turns.now c.args.rows.now c.loop-place.rows c.loop-place.place-index c.requires.called.rising c.loop-place.auto.rows c.loop-place-test.true in
-    omega (arith, inside, c.loop-place.auto.rows, c.requires.few)
+pub index_mut-requires : goal.index_mut-requires
+index_mut-requires c = turn-inside c.args.turns.now c.args.rows.now.items c.loop-place.rows.items c.loop-place.place-index c.requires.called.rising c.loop-place.invariant.long c.loop-place-test.true
 
 pub take_source_packet-requires-clause-ready : goal.take_source_packet-requires-clause-ready
 take_source_packet-requires-clause-ready c =
-    let stepped = turn-due c.args.bounds.now (here_in c.args.packets.now.here.items) c.args.clock c.args.packets.now.taken c.args.turns.now c.args.rows.now c.loop-place.place-index c.loop-place.rows (here_in c.loop-place.packets.here.items) c.loop-place.packets.taken c.loop-place.lost c.loop-place-test.true c.loop-place.invariant.stepped in
-    ready-now c.args.clock c.args.rows.now (get_or c.args.turns.now c.loop-place.place-index 0) c.loop-place.rows c.index-rows-place.result stepped.after c.requires.ready
-    (turn-inside c.args.turns.now c.args.rows.now c.loop-place.rows c.loop-place.place-index c.requires.called.rising c.loop-place.auto.rows c.loop-place-test.true)
+    let stepped = turn-due c.args.bounds.now (here_in c.args.packets.now.here.items) c.args.clock c.args.packets.now.taken c.args.turns.now c.args.rows.now.items c.loop-place.place-index c.loop-place.rows.items (here_in c.loop-place.packets.here.items) c.loop-place.packets.taken c.loop-place.lost c.loop-place-test.true c.loop-place.invariant.stepped in
+    subst (λ row. IsReady c.args.clock (row_in row)) (sym c.index_mut.ensures.value)
+    (ready-now c.args.clock c.args.rows.now.items (get_or c.args.turns.now c.loop-place.place-index 0) c.loop-place.rows.items c.index_mut.result.now stepped.after c.requires.ready
+    (turn-inside c.args.turns.now c.args.rows.now.items c.loop-place.rows.items c.loop-place.place-index c.requires.called.rising c.loop-place.invariant.long c.loop-place-test.true))
 
 pub take_source_packet-requires-clause-within : goal.take_source_packet-requires-clause-within
 take_source_packet-requires-clause-within c =
-    c.loop-place.invariant.levels (get_or c.args.turns.now c.loop-place.place-index 0) c.index-rows-place.result
-    (turn-inside c.args.turns.now c.args.rows.now c.loop-place.rows c.loop-place.place-index c.requires.called.rising c.loop-place.auto.rows c.loop-place-test.true)
+    subst (IsWithinLevels (length c.args.bounds.now)) (sym c.index_mut.ensures.value)
+    (c.loop-place.invariant.levels (get_or c.args.turns.now c.loop-place.place-index 0) c.index_mut.result.now
+    (turn-inside c.args.turns.now c.args.rows.now.items c.loop-place.rows.items c.loop-place.place-index c.requires.called.rising c.loop-place.invariant.long c.loop-place-test.true))
 
 pub take_source_packet-requires-clause-room : goal.take_source_packet-requires-clause-room
 take_source_packet-requires-clause-room c =
     let was = here_in c.args.packets.now.here.items in
     let place = get_or c.args.turns.now c.loop-place.place-index 0 in
-    let row = get_or c.loop-place.rows place c.index-rows-place.result in
-    let step : taken_by (step_in c.args.bounds.now (take c.len-before.result (here_in c.loop-place.packets.here.items)) c.args.clock row) ≡ taken_by (step_in c.args.bounds.now was c.args.clock row) =
-    ap (λ here. taken_by (step_in c.args.bounds.now here c.args.clock row)) c.loop-place.invariant.front in
-    let stepped = turn-due c.args.bounds.now was c.args.clock c.args.packets.now.taken c.args.turns.now c.args.rows.now c.loop-place.place-index c.loop-place.rows (here_in c.loop-place.packets.here.items) c.loop-place.packets.taken c.loop-place.lost c.loop-place-test.true c.loop-place.invariant.stepped in
-    let inside = turn-inside c.args.turns.now c.args.rows.now c.loop-place.rows c.loop-place.place-index c.requires.called.rising c.loop-place.auto.rows c.loop-place-test.true in
-    let fits = packets-now c.args.bounds.now was c.args.clock c.loop-place.packets.taken c.args.rows.now place c.loop-place.rows c.index-rows-place.result stepped.after inside in
+    let row = get_or c.loop-place.rows.items place c.index_mut.result.now in
+    let step : taken_by (step_in c.args.bounds.now (take c.len-before.result (here_in c.loop-place.packets.here.items)) c.args.clock c.index_mut.result.now) ≡ taken_by (step_in c.args.bounds.now was c.args.clock row) =
+    ap (λ here. taken_by (step_in c.args.bounds.now here c.args.clock c.index_mut.result.now)) c.loop-place.invariant.front ∙ ap (λ r. taken_by (step_in c.args.bounds.now was c.args.clock r)) c.index_mut.ensures.value in
+    let stepped = turn-due c.args.bounds.now was c.args.clock c.args.packets.now.taken c.args.turns.now c.args.rows.now.items c.loop-place.place-index c.loop-place.rows.items (here_in c.loop-place.packets.here.items) c.loop-place.packets.taken c.loop-place.lost c.loop-place-test.true c.loop-place.invariant.stepped in
+    let inside = turn-inside c.args.turns.now c.args.rows.now.items c.loop-place.rows.items c.loop-place.place-index c.requires.called.rising c.loop-place.invariant.long c.loop-place-test.true in
+    let fits = packets-now c.args.bounds.now was c.args.clock c.loop-place.packets.taken c.args.rows.now.items place c.loop-place.rows.items c.index_mut.result.now stepped.after inside in
     let all = ap length stepped.here in
-    let now = length-append (here_in c.loop-place.packets.here.items) (brought_by c.args.bounds.now was c.args.clock c.loop-place.packets.taken (drop place c.args.rows.now)) in
-    let whole = length-append was (brought_by c.args.bounds.now was c.args.clock c.args.packets.now.taken c.args.rows.now) in
+    let now = length-append (here_in c.loop-place.packets.here.items) (brought_by c.args.bounds.now was c.args.clock c.loop-place.packets.taken (drop place c.args.rows.now.items)) in
+    let whole = length-append was (brought_by c.args.bounds.now was c.args.clock c.args.packets.now.taken c.args.rows.now.items) in
     let long = length-map c.loop-place.packets.here.items arrival_in in
     let before = length-map c.args.packets.now.here.items arrival_in in
     omega (arith, step, fits, all, now, whole, long, before, c.requires.room, c.loop-place.invariant.room)
@@ -77,44 +75,40 @@ pub take_source_packet-requires-clause-numbers : goal.take_source_packet-require
 take_source_packet-requires-clause-numbers c =
     let was = here_in c.args.packets.now.here.items in
     let place = get_or c.args.turns.now c.loop-place.place-index 0 in
-    let row = get_or c.loop-place.rows place c.index-rows-place.result in
-    let step : taken_by (step_in c.args.bounds.now (take c.len-before.result (here_in c.loop-place.packets.here.items)) c.args.clock row) ≡ taken_by (step_in c.args.bounds.now was c.args.clock row) =
-    ap (λ here. taken_by (step_in c.args.bounds.now here c.args.clock row)) c.loop-place.invariant.front in
-    let stepped = turn-due c.args.bounds.now was c.args.clock c.args.packets.now.taken c.args.turns.now c.args.rows.now c.loop-place.place-index c.loop-place.rows (here_in c.loop-place.packets.here.items) c.loop-place.packets.taken c.loop-place.lost c.loop-place-test.true c.loop-place.invariant.stepped in
-    let inside = turn-inside c.args.turns.now c.args.rows.now c.loop-place.rows c.loop-place.place-index c.requires.called.rising c.loop-place.auto.rows c.loop-place-test.true in
-    let fits = packets-now c.args.bounds.now was c.args.clock c.loop-place.packets.taken c.args.rows.now place c.loop-place.rows c.index-rows-place.result stepped.after inside in
+    let row = get_or c.loop-place.rows.items place c.index_mut.result.now in
+    let step : taken_by (step_in c.args.bounds.now (take c.len-before.result (here_in c.loop-place.packets.here.items)) c.args.clock c.index_mut.result.now) ≡ taken_by (step_in c.args.bounds.now was c.args.clock row) =
+    ap (λ here. taken_by (step_in c.args.bounds.now here c.args.clock c.index_mut.result.now)) c.loop-place.invariant.front ∙ ap (λ r. taken_by (step_in c.args.bounds.now was c.args.clock r)) c.index_mut.ensures.value in
+    let stepped = turn-due c.args.bounds.now was c.args.clock c.args.packets.now.taken c.args.turns.now c.args.rows.now.items c.loop-place.place-index c.loop-place.rows.items (here_in c.loop-place.packets.here.items) c.loop-place.packets.taken c.loop-place.lost c.loop-place-test.true c.loop-place.invariant.stepped in
+    let inside = turn-inside c.args.turns.now c.args.rows.now.items c.loop-place.rows.items c.loop-place.place-index c.requires.called.rising c.loop-place.invariant.long c.loop-place-test.true in
+    let fits = packets-now c.args.bounds.now was c.args.clock c.loop-place.packets.taken c.args.rows.now.items place c.loop-place.rows.items c.index_mut.result.now stepped.after inside in
     let all = stepped.taken in
     omega (arith, step, fits, all, c.requires.numbers)
 
 pub overflow_add-lost : goal.overflow_add-lost
 overflow_add-lost c =
-    let stepped = turn-due c.args.bounds.now (here_in c.args.packets.now.here.items) c.args.clock c.args.packets.now.taken c.args.turns.now c.args.rows.now c.loop-place.place-index c.loop-place.rows (here_in c.loop-place.packets.here.items) c.loop-place.packets.taken c.loop-place.lost c.loop-place-test.true c.loop-place.invariant.stepped in
-    let inside = turn-inside c.args.turns.now c.args.rows.now c.loop-place.rows c.loop-place.place-index c.requires.called.rising c.loop-place.auto.rows c.loop-place-test.true in
+    let stepped = turn-due c.args.bounds.now (here_in c.args.packets.now.here.items) c.args.clock c.args.packets.now.taken c.args.turns.now c.args.rows.now.items c.loop-place.place-index c.loop-place.rows.items (here_in c.loop-place.packets.here.items) c.loop-place.packets.taken c.loop-place.lost c.loop-place-test.true c.loop-place.invariant.stepped in
+    let inside = turn-inside c.args.turns.now c.args.rows.now.items c.loop-place.rows.items c.loop-place.place-index c.requires.called.rising c.loop-place.invariant.long c.loop-place-test.true in
     let few = stepped.few in
-    omega (arith, few, inside, c.loop-place.auto.rows, c.requires.few)
+    omega (arith, few, inside, c.loop-place.invariant.long, c.requires.few)
 
-pub bounds-rows-place-in-loop-place : goal.bounds-rows-place-in-loop-place
-bounds-rows-place-in-loop-place c =
-    let inside = turn-inside c.args.turns.now c.args.rows.now c.loop-place.rows c.loop-place.place-index c.requires.called.rising c.loop-place.auto.rows c.loop-place-test.true in
-    let same = length-set c.loop-place.rows (get_or c.args.turns.now c.loop-place.place-index 0) c.take_source_packet.new.row in
+pub index-requires : goal.index-requires
+index-requires c =
+    let inside = turn-inside c.args.turns.now c.args.rows.now.items c.loop-place.rows.items c.loop-place.place-index c.requires.called.rising c.loop-place.invariant.long c.loop-place-test.true in
+    let same = length-set c.loop-place.rows.items (get_or c.args.turns.now c.loop-place.place-index 0) c.take_source_packet.new.row in
     omega (arith, inside, same)
-
-pub offset_bounds-rows-place-in-loop-place : goal.offset_bounds-rows-place-in-loop-place
-offset_bounds-rows-place-in-loop-place c =
-    let inside = turn-inside c.args.turns.now c.args.rows.now c.loop-place.rows c.loop-place.place-index c.requires.called.rising c.loop-place.auto.rows c.loop-place-test.true in
-    omega (arith, inside, c.loop-place.auto.rows, c.requires.few)
 
 -- ---- the step of a turn
 
 pub put_plan-requires-clause-ahead : goal.put_plan-requires-clause-ahead
 put_plan-requires-clause-ahead c =
-    let row = get_or c.loop-place.rows (get_or c.args.turns.now c.loop-place.place-index 0) c.index-rows-place.result in
-    let inside = turn-inside c.args.turns.now c.args.rows.now c.loop-place.rows c.loop-place.place-index c.requires.called.rising c.loop-place.auto.rows c.loop-place-test.true in
-    let put : c.index-rows-place-in-loop-place.result ≡ c.take_source_packet.new.row = c.index-rows-place-in-loop-place.is ∙ get_or-set_same c.loop-place.rows (get_or c.args.turns.now c.loop-place.place-index 0) c.take_source_packet.new.row c.index-rows-place-in-loop-place.result inside in
+    let row = get_or c.loop-place.rows.items (get_or c.args.turns.now c.loop-place.place-index 0) c.index_mut.result.now in
+    let inside = turn-inside c.args.turns.now c.args.rows.now.items c.loop-place.rows.items c.loop-place.place-index c.requires.called.rising c.loop-place.invariant.long c.loop-place-test.true in
+    let put : c.index.result.now ≡ c.take_source_packet.new.row = c.index.ensures ∙ get_or-set_same c.loop-place.rows.items (get_or c.args.turns.now c.loop-place.place-index 0) c.take_source_packet.new.row c.index.result.now inside in
     let stepped : row_in c.take_source_packet.new.row ≡ kept_after_step (step_in c.args.bounds.now (here_in c.args.packets.now.here.items) c.args.clock row) c.args.clock (suc c.loop-place.packets.taken) (row_in row) =
-    subst (λ h. row_in c.take_source_packet.new.row ≡ kept_after_step (step_in c.args.bounds.now h c.args.clock row) c.args.clock (suc c.loop-place.packets.taken) (row_in row)) c.loop-place.invariant.front c.take_source_packet.ensures.row in
+    subst (λ h. row_in c.take_source_packet.new.row ≡ kept_after_step (step_in c.args.bounds.now h c.args.clock row) c.args.clock (suc c.loop-place.packets.taken) (row_in row)) c.loop-place.invariant.front
+    (subst (λ r. row_in c.take_source_packet.new.row ≡ kept_after_step (step_in c.args.bounds.now (take c.len-before.result (here_in c.loop-place.packets.here.items)) c.args.clock r) c.args.clock (suc c.loop-place.packets.taken) (row_in r)) c.index_mut.ensures.value c.take_source_packet.ensures.row) in
     let later = stepped-later (step_in c.args.bounds.now (here_in c.args.packets.now.here.items) c.args.clock row) c.args.clock (suc c.loop-place.packets.taken) (row_in c.take_source_packet.new.row) (row_in row) stepped in
-    subst (λ r. IsPlannedAhead c.loop-place.calendar.clock r.planned) (sym put ∙ c.index-rows-place-in-loop-place.is)
+    subst (λ r. IsPlannedAhead c.loop-place.calendar.clock r.planned) (sym put)
     (Each-if (IsPlannedFrom (suc c.args.clock)) (IsPlannedFrom c.loop-place.calendar.clock) (row_in c.take_source_packet.new.row).left (λ p from. (let begun = c.loop-place.invariant.begun in omega (arith, from, begun))) later)
 
 pub put_plan-requires-clause-room : goal.put_plan-requires-clause-room
@@ -125,39 +119,44 @@ put_plan-requires-clause-room c =
 pub loop-place-preserved : goal.loop-place-preserved
 loop-place-preserved c =
     let place = get_or c.args.turns.now c.loop-place.place-index 0 in
-    let row = get_or c.loop-place.rows place c.index-rows-place.result in
+    let row = get_or c.loop-place.rows.items place c.index_mut.result.now in
     let new = c.take_source_packet.new.row in
     let was = here_in c.args.packets.now.here.items in
     let front = c.loop-place.invariant.front in
-    let inside = turn-inside c.args.turns.now c.args.rows.now c.loop-place.rows c.loop-place.place-index c.requires.called.rising c.loop-place.auto.rows c.loop-place-test.true in
-    let put = get_or-set_same c.loop-place.rows place new c.index-rows-place-in-loop-place.result inside in
+    let inside = turn-inside c.args.turns.now c.args.rows.now.items c.loop-place.rows.items c.loop-place.place-index c.requires.called.rising c.loop-place.invariant.long c.loop-place-test.true in
+    let put = c.index.ensures ∙ get_or-set_same c.loop-place.rows.items place new c.index.result.now inside in
     let stepped : row_in c.take_source_packet.new.row ≡ kept_after_step (step_in c.args.bounds.now (here_in c.args.packets.now.here.items) c.args.clock row) c.args.clock (suc c.loop-place.packets.taken) (row_in row) =
-    subst (λ h. row_in c.take_source_packet.new.row ≡ kept_after_step (step_in c.args.bounds.now h c.args.clock row) c.args.clock (suc c.loop-place.packets.taken) (row_in row)) c.loop-place.invariant.front c.take_source_packet.ensures.row in
-    let so = turn-due c.args.bounds.now was c.args.clock c.args.packets.now.taken c.args.turns.now c.args.rows.now c.loop-place.place-index c.loop-place.rows (here_in c.loop-place.packets.here.items) c.loop-place.packets.taken c.loop-place.lost c.loop-place-test.true c.loop-place.invariant.stepped in
+    subst (λ h. row_in c.take_source_packet.new.row ≡ kept_after_step (step_in c.args.bounds.now h c.args.clock row) c.args.clock (suc c.loop-place.packets.taken) (row_in row)) c.loop-place.invariant.front
+    (subst (λ r. row_in c.take_source_packet.new.row ≡ kept_after_step (step_in c.args.bounds.now (take c.len-before.result (here_in c.loop-place.packets.here.items)) c.args.clock r) c.args.clock (suc c.loop-place.packets.taken) (row_in r)) c.index_mut.ensures.value c.take_source_packet.ensures.row) in
+    let so = turn-due c.args.bounds.now was c.args.clock c.args.packets.now.taken c.args.turns.now c.args.rows.now.items c.loop-place.place-index c.loop-place.rows.items (here_in c.loop-place.packets.here.items) c.loop-place.packets.taken c.loop-place.lost c.loop-place-test.true c.loop-place.invariant.stepped in
     let terms = terms-stepped (step_in c.args.bounds.now was c.args.clock row) c.args.clock (suc c.loop-place.packets.taken) new row stepped in
     let brought : here_in c.take_source_packet.new.packets.here.items ≡ here_in c.loop-place.packets.here.items ++ kept_packet (step_in c.args.bounds.now was c.args.clock row) c.args.clock (suc c.loop-place.packets.taken) (row_in row) =
-    subst (λ h. here_in c.take_source_packet.new.packets.here.items ≡ here_in c.loop-place.packets.here.items ++ kept_packet (step_in c.args.bounds.now h c.args.clock row) c.args.clock (suc c.loop-place.packets.taken) (row_in row)) front c.take_source_packet.ensures.here in
+    subst (λ h. here_in c.take_source_packet.new.packets.here.items ≡ here_in c.loop-place.packets.here.items ++ kept_packet (step_in c.args.bounds.now h c.args.clock row) c.args.clock (suc c.loop-place.packets.taken) (row_in row)) front
+    (subst (λ r. here_in c.take_source_packet.new.packets.here.items ≡ here_in c.loop-place.packets.here.items ++ kept_packet (step_in c.args.bounds.now (take c.len-before.result (here_in c.loop-place.packets.here.items)) c.args.clock r) c.args.clock (suc c.loop-place.packets.taken) (row_in r)) c.index_mut.ensures.value c.take_source_packet.ensures.here) in
     let taken : c.take_source_packet.new.packets.taken ≡ c.loop-place.packets.taken + taken_by (step_in c.args.bounds.now was c.args.clock row) =
-    subst (λ h. c.take_source_packet.new.packets.taken ≡ c.loop-place.packets.taken + taken_by (step_in c.args.bounds.now h c.args.clock row)) front c.take_source_packet.ensures.taken in
-    let counted = subst (λ h. (if c.take_source_packet.result then 1 else 0) ≡ dropped_by (step_in c.args.bounds.now h c.args.clock row)) front c.take_source_packet.ensures.lost in
+    subst (λ h. c.take_source_packet.new.packets.taken ≡ c.loop-place.packets.taken + taken_by (step_in c.args.bounds.now h c.args.clock row)) front
+    (subst (λ r. c.take_source_packet.new.packets.taken ≡ c.loop-place.packets.taken + taken_by (step_in c.args.bounds.now (take c.len-before.result (here_in c.loop-place.packets.here.items)) c.args.clock r)) c.index_mut.ensures.value c.take_source_packet.ensures.taken) in
+    let counted = subst (λ h. (if c.take_source_packet.result then 1 else 0) ≡ dropped_by (step_in c.args.bounds.now h c.args.clock row)) front
+    (subst (λ r. (if c.take_source_packet.result then 1 else 0) ≡ dropped_by (step_in c.args.bounds.now (take c.len-before.result (here_in c.loop-place.packets.here.items)) c.args.clock r)) c.index_mut.ensures.value c.take_source_packet.ensures.lost) in
     let lost : c.if-take_source_packet.lost ≡ c.loop-place.lost + dropped_by (step_in c.args.bounds.now was c.args.clock row) = elim c.if-take_source_packet.branch [
       | then-take_source_packet w ↦ lost-more c.take_source_packet.result c.loop-place.lost _ _ counted w.if-take_source_packet.true w.lost-is
       | else-take_source_packet w ↦ lost-same c.take_source_packet.result c.loop-place.lost _ _ counted w.if-take_source_packet.false w.lost-is
     ] in
-    let same = length-set c.loop-place.rows place new in
+    let same = length-set c.loop-place.rows.items place new in
     record {
       stepped =
-          next-turn c.args.bounds.now was c.args.clock c.args.packets.now.taken c.args.calendar.now c.args.turns.now c.args.rows.now c.loop-place.place-index (set c.loop-place.rows place new) (here_in c.take_source_packet.new.packets.here.items) c.take_source_packet.new.packets.taken c.if-take_source_packet.lost
-          c.requires.called c.requires.later (same ∙ c.loop-place.auto.rows) c.loop-place-test.true
-          (one-stepped c.args.bounds.now was c.args.clock c.args.packets.now.taken c.args.rows.now place c.loop-place.rows (here_in c.loop-place.packets.here.items) c.loop-place.packets.taken c.loop-place.lost
-          c.index-rows-place.result new (here_in c.take_source_packet.new.packets.here.items) c.take_source_packet.new.packets.taken c.if-take_source_packet.lost
+          next-turn c.args.bounds.now was c.args.clock c.args.packets.now.taken c.args.calendar.now c.args.turns.now c.args.rows.now.items c.loop-place.place-index (set c.loop-place.rows.items place new) (here_in c.take_source_packet.new.packets.here.items) c.take_source_packet.new.packets.taken c.if-take_source_packet.lost
+          c.requires.called c.requires.later (same ∙ c.loop-place.invariant.long) c.loop-place-test.true
+          (one-stepped c.args.bounds.now was c.args.clock c.args.packets.now.taken c.args.rows.now.items place c.loop-place.rows.items (here_in c.loop-place.packets.here.items) c.loop-place.packets.taken c.loop-place.lost
+          c.index_mut.result.now new (here_in c.take_source_packet.new.packets.here.items) c.take_source_packet.new.packets.taken c.if-take_source_packet.lost
           so inside stepped brought taken lost);
+      long = same ∙ c.loop-place.invariant.long;
       begun = (let begun = c.loop-place.invariant.begun in omega (arith, begun, c.put_plan.ensures.clock));
       told =
-          told-after c.args.turns.now c.loop-place.place-index c.loop-place.calendar.entries c.put_plan.new.calendar.entries c.loop-place.rows new c.loop-place-test.true inside
+          told-after c.args.turns.now c.loop-place.place-index c.loop-place.calendar.entries c.put_plan.new.calendar.entries c.loop-place.rows.items new c.loop-place-test.true inside
           c.loop-place.invariant.told c.put_plan.ensures.others (subst (λ r. IsTold c.put_plan.new.calendar.entries (row_in r)) put c.put_plan.ensures.own);
       spare =
-          room-after (length c.args.turns.now) c.loop-place.place-index c.loop-place.calendar c.put_plan.new.calendar c.loop-place.rows place new c.index-rows-place.result c.loop-place-test.true inside
+          room-after (length c.args.turns.now) c.loop-place.place-index c.loop-place.calendar c.put_plan.new.calendar c.loop-place.rows.items place new c.index_mut.result.now c.loop-place-test.true inside
           c.loop-place.invariant.spare (subst (λ r. idle_count (row_in r) + c.loop-place.calendar.spare ≤ c.put_plan.new.calendar.spare + 1) put c.put_plan.ensures.room);
       before = front-within c.len-before.result c.loop-place.packets.here.items c.take_source_packet.new.packets.here.items _ c.loop-place.invariant.before brought;
       front = front-same c.len-before.result c.loop-place.packets.here.items c.take_source_packet.new.packets.here.items _ c.loop-place.invariant.before brought ∙ front;
@@ -166,20 +165,20 @@ loop-place-preserved c =
       room = c.take_source_packet.ensures.room ∙ c.loop-place.invariant.room;
       looked = c.take_source_packet.ensures.looked ∙ c.loop-place.invariant.looked;
       summed =
-          map-set_same summed c.loop-place.rows place new c.index-rows-place.result (summed-same new row terms)
+          map-set_same summed c.loop-place.rows.items place new c.index_mut.result.now (summed-same new row terms)
           ∙ c.loop-place.invariant.summed;
       levels =
-          All-set (IsWithinLevels _) c.loop-place.rows place new
-          (within-same _ new row terms (c.loop-place.invariant.levels place c.index-rows-place.result inside))
+          All-set (IsWithinLevels _) c.loop-place.rows.items place new
+          (within-same _ new row terms (c.loop-place.invariant.levels place c.index_mut.result.now inside))
           c.loop-place.invariant.levels;
     }
 
 -- the loop has gone through all turns
-stepped : (c : After-loop-place) → StandsStepped c.args.bounds.now (here_in c.args.packets.now.here.items) c.args.clock c.args.packets.now.taken c.args.rows.now c.loop-place.rows (here_in c.loop-place.packets.here.items) c.loop-place.packets.taken c.loop-place.lost
+stepped : (c : After-loop-place) → StandsStepped c.args.bounds.now (here_in c.args.packets.now.here.items) c.args.clock c.args.packets.now.taken c.args.rows.now.items c.loop-place.rows.items (here_in c.loop-place.packets.here.items) c.loop-place.packets.taken c.loop-place.lost
 stepped c =
-    let end : get_or c.args.turns.now c.loop-place.place-index (length c.args.rows.now) ≡ length c.args.rows.now = get_or_past c.args.turns.now c.loop-place.place-index (length c.args.rows.now) (omega (arith, c.loop-place-test.false)) in
-    all-stepped c.args.bounds.now (here_in c.args.packets.now.here.items) c.args.clock c.args.packets.now.taken c.args.rows.now (get_or c.args.turns.now c.loop-place.place-index (length c.args.rows.now)) c.loop-place.rows (here_in c.loop-place.packets.here.items) c.loop-place.packets.taken c.loop-place.lost
-    c.loop-place.invariant.stepped (omega (arith, end)) (omega (arith, end, c.loop-place.auto.rows))
+    let end : get_or c.args.turns.now c.loop-place.place-index (length c.args.rows.now.items) ≡ length c.args.rows.now.items = get_or_past c.args.turns.now c.loop-place.place-index (length c.args.rows.now.items) (omega (arith, c.loop-place-test.false)) in
+    all-stepped c.args.bounds.now (here_in c.args.packets.now.here.items) c.args.clock c.args.packets.now.taken c.args.rows.now.items (get_or c.args.turns.now c.loop-place.place-index (length c.args.rows.now.items)) c.loop-place.rows.items (here_in c.loop-place.packets.here.items) c.loop-place.packets.taken c.loop-place.lost
+    c.loop-place.invariant.stepped (omega (arith, end)) (omega (arith, end, c.loop-place.invariant.long))
 
 pub returns-clause-lost : goal.returns-clause-lost
 returns-clause-lost c = (stepped c).lost
@@ -194,4 +193,4 @@ pub returns-clause-taken : goal.returns-clause-taken
 returns-clause-taken c = (stepped c).taken
 
 pub returns-clause-planned : goal.returns-clause-planned
-returns-clause-planned c = all-turned c.args.clock c.loop-place.calendar c.args.turns.now c.loop-place.place-index c.loop-place.rows c.loop-place.invariant.begun (omega (arith, c.loop-place-test.false)) c.loop-place.invariant.told c.loop-place.invariant.spare
+returns-clause-planned c = all-turned c.args.clock c.loop-place.calendar c.args.turns.now c.loop-place.place-index c.loop-place.rows.items c.loop-place.invariant.begun (omega (arith, c.loop-place-test.false)) c.loop-place.invariant.told c.loop-place.invariant.spare

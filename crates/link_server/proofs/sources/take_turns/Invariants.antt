@@ -10,16 +10,17 @@ use Rattle.link_server.proofs.sources.take_turns.Given as goal
 -- taken so far; the next packets of all but the rows whose turn is yet to come are on the calendar
 abbrev pub invariant-loop-place : goal.invariant-loop-place
 invariant-loop-place l = record {
-  stepped : HaveStepped l.bounds (here_in l.fn.packets.here.items) l.clock l.fn.packets.taken l.fn.rows (get_or l.turns l.place-index (length l.fn.rows)) l.rows (here_in l.packets.here.items) l.packets.taken l.lost;
+  stepped : HaveStepped l.bounds (here_in l.fn.packets.here.items) l.clock l.fn.packets.taken l.fn.rows.items (get_or l.turns l.place-index (length l.fn.rows.items)) l.rows.items (here_in l.packets.here.items) l.packets.taken l.lost;
+  long : length l.rows.items ≡ length l.fn.rows.items;
   begun : l.calendar.clock ≤ l.clock;
-  told : (place : ℕ) (d : ServedRow) → place < length l.rows → is_turn (drop l.place-index l.turns) place ≡ false → IsTold l.calendar.entries (row_in (get_or l.rows place d));
-  spare : idle_in (map row_in l.rows) + (length l.turns - l.place-index) ≤ l.calendar.spare;
+  told : (place : ℕ) (d : ServedRow) → place < length l.rows.items → is_turn (drop l.place-index l.turns) place ≡ false → IsTold l.calendar.entries (row_in (get_or l.rows.items place d));
+  spare : idle_in (map row_in l.rows.items) + (length l.turns - l.place-index) ≤ l.calendar.spare;
   before : l.before ≤ length l.packets.here.items;
   front : take l.before (here_in l.packets.here.items) ≡ here_in l.fn.packets.here.items;
   on : l.packets.on ≡ l.fn.packets.on;
   best : l.packets.best ≡ l.fn.packets.best;
   room : l.packets.room ≡ l.fn.packets.room;
   looked : l.packets.line.until ≡ l.fn.packets.line.until;
-  summed : map summed l.rows ≡ map summed l.fn.rows;
-  levels : AreWithin (length l.bounds) l.rows;
+  summed : map summed l.rows.items ≡ map summed l.fn.rows.items;
+  levels : AreWithin (length l.bounds) l.rows.items;
 }

@@ -20,7 +20,7 @@ use Rattle.link_server.proofs.CalendarRows.{listed-put, open-room}
 use Rattle.link_server.proofs.CalendarSteps.{stray-open}
 use Rattle.link_server.specs.Account.{account}
 use Rattle.link_server.specs.Packets.{here_in}
-use Rattle.link_server.specs.Rows.{reservation_in, row_in, summed, IsAbsent, IsPlaceOf, IsWithinLevels}
+use Rattle.link_server.specs.Rows.{reservation_in, row_in, summed, IsPlaceOf, IsWithinLevels}
 use Rattle.link_server.specs.Keeping.{IsKeeping}
 use Rattle.link_server.specs.Sound.{IsSound}
 use Rattle.link_server.specs.Sources.{IsReady}
@@ -42,14 +42,14 @@ use Rattle.link_server.proofs.link_state.LinkState.arrive.Goals.{In-Some, After-
 
 pub returns-in_default-clause-reply : goal.returns-in_default-clause-reply
 returns-in_default-clause-reply c =
-    arrive-absent c.args.self.now.shape c.args.self.now.clock c.args.self.now.packets c.args.packet.now c.args.self.now.rows.items (subst (IsAbsent c.args.packet.now.chan) c.deref.ensures.value c.in_default.ensures.none)
+    arrive-absent c.args.self.now.shape c.args.self.now.clock c.args.self.now.packets c.args.packet.now c.args.self.now.rows.items (c.in_default.ensures.none)
 
 pub returns-in_default-clause-kept : goal.returns-in_default-clause-kept
 returns-in_default-clause-kept c = arrive-same c.args.self.now.shape _ c.args.packet.now _
 
 -- the row stands at the place
 placed : (c : In-Some) → IsPlaceOf c.args.packet.now.chan c.args.self.now.rows.items c.in-Some.place
-placed c = subst (λ rows. IsPlaceOf c.args.packet.now.chan rows c.in-Some.place) c.deref.ensures.value c.in-Some.ensures.some
+placed c = c.in-Some.ensures.some
 
 pub stray-requires : goal.stray-requires
 stray-requires c =

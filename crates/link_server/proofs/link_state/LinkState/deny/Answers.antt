@@ -6,7 +6,7 @@ use Rattle.link_steps.specs.declared.replies.Phase.TheVariants.{Tentative}
 use Rattle.link_steps.specs.Buffer.{kept_units}
 use Rattle.link_steps.specs.Refusals.{not_in_phase}
 use Rattle.link_server.proofs.CalendarRows.{listed-removed}
-use Rattle.link_server.specs.Rows.{reservation_in, summed, IsAbsent, IsPlaceOf, IsWithinLevels}
+use Rattle.link_server.specs.Rows.{reservation_in, summed, IsWithinLevels}
 use Rattle.link_server.specs.Account.{account}
 use Rattle.link_server.specs.Keeping.{IsKeeping, places_for}
 use Rattle.link_server.specs.Sound.{IsSound}
@@ -28,7 +28,7 @@ use Rattle.link_server.proofs.link_state.LinkState.deny.Goals.{After-take_row}
 
 pub returns-in_default-clause-reply : goal.returns-in_default-clause-reply
 returns-in_default-clause-reply c =
-    deny-absent c.args.self.now.shape c.args.self.now.clock c.args.self.now.packets c.args.chan c.args.self.now.rows.items (subst (IsAbsent c.args.chan) c.deref.ensures.value c.in_default.ensures.none)
+    deny-absent c.args.self.now.shape c.args.self.now.clock c.args.self.now.packets c.args.chan c.args.self.now.rows.items (c.in_default.ensures.none)
 
 pub returns-in_default-clause-kept : goal.returns-in_default-clause-kept
 returns-in_default-clause-kept c = deny-same c.args.self.now.shape _ c.args.chan _
@@ -36,7 +36,7 @@ returns-in_default-clause-kept c = deny-same c.args.self.now.shape _ c.args.chan
 pub returns-in-Some-not_tentative-clause-reply : goal.returns-in-Some-not_tentative-clause-reply
 returns-in-Some-not_tentative-clause-reply c =
     deny-refused c.args.self.now.shape c.args.self.now.clock c.args.self.now.packets c.args.chan c.args.self.now.rows.items c.in-Some.place c.index.result.now _
-    (subst (λ rows. IsPlaceOf c.args.chan rows c.in-Some.place) c.deref.ensures.value c.in-Some.ensures.some)
+    (c.in-Some.ensures.some)
     (c.in-Some-not_tentative.ensures ∙ ap (λ row. not_in_phase Tentative (reservation_in row)) c.index.ensures)
 
 pub returns-in-Some-not_tentative-clause-kept : goal.returns-in-Some-not_tentative-clause-kept
@@ -44,7 +44,7 @@ returns-in-Some-not_tentative-clause-kept c = deny-same c.args.self.now.shape _ 
 
 pub remove-requires : goal.remove-requires
 remove-requires c =
-    let place = subst (λ rows. IsPlaceOf c.args.chan rows c.in-Some.place) c.deref.ensures.value c.in-Some.ensures.some in
+    let place = c.in-Some.ensures.some in
     let held = subst (λ rows. Holds rows (channel_number c.args.chan)) (sym c.args.self.now.same_rows) (place-holds c.args.chan c.args.self.now.rows.items c.in-Some.place place) in
     record { held = rw c.get.ensures.value held }
 
@@ -52,12 +52,12 @@ remove-requires c =
 denied : (c : After-take_row) → Denied ≡ kept_reply (whole c.args.self.now.shape) (kept_in c.args.self.now) (Deny c.args.chan)
 denied c =
     deny-denied c.args.self.now.shape c.args.self.now.clock c.args.self.now.packets c.args.chan c.args.self.now.rows.items c.in-Some.place c.index.result.now
-    (subst (λ rows. IsPlaceOf c.args.chan rows c.in-Some.place) c.deref.ensures.value c.in-Some.ensures.some)
+    (c.in-Some.ensures.some)
     (c.in_default-not_tentative.ensures ∙ ap (λ row. not_in_phase Tentative (reservation_in row)) c.index.ensures)
 
 pub invariant_of-self-2 : goal.invariant_of-self-2
 invariant_of-self-2 c =
-    let place = subst (λ rows. IsPlaceOf c.args.chan rows c.in-Some.place) c.deref.ensures.value c.in-Some.ensures.some in
+    let place = c.in-Some.ensures.some in
     let distinct = subst IsDistinct c.args.self.now.same_rows c.args.self.now.admitted.distinct in
     let kept =
     ap (account c.args.self.now.clock c.args.self.now.packets) c.take_row.ensures.rows
@@ -95,16 +95,16 @@ pub returns-clause-kept : goal.returns-clause-kept
 returns-clause-kept c =
     ap (account c.args.self.now.clock c.args.self.now.packets) c.take_row.ensures.rows
     ∙ deny-kept c.args.self.now.shape c.args.self.now.clock c.args.self.now.packets c.args.chan c.args.self.now.rows.items c.in-Some.place
-    (subst (λ rows. IsPlaceOf c.args.chan rows c.in-Some.place) c.deref.ensures.value c.in-Some.ensures.some)
+    (c.in-Some.ensures.some)
 
 pub give_back-requires-clause-held : goal.give_back-requires-clause-held
 give_back-requires-clause-held c =
-    let place = subst (λ rows. IsPlaceOf c.args.chan rows c.in-Some.place) c.deref.ensures.value c.in-Some.ensures.some in
+    let place = c.in-Some.ensures.some in
     subst (λ row. kept_units c.args.self.now.shape.bounds (reservation_in row) ≤ c.args.self.now.keeping.budget.held) (sym c.index-2.ensures)
     (row-held c.args.self.now.shape.buffer c.args.self.now.shape.bounds c.args.self.now.keeping c.args.self.now.rows.items c.in-Some.place c.index-2.result.now c.args.self.now.keeps place.inside)
 
 pub give_back-requires-clause-places : goal.give_back-requires-clause-places
 give_back-requires-clause-places c =
-    let place = subst (λ rows. IsPlaceOf c.args.chan rows c.in-Some.place) c.deref.ensures.value c.in-Some.ensures.some in
+    let place = c.in-Some.ensures.some in
     subst (λ row. places_for c.args.self.now.shape.bounds (reservation_in row) ≤ c.args.self.now.keeping.places) (sym c.index-2.ensures)
     (row-places c.args.self.now.shape.buffer c.args.self.now.shape.bounds c.args.self.now.keeping c.args.self.now.rows.items c.in-Some.place c.index-2.result.now c.args.self.now.keeps place.inside)

@@ -83,7 +83,7 @@ make_room-requires c =
     }
 
 pub overflow_cast-place : goal.overflow_cast-place
-overflow_cast-place c = (let few = rows-few c.make_room.new.self in (let counted = c.make_room.new.self.rows.ok in omega (arith, few, counted, c.len-place.ensures)))
+overflow_cast-place c = (let few = rows-few c.make_room.new.self in omega (arith, few, c.len-place.ensures))
 
 pub add-requires-clause-new : goal.add-requires-clause-new
 add-requires-clause-new c =
@@ -101,16 +101,15 @@ add-requires-clause-passes c =
     (still-may c.args.self.now c.make_room.new.self c.args.wanted.now c.args.offer.now c.make_room.ensures.shape c.make_room.ensures.kept c.requires.may)
 
 -- what is kept once the row is held
-kept : (c : After-add) → account c.make_room.new.self.clock c.make_room.new.self.packets c.push_reserved.new.self.items ≡ kept_after c.make_room.new.self.shape (kept_in c.make_room.new.self) (ask_for c.args.wanted.now) (Offer c.args.offer.now.level c.args.offer.now.reach)
+kept : (c : After-add) → account c.make_room.new.self.clock c.make_room.new.self.packets c.push.new.self.items ≡ kept_after c.make_room.new.self.shape (kept_in c.make_room.new.self) (ask_for c.args.wanted.now) (Offer c.args.offer.now.level c.args.offer.now.reach)
 kept c =
-    ap (account c.make_room.new.self.clock c.make_room.new.self.packets) c.push_reserved.ensures.items
+    ap (account c.make_room.new.self.clock c.make_room.new.self.packets) (ap (λ rows. rows.items) c.push.ensures)
     ∙ reserve-kept c.make_room.new.self.shape c.make_room.new.self.clock c.make_room.new.self.packets c.args.wanted.now c.args.offer.now.level c.args.offer.now.reach c.make_room.new.self.rows.items c.in_ok-row.row c.in_ok-row.ensures
 
 pub invariant_of-self : goal.invariant_of-self
 invariant_of-self c =
     let may = still-may c.args.self.now c.make_room.new.self c.args.wanted.now c.args.offer.now c.make_room.ensures.shape c.make_room.ensures.kept c.requires.may in
     let room = subst (λ n. n < length c.make_room.new.self.index.places.items) (ap (λ row. channel_number row.terms.chan) c.in_ok-row.ensures) c.in_ok-make_room.ensures.place_fits in
-    let counted : c.make_room.new.self.rows.len ≡ length c.make_room.new.self.rows.items = c.make_room.new.self.rows.ok.0 in
     let held = sound-held c.make_room.new.self.shape c.make_room.new.self.room (kept_in c.make_room.new.self) c.args.wanted.now c.args.offer.now c.in_ok-row.row c.requires.fits c.make_room.new.self.sound may c.in_ok-row.ensures c.in_ok-make_room.ensures.packets_fit in
     record {
       admitted = c.add.ensures.admitted;
@@ -118,26 +117,26 @@ invariant_of-self c =
       same_rows =
           c.add.ensures.rows
           ∙ summed-pushed c.make_room.new.self.rows.items c.in_ok-row.row c.args.wanted.now c.args.offer.now c.get.result c.make_room.new.self.sums.rows c.in_ok-row.ensures c.get.ensures.value c.make_room.new.self.same_rows
-          ∙ ap (map summed) (sym c.push_reserved.ensures.items);
-      within = subst (AreWithin _) (sym c.push_reserved.ensures.items) (within-pushed _ c.make_room.new.self.rows.items c.in_ok-row.row c.make_room.new.self.within (within-reserved _ c.in_ok-row.row (held_terms c.args.wanted.now c.args.offer.now) c.in_ok-row.ensures may.level_most (may-reach c.make_room.new.self.shape (reservations_held c.make_room.new.self) c.args.wanted.now.chan c.args.wanted.now.contract c.args.wanted.now.delay c.args.wanted.now.up_reach c.args.offer.now.level c.args.offer.now.reach may)));
+          ∙ ap (map summed) (sym (ap (λ rows. rows.items) c.push.ensures));
+      within = subst (AreWithin _) (sym (ap (λ rows. rows.items) c.push.ensures)) (within-pushed _ c.make_room.new.self.rows.items c.in_ok-row.row c.make_room.new.self.within (within-reserved _ c.in_ok-row.row (held_terms c.args.wanted.now c.args.offer.now) c.in_ok-row.ensures may.level_most (may-reach c.make_room.new.self.shape (reservations_held c.make_room.new.self) c.args.wanted.now.chan c.args.wanted.now.contract c.args.wanted.now.delay c.args.wanted.now.up_reach c.args.offer.now.level c.args.offer.now.reach may)));
       listed =
-          subst (λ rows. AreListed c.make_room.new.self.shape.bounds c.make_room.new.self.clock c.make_room.new.self.holds (map row_in rows)) (sym c.push_reserved.ensures.items)
+          subst (λ rows. AreListed c.make_room.new.self.shape.bounds c.make_room.new.self.clock c.make_room.new.self.holds (map row_in rows)) (sym (ap (λ rows. rows.items) c.push.ensures))
           (listed-pushed c.make_room.new.self.shape.bounds c.make_room.new.self.clock c.make_room.new.self.holds c.make_room.new.self.rows.items c.in_ok-row.row c.make_room.new.self.listed
           (phase-listed c.make_room.new.self.shape.bounds c.make_room.new.self.clock c.make_room.new.self.holds.entries (row_in c.in_ok-row.row) (inl (ap (λ row. row.terms.phase) c.in_ok-row.ensures))) c.in_ok-make_room.ensures.hold_fits);
       indexed =
-          subst (λ rows. IsIndex c.put.new.self.places.items (channels_in rows)) (sym c.push_reserved.ensures.items)
-          (subst (λ places. IsIndex places (channels_in (c.make_room.new.self.rows.items ++ c.in_ok-row.row ∷ []))) (sym (c.put.ensures ∙ ap (set c.make_room.new.self.index.places.items (channel_number c.args.wanted.now.chan)) (c.len-place.ensures ∙ counted)))
+          subst (λ rows. IsIndex c.put.new.self.places.items (channels_in rows)) (sym (ap (λ rows. rows.items) c.push.ensures))
+          (subst (λ places. IsIndex places (channels_in (c.make_room.new.self.rows.items ++ c.in_ok-row.row ∷ []))) (sym (c.put.ensures ∙ ap (set c.make_room.new.self.index.places.items (channel_number c.args.wanted.now.chan)) c.len-place.ensures))
           (row-pushed c.make_room.new.self.index.places.items c.make_room.new.self.rows.items c.args.wanted.now.chan c.in_ok-row.row c.make_room.new.self.indexed room (absent-new c.args.wanted.now.chan c.make_room.new.self.rows.items (terms-none c.args.wanted.now.chan c.make_room.new.self.rows.items may.new)) (ap (λ row. channel_number row.terms.chan) c.in_ok-row.ensures)));
       keeps =
-          subst (λ rows. IsKeeping c.make_room.new.self.shape.buffer c.make_room.new.self.shape.bounds c.hold.new.self (map reservation_in rows)) (sym c.push_reserved.ensures.items)
+          subst (λ rows. IsKeeping c.make_room.new.self.shape.buffer c.make_room.new.self.shape.bounds c.hold.new.self (map reservation_in rows)) (sym (ap (λ rows. rows.items) c.push.ensures))
           (keeps-pushed c.make_room.new.self.shape.buffer c.make_room.new.self.shape.bounds c.make_room.new.self.keeping c.hold.new.self c.make_room.new.self.rows.items c.in_ok-row.row c.make_room.new.self.keeps
           (fits-free c.make_room.new.self c.args.wanted.now c.args.offer.now c.in_ok-row.row may c.in_ok-row.ensures) c.hold.ensures.budget c.hold.ensures.places);
       sound = subst (IsSound c.make_room.new.self.shape c.make_room.new.self.room) (sym (kept (goal.at.invariant_of-self c).After-add)) held;
       planned =
-          subst (λ rows. ArePlanned c.make_room.new.self.clock c.make_room.new.self.plans.calendar (map row_in rows)) (sym c.push_reserved.ensures.items)
+          subst (λ rows. ArePlanned c.make_room.new.self.clock c.make_room.new.self.plans.calendar (map row_in rows)) (sym (ap (λ rows. rows.items) c.push.ensures))
           (planned-pushed c.make_room.new.self.clock c.make_room.new.self.plans.calendar c.make_room.new.self.rows.items c.in_ok-row.row c.make_room.new.self.planned (told-none c.make_room.new.self.plans.calendar.entries (row_in c.in_ok-row.row) (ap (λ row. first_tick row.left) c.in_ok-row.ensures)) c.in_ok-make_room.ensures.plan_fits);
       turns =
-          (let one : length c.push_reserved.new.self.items ≡ length c.make_room.new.self.rows.items + 1 = ap length c.push_reserved.ensures.items ∙ length-append c.make_room.new.self.rows.items (c.in_ok-row.row ∷ []) in
+          (let one : length c.push.new.self.items ≡ length c.make_room.new.self.rows.items + 1 = ap length (ap (λ rows. rows.items) c.push.ensures) ∙ length-append c.make_room.new.self.rows.items (c.in_ok-row.row ∷ []) in
           omega (arith, one, c.in_ok-make_room.ensures.turn_fits));
       roomy = c.make_room.new.self.roomy;
       looked = c.make_room.new.self.looked;

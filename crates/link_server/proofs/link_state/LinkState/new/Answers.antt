@@ -12,15 +12,15 @@ use Rattle.link_server.proofs.link_state.LinkState.new.Goals as goal
 pub invariant_of-result-clause-sound : goal.invariant_of-result-clause-sound
 invariant_of-result-clause-sound c =
     subst (IsSound c.args.shape c.from.result)
-    (sym (account-nothing c.reserve.new.self c.new-3.result.items (c.reserve.ensures.taken ∙ c.in_ok-packets.ensures.taken) (c.reserve.ensures.here ∙ c.in_ok-packets.ensures.here) (c.reserve.ensures.on ∙ c.in_ok-packets.ensures.on) (ap left_in c.reserve.ensures.best ∙ c.in_ok-packets.ensures.best) c.new-3.ensures.items))
+    (sym (account-nothing c.reserve.new.self c.new-3.result.items (c.reserve.ensures.taken ∙ c.in_ok-packets.ensures.taken) (c.reserve.ensures.here ∙ c.in_ok-packets.ensures.here) (c.reserve.ensures.on ∙ c.in_ok-packets.ensures.on) (ap left_in c.reserve.ensures.best ∙ c.in_ok-packets.ensures.best) (ap (λ rows. rows.items) c.new-3.ensures)))
     (nothing-sound c.args.shape c.from.result (omega (arith, c.from.ensures)))
 
 pub invariant_of-result-clause-stood : goal.invariant_of-result-clause-stood
 invariant_of-result-clause-stood c =
     subst (IsStood c.args.shape)
-    (sym (account-nothing c.reserve.new.self c.new-3.result.items (c.reserve.ensures.taken ∙ c.in_ok-packets.ensures.taken) (c.reserve.ensures.here ∙ c.in_ok-packets.ensures.here) (c.reserve.ensures.on ∙ c.in_ok-packets.ensures.on) (ap left_in c.reserve.ensures.best ∙ c.in_ok-packets.ensures.best) c.new-3.ensures.items))
+    (sym (account-nothing c.reserve.new.self c.new-3.result.items (c.reserve.ensures.taken ∙ c.in_ok-packets.ensures.taken) (c.reserve.ensures.here ∙ c.in_ok-packets.ensures.here) (c.reserve.ensures.on ∙ c.in_ok-packets.ensures.on) (ap left_in c.reserve.ensures.best ∙ c.in_ok-packets.ensures.best) (ap (λ rows. rows.items) c.new-3.ensures)))
     (nothing-stood c.args.shape)
 
 pub returns-clause-stands : goal.returns-clause-stands
 returns-clause-stands c =
-    account-nothing c.reserve.new.self c.new-3.result.items (c.reserve.ensures.taken ∙ c.in_ok-packets.ensures.taken) (c.reserve.ensures.here ∙ c.in_ok-packets.ensures.here) (c.reserve.ensures.on ∙ c.in_ok-packets.ensures.on) (ap left_in c.reserve.ensures.best ∙ c.in_ok-packets.ensures.best) c.new-3.ensures.items ∙ nothing-stands c.args.shape
+    account-nothing c.reserve.new.self c.new-3.result.items (c.reserve.ensures.taken ∙ c.in_ok-packets.ensures.taken) (c.reserve.ensures.here ∙ c.in_ok-packets.ensures.here) (c.reserve.ensures.on ∙ c.in_ok-packets.ensures.on) (ap left_in c.reserve.ensures.best ∙ c.in_ok-packets.ensures.best) (ap (λ rows. rows.items) c.new-3.ensures) ∙ nothing-stands c.args.shape

@@ -1,5 +1,5 @@
 -- The rules are tried in their order, over the reservations of the account.
-use Rattle.std.proofs.Common.{◌≡◌, map, get_or, sym, ap, ◌∙◌, subst, arith}
+use Rattle.std.proofs.Common.{◌≡◌, map, get_or, sym, ap, ◌∙◌, arith}
 use Rattle.std.proofs.lemmas.Bool.{le-leb, lt-leb}
 use Rattle.net_units.specs.Numbers.{level_number}
 use Rattle.net_units.specs.LevelBounds.{last_bound, reach_of}
@@ -10,7 +10,7 @@ use Rattle.link_steps.specs.Buffer.{need_of, free_units}
 use Rattle.link_steps.specs.Kept.{kept_terms, kept_reply}
 use Rattle.link_steps.specs.Levels.{level_of}
 use Rattle.link_steps.proofs.LevelFacts.{level_of-level}
-use Rattle.link_server.specs.Rows.{reservation_in, row_in, IsAbsent, IsPlaceOf}
+use Rattle.link_server.specs.Rows.{reservation_in, row_in}
 use Rattle.link_server.specs.State.{kept_in}
 use Rattle.link_server.proofs.PlaceFacts.{terms-kept, terms-found, terms-absent}
 use Rattle.link_server.proofs.KeepingFacts.{keeping-free}
@@ -28,7 +28,7 @@ pub returns-in-Some-clause-reply : goal.returns-in-Some-clause-reply
 unfolding kept_reply
 returns-in-Some-clause-reply c =
     let wide = le-leb c.args.wanted.now.contract.smax c.args.self.now.shape.cap (omega (arith, c.if-smax-self.false, c.smax-smax.ensures.value)) in
-    let place = subst (λ rows. IsPlaceOf c.args.wanted.now.chan rows c.in-Some.place) c.deref.ensures.value c.in-Some.ensures.some in
+    let place = c.in-Some.ensures.some in
     let found = terms-found c.args.wanted.now.chan c.args.self.now.rows.items c.in-Some.place c.index.result.now place in
     ap (λ row. Refused (Twice row.phase)) c.index.ensures
     ∙ reserve-twice c.args.self.now.shape (map kept_terms (map row_in c.args.self.now.rows.items)) c.args.wanted.now.chan c.args.wanted.now.contract c.args.wanted.now.delay c.args.wanted.now.up_reach (reservation_in (get_or c.args.self.now.rows.items c.in-Some.place c.index.result.now)) wide found
@@ -37,7 +37,7 @@ pub returns-in-Err-clause-reply : goal.returns-in-Err-clause-reply
 unfolding kept_reply
 returns-in-Err-clause-reply c =
     let wide = le-leb c.args.wanted.now.contract.smax c.args.self.now.shape.cap (omega (arith, c.if-smax-self.false, c.smax-smax.ensures.value)) in
-    let absent = terms-absent c.args.wanted.now.chan c.args.self.now.rows.items (subst (IsAbsent c.args.wanted.now.chan) c.deref.ensures.value c.in_default.ensures.none) in
+    let absent = terms-absent c.args.wanted.now.chan c.args.self.now.rows.items (c.in_default.ensures.none) in
     let best = sym (same-admission (λ server rows. best_level server rows c.args.wanted.now.contract) c.args.self.now.sums c.args.self.now.shape c.args.self.now.rows.items c.args.self.now.same_server c.args.self.now.same_rows) ∙ c.in-Err.ensures.level in
     let sum = c.in-Err.ensures.sum ∙ same-admission (λ server rows. refused_sum server rows c.args.wanted.now.contract) c.args.self.now.sums c.args.self.now.shape c.args.self.now.rows.items c.args.self.now.same_server c.args.self.now.same_rows in
     let bound = c.in-Err.ensures.bound ∙ ap (λ server. last_bound server.bounds) c.args.self.now.same_server in
@@ -49,7 +49,7 @@ pub returns-then-need-free-clause-reply : goal.returns-then-need-free-clause-rep
 unfolding kept_reply
 returns-then-need-free-clause-reply c =
     let wide = le-leb c.args.wanted.now.contract.smax c.args.self.now.shape.cap (omega (arith, c.if-smax-self.false, c.smax-smax.ensures.value)) in
-    let absent = terms-absent c.args.wanted.now.chan c.args.self.now.rows.items (subst (IsAbsent c.args.wanted.now.chan) c.deref.ensures.value c.in_default.ensures.none) in
+    let absent = terms-absent c.args.wanted.now.chan c.args.self.now.rows.items (c.in_default.ensures.none) in
     let best = sym (same-admission (λ server rows. best_level server rows c.args.wanted.now.contract) c.args.self.now.sums c.args.self.now.shape c.args.self.now.rows.items c.args.self.now.same_server c.args.self.now.same_rows) ∙ c.in-Ok.ensures.level in
     let need : c.need_of-need.result ≡ need_of c.args.self.now.shape.bounds c.args.wanted.now.contract c.args.wanted.now.up_reach (reach_of c.args.self.now.shape.bounds c.args.wanted.now.delay (level_number c.in-Ok.level)) =
     c.need_of-need.ensures ∙ ap (need_of c.args.self.now.shape.bounds c.args.wanted.now.contract c.args.wanted.now.up_reach) c.reach_of-reach.ensures.value in
@@ -61,7 +61,7 @@ pub returns-else-need-free-clause-reply : goal.returns-else-need-free-clause-rep
 unfolding kept_reply
 returns-else-need-free-clause-reply c =
     let wide = le-leb c.args.wanted.now.contract.smax c.args.self.now.shape.cap (omega (arith, c.if-smax-self.false, c.smax-smax.ensures.value)) in
-    let absent = terms-absent c.args.wanted.now.chan c.args.self.now.rows.items (subst (IsAbsent c.args.wanted.now.chan) c.deref.ensures.value c.in_default.ensures.none) in
+    let absent = terms-absent c.args.wanted.now.chan c.args.self.now.rows.items (c.in_default.ensures.none) in
     let best = sym (same-admission (λ server rows. best_level server rows c.args.wanted.now.contract) c.args.self.now.sums c.args.self.now.shape c.args.self.now.rows.items c.args.self.now.same_server c.args.self.now.same_rows) ∙ c.in-Ok.ensures.level in
     let need : c.need_of-need.result ≡ need_of c.args.self.now.shape.bounds c.args.wanted.now.contract c.args.wanted.now.up_reach (reach_of c.args.self.now.shape.bounds c.args.wanted.now.delay (level_number c.in-Ok.level)) =
     c.need_of-need.ensures ∙ ap (need_of c.args.self.now.shape.bounds c.args.wanted.now.contract c.args.wanted.now.up_reach) c.reach_of-reach.ensures.value in

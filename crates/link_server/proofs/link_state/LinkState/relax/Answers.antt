@@ -13,7 +13,7 @@ use Rattle.link_steps.proofs.RefusalFacts.{unfit-none}
 use Rattle.link_server.proofs.CalendarFacts.{phase-listed, open-in-phase, in-phase}
 use Rattle.link_server.proofs.CalendarRows.{listed-set}
 use Rattle.link_server.proofs.IndexFacts.{index-changed}
-use Rattle.link_server.specs.Rows.{reservation_in, row_in, summed, IsAbsent, IsPlaceOf, IsWithinLevels}
+use Rattle.link_server.specs.Rows.{reservation_in, row_in, summed, IsPlaceOf, IsWithinLevels}
 use Rattle.link_server.specs.Keeping.{places_for}
 use Rattle.link_server.specs.Sound.{IsSound}
 use Rattle.link_server.specs.State.{kept_in}
@@ -35,7 +35,7 @@ use Rattle.link_server.proofs.link_state.LinkState.relax.Goals.{In-Some, After-c
 
 pub returns-in_default-clause-reply : goal.returns-in_default-clause-reply
 returns-in_default-clause-reply c =
-    relax-absent c.args.self.now.shape c.args.self.now.clock c.args.self.now.packets c.args.chan c.args.level c.args.up_bound c.args.self.now.rows.items (subst (IsAbsent c.args.chan) c.deref.ensures.value c.in_default.ensures.none)
+    relax-absent c.args.self.now.shape c.args.self.now.clock c.args.self.now.packets c.args.chan c.args.level c.args.up_bound c.args.self.now.rows.items (c.in_default.ensures.none)
 
 pub returns-in_default-clause-kept : goal.returns-in_default-clause-kept
 returns-in_default-clause-kept c = relax-same c.args.self.now.shape _ c.args.chan c.args.level c.args.up_bound _
@@ -43,7 +43,7 @@ returns-in_default-clause-kept c = relax-same c.args.self.now.shape _ c.args.cha
 pub returns-in-Some-not_tentative-clause-reply : goal.returns-in-Some-not_tentative-clause-reply
 returns-in-Some-not_tentative-clause-reply c =
     relax-phase c.args.self.now.shape c.args.self.now.clock c.args.self.now.packets c.args.chan c.args.level c.args.up_bound c.args.self.now.rows.items c.in-Some.place c.index.result.now _
-    (subst (λ rows. IsPlaceOf c.args.chan rows c.in-Some.place) c.deref.ensures.value c.in-Some.ensures.some)
+    (c.in-Some.ensures.some)
     (c.in-Some-not_tentative.ensures ∙ ap (λ row. not_in_phase Tentative (reservation_in row)) c.index.ensures)
 
 pub returns-in-Some-not_tentative-clause-kept : goal.returns-in-Some-not_tentative-clause-kept
@@ -52,16 +52,16 @@ returns-in-Some-not_tentative-clause-kept c = relax-same c.args.self.now.shape _
 pub returns-in-Some-unfit-clause-reply : goal.returns-in-Some-unfit-clause-reply
 returns-in-Some-unfit-clause-reply c =
     relax-unfit c.args.self.now.shape c.args.self.now.clock c.args.self.now.packets c.args.chan c.args.level c.args.up_bound c.args.self.now.rows.items c.in-Some.place c.index.result.now _
-    (subst (λ rows. IsPlaceOf c.args.chan rows c.in-Some.place) c.deref.ensures.value c.in-Some.ensures.some)
+    (c.in-Some.ensures.some)
     (c.in_default-not_tentative.ensures ∙ ap (λ row. not_in_phase Tentative (reservation_in row)) c.index.ensures)
-    (c.in-Some-unfit.ensures ∙ ap (λ row. unfit (reservation_in row) c.args.level c.args.up_bound) (at-place c.args.self.now.rows.items c.in-Some.place c.index-2.result.now c.index.result.now c.index-2.ensures ((subst (λ rows. IsPlaceOf c.args.chan rows c.in-Some.place) c.deref.ensures.value c.in-Some.ensures.some).inside)))
+    (c.in-Some-unfit.ensures ∙ ap (λ row. unfit (reservation_in row) c.args.level c.args.up_bound) (at-place c.args.self.now.rows.items c.in-Some.place c.index-2.result.now c.index.result.now c.index-2.ensures ((c.in-Some.ensures.some).inside)))
 
 pub returns-in-Some-unfit-clause-kept : goal.returns-in-Some-unfit-clause-kept
 returns-in-Some-unfit-clause-kept c = relax-same c.args.self.now.shape _ c.args.chan c.args.level c.args.up_bound _
 
 pub move_to-requires-clause-held : goal.move_to-requires-clause-held
 move_to-requires-clause-held c =
-    let place = subst (λ rows. IsPlaceOf c.args.chan rows c.in-Some.place) c.deref.ensures.value c.in-Some.ensures.some in
+    let place = c.in-Some.ensures.some in
     let fits = c.in_default-unfit.ensures ∙ ap (λ row. unfit (reservation_in row) c.args.level c.args.up_bound) c.index-2.ensures in
     let up = (unfit-none (reservation_in (get_or c.args.self.now.rows.items c.in-Some.place c.index-2.result.now)) c.args.level c.args.up_bound (sym fits)).0 in
     let held = place-holds-upto c.args.chan (level_number c.args.level) c.args.self.now.rows.items c.in-Some.place c.index-2.result.now place up in
@@ -70,7 +70,7 @@ move_to-requires-clause-held c =
 
 -- the row stands at the place
 placed : (c : In-Some) → IsPlaceOf c.args.chan c.args.self.now.rows.items c.in-Some.place
-placed c = subst (λ rows. IsPlaceOf c.args.chan rows c.in-Some.place) c.deref.ensures.value c.in-Some.ensures.some
+placed c = c.in-Some.ensures.some
 
 pub give_back-requires-clause-held : goal.give_back-requires-clause-held
 give_back-requires-clause-held c =
@@ -87,7 +87,7 @@ give_back-requires-clause-places c =
 -- the row has no more slots than it had, and keeps no more units
 fewer : (c : After-commit) → slots_of c.args.self.now.shape.bounds (reservation_in c.commit.new.self) ≤ slots_of c.args.self.now.shape.bounds (reservation_in (get_or c.args.self.now.rows.items c.in-Some.place c.index_mut.result.now))
 fewer c =
-    let place = subst (λ rows. IsPlaceOf c.args.chan rows c.in-Some.place) c.deref.ensures.value c.in-Some.ensures.some in
+    let place = c.in-Some.ensures.some in
     let reply =
     relax-relaxed c.args.self.now.shape c.args.self.now.clock c.args.self.now.packets c.args.chan c.args.level c.args.up_bound c.args.self.now.rows.items c.in-Some.place c.index.result.now place
     (c.in_default-not_tentative.ensures ∙ ap (λ row. not_in_phase Tentative (reservation_in row)) c.index.ensures)
@@ -98,7 +98,7 @@ fewer c =
 -- which row was seen first makes no difference
 seen-first : (c : After-commit) → c.index-3.result.now ≡ get_or c.args.self.now.rows.items c.in-Some.place c.index_mut.result.now
 seen-first c =
-    let place = subst (λ rows. IsPlaceOf c.args.chan rows c.in-Some.place) c.deref.ensures.value c.in-Some.ensures.some in
+    let place = c.in-Some.ensures.some in
     at-place c.args.self.now.rows.items c.in-Some.place c.index-3.result.now c.index_mut.result.now c.index-3.ensures place.inside
 
 -- so its units are free again
@@ -129,17 +129,17 @@ hold-requires-clause-few c =
 
 pub invariant_of-self-2 : goal.invariant_of-self-2
 invariant_of-self-2 c =
-    let place = subst (λ rows. IsPlaceOf c.args.chan rows c.in-Some.place) c.deref.ensures.value c.in-Some.ensures.some in
+    let place = c.in-Some.ensures.some in
     let distinct = subst IsDistinct c.args.self.now.same_rows c.args.self.now.admitted.distinct in
     let same = c.commit.ensures ∙ ap (λ row. kept_relaxed c.args.level c.args.up_bound (row_in row)) c.index_mut.ensures.value in
     let reply =
     relax-relaxed c.args.self.now.shape c.args.self.now.clock c.args.self.now.packets c.args.chan c.args.level c.args.up_bound c.args.self.now.rows.items c.in-Some.place c.index.result.now
-    (subst (λ rows. IsPlaceOf c.args.chan rows c.in-Some.place) c.deref.ensures.value c.in-Some.ensures.some)
+    (c.in-Some.ensures.some)
     (c.in_default-not_tentative.ensures ∙ ap (λ row. not_in_phase Tentative (reservation_in row)) c.index.ensures)
-    (c.in_default-unfit.ensures ∙ ap (λ row. unfit (reservation_in row) c.args.level c.args.up_bound) (at-place c.args.self.now.rows.items c.in-Some.place c.index-2.result.now c.index.result.now c.index-2.ensures ((subst (λ rows. IsPlaceOf c.args.chan rows c.in-Some.place) c.deref.ensures.value c.in-Some.ensures.some).inside))) in
+    (c.in_default-unfit.ensures ∙ ap (λ row. unfit (reservation_in row) c.args.level c.args.up_bound) (at-place c.args.self.now.rows.items c.in-Some.place c.index-2.result.now c.index.result.now c.index-2.ensures ((c.in-Some.ensures.some).inside))) in
     let kept =
     relax-kept c.args.self.now.shape c.args.self.now.clock c.args.self.now.packets c.args.chan c.args.level c.args.up_bound c.args.self.now.clock c.args.self.now.rows.items c.in-Some.place c.commit.new.self c.index_mut.result.now
-    (subst (λ rows. IsPlaceOf c.args.chan rows c.in-Some.place) c.deref.ensures.value c.in-Some.ensures.some)
+    (c.in-Some.ensures.some)
     (c.commit.ensures ∙ ap (λ row. kept_relaxed c.args.level c.args.up_bound (row_in row)) c.index_mut.ensures.value) in
     record {
       admitted = c.move_to.ensures.admitted;
@@ -185,12 +185,12 @@ invariant_of-self-2 c =
 pub returns-clause-reply : goal.returns-clause-reply
 returns-clause-reply c =
     relax-relaxed c.args.self.now.shape c.args.self.now.clock c.args.self.now.packets c.args.chan c.args.level c.args.up_bound c.args.self.now.rows.items c.in-Some.place c.index.result.now
-    (subst (λ rows. IsPlaceOf c.args.chan rows c.in-Some.place) c.deref.ensures.value c.in-Some.ensures.some)
+    (c.in-Some.ensures.some)
     (c.in_default-not_tentative.ensures ∙ ap (λ row. not_in_phase Tentative (reservation_in row)) c.index.ensures)
-    (c.in_default-unfit.ensures ∙ ap (λ row. unfit (reservation_in row) c.args.level c.args.up_bound) (at-place c.args.self.now.rows.items c.in-Some.place c.index-2.result.now c.index.result.now c.index-2.ensures ((subst (λ rows. IsPlaceOf c.args.chan rows c.in-Some.place) c.deref.ensures.value c.in-Some.ensures.some).inside)))
+    (c.in_default-unfit.ensures ∙ ap (λ row. unfit (reservation_in row) c.args.level c.args.up_bound) (at-place c.args.self.now.rows.items c.in-Some.place c.index-2.result.now c.index.result.now c.index-2.ensures ((c.in-Some.ensures.some).inside)))
 
 pub returns-clause-kept : goal.returns-clause-kept
 returns-clause-kept c =
     relax-kept c.args.self.now.shape c.args.self.now.clock c.args.self.now.packets c.args.chan c.args.level c.args.up_bound c.args.self.now.clock c.args.self.now.rows.items c.in-Some.place c.commit.new.self c.index_mut.result.now
-    (subst (λ rows. IsPlaceOf c.args.chan rows c.in-Some.place) c.deref.ensures.value c.in-Some.ensures.some)
+    (c.in-Some.ensures.some)
     (c.commit.ensures ∙ ap (λ row. kept_relaxed c.args.level c.args.up_bound (row_in row)) c.index_mut.ensures.value)

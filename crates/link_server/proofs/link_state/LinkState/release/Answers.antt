@@ -40,7 +40,7 @@ pub returns-in_default-clause-reply : goal.returns-in_default-clause-reply
 returns-in_default-clause-reply c =
     release-absent c.args.self.now.shape c.args.self.now.clock c.args.self.now.packets c.args.chan c.args.upstream c.args.self.now.rows.items
     (subst (λ first. NoRowPasses (is_served_at_hop c.args.chan first) c.args.self.now.rows.items) (names-is c.args.upstream c.is_none.result c.is_none.ensures)
-    (subst (NoRowPasses (is_served_at_hop c.args.chan c.is_none.result)) c.deref.ensures.value c.in_default.ensures.none))
+    (c.in_default.ensures.none))
 
 pub returns-in_default-clause-kept : goal.returns-in_default-clause-kept
 returns-in_default-clause-kept c = release-same c.args.self.now.shape _ c.args.chan c.args.upstream _
@@ -49,7 +49,7 @@ returns-in_default-clause-kept c = release-same c.args.self.now.shape _ c.args.c
 placed : (c : In-Some) → IsFirstPlace (is_served_at_hop c.args.chan (names_first_hop c.args.upstream)) c.args.self.now.rows.items c.in-Some.place
 placed c =
     subst (λ first. IsFirstPlace (is_served_at_hop c.args.chan first) c.args.self.now.rows.items c.in-Some.place) (names-is c.args.upstream c.is_none.result c.is_none.ensures)
-    (subst (λ rows. IsFirstPlace (is_served_at_hop c.args.chan c.is_none.result) rows c.in-Some.place) c.deref.ensures.value c.in-Some.ensures.some)
+    (c.in-Some.ensures.some)
 
 pub returns-in-Some-not_committed-clause-reply : goal.returns-in-Some-not_committed-clause-reply
 returns-in-Some-not_committed-clause-reply c =

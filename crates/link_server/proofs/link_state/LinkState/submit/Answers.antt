@@ -14,7 +14,7 @@ use Rattle.link_server.proofs.CalendarRows.{listed-set}
 use Rattle.link_server.proofs.IndexFacts.{index-changed}
 use Rattle.link_server.specs.Planned.{left_in, IsPlannedFrom}
 use Rattle.link_server.specs.Plans.{IsTold, idle_count}
-use Rattle.link_server.specs.Rows.{reservation_in, row_in, is_served_at_hop, summed, NoRowPasses, IsFirstPlace, IsWithinLevels}
+use Rattle.link_server.specs.Rows.{reservation_in, row_in, is_served_at_hop, summed, IsFirstPlace, IsWithinLevels}
 use Rattle.link_server.specs.Keeping.{IsKeeping}
 use Rattle.link_server.specs.Sound.{IsSound}
 use Rattle.link_server.specs.State.{kept_in}
@@ -32,7 +32,7 @@ use Rattle.link_server.proofs.link_state.LinkState.submit.Goals.{After-index-4}
 
 pub returns-in_default-clause-reply : goal.returns-in_default-clause-reply
 returns-in_default-clause-reply c =
-    submit-absent c.args.self.now.shape c.args.self.now.clock c.args.self.now.packets c.args.chan c.args.count c.args.gap c.args.size c.args.self.now.rows.items (subst (NoRowPasses (is_served_at_hop c.args.chan true)) c.deref.ensures.value c.in_default.ensures.none)
+    submit-absent c.args.self.now.shape c.args.self.now.clock c.args.self.now.packets c.args.chan c.args.count c.args.gap c.args.size c.args.self.now.rows.items (c.in_default.ensures.none)
 
 pub returns-in_default-clause-kept : goal.returns-in_default-clause-kept
 returns-in_default-clause-kept c = submit-same c.args.self.now.shape _ c.args.chan c.args.count c.args.gap c.args.size _
@@ -40,7 +40,7 @@ returns-in_default-clause-kept c = submit-same c.args.self.now.shape _ c.args.ch
 pub returns-in-Some-not_committed-clause-reply : goal.returns-in-Some-not_committed-clause-reply
 returns-in-Some-not_committed-clause-reply c =
     submit-phase c.args.self.now.shape c.args.self.now.clock c.args.self.now.packets c.args.chan c.args.count c.args.gap c.args.size c.args.self.now.rows.items c.in-Some.place c.index.result.now _
-    (subst (λ rows. IsFirstPlace (is_served_at_hop c.args.chan true) rows c.in-Some.place) c.deref.ensures.value c.in-Some.ensures.some)
+    (c.in-Some.ensures.some)
     (c.in-Some-not_committed.ensures ∙ ap (λ row. not_in_phase Committed (reservation_in row)) c.index.ensures)
 
 pub returns-in-Some-not_committed-clause-kept : goal.returns-in-Some-not_committed-clause-kept
@@ -49,9 +49,9 @@ returns-in-Some-not_committed-clause-kept c = submit-same c.args.self.now.shape 
 pub returns-in-Some-busy-clause-reply : goal.returns-in-Some-busy-clause-reply
 returns-in-Some-busy-clause-reply c =
     submit-busy c.args.self.now.shape c.args.self.now.clock c.args.self.now.packets c.args.chan c.args.count c.args.gap c.args.size c.args.self.now.rows.items c.in-Some.place c.index.result.now _
-    (subst (λ rows. IsFirstPlace (is_served_at_hop c.args.chan true) rows c.in-Some.place) c.deref.ensures.value c.in-Some.ensures.some)
+    (c.in-Some.ensures.some)
     (c.in_default-not_committed.ensures ∙ ap (λ row. not_in_phase Committed (reservation_in row)) c.index.ensures)
-    (c.in-Some-busy.ensures ∙ ap (λ row. busy (length (left_in row.planned))) (at-place c.args.self.now.rows.items c.in-Some.place c.index-2.result.now c.index.result.now c.index-2.ensures ((subst (λ rows. IsFirstPlace (is_served_at_hop c.args.chan true) rows c.in-Some.place) c.deref.ensures.value c.in-Some.ensures.some).inside)))
+    (c.in-Some-busy.ensures ∙ ap (λ row. busy (length (left_in row.planned))) (at-place c.args.self.now.rows.items c.in-Some.place c.index-2.result.now c.index.result.now c.index-2.ensures ((c.in-Some.ensures.some).inside)))
 
 pub returns-in-Some-busy-clause-kept : goal.returns-in-Some-busy-clause-kept
 returns-in-Some-busy-clause-kept c = submit-same c.args.self.now.shape _ c.args.chan c.args.count c.args.gap c.args.size _
@@ -59,22 +59,22 @@ returns-in-Some-busy-clause-kept c = submit-same c.args.self.now.shape _ c.args.
 pub returns-in-Some-too_big-clause-reply : goal.returns-in-Some-too_big-clause-reply
 returns-in-Some-too_big-clause-reply c =
     submit-big c.args.self.now.shape c.args.self.now.clock c.args.self.now.packets c.args.chan c.args.count c.args.gap c.args.size c.args.self.now.rows.items c.in-Some.place c.index.result.now _
-    (subst (λ rows. IsFirstPlace (is_served_at_hop c.args.chan true) rows c.in-Some.place) c.deref.ensures.value c.in-Some.ensures.some)
+    (c.in-Some.ensures.some)
     (c.in_default-not_committed.ensures ∙ ap (λ row. not_in_phase Committed (reservation_in row)) c.index.ensures)
-    (c.in_default-busy.ensures ∙ ap (λ row. busy (length (left_in row.planned))) (at-place c.args.self.now.rows.items c.in-Some.place c.index-2.result.now c.index.result.now c.index-2.ensures ((subst (λ rows. IsFirstPlace (is_served_at_hop c.args.chan true) rows c.in-Some.place) c.deref.ensures.value c.in-Some.ensures.some).inside)))
-    (c.in-Some-too_big.ensures ∙ ap (λ row. too_big (reservation_in row) c.args.size) (at-place c.args.self.now.rows.items c.in-Some.place c.index-3.result.now c.index.result.now c.index-3.ensures ((subst (λ rows. IsFirstPlace (is_served_at_hop c.args.chan true) rows c.in-Some.place) c.deref.ensures.value c.in-Some.ensures.some).inside)))
+    (c.in_default-busy.ensures ∙ ap (λ row. busy (length (left_in row.planned))) (at-place c.args.self.now.rows.items c.in-Some.place c.index-2.result.now c.index.result.now c.index-2.ensures ((c.in-Some.ensures.some).inside)))
+    (c.in-Some-too_big.ensures ∙ ap (λ row. too_big (reservation_in row) c.args.size) (at-place c.args.self.now.rows.items c.in-Some.place c.index-3.result.now c.index.result.now c.index-3.ensures ((c.in-Some.ensures.some).inside)))
 
 pub returns-in-Some-too_big-clause-kept : goal.returns-in-Some-too_big-clause-kept
 returns-in-Some-too_big-clause-kept c = submit-same c.args.self.now.shape _ c.args.chan c.args.count c.args.gap c.args.size _
 
 pub plan-requires : goal.plan-requires
 plan-requires c =
-    let left = c.in_default-busy.ensures ∙ ap (λ row. busy (length (left_in row.planned))) (at-place c.args.self.now.rows.items c.in-Some.place c.index-2.result.now c.index_mut.result.now c.index-2.ensures ((subst (λ rows. IsFirstPlace (is_served_at_hop c.args.chan true) rows c.in-Some.place) c.deref.ensures.value c.in-Some.ensures.some).inside)) ∙ ap (λ row. busy (length (left_in row.planned))) (sym c.index_mut.ensures.value) in
+    let left = c.in_default-busy.ensures ∙ ap (λ row. busy (length (left_in row.planned))) (at-place c.args.self.now.rows.items c.in-Some.place c.index-2.result.now c.index_mut.result.now c.index-2.ensures ((c.in-Some.ensures.some).inside)) ∙ ap (λ row. busy (length (left_in row.planned))) (sym c.index_mut.ensures.value) in
     none-left (length (left_in c.index_mut.result.now.planned)) left
 
 -- the row has a place, no packet left, and isn't closing
 placed : (c : After-index-4) → IsFirstPlace (is_served_at_hop c.args.chan true) c.args.self.now.rows.items c.in-Some.place
-placed c = subst (λ rows. IsFirstPlace (is_served_at_hop c.args.chan true) rows c.in-Some.place) c.deref.ensures.value c.in-Some.ensures.some
+placed c = c.in-Some.ensures.some
 
 left : (c : After-index-4) → length (left_in (get_or c.args.self.now.rows.items c.in-Some.place c.index_mut.result.now).planned) ≡ 0
 left c =
@@ -102,17 +102,17 @@ put_plan-requires-clause-room c = idle-room c.args.self.now.clock c.args.self.no
 
 pub invariant_of-self-2 : goal.invariant_of-self-2
 invariant_of-self-2 c =
-    let place = subst (λ rows. IsFirstPlace (is_served_at_hop c.args.chan true) rows c.in-Some.place) c.deref.ensures.value c.in-Some.ensures.some in
+    let place = c.in-Some.ensures.some in
     let same = c.plan.ensures ∙ ap (λ row. kept_planned c.args.self.now.clock c.args.count c.args.gap c.args.size (row_in row)) c.index_mut.ensures.value in
     let reply =
     submit-planned c.args.self.now.shape c.args.self.now.clock c.args.self.now.packets c.args.chan c.args.count c.args.gap c.args.size c.args.self.now.rows.items c.in-Some.place c.index.result.now
-    (subst (λ rows. IsFirstPlace (is_served_at_hop c.args.chan true) rows c.in-Some.place) c.deref.ensures.value c.in-Some.ensures.some)
+    (c.in-Some.ensures.some)
     (c.in_default-not_committed.ensures ∙ ap (λ row. not_in_phase Committed (reservation_in row)) c.index.ensures)
-    (c.in_default-busy.ensures ∙ ap (λ row. busy (length (left_in row.planned))) (at-place c.args.self.now.rows.items c.in-Some.place c.index-2.result.now c.index.result.now c.index-2.ensures ((subst (λ rows. IsFirstPlace (is_served_at_hop c.args.chan true) rows c.in-Some.place) c.deref.ensures.value c.in-Some.ensures.some).inside)))
-    (c.in_default-too_big.ensures ∙ ap (λ row. too_big (reservation_in row) c.args.size) (at-place c.args.self.now.rows.items c.in-Some.place c.index-3.result.now c.index.result.now c.index-3.ensures ((subst (λ rows. IsFirstPlace (is_served_at_hop c.args.chan true) rows c.in-Some.place) c.deref.ensures.value c.in-Some.ensures.some).inside))) in
+    (c.in_default-busy.ensures ∙ ap (λ row. busy (length (left_in row.planned))) (at-place c.args.self.now.rows.items c.in-Some.place c.index-2.result.now c.index.result.now c.index-2.ensures ((c.in-Some.ensures.some).inside)))
+    (c.in_default-too_big.ensures ∙ ap (λ row. too_big (reservation_in row) c.args.size) (at-place c.args.self.now.rows.items c.in-Some.place c.index-3.result.now c.index.result.now c.index-3.ensures ((c.in-Some.ensures.some).inside))) in
     let kept =
     submit-kept c.args.self.now.shape c.args.self.now.clock c.args.self.now.packets c.args.chan c.args.count c.args.gap c.args.size c.args.self.now.clock c.args.self.now.rows.items c.in-Some.place c.plan.new.self c.index_mut.result.now
-    (subst (λ rows. IsFirstPlace (is_served_at_hop c.args.chan true) rows c.in-Some.place) c.deref.ensures.value c.in-Some.ensures.some)
+    (c.in-Some.ensures.some)
     (c.plan.ensures ∙ ap (λ row. kept_planned c.args.self.now.clock c.args.count c.args.gap c.args.size (row_in row)) c.index_mut.ensures.value) in
     record {
       admitted = c.args.self.now.admitted;
@@ -150,13 +150,13 @@ invariant_of-self-2 c =
 pub returns-clause-reply : goal.returns-clause-reply
 returns-clause-reply c =
     submit-planned c.args.self.now.shape c.args.self.now.clock c.args.self.now.packets c.args.chan c.args.count c.args.gap c.args.size c.args.self.now.rows.items c.in-Some.place c.index.result.now
-    (subst (λ rows. IsFirstPlace (is_served_at_hop c.args.chan true) rows c.in-Some.place) c.deref.ensures.value c.in-Some.ensures.some)
+    (c.in-Some.ensures.some)
     (c.in_default-not_committed.ensures ∙ ap (λ row. not_in_phase Committed (reservation_in row)) c.index.ensures)
-    (c.in_default-busy.ensures ∙ ap (λ row. busy (length (left_in row.planned))) (at-place c.args.self.now.rows.items c.in-Some.place c.index-2.result.now c.index.result.now c.index-2.ensures ((subst (λ rows. IsFirstPlace (is_served_at_hop c.args.chan true) rows c.in-Some.place) c.deref.ensures.value c.in-Some.ensures.some).inside)))
-    (c.in_default-too_big.ensures ∙ ap (λ row. too_big (reservation_in row) c.args.size) (at-place c.args.self.now.rows.items c.in-Some.place c.index-3.result.now c.index.result.now c.index-3.ensures ((subst (λ rows. IsFirstPlace (is_served_at_hop c.args.chan true) rows c.in-Some.place) c.deref.ensures.value c.in-Some.ensures.some).inside)))
+    (c.in_default-busy.ensures ∙ ap (λ row. busy (length (left_in row.planned))) (at-place c.args.self.now.rows.items c.in-Some.place c.index-2.result.now c.index.result.now c.index-2.ensures ((c.in-Some.ensures.some).inside)))
+    (c.in_default-too_big.ensures ∙ ap (λ row. too_big (reservation_in row) c.args.size) (at-place c.args.self.now.rows.items c.in-Some.place c.index-3.result.now c.index.result.now c.index-3.ensures ((c.in-Some.ensures.some).inside)))
 
 pub returns-clause-kept : goal.returns-clause-kept
 returns-clause-kept c =
     submit-kept c.args.self.now.shape c.args.self.now.clock c.args.self.now.packets c.args.chan c.args.count c.args.gap c.args.size c.args.self.now.clock c.args.self.now.rows.items c.in-Some.place c.plan.new.self c.index_mut.result.now
-    (subst (λ rows. IsFirstPlace (is_served_at_hop c.args.chan true) rows c.in-Some.place) c.deref.ensures.value c.in-Some.ensures.some)
+    (c.in-Some.ensures.some)
     (c.plan.ensures ∙ ap (λ row. kept_planned c.args.self.now.clock c.args.count c.args.gap c.args.size (row_in row)) c.index_mut.ensures.value)

@@ -1,5 +1,5 @@
 -- The parts of the tick find what a sound account leaves to count on, and together make what the account says.
-use Rattle.std.proofs.Common.{◌≡◌, ◌+◌, ◌++◌, length, map, take, drop, sym, ap, ◌∙◌, subst, refl, arith}
+use Rattle.std.proofs.Common.{◌≡◌, ◌+◌, length, map, sym, ap, ◌∙◌, subst, refl, arith}
 use Rattle.std.proofs.lemmas.List.{length-map, length-append}
 use Rattle.std.specs.Prelude.{find}
 use Rattle.link_steps.specs.Rows.{is_for, left_at}
@@ -7,18 +7,17 @@ use Rattle.link_steps.specs.Sources.{source_step}
 use Rattle.link_server.proofs.CalendarSteps.{listed-stepped}
 use Rattle.link_server.specs.Holds.{AreListed}
 use Rattle.link_server.proofs.IndexFacts.{index-summed}
-use Rattle.link_server.specs.Index.{channels_in, IsIndex}
 use Rattle.link_server.specs.Planned.{left_in, IsPlannedAhead}
 use Rattle.link_server.specs.Sources.{brought_by}
 use Rattle.link_server.proofs.PourFacts.{best-step-is, waiting-is}
 use Rattle.link_server.proofs.SoundSources.{from_best}
 use Rattle.link_steps.specs.declared.replies.Reply.TheVariants.{Ticked}
 use Rattle.link_steps.specs.declared.asks.Ask.TheVariants.{Tick}
-use Rattle.link_steps.specs.Kept.{kept_stays, held_rows, from_sources, kept_reply, kept_after}
+use Rattle.link_steps.specs.Kept.{kept_stays, from_sources, kept_reply, kept_after}
 use Rattle.link_steps.specs.Split.{whole}
 use Rattle.link_server.specs.Account.{account}
 use Rattle.link_server.specs.Packets.{arrival_in, here_in, on_in}
-use Rattle.link_server.specs.Rows.{reservation_in, row_in, summed, AreWithin}
+use Rattle.link_server.specs.Rows.{reservation_in, row_in, summed}
 use Rattle.link_server.specs.Plans.{ArePlanned}
 use Rattle.link_server.specs.Serving.{CanServe}
 use Rattle.link_server.specs.Keeping.{IsKeeping}
@@ -30,27 +29,22 @@ use Rattle.link_server.proofs.KeepingFacts.{reservations-after}
 use Rattle.link_server.proofs.SoundServes.{sound-serves}
 use Rattle.link_server.proofs.SoundTick.{sound-tick}
 use Rattle.link_server.proofs.StoodFacts.{all-ready, rows-few, room-small, still-stood}
-use Rattle.link_server.proofs.TickFacts.{all-written, brought-is, present-is, taken-is, occupies-is, tick-replied, tick-kept}
+use Rattle.link_server.proofs.TickFacts.{brought-is, present-is, taken-is, occupies-is, tick-replied, tick-kept}
 use Rattle.link_server.proofs.link_state.LinkState.tick.Goals as goal
-use Rattle.link_server.proofs.link_state.LinkState.tick.Goals.{After-deref_mut, After-take_source_packets-full, After-serve-left}
+use Rattle.link_server.proofs.link_state.LinkState.tick.Goals.{After-serve-left}
 
 pub expire-requires-clause-ready : goal.expire-requires-clause-ready
 expire-requires-clause-ready c = all-ready c.args.self.now c.requires.early
 
--- the rows that stay are those of the account
-stay : (c : After-deref_mut) → map row_in c.deref_mut.result.now ≡ held_rows c.args.self.now.shape (kept_in c.args.self.now)
-stay c = ap (map row_in) c.deref_mut.ensures.value ∙ c.expire.ensures.rows
-
 pub take_source_packets-full-requires-clause-planned : goal.take_source_packets-full-requires-clause-planned
 take_source_packets-full-requires-clause-planned c =
-    subst (ArePlanned c.args.self.now.clock c.args.self.now.plans.calendar) (sym (stay (goal.at.take_source_packets-full-requires-clause-planned c).After-deref_mut))
+    subst (ArePlanned c.args.self.now.clock c.args.self.now.plans.calendar) (sym c.expire.ensures.rows)
     (planned-left c.args.self.now.clock c.args.self.now.plans.calendar (kept_stays c.args.self.now.shape.bounds c.args.self.now.clock) (kept_in c.args.self.now).rows c.args.self.now.planned)
 
 pub take_source_packets-full-requires-clause-turns : goal.take_source_packets-full-requires-clause-turns
 take_source_packets-full-requires-clause-turns c =
     let turns = c.args.self.now.turns in
-    let shown = ap length c.deref_mut.ensures.value in
-    omega (arith, turns, shown, c.expire.ensures.few)
+    omega (arith, turns, c.expire.ensures.few)
 
 pub best_fits-fits-requires : goal.best_fits-fits-requires
 best_fits-fits-requires c = record { ahead = ahead-from c.args.self.now.clock c.args.self.now.clock (left_in c.args.self.now.packets.best) (omega arith) c.args.self.now.sound.best_ahead }
@@ -58,21 +52,20 @@ best_fits-fits-requires c = record { ahead = ahead-from c.args.self.now.clock c.
 pub take_source_packets-full-requires-clause-few : goal.take_source_packets-full-requires-clause-few
 take_source_packets-full-requires-clause-few c =
     let few = rows-few c.args.self.now in
-    let shown = ap length c.deref_mut.ensures.value in
-    omega (arith, few, shown, c.expire.ensures.few)
+    omega (arith, few, c.expire.ensures.few)
 
 pub take_source_packets-full-requires-clause-room : goal.take_source_packets-full-requires-clause-room
 take_source_packets-full-requires-clause-room c =
     let room = sources-room c.args.self.now.shape c.args.self.now.room (kept_in c.args.self.now) c.args.self.now.sound in
     let long = length-map c.args.self.now.packets.here.items arrival_in in
-    let same = ap length (brought-is c.args.self.now.shape (kept_in c.args.self.now) c.deref_mut.result.now (stay (goal.at.take_source_packets-full-requires-clause-room c).After-deref_mut)) in
+    let same = ap length (brought-is c.args.self.now.shape (kept_in c.args.self.now) c.expire.new.rows.items c.expire.ensures.rows) in
     let roomy = c.args.self.now.roomy in
     omega (arith, room, long, same, roomy)
 
 pub take_source_packets-full-requires-clause-numbers : goal.take_source_packets-full-requires-clause-numbers
 take_source_packets-full-requires-clause-numbers c =
     let small = brought-small c.args.self.now.shape c.args.self.now.room (kept_in c.args.self.now) c.requires.early (room-small c.args.self.now) c.args.self.now.sound in
-    let same = ap length (brought-is c.args.self.now.shape (kept_in c.args.self.now) c.deref_mut.result.now (stay (goal.at.take_source_packets-full-requires-clause-numbers c).After-deref_mut)) in
+    let same = ap length (brought-is c.args.self.now.shape (kept_in c.args.self.now) c.expire.new.rows.items c.expire.ensures.rows) in
     let parts = length-append (from_sources c.args.self.now.shape (kept_in c.args.self.now)) (from_best c.args.self.now.shape (kept_in c.args.self.now)) in
     omega (arith, small, same, parts)
 
@@ -84,10 +77,10 @@ pub take_best-best_lost-requires-clause-room : goal.take_best-best_lost-requires
 take_best-best_lost-requires-clause-room c = λ free.
     let counted = waiting-is c.args.self.now.shape (kept_in c.args.self.now) in
     let room = best-room c.args.self.now.shape c.args.self.now.room (kept_in c.args.self.now) c.args.self.now.sound (omega (arith, c.best_fits-fits.ensures.fewer free, counted)) in
-    let stays = ap (map row_in) c.deref_mut.ensures.value ∙ c.expire.ensures.rows in
-    let same = ap length (brought-is c.args.self.now.shape (kept_in c.args.self.now) c.deref_mut.result.now stays) in
+    let stays = c.expire.ensures.rows in
+    let same = ap length (brought-is c.args.self.now.shape (kept_in c.args.self.now) c.expire.new.rows.items stays) in
     let all = ap length c.take_source_packets-full.ensures.here in
-    let parts = length-append (here_in c.args.self.now.packets.here.items) (brought_by c.args.self.now.shape.bounds (here_in c.args.self.now.packets.here.items) c.args.self.now.clock c.args.self.now.packets.taken c.deref_mut.result.now) in
+    let parts = length-append (here_in c.args.self.now.packets.here.items) (brought_by c.args.self.now.shape.bounds (here_in c.args.self.now.packets.here.items) c.args.self.now.clock c.args.self.now.packets.taken c.expire.new.rows.items) in
     let long = length-map c.take_source_packets-full.new.packets.here.items arrival_in in
     let roomy = c.args.self.now.roomy in
     omega (arith, room, same, all, parts, long, roomy, c.take_source_packets-full.ensures.room)
@@ -97,8 +90,8 @@ take_best-best_lost-requires-clause-countable c =
     let all = brought-room c.args.self.now.shape c.args.self.now.room (kept_in c.args.self.now) c.args.self.now.sound in
     let most = c.args.self.now.sound.taken_most in
     let few = room-small c.args.self.now in
-    let stays = ap (map row_in) c.deref_mut.ensures.value ∙ c.expire.ensures.rows in
-    let same = ap length (brought-is c.args.self.now.shape (kept_in c.args.self.now) c.deref_mut.result.now stays) in
+    let stays = c.expire.ensures.rows in
+    let same = ap length (brought-is c.args.self.now.shape (kept_in c.args.self.now) c.expire.new.rows.items stays) in
     let parts = length-append (from_sources c.args.self.now.shape (kept_in c.args.self.now)) (from_best c.args.self.now.shape (kept_in c.args.self.now)) in
     let taken = c.take_source_packets-full.ensures.taken in
     omega (arith, all, most, few, same, parts, taken, c.requires.early)
@@ -113,35 +106,26 @@ serve-left-requires-clause-looked c =
     let looked = c.args.self.now.looked in
     omega (arith, looked, c.take_source_packets-full.ensures.looked, c.take_best-best_lost.ensures.looked)
 
--- the rows written back are those that the sources left
-written : (c : After-serve-left) → take c.expire.new.rows.len (c.take_source_packets-full.new.rows ++ drop (length c.take_source_packets-full.new.rows) c.expire.new.rows.items) ≡ c.take_source_packets-full.new.rows
-written c =
-    let shown = ap length c.deref_mut.ensures.value in
-    let len = c.deref_mut.ensures.len in
-    let kept = c.take_source_packets-full.auto.rows in
-    all-written c.expire.new.rows.len c.take_source_packets-full.new.rows c.expire.new.rows.items (omega (arith, shown, len)) (omega (arith, shown, kept))
-
-kept : (c : After-serve-left) → account (c.args.self.now.clock + 1) c.serve-left.new.self c.take_source_packets-full.new.rows ≡ kept_after c.args.self.now.shape (kept_in c.args.self.now) Tick (Ticked c.args.self.now.clock c.take_source_packets-full.result c.serve-left.result.sent c.serve-left.result.best_sent c.take_best-best_lost.result)
+kept : (c : After-serve-left) → account (c.args.self.now.clock + 1) c.serve-left.new.self c.take_source_packets-full.new.rows.items ≡ kept_after c.args.self.now.shape (kept_in c.args.self.now) Tick (Ticked c.args.self.now.clock c.take_source_packets-full.result c.serve-left.result.sent c.serve-left.result.best_sent c.take_best-best_lost.result)
 kept c =
-    let stay = ap (map row_in) c.deref_mut.ensures.value ∙ c.expire.ensures.rows in
-    let here = present-is c.args.self.now.shape (kept_in c.args.self.now) c.deref_mut.result.now c.take_source_packets-full.new.packets c.take_best-best_lost.new.self (source_step c.best_fits-fits.result (find (is_for c.args.self.now.clock) (left_in c.take_source_packets-full.new.packets.best))) stay c.take_source_packets-full.ensures.here c.take_source_packets-full.ensures.taken (best-step-is c.args.self.now.shape (kept_in c.args.self.now) c.best_fits-fits.result (left_in c.take_source_packets-full.new.packets.best) c.best_fits-fits.ensures.step (ap left_in c.take_source_packets-full.ensures.best)) c.take_best-best_lost.ensures.here in
+    let stay = c.expire.ensures.rows in
+    let here = present-is c.args.self.now.shape (kept_in c.args.self.now) c.expire.new.rows.items c.take_source_packets-full.new.packets c.take_best-best_lost.new.self (source_step c.best_fits-fits.result (find (is_for c.args.self.now.clock) (left_in c.take_source_packets-full.new.packets.best))) stay c.take_source_packets-full.ensures.here c.take_source_packets-full.ensures.taken (best-step-is c.args.self.now.shape (kept_in c.args.self.now) c.best_fits-fits.result (left_in c.take_source_packets-full.new.packets.best) c.best_fits-fits.ensures.step (ap left_in c.take_source_packets-full.ensures.best)) c.take_best-best_lost.ensures.here in
     let occupant = occupies-is c.args.self.now.shape (kept_in c.args.self.now) c.take_best-best_lost.new.self here (ap on_in (c.take_best-best_lost.ensures.on ∙ c.take_source_packets-full.ensures.on)) in
-    tick-kept c.args.self.now.shape (kept_in c.args.self.now) c.deref_mut.result.now c.take_source_packets-full.new.rows c.take_best-best_lost.new.self c.serve-left.new.self (c.args.self.now.clock + 1)
-    (Ticked c.args.self.now.clock c.take_source_packets-full.result c.serve-left.result.sent c.serve-left.result.best_sent c.take_best-best_lost.result) refl stay c.take_source_packets-full.ensures.rows here (taken-is c.args.self.now.shape (kept_in c.args.self.now) c.deref_mut.result.now c.take_source_packets-full.new.packets c.take_best-best_lost.new.self (source_step c.best_fits-fits.result (find (is_for c.args.self.now.clock) (left_in c.take_source_packets-full.new.packets.best))) stay c.take_source_packets-full.ensures.taken (best-step-is c.args.self.now.shape (kept_in c.args.self.now) c.best_fits-fits.result (left_in c.take_source_packets-full.new.packets.best) c.best_fits-fits.ensures.step (ap left_in c.take_source_packets-full.ensures.best)) c.take_best-best_lost.ensures.taken) occupant
+    tick-kept c.args.self.now.shape (kept_in c.args.self.now) c.expire.new.rows.items c.take_source_packets-full.new.rows.items c.take_best-best_lost.new.self c.serve-left.new.self (c.args.self.now.clock + 1)
+    (Ticked c.args.self.now.clock c.take_source_packets-full.result c.serve-left.result.sent c.serve-left.result.best_sent c.take_best-best_lost.result) refl stay c.take_source_packets-full.ensures.rows here (taken-is c.args.self.now.shape (kept_in c.args.self.now) c.expire.new.rows.items c.take_source_packets-full.new.packets c.take_best-best_lost.new.self (source_step c.best_fits-fits.result (find (is_for c.args.self.now.clock) (left_in c.take_source_packets-full.new.packets.best))) stay c.take_source_packets-full.ensures.taken (best-step-is c.args.self.now.shape (kept_in c.args.self.now) c.best_fits-fits.result (left_in c.take_source_packets-full.new.packets.best) c.best_fits-fits.ensures.step (ap left_in c.take_source_packets-full.ensures.best)) c.take_best-best_lost.ensures.taken) occupant
     c.serve-left.ensures.taken c.serve-left.ensures.here c.serve-left.ensures.on
     (ap left_in c.serve-left.ensures.best ∙ c.take_best-best_lost.ensures.best ∙ ap (λ p. left_at (c.args.self.now.clock + 1) (left_in p)) c.take_source_packets-full.ensures.best)
 
 replied : (c : After-serve-left) → Ticked c.args.self.now.clock c.take_source_packets-full.result c.serve-left.result.sent c.serve-left.result.best_sent c.take_best-best_lost.result ≡ kept_reply (whole c.args.self.now.shape) (kept_in c.args.self.now) Tick
 replied c =
-    let stay = ap (map row_in) c.deref_mut.ensures.value ∙ c.expire.ensures.rows in
-    let here = present-is c.args.self.now.shape (kept_in c.args.self.now) c.deref_mut.result.now c.take_source_packets-full.new.packets c.take_best-best_lost.new.self (source_step c.best_fits-fits.result (find (is_for c.args.self.now.clock) (left_in c.take_source_packets-full.new.packets.best))) stay c.take_source_packets-full.ensures.here c.take_source_packets-full.ensures.taken (best-step-is c.args.self.now.shape (kept_in c.args.self.now) c.best_fits-fits.result (left_in c.take_source_packets-full.new.packets.best) c.best_fits-fits.ensures.step (ap left_in c.take_source_packets-full.ensures.best)) c.take_best-best_lost.ensures.here in
+    let stay = c.expire.ensures.rows in
+    let here = present-is c.args.self.now.shape (kept_in c.args.self.now) c.expire.new.rows.items c.take_source_packets-full.new.packets c.take_best-best_lost.new.self (source_step c.best_fits-fits.result (find (is_for c.args.self.now.clock) (left_in c.take_source_packets-full.new.packets.best))) stay c.take_source_packets-full.ensures.here c.take_source_packets-full.ensures.taken (best-step-is c.args.self.now.shape (kept_in c.args.self.now) c.best_fits-fits.result (left_in c.take_source_packets-full.new.packets.best) c.best_fits-fits.ensures.step (ap left_in c.take_source_packets-full.ensures.best)) c.take_best-best_lost.ensures.here in
     let occupant = occupies-is c.args.self.now.shape (kept_in c.args.self.now) c.take_best-best_lost.new.self here (ap on_in (c.take_best-best_lost.ensures.on ∙ c.take_source_packets-full.ensures.on)) in
-    tick-replied c.args.self.now.shape (kept_in c.args.self.now) c.deref_mut.result.now c.take_best-best_lost.new.self c.take_source_packets-full.result c.serve-left.result.sent c.serve-left.result.best_sent c.take_best-best_lost.result (source_step c.best_fits-fits.result (find (is_for c.args.self.now.clock) (left_in c.take_source_packets-full.new.packets.best))) stay c.take_source_packets-full.ensures.lost occupant c.serve-left.ensures.sent c.serve-left.ensures.best_sent (best-step-is c.args.self.now.shape (kept_in c.args.self.now) c.best_fits-fits.result (left_in c.take_source_packets-full.new.packets.best) c.best_fits-fits.ensures.step (ap left_in c.take_source_packets-full.ensures.best)) c.take_best-best_lost.ensures.lost
+    tick-replied c.args.self.now.shape (kept_in c.args.self.now) c.expire.new.rows.items c.take_best-best_lost.new.self c.take_source_packets-full.result c.serve-left.result.sent c.serve-left.result.best_sent c.take_best-best_lost.result (source_step c.best_fits-fits.result (find (is_for c.args.self.now.clock) (left_in c.take_source_packets-full.new.packets.best))) stay c.take_source_packets-full.ensures.lost occupant c.serve-left.ensures.sent c.serve-left.ensures.best_sent (best-step-is c.args.self.now.shape (kept_in c.args.self.now) c.best_fits-fits.result (left_in c.take_source_packets-full.new.packets.best) c.best_fits-fits.ensures.step (ap left_in c.take_source_packets-full.ensures.best)) c.take_best-best_lost.ensures.lost
 
 pub invariant_of-self : goal.invariant_of-self
 invariant_of-self c =
-    let rows = written (goal.at.invariant_of-self c).After-serve-left in
-    let after = ap (account (c.args.self.now.clock + 1) c.serve-left.new.self) rows ∙ kept (goal.at.invariant_of-self c).After-serve-left in
+    let after = kept (goal.at.invariant_of-self c).After-serve-left in
     let roomy = c.args.self.now.roomy in
     let first = c.take_source_packets-full.ensures.room in
     let second = c.serve-left.ensures.room in
@@ -149,32 +133,26 @@ invariant_of-self c =
     record {
       admitted = c.expire.ensures.admitted;
       same_server = c.expire.ensures.server ∙ c.args.self.now.same_server;
-      same_rows = c.expire.ensures.same ∙ ap (map summed) (sym c.deref_mut.ensures.value) ∙ sym c.take_source_packets-full.ensures.summed ∙ ap (map summed) (sym rows);
-      within = subst (AreWithin (length c.args.self.now.shape.bounds)) (sym rows) c.take_source_packets-full.ensures.levels;
+      same_rows = c.expire.ensures.same ∙ sym c.take_source_packets-full.ensures.summed;
+      within = c.take_source_packets-full.ensures.levels;
       listed =
-          subst (λ all. AreListed c.args.self.now.shape.bounds (c.args.self.now.clock + 1) c.expire.new.holds (map row_in all)) (sym rows)
-          (subst (AreListed c.args.self.now.shape.bounds (c.args.self.now.clock + 1) c.expire.new.holds) (sym c.take_source_packets-full.ensures.rows)
-          (listed-stepped c.args.self.now.shape.bounds (here_in c.args.self.now.packets.here.items) c.args.self.now.clock (c.args.self.now.clock + 1) c.args.self.now.packets.taken c.expire.new.holds (map row_in c.deref_mut.result.now) (omega arith)
-          (subst (λ all. AreListed c.args.self.now.shape.bounds c.args.self.now.clock c.expire.new.holds (map row_in all)) (sym c.deref_mut.ensures.value) c.expire.ensures.listed)));
+          subst (AreListed c.args.self.now.shape.bounds (c.args.self.now.clock + 1) c.expire.new.holds) (sym c.take_source_packets-full.ensures.rows)
+          (listed-stepped c.args.self.now.shape.bounds (here_in c.args.self.now.packets.here.items) c.args.self.now.clock (c.args.self.now.clock + 1) c.args.self.now.packets.taken c.expire.new.holds (map row_in c.expire.new.rows.items) (omega arith) c.expire.ensures.listed);
       indexed =
-          subst (λ all. IsIndex c.expire.new.index.places.items (channels_in all)) (sym rows)
-          (index-summed c.expire.new.index.places.items c.deref_mut.result.now c.take_source_packets-full.new.rows
-          (subst (λ all. IsIndex c.expire.new.index.places.items (channels_in all)) (sym c.deref_mut.ensures.value) c.expire.ensures.indexed) c.take_source_packets-full.ensures.summed);
+          index-summed c.expire.new.index.places.items c.expire.new.rows.items c.take_source_packets-full.new.rows.items c.expire.ensures.indexed c.take_source_packets-full.ensures.summed;
       keeps =
           subst (IsKeeping c.args.self.now.shape.buffer c.args.self.now.shape.bounds c.expire.new.keeping)
-          (ap (map reservation_in) (sym c.deref_mut.ensures.value)
-          ∙ sym (reservations-after c.args.self.now.shape.bounds (here_in c.args.self.now.packets.here.items) c.args.self.now.clock c.args.self.now.packets.taken c.deref_mut.result.now c.take_source_packets-full.new.rows c.take_source_packets-full.ensures.rows)
-          ∙ ap (map reservation_in) (sym rows))
+          (sym (reservations-after c.args.self.now.shape.bounds (here_in c.args.self.now.packets.here.items) c.args.self.now.clock c.args.self.now.packets.taken c.expire.new.rows.items c.take_source_packets-full.new.rows.items c.take_source_packets-full.ensures.rows))
           (subst (λ buffer. IsKeeping buffer c.args.self.now.shape.bounds c.expire.new.keeping (map reservation_in c.expire.new.rows.items)) c.args.self.now.keeps.whole c.expire.ensures.keeps);
       sound = subst (IsSound c.args.self.now.shape c.args.self.now.room) (sym after) (sound-tick c.args.self.now.shape c.args.self.now.room (kept_in c.args.self.now) (Ticked c.args.self.now.clock c.take_source_packets-full.result c.serve-left.result.sent c.serve-left.result.best_sent c.take_best-best_lost.result) c.args.self.now.sound);
       planned =
-          subst (λ all. ArePlanned (c.args.self.now.clock + 1) c.take_source_packets-full.new.plans.calendar (map row_in all)) (sym rows)
-          (planned-later c.args.self.now.clock (c.args.self.now.clock + 1) c.take_source_packets-full.new.plans.calendar (map row_in c.take_source_packets-full.new.rows) (omega arith) c.take_source_packets-full.ensures.planned);
+          planned-later c.args.self.now.clock (c.args.self.now.clock + 1) c.take_source_packets-full.new.plans.calendar (map row_in c.take_source_packets-full.new.rows.items) (omega arith) c.take_source_packets-full.ensures.planned;
       turns =
           (let turns = c.args.self.now.turns in
-          let shown = ap length c.deref_mut.ensures.value in
-          let written = ap length rows in
-          omega (arith, turns, shown, written, c.expire.ensures.few, c.take_source_packets-full.auto.rows, c.take_source_packets-full.ensures.turns));
+          let as_many = ap length c.take_source_packets-full.ensures.summed in
+          let long = length-map c.take_source_packets-full.new.rows.items summed in
+          let before = length-map c.expire.new.rows.items summed in
+          omega (arith, turns, as_many, long, before, c.expire.ensures.few, c.take_source_packets-full.ensures.turns));
       roomy = omega (arith, roomy, first, second, third);
       looked = omega (arith, c.serve-left.ensures.looked);
       stood = still-stood c.args.self.now Tick (Ticked c.args.self.now.clock c.take_source_packets-full.result c.serve-left.result.sent c.serve-left.result.best_sent c.take_best-best_lost.result) _ tt (replied (goal.at.invariant_of-self c).After-serve-left) after;
@@ -185,7 +163,7 @@ returns-clause-reply c = replied (goal.at.returns-clause-reply c).After-serve-le
 
 pub returns-clause-kept : goal.returns-clause-kept
 returns-clause-kept c =
-    ap (account (c.args.self.now.clock + 1) c.serve-left.new.self) (written (goal.at.returns-clause-kept c).After-serve-left) ∙ kept (goal.at.returns-clause-kept c).After-serve-left
+    kept (goal.at.returns-clause-kept c).After-serve-left
 
 pub expire-requires-clause-keeps : goal.expire-requires-clause-keeps
 expire-requires-clause-keeps c =

@@ -6,7 +6,7 @@ use Rattle.link_server.proofs.plans.Plans.call.Given as goal
 -- the rows whose entries were taken have their turn, if a packet is planned for them
 abbrev pub invariant-loop-key : goal.invariant-loop-key
 invariant-loop-key l = record {
-  called : AreCalled l.clock l.self.calendar l.self.turns.items l.rows;
+  called : AreCalled l.clock l.self.calendar l.self.turns.items l.rows.items;
   capacity : vec_capacity l.self.turns ≡ vec_capacity l.fn.self.turns;
 }
 
