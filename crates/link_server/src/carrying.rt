@@ -1,5 +1,5 @@
 //! The asks by which a link carries packets: submit, release, arrive, pour and tick.
-ghost use Rattle.std.specs.Prelude.{◌≡◌, ◌^◌, ◌<◌, ◌≤◌, suc};
+ghost use Rattle.std.specs.Prelude.{◌≡◌, ◌^◌, ◌<◌, ◌≤◌, suc, IfOk, IsOk};
 ghost use Rattle.link_steps.specs.declared.asks.Ask.TheVariants.{Submit as AskSubmit, Release as AskRelease, Arrive as AskArrive, Tick as AskTick, Pour as AskPour};
 ghost use Rattle.link_steps.specs.Split.{whole};
 ghost use Rattle.link_steps.specs.Kept.{kept_reply, kept_after};
@@ -14,7 +14,7 @@ use crate::rows::{place_at_hop, place_of};
 use crate::served_row::busy_with;
 use crate::sources::take_source_packets;
 use link_steps::{Packet, Refusal, Reply, Why};
-use net_units::ChanNo;
+use net_units::{ChanNo, OutOfMemory};
 
 impl LinkState {
     // Plans source packets at the first hop, the first at the clock.
@@ -130,25 +130,26 @@ impl LinkState {
     }
 
     // Makes a tick: rows whose hold has ended expire, the source packets that are planned for it arrive, then the
-    // best-effort packet, and the link serves the packets here.
+    // best-effort packet, and the link serves the packets here. It never wants memory; it answers as a step does, so that the
+    // reply is written where the caller reads it and not copied there.
     #[inline(never)]
-    pub(crate) fn tick(&mut self) -> Reply
+    pub(crate) fn tick(&mut self) -> Result<Reply, OutOfMemory>
         requires early { self.old.clock < 2 ^ 61 }
+        ensures made { IsOk result }
         ensures shape { self.new.shape ≡ self.old.shape }
         ensures clock { self.new.clock ≡ suc self.old.clock }
-        ensures reply { result ≡ kept_reply (whole self.old.shape) (kept_in self.old) AskTick }
-        ensures kept { kept_in self.new ≡ kept_after self.old.shape (kept_in self.old) AskTick result }
+        ensures reply { IfOk result (λ reply. reply ≡ kept_reply (whole self.old.shape) (kept_in self.old) AskTick) }
+        ensures kept { IfOk result (λ reply. kept_in self.new ≡ kept_after self.old.shape (kept_in self.old) AskTick reply) }
     {
         let clock = self.clock;
         let shape = self.shape;
-        let bounds = shape.bounds;
         expire(
             &mut self.holds,
             &mut self.rows,
             &mut self.index,
             &mut self.sums,
             &mut self.keeping,
-            &bounds,
+            &shape.bounds,
             clock,
         );
         let fits = self.packets.best_fits(&shape, clock);
@@ -157,18 +158,18 @@ impl LinkState {
             &self.index,
             &mut self.plans,
             &mut self.packets,
-            &bounds,
+            &shape.bounds,
             clock,
         );
         let best_lost = self.packets.take_best(fits, &shape, clock);
         let left = self.packets.serve(&shape, clock);
         self.clock += 1;
-        Reply::Ticked {
+        Ok(Reply::Ticked {
             clock,
             full,
             sent: left.sent,
             best_sent: left.best_sent,
             best_lost,
-        }
+        })
     }
 }

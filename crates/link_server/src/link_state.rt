@@ -161,7 +161,7 @@ impl LinkStep for LinkState {
     {
         // Most steps are ticks, and they wait for none of what the others need.
         match ask {
-            Ask::Tick => Ok(self.tick()),
+            Ask::Tick => self.tick(),
             _ => self.answer(ask),
         }
     }

@@ -1,24 +1,24 @@
 -- Each answer is that of the account, and so the legal one of every history that the link stands for.
 use Rattle.std.proofs.Common.{refl}
 use Rattle.link_server.specs.State.{kept_in}
-use Rattle.link_server.proofs.StepFacts.{rows-have, step-legal, step-entered, reserve-legal, reserve-entered, reserve-instead, step-guaranteed, reserve-guaranteed}
+use Rattle.link_server.proofs.StepFacts.{rows-have, reserve-legal, reserve-entered, reserve-instead, reserve-guaranteed}
 use Rattle.link_server.proofs.link_state.LinkStateLinkStep.step.Goals as goal
 
 -- ---- a tick
 
 pub returns-in-Tick-clause-legal : goal.returns-in-Tick-clause-legal
 returns-in-Tick-clause-legal c =
-    step-legal c.args.self.now.shape (kept_in c.args.self.now) c.args.ask.now _ c.tick.result (rows-have c.args.self.now.rows.items) c.in-Tick.is c.tick.ensures.reply
+    reserve-legal c.args.self.now.shape (kept_in c.args.self.now) c.args.ask.now _ c.tick.result (rows-have c.args.self.now.rows.items) c.in-Tick.is c.tick.ensures.reply
 
 pub returns-in-Tick-clause-entered : goal.returns-in-Tick-clause-entered
 returns-in-Tick-clause-entered c =
-    step-entered c.args.self.now.shape c.tick.new.self.shape (kept_in c.args.self.now) (kept_in c.tick.new.self) c.args.ask.now _ c.tick.result
+    reserve-entered c.args.self.now.shape c.tick.new.self.shape (kept_in c.args.self.now) (kept_in c.tick.new.self) c.args.ask.now _ c.tick.result
     (rows-have c.args.self.now.rows.items) c.in-Tick.is c.tick.ensures.shape c.tick.ensures.kept
 
 pub returns-in-Tick-clause-guaranteed : goal.returns-in-Tick-clause-guaranteed
 returns-in-Tick-clause-guaranteed c =
-    step-guaranteed c.args.self.now.shape c.args.ask.now c.tick.result (kept_in c.args.self.now) c.requires.fits
-    (step-legal c.args.self.now.shape (kept_in c.args.self.now) c.args.ask.now _ c.tick.result (rows-have c.args.self.now.rows.items) c.in-Tick.is c.tick.ensures.reply)
+    reserve-guaranteed c.args.self.now.shape c.args.ask.now (kept_in c.args.self.now) c.tick.result c.requires.fits
+    (reserve-legal c.args.self.now.shape (kept_in c.args.self.now) c.args.ask.now _ c.tick.result (rows-have c.args.self.now.rows.items) c.in-Tick.is c.tick.ensures.reply)
 
 -- ---- any other ask
 
