@@ -160,6 +160,10 @@ impl Packets {
         if self.on.is_some() {
             return self.on;
         }
+        // most ticks of a run find no packet here, and needn't look at the line
+        if self.here.len() == 0 {
+            return None;
+        }
         let packet = start_next(&mut self.line, &self.here, tick)?;
         self.on = Some(Running { packet, tick });
         self.on
