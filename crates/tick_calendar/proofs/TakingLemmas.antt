@@ -9,9 +9,9 @@ use Rattle.std.proofs.lemmas.List.Edits.{remove-append_right}
 use Rattle.tick_calendar.specs.Calendar.{Entry, due_place, due_key, left_after, key_at, without_place, TakesDue}
 use Rattle.tick_calendar.proofs.DueLemmas.{due_place-least, due_place-ahead, due_place-Some}
 use Rattle.tick_calendar.specs.declared.place.Place.{Place}
-use Rattle.tick_calendar.specs.Wheel.{entries_in, IsWheel, RemovesFirst, AreAllFrom, IsFrom, IsKeptWheel}
+use Rattle.tick_calendar.specs.Wheel.{entries_in, IsWheel, RemovesFirst, StandsFirst, AreAllFrom, IsFrom, IsKeptWheel}
 use Rattle.tick_calendar.proofs.Chains.{entries-append, entries-here, none-first_at}
-use Rattle.tick_calendar.proofs.Ahead.{all-left, all-right, all-both, all-without, all-before}
+use Rattle.tick_calendar.proofs.Ahead.{all-earlier, all-left, all-right, all-both, all-without, all-before}
 
 due_place-first : (before after : List Entry) (e : Entry) (now : ℕ) → AllByRecursion (λ other. e.0 < other.0) before → AllByRecursion (λ other. e.0 ≤ other.0) after → e.0 ≤ now → due_place (before ++ e ∷ after) now ≡ Some (length before)
 due_place-first before after e now later least due =
@@ -116,3 +116,24 @@ take-kept ps left firsts lasts base slot waiting room now capacity key wheel low
   begun = begun;
   ahead = removes-ahead (base + slot) (base + slot) key ps left removes ahead;
 }
+
+-- what lies ahead of a tick still does, after a taking, and with an entry that does
+pub taken-from : (u t key : ℕ) (old new : List Place) → RemovesFirst t old new key → AreAllFrom u (entries_in old) → AreAllFrom u (entries_in new)
+taken-from u t key old new removes all = removes-ahead t u key old new removes all
+
+pub put-from : (next least tick key : ℕ) (es new : List Entry) → least ≤ next → least ≤ tick → new ≡ es ++ (tick, key) ∷ [] → AreAllFrom next es → AreAllFrom least new
+put-from next least tick key es new less by is all = subst (AreAllFrom least) (sym is) (all-both least es ((tick, key) ∷ []) (all-earlier next least es less all) (by, tt))
+
+-- where all lie ahead of a later tick, none is due
+pub none-until : (now next : ℕ) (es : List Entry) → now < next → AreAllFrom next es → AreAllFrom (suc now) es
+none-until now next es before all = all-earlier next (suc now) es before all
+
+-- what is left without the first entry of a tick
+without-first : (t key : ℕ) (places : List Place) → StandsFirst t places key → (left : List Place) × RemovesFirst t places left key
+without-first t key places first = (first.before ++ first.after, record { before = first.before; place = first.place; after = first.after; was = first.is; at = first.at; none = first.none; key_is = first.key_is; left = entries-append first.before first.after })
+
+-- the first entry of the least tick is due
+pub first-due : (t now key : ℕ) (es : List Entry) (places : List Place) → StandsFirst t places key → entries_in places ≡ es → AreAllFrom t (entries_in places) → t ≤ now → due_key es now ≡ Some key
+first-due t now key es places first same all due =
+    let taken = without-first t key places first in
+    (removes-due t now key es places taken.0 taken.1 same all due).0

@@ -4,7 +4,7 @@ use Rattle.std.proofs.lemmas.Bool.{cases_Bool, cases_eq, eqb-true, and_parts}
 use Rattle.std.proofs.lemmas.List.{get_or_at, set_at, length-append, length-set, get_or-set_same, get_or-set_other}
 use Rattle.std.proofs.lemmas.Option.{same_Some}
 use Rattle.tick_calendar.specs.declared.place.Place.{Place}
-use Rattle.tick_calendar.specs.Wheel.{entries_in, waits_at, first_at, last_at, IsWheel, RemovesFirst}
+use Rattle.tick_calendar.specs.Wheel.{entries_in, waits_at, first_at, last_at, IsWheel, RemovesFirst, StandsFirst}
 use Rattle.tick_calendar.proofs.Chains.{entries-alike, entries-put, entries-gone, first_at-past, first_at-alike, first_at-found, HasNone, first_at-none, none-first_at, none-found, first-one, is_at-other, last_at-past, last_at-new, last_at-alike, split-last, last_at-taken, found-last}
 use Rattle.tick_calendar.proofs.Links.{linked-past, linked-after, linked-taken, first_at-taken, linked-beyond}
 
@@ -156,3 +156,11 @@ take-first places firsts lasts base slot first x y wheel low is_first read gone 
       subst (λ l. IsWheel l (set firsts slot x.next) lasts base) (sym written) (subst (λ (m : Option ℕ). IsWheel (split.before ++ y ∷ split.after) (set firsts slot m) lasts base) (ap (λ (p : Place). p.next) (sym same)) turned),
       record { before = split.before; place = split.place; after = split.after; was = split.was; at = split.here; none = none-found (base + slot) 0 split.before split.none; key_is = ap (λ (p : Place). p.key) same; left = ap entries_in written ∙ entries-gone split.before split.after y gone },
     )
+
+-- the place that the slot names stands first of its tick
+pub stands-first : (places : List Place) (firsts : List (Option ℕ)) (lasts : List ℕ) (base slot first : ℕ) (x : Place) → IsWheel places firsts lasts base → slot < 1024 → get_or firsts slot None ≡ Some first → x ≡ get_or places first x → StandsFirst (base + slot) places x.key
+stands-first places firsts lasts base slot first x wheel low is_first read =
+    let split = split-first (base + slot) 0 first places (sym (wheel.firsts_at slot low) ∙ is_first) in
+    let place : first ≡ length split.before = omega (arith, split.at) in
+    let same : x ≡ split.place = read ∙ ap (λ l. get_or l first x) split.was ∙ get_or_at split.before split.place split.after x first (sym place) in
+    record { before = split.before; place = split.place; after = split.after; is = split.was; at = split.here; none = none-found (base + slot) 0 split.before split.none; key_is = ap (λ (p : Place). p.key) same }

@@ -65,6 +65,16 @@ pub record RemovesFirst (t : ℕ) (old new : List Place) (key : ℕ) : Type 0 wh
   pub key_is : key ≡ place.key
   pub left : entries_in new ≡ entries_in before ++ entries_in after
 
+-- the first entry of tick t has this key
+pub record StandsFirst (t : ℕ) (places : List Place) (key : ℕ) : Type 0 where
+  pub before : List Place
+  pub place : Place
+  pub after : List Place
+  pub is : places ≡ before ++ place ∷ after
+  pub at : waits_at t place ≡ true
+  pub none : first_at t 0 before ≡ None
+  pub key_is : key ≡ place.key
+
 -- what a calendar keeps
 pub record IsKeptWheel (places : List Place) (firsts : List (Option ℕ)) (lasts : List ℕ) (base slot waiting room clock capacity : ℕ) : Type 0 where
   pub wheel : IsWheel places firsts lasts base

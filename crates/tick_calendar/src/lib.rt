@@ -2,7 +2,8 @@
 #![tactic(auto)]
 
 ghost use Rattle.std.specs.Prelude.{◌≡◌, ◌+◌, ◌-◌, ◌<◌, ◌≤◌, ◌↔◌, ◌++◌, ◌∷◌, [], IsOk, OnOk, OnErr, IfOk, IsNone, IfSome, is_some, if◌then◌else◌, All};
-ghost use Rattle.tick_calendar.specs.Calendar.{Schedule, TakesDue, due_key, left_after};
+ghost use Rattle.tick_calendar.specs.Calendar.{PunctualIsFirst, Schedule, TakesDue, due_key, left_after};
+ghost use Rattle.tick_calendar.specs.Wheel.{AreAllFrom};
 
 mod place;
 mod wheel;
@@ -26,18 +27,25 @@ pub struct Calendar {
     waiting: usize,
     room: usize,
     clock: u64,
+    // No key is due before this tick.
+    next: u64,
 }
+
+/// Where no key is late, the first that was put for this very tick is taken.
+pub fn the_punctual_are_taken_in_their_order()
+    ensures { PunctualIsFirst }
+{}
 
 impl Model for Calendar {
     ghost use Rattle.std.specs.Prelude.{◌-◌, vec_capacity};
     ghost use Rattle.tick_calendar.specs.Calendar.{Schedule};
-    ghost use Rattle.tick_calendar.specs.Wheel.{entries_in, IsKeptWheel};
+    ghost use Rattle.tick_calendar.specs.Wheel.{entries_in, AreAllFrom, IsKeptWheel};
 
     ghost Value = { Schedule };
 
     ghost view = { λ c. record { entries = entries_in c.wheel.places.items; spare = c.room - c.waiting; clock = c.clock } };
 
-    ghost invariant = { λ c. IsKeptWheel c.wheel.places.items c.wheel.firsts.items c.wheel.lasts.items c.wheel.base c.wheel.slot c.waiting c.room c.clock (vec_capacity c.wheel.places) };
+    ghost invariant = { λ c. IsKeptWheel c.wheel.places.items c.wheel.firsts.items c.wheel.lasts.items c.wheel.base c.wheel.slot c.waiting c.room c.clock (vec_capacity c.wheel.places) × AreAllFrom c.next (entries_in c.wheel.places.items) };
 }
 
 impl Calendar {
@@ -50,6 +58,7 @@ impl Calendar {
             waiting: 0,
             room: 0,
             clock: 0,
+            next: u64::MAX,
         })
     }
 
@@ -81,6 +90,45 @@ impl Calendar {
         self.wheel.clear_if_full();
         self.wheel.append(tick, key);
         self.waiting += 1;
+        self.next = self.next.min(tick);
+    }
+
+    /// A tick before which no key falls due.
+    pub fn rests_until(&self) -> u64
+        ensures { All (λ entry. result ≤ entry.0) self.now.entries }
+    {
+        self.next
+    }
+
+    /// The key that `take_due` takes at `now`, which stays. `now` isn't below that of the call before, as there. It takes no
+    /// memory.
+    pub fn look_due(&mut self, now: u64) -> Option<u32>
+        requires { self.old.clock ≤ now }
+        ensures key { result ≡ due_key self.old.entries now }
+        ensures kept { self.new ≡ record self.old { clock = now } }
+        ensures none { IsNone result ↔ All (λ entry. now < entry.0) self.old.entries }
+    {
+        if now < self.next {
+            self.clock = now;
+            return None;
+        }
+        let key = self.look_at(now);
+        if key.is_none() {
+            self.next = self.next_due();
+        }
+        key
+    }
+
+    // The same, where one may be due.
+    fn look_at(&mut self, now: u64) -> Option<u32>
+        requires { self.old.clock ≤ now }
+        ensures key { result ≡ due_key self.old.entries now }
+        ensures kept { self.new ≡ record self.old { clock = now } }
+        ensures none { IsNone result ↔ All (λ entry. now < entry.0) self.old.entries }
+    {
+        self.clock = now;
+        let first = self.wheel.first_due(now)?;
+        Some(self.wheel.first_key(first))
     }
 
     /// Takes out the key with the least tick, the earliest put among equals, where that tick is at most
@@ -97,11 +145,42 @@ impl Calendar {
         ensures none { IsNone result ↔ All (λ entry. now < entry.0) self.old.entries }
         ensures taken { IfSome result (TakesDue self.old.entries self.new.entries now) }
     {
+        if now < self.next {
+            self.clock = now;
+            return None;
+        }
+        let key = self.take_at(now);
+        if key.is_none() {
+            self.next = self.next_due();
+        }
+        key
+    }
+
+    // The same, where one may be due.
+    fn take_at(&mut self, now: u64) -> Option<u32>
+        requires { self.old.clock ≤ now }
+        ensures key { result ≡ due_key self.old.entries now }
+        ensures left { self.new.entries ≡ left_after self.old.entries now }
+        ensures spare { self.new.spare ≡ self.old.spare + (if is_some result then 1 else 0) }
+        ensures clock { self.new.clock ≡ now }
+        ensures none { IsNone result ↔ All (λ entry. now < entry.0) self.old.entries }
+        ensures taken { IfSome result (TakesDue self.old.entries self.new.entries now) }
+    {
         self.clock = now;
         let first = self.wheel.first_due(now)?;
         let key = self.wheel.take(first);
         self.waiting -= 1;
         Some(key)
+    }
+
+    // A tick before which no key is due, by the slots.
+    fn next_due(&self) -> u64
+        ensures { AreAllFrom result self.now.entries }
+    {
+        if self.waiting == 0 {
+            return u64::MAX;
+        }
+        self.wheel.first_from()
     }
 }
 

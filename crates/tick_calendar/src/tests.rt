@@ -12,6 +12,8 @@ fn takes_the_least_tick_and_then_the_earliest_put(rt: HostRuntime) -> Result<(),
     calendar.put(3, 2);
     calendar.put(5, 3);
     assert_eq!(rt; calendar.take_due(2), None);
+    assert_eq!(rt; calendar.look_due(2), None);
+    assert_eq!(rt; calendar.look_due(5), Some(2));
     assert_eq!(rt; calendar.take_due(5), Some(2));
     assert_eq!(rt; calendar.take_due(5), Some(1));
     assert_eq!(rt; calendar.take_due(5), Some(3));

@@ -19,7 +19,7 @@ pub(crate) struct Wheel {
 }
 
 impl Wheel {
-    ghost use Rattle.tick_calendar.specs.Wheel.{RemovesFirst};
+    ghost use Rattle.tick_calendar.specs.Wheel.{RemovesFirst, StandsFirst};
 
     // A wheel with no entry, whose turn begins at tick 0.
     pub(crate) fn new(alloc: Global) -> Result<Wheel, OutOfMemory>
@@ -37,7 +37,7 @@ impl Wheel {
         })
     }
 
-    // Takes memory for two places an entry.
+    // Takes memory for two places an entry, and for a turn's slots, so that few turns are made to clear places.
     pub(crate) fn reserve(&mut self, room: usize) -> Result<(), OutOfMemory>
         ensures room { OnOk result (room ≤ vec_capacity self.new.places) }
         ensures grows { vec_capacity self.old.places ≤ vec_capacity self.new.places }
@@ -47,7 +47,10 @@ impl Wheel {
         ensures base { self.new.base ≡ self.old.base }
         ensures slot { self.new.slot ≡ self.old.slot }
     {
-        let places = room.checked_mul(2).ok_or(OutOfMemory)?;
+        let places = room
+            .checked_mul(2)
+            .and_then(|places| places.checked_add(1_024))
+            .ok_or(OutOfMemory)?;
         self.places
             .reserve(places.saturating_sub(self.places.len()))?;
         Ok(())
@@ -122,6 +125,16 @@ impl Wheel {
         key
     }
 
+    // The key of the entry that was put first among those of the slot.
+    pub(crate) fn first_key(&self, first: usize) -> u32
+        requires wheel { IsWheel self.now.places.items self.now.firsts.items self.now.lasts.items self.now.base }
+        requires slot { self.now.slot < 1024 }
+        requires first { get_or self.now.firsts.items self.now.slot None ≡ Some first }
+        ensures { StandsFirst (self.now.base + self.now.slot) self.now.places.items result }
+    {
+        self.places[first].key
+    }
+
     // Goes on to the first tick with an entry, where that is at most `now`, by a new turn where this one is over. Answers
     // the place of the entry that was put first among those of that tick. It takes no memory.
     pub(crate) fn first_due(&mut self, now: u64) -> Option<usize>
@@ -164,6 +177,16 @@ impl Wheel {
             }
         }
         last
+    }
+
+    // A tick before which no entry is due: that of the first slot from `slot` on with an entry, or of the last slot.
+    pub(crate) fn first_from(&self) -> u64
+        requires wheel { IsWheel self.now.places.items self.now.firsts.items self.now.lasts.items self.now.base }
+        requires slot { self.now.slot < 1024 }
+        requires ahead { AreAllFrom (self.now.base + self.now.slot) (entries_in self.now.places.items) }
+        ensures { AreAllFrom result (entries_in self.now.places.items) }
+    {
+        self.base.saturating_add(self.next_slot(1_023) as u64)
     }
 
     // Begins a turn: the slots are those of the ticks from `base` on. The places that keys have left are gone.
