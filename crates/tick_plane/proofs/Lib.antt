@@ -1,2 +1,4 @@
-mod Firsts
+mod CarriedFacts
+mod DueFacts
 pub mod FlightFacts
+pub mod RoundFacts

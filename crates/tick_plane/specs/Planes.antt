@@ -2,7 +2,7 @@
 -- departed, and then each link makes one tick, in the order of the links. A flight is a packet that has left a link and
 -- has a next one; it is due in the round in which it reaches that link. What the plane asks next follows from the replies
 -- that it has got.
-use Rattle.std.specs.Prelude.{ℕ, suc, Bool, true, false, nat_eq, nat_lt, if◌then◌else◌, Option, Some, None, List, [], ◌∷◌, ◌++◌, find}
+use Rattle.std.specs.Prelude.{ℕ, suc, ◌<◌, Bool, true, false, nat_eq, nat_lt, if◌then◌else◌, Option, Some, None, List, [], ◌∷◌, ◌++◌, find}
 use Rattle.net_units.specs.declared.numbers.LinkNo.{LinkNo}
 use Rattle.net_units.specs.Numbers.{link_at}
 use Rattle.link_steps.specs.declared.asks.Ask.{Ask}
@@ -12,7 +12,7 @@ use Rattle.link_steps.specs.declared.replies.Refusal.TheVariants.{Full, Stray}
 use Rattle.link_steps.specs.declared.replies.Reply.{Reply}
 use Rattle.link_steps.specs.declared.replies.Reply.TheVariants.{Taken, Ticked, Refused}
 use Rattle.link_steps.specs.declared.replies.Sent.{Sent}
-use Rattle.link_steps.specs.Lists.{without_first}
+use Rattle.link_steps.specs.Lists.{Each, without_first}
 use Rattle.tick_plane.specs.declared.flight.Flight.{Flight}
 
 -- the round, how many links have made its tick, and the flights that haven't arrived, in the order of their departures
@@ -75,6 +75,10 @@ plane_after links reply plane = plane_with links plane (next_due plane) reply
 unfoldable pub plane_of : ℕ → List Reply → Plane
 plane_of links [] = plane_start
 plane_of links (reply ∷ before) = plane_after links reply (plane_of links before)
+
+-- a packet that leaves with the reply is due at its next link after this round
+abbrev pub IsDueLater : ℕ → Reply → Type 0
+IsDueLater round reply = Each (λ flight. round < flight.round) (flight_in reply)
 
 -- ---- the replies of an ask
 

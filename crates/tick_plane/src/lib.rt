@@ -6,6 +6,7 @@
 #![tactic(auto)]
 
 pub mod flight;
+mod flights;
 pub mod plane;
 
 pub use flight::Flight;

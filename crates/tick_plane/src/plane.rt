@@ -1,10 +1,11 @@
 //! The rounds of arrivals and ticks.
-ghost use Rattle.std.specs.Prelude.{◌≡◌, ◌+◌, ◌-◌, ◌^◌, ◌<◌, ◌≤◌, ◌↔◌, ◌++◌, None, Some, IsTrue, IsOk, IsNone, OnOk, OnErr, IfOk, IfErr, IfNone, IfSome, length, find, remove, option_map, position, slice_get};
+ghost use Rattle.std.specs.Prelude.{◌≡◌, ◌+◌, ◌-◌, ◌^◌, ◌<◌, ◌≤◌, ◌↔◌, ◌++◌, None, Some, IsTrue, IsOk, IsNone, OnOk, OnErr, IfOk, IfErr, IfNone, IfSome, length, option_map};
 ghost use Rattle.net_units.specs.Numbers.{link_at};
-ghost use Rattle.link_steps.specs.Lists.{without_first};
-ghost use Rattle.tick_plane.specs.Planes.{flight_of, is_due, next_due, tick_made, plane_ask, plane_after, plane_expects, plane_start};
+ghost use Rattle.link_steps.specs.Lists.{Each};
+ghost use Rattle.tick_plane.specs.Planes.{flight_of, next_due, tick_made, plane_ask, plane_after, plane_expects, plane_start, IsDueLater};
 
 use crate::flight::Flight;
+use crate::flights::Flights;
 use link_steps::{Ask, Refusal, Reply, Sent, Unexpected};
 use net_units::{LinkNo, OutOfMemory};
 use std::alloc::Global;
@@ -18,23 +19,23 @@ use std::marker::Model;
 pub struct Plane {
     links: u32,
     rounds: u64,
-    // The round, the links that have made its tick, and the packets on their way, in the order of their departures.
+    // The round, the links that have made its tick, and the packets on their way.
     round: u64,
     ticked: u32,
-    flights: Vec<Flight>,
+    flights: Flights,
     ghost links_most: { links ≤ 32 },
     ghost in_links: { ticked < links },
     ghost rounds_most: { rounds < 2 ^ 60 },
     ghost in_rounds: { round ≤ rounds },
+    ghost same_round: { flights.round ≡ round },
 }
 
 impl Model for Plane {
-    ghost use Rattle.std.specs.Prelude.{◌-◌, vec_len, vec_capacity};
     ghost use Rattle.tick_plane.specs.Kept.{KeptPlane};
 
     ghost Value = { KeptPlane };
 
-    ghost view = { λ p. record { links = p.links; rounds = p.rounds; at = record { round = p.round; ticked = p.ticked; flights = p.flights.items }; spare = vec_capacity p.flights - vec_len p.flights } };
+    ghost view = { λ p. record { links = p.links; rounds = p.rounds; at = record { round = p.round; ticked = p.ticked; flights = p.flights.list }; spare = p.flights.spare } };
 }
 
 impl Plane {
@@ -51,7 +52,7 @@ impl Plane {
             rounds,
             round: 0,
             ticked: 0,
-            flights: Vec::new(alloc),
+            flights: Flights::new(alloc)?,
         })
     }
 
@@ -72,14 +73,14 @@ impl Plane {
     pub fn next_ask(&self) -> Option<(LinkNo, Ask)>
         ensures asked { result ≡ plane_ask self.now.rounds self.now.at }
         ensures in_links { self.now.at.ticked < self.now.links }
+        ensures few { self.now.links ≤ 32 }
         ensures done { IsNone result ↔ (self.now.at.round ≡ self.now.rounds) }
     {
         if self.round == self.rounds {
             return None;
         }
-        match first_due(&self.flights, self.round) {
-            Some(place) => {
-                let flight = self.flights[place];
+        match self.flights.first_due() {
+            Some(flight) => {
                 let ask = Ask::Arrive {
                     packet: flight.packet,
                 };
@@ -90,11 +91,13 @@ impl Plane {
     }
 
     /// Takes the reply to the next ask. An ask has to be left, and `ready` has to have made room in this round, so it takes
-    /// no memory. A reply that isn't one of the ask's is answered with the ask, and changes nothing: to an arrive a packet
-    /// is taken, or refused as full or as stray; to a tick the tick is made.
+    /// no memory. A packet that leaves with it is due at its next link after this round. A reply that isn't one of the ask's is
+    /// answered with the ask, and changes nothing: to an arrive a packet is taken, or refused as full or as stray; to a tick
+    /// the tick is made.
     pub fn take(&mut self, reply: Reply) -> Result<(), Unexpected>
         requires left { self.old.at.round < self.old.rounds }
         requires room { self.old.links - self.old.at.ticked ≤ self.old.spare }
+        requires later { IsDueLater self.old.at.round reply }
         ensures expected { IsOk result ↔ IsTrue (plane_expects (next_due self.old.at) reply) }
         ensures taken { OnOk result (self.new.at ≡ plane_after self.old.links reply self.old.at) }
         ensures links { self.new.links ≡ self.old.links }
@@ -103,25 +106,24 @@ impl Plane {
         ensures unexpected { IfErr result (λ odd. (odd.reply ≡ reply) × (option_map (λ to. to.1) (plane_ask self.old.rounds self.old.at) ≡ Some odd.ask)) }
         ensures unchanged { OnErr result (self.new ≡ self.old) }
     {
-        match (first_due(&self.flights, self.round), reply) {
+        match (self.flights.first_due(), reply) {
             (
-                Some(place),
+                Some(_),
                 Reply::Taken { .. } | Reply::Refused(Refusal::Full { .. } | Refusal::Stray { .. }),
             ) => {
-                self.flights.remove(place);
+                self.flights.land();
                 Ok(())
             }
             (None, Reply::Ticked { sent, .. }) => {
                 self.tick(sent);
                 Ok(())
             }
-            (Some(place), _) => {
-                let packet = self.flights[place].packet;
-                Err(Unexpected {
-                    ask: Ask::Arrive { packet },
-                    reply,
-                })
-            }
+            (Some(flight), _) => Err(Unexpected {
+                ask: Ask::Arrive {
+                    packet: flight.packet,
+                },
+                reply,
+            }),
             (None, _) => Err(Unexpected {
                 ask: Ask::Tick,
                 reply,
@@ -150,6 +152,7 @@ impl Plane {
         requires none { next_due self.old.at ≡ None }
         requires left { self.old.at.round < self.old.rounds }
         requires room { self.old.links - self.old.at.ticked ≤ self.old.spare }
+        requires later { Each (λ flight. self.old.at.round < flight.round) (flight_of sent) }
         ensures ticked { self.new.at ≡ tick_made self.old.links self.old.at (flight_of sent) }
         ensures links { self.new.links ≡ self.old.links }
         ensures rounds { self.new.rounds ≡ self.old.rounds }
@@ -158,6 +161,7 @@ impl Plane {
         let last = self.ticked + 1 == self.links;
         self.depart(sent);
         if last {
+            self.flights.begin_round();
             self.round += 1;
             self.ticked = 0;
         } else {
@@ -167,7 +171,8 @@ impl Plane {
 
     // A packet that has left a link is on its way, where there is a next link.
     fn depart(&mut self, sent: Option<Sent>)
-        requires { 1 ≤ self.old.spare }
+        requires room { 1 ≤ self.old.spare }
+        requires later { Each (λ flight. self.old.at.round < flight.round) (flight_of sent) }
         ensures { self.new ≡ record self.old { at = record self.old.at { flights = self.old.at.flights ++ flight_of sent }; spare = self.old.spare - length (flight_of sent) } }
     {
         if let Some(
@@ -179,30 +184,13 @@ impl Plane {
             },
         ) = sent
         {
-            self.flights.push_reserved(Flight {
+            self.flights.put(Flight {
                 to,
                 round: arrives,
                 packet,
             });
         }
     }
-}
-
-// The place of the first flight of this round.
-fn first_due(flights: &[Flight], round: u64) -> Option<usize>
-    ensures within { IfSome result (λ place. place < length flights.now) }
-    ensures found { IfSome result (λ place. find (is_due round) flights.now ≡ slice_get flights.now place) }
-    ensures left { IfSome result (λ place. without_first (is_due round) flights.now ≡ remove flights.now place) }
-    ensures none { IfNone result (find (is_due round) flights.now ≡ None) }
-{
-    place_due(flights, round)
-}
-
-// The first place of a flight of this round.
-fn place_due(flights: &[Flight], round: u64) -> Option<usize>
-    ensures { result ≡ position (is_due round) flights.now }
-{
-    flights.iter().position(|flight| flight.round == round)
 }
 
 // The link of this number.
@@ -235,6 +223,19 @@ mod tests {
         }
     }
 
+    // whether a packet that leaves with the reply is due after the round
+    fn is_later(reply: &Reply, round: u64) -> bool
+        ensures { IsTrue result → IsDueLater round reply.now }
+    {
+        match reply {
+            Reply::Ticked {
+                sent: Some(sent),
+                ..
+            } => round < sent.arrives,
+            _ => true,
+        }
+    }
+
     // the plane asks this link for this, and gets this reply
     fn asks(
         rt: &impl Abort,
@@ -247,6 +248,7 @@ mod tests {
         match plane.next_ask() {
             Some((to, next)) => {
                 assert_eq!(rt; (to.get(), next), (link, ask));
+                assert!(rt; is_later(&reply, plane.round()));
                 assert_eq!(rt; plane.take(reply), Ok(()));
                 Ok(())
             }

@@ -1,0 +1,140 @@
+//! The packets on their way, in the order of their departures, found by the round in which they are due.
+ghost use Rattle.std.specs.Prelude.{◌≡◌, ◌+◌, ◌-◌, ◌^◌, ◌≤◌, ◌<◌, ◌++◌, ◌∷◌, [], suc, None, IsOk, IsSome, OnOk, OnErr, IfOk, length, find};
+ghost use Rattle.tick_plane.specs.Planes.{is_due};
+ghost use Rattle.link_steps.specs.Lists.{without_first};
+
+use crate::flight::Flight;
+use net_units::OutOfMemory;
+use slab::Slab;
+use std::alloc::Global;
+use std::marker::Model;
+use tick_calendar::Calendar;
+
+// The flights of a plane, none of which is due before the round at hand.
+//
+// It is seen as the list of the flights, in the order in which they were put; the round at hand; and for how many more flights
+// there is room, as `spare`.
+#[derive(Drop)]
+pub(crate) struct Flights {
+    // Each flight under a key, which is in the calendar for the round in which the flight is due.
+    carried: Slab<Flight>,
+    rounds: Calendar,
+    round: u64,
+    // The key of the first flight that is due in the round at hand.
+    due: Option<u32>,
+    room: usize,
+}
+
+impl Model for Flights {
+    ghost use Rattle.tick_plane.specs.Carried.{AreFlights, IsKept, flights_at};
+
+    ghost Value = { AreFlights };
+
+    ghost view = { λ f. record { list = flights_at f.carried.slots f.rounds.entries; round = f.round; spare = f.room } };
+
+    ghost invariant = { λ f. IsKept f.carried f.rounds f.round f.due f.room };
+}
+
+impl Flights {
+    // No flight, at round 0, and no room.
+    pub(crate) fn new(alloc: Global) -> Result<Flights, OutOfMemory>
+        ensures { IfOk result (λ made. made ≡ record { list = []; round = 0; spare = 0 }) }
+    {
+        Ok(Flights {
+            carried: Slab::new(alloc),
+            rounds: Calendar::new(alloc)?,
+            round: 0,
+            due: None,
+            room: 0,
+        })
+    }
+
+    // Makes room for `more` more flights at least. Where there is that room already it takes no memory. An `Err` changes
+    // nothing.
+    pub(crate) fn reserve(&mut self, more: usize) -> Result<(), OutOfMemory>
+        ensures room { OnOk result (more ≤ self.new.spare) }
+        ensures had_room { more ≤ self.old.spare → IsOk result }
+        ensures grows { self.old.spare ≤ self.new.spare }
+        ensures kept { self.new ≡ record self.old { spare = self.new.spare } }
+        ensures err { OnErr result (self.new ≡ self.old) }
+    {
+        if more <= self.room {
+            return Ok(());
+        }
+        let want = self.carried.len().checked_add(more).ok_or(OutOfMemory)?;
+        if self.carried.capacity() < want {
+            // Twice as many at least, so that copies stay few.
+            let double = self.carried.capacity().saturating_mul(2);
+            self.carried = grown(&self.carried, want.max(double))?;
+        }
+        self.rounds.reserve(more)?;
+        self.room = more;
+        Ok(())
+    }
+
+    // Puts a flight after the others, which is due later than in the round at hand. There is room for it, so it takes no
+    // memory.
+    pub(crate) fn put(&mut self, flight: Flight)
+        requires room { 1 ≤ self.old.spare }
+        requires later { self.old.round < flight.round }
+        ensures { self.new ≡ record self.old { list = self.old.list ++ flight ∷ []; spare = self.old.spare - 1 } }
+    {
+        let key = self.carried.insert_reserved(flight) as u32;
+        self.rounds.put(flight.round, key);
+        self.room -= 1;
+    }
+
+    // The first flight that is due in the round at hand.
+    pub(crate) fn first_due(&self) -> Option<Flight>
+        ensures { result ≡ find (is_due self.now.round) self.now.list }
+    {
+        let key = self.due?;
+        let flight = self.carried[key as usize];
+        Some(Flight {
+            round: self.round,
+            ..flight
+        })
+    }
+
+    // Takes out the first flight that is due in the round at hand.
+    pub(crate) fn land(&mut self)
+        requires { IsSome (find (is_due self.old.round) self.old.list) }
+        ensures { self.new ≡ record self.old { list = without_first (is_due self.old.round) self.old.list; spare = self.old.spare + 1 } }
+    {
+        let key = self.rounds.take_due(self.round).unwrap();
+        self.carried.remove(key as usize);
+        self.room += 1;
+        self.due = self.rounds.look_due(self.round);
+    }
+
+    // Begins the next round, where none is due in this one.
+    pub(crate) fn begin_round(&mut self)
+        requires early { self.old.round < 2 ^ 60 }
+        requires none { find (is_due self.old.round) self.old.list ≡ None }
+        ensures { self.new ≡ record self.old { round = suc self.old.round } }
+    {
+        self.round += 1;
+        self.due = self.rounds.look_due(self.round);
+    }
+
+    // How many there are.
+    pub(crate) fn len(&self) -> usize
+        ensures { result ≡ length self.now.list }
+    {
+        self.carried.len()
+    }
+}
+
+// A copy of a slab, with room for so many flights, each of whose keys fits in a u32.
+fn grown(carried: &Slab<Flight>, room: usize) -> Result<Slab<Flight>, OutOfMemory>
+    ensures slots { IfOk result (λ made. made.slots ≡ carried.now.slots) }
+    ensures room { IfOk result (λ made. room ≤ made.capacity) }
+    ensures keys { IfOk result (λ made. made.capacity < 2 ^ 32) }
+{
+    let mut more = carried.clone()?;
+    more.reserve(room.saturating_sub(more.len()))?;
+    if more.capacity() >= u32::MAX as usize {
+        return Err(OutOfMemory);
+    }
+    Ok(more)
+}
