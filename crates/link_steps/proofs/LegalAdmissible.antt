@@ -82,6 +82,8 @@ legal-admissible link h fits legal = (legal-has link h fits legal).admissible
 -- a link without quotas has a split that fits it
 pub whole-fits : (shape : LinkShape) → SplitFits (whole shape)
 whole-fits shape = record {
+  groups = λ k d inside. absurd (omega (arith, inside));
+  apart = λ i j d before inside. absurd (omega (arith, inside));
   levels = λ m from upto.
       let least = bound_at-rising shape.bounds 1 m shape.bounds_rise (omega arith) from upto in
       let first : ceil_quotient shape.cap shape.rate ≤ bound_at shape.bounds 1 = shape.blocking_fits in

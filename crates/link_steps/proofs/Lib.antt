@@ -54,3 +54,4 @@ pub mod TicksBounded
 pub mod JournalFacts
 mod BufferFacts
 mod OrderFacts
+pub mod QuietFacts

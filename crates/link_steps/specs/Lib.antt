@@ -29,3 +29,4 @@ pub mod BusyPeriod
 pub mod Laws
 pub mod BufferHolds
 pub mod ServiceOrder
+pub mod Quiet

@@ -1,7 +1,7 @@
 -- A link may be split between groups of channels. Each group has a quota: so many units of the buffer, and at each level
 -- so much of its load. A channel's group is told by its number; channels without a group, and groups without a quota, have
--- quotas of 0. A split fits a link where the quotas of a level together leave room for the blocking within its bound, and
--- those of the buffer fit it. A link without quotas isn't split.
+-- quotas of 0. A split fits a link where each group has one quota at most and a number from 1 to 4, the quotas of a level
+-- together leave room for the blocking within its bound, and those of the buffer fit it. A link without quotas isn't split.
 use Rattle.std.specs.Prelude.{◌≡◌, ◌≢◌, ℕ, ◌+◌, ◌-◌, ◌≤◌, Bool, true, false, nat_eq, if◌then◌else◌, List, [], ◌∷◌, length, slice_index}
 use Rattle.std.specs.List.{All, AllPairs}
 use Rattle.net_units.specs.Numbers.{channel_number}
@@ -48,16 +48,22 @@ abbrev pub quota_part : (Quota → ℕ) → List Quota → ℕ → ℕ
 quota_part part [] group = 0
 quota_part part (quota ∷ quotas) group = if nat_eq quota.group group then part quota else quota_part part quotas group
 
+-- two quotas are of different groups
+abbrev pub AreOfOtherGroups : Quota → Quota → Type 0
+AreOfOtherGroups one other = one.group ≢ other.group
+
+-- a quota is of a group: 0 is the number of none
+abbrev pub IsOfGroup : Quota → Type 0
+IsOfGroup quota = (1 ≤ quota.group) × (quota.group ≤ 4)
+
 -- the split fits its link
 pub record SplitFits (link : Link) : Type 0 where
+  pub groups : All IsOfGroup link.split.quotas
+  pub apart : AllPairs AreOfOtherGroups link.split.quotas
   pub levels : (m : ℕ) → 1 ≤ m → m ≤ length link.shape.bounds → blocking_of link.shape + total (level_part m) link.split.quotas ≤ bound_at link.shape.bounds m
   pub buffer : total buffer_part link.split.quotas ≤ link.shape.buffer
 
 -- ---- quotas of a link
-
--- two quotas are of different groups
-abbrev pub AreOfOtherGroups : Quota → Quota → Type 0
-AreOfOtherGroups one other = one.group ≢ other.group
 
 -- each group has one quota at most, and no load after the last level of the bounds
 pub record AreQuotas (bounds : List ℕ) (quotas : List Quota) : Type 0 where

@@ -1,5 +1,6 @@
 //! Laws of a link's rules, each as the contract of a function that does nothing.
 ghost use Rattle.link_steps.specs.Laws.{HeldRowsAlwaysPass, BusyPeriodEnds, AccountGivesReply, AccountGoesOn, LegalHasContracts, EveryRowKeepsItsContract, EveryPacketHasWork, EveryWindowFits, EveryPacketLeavesInTime, HonestSourcesFindBuffer, LegalIsAdmissible, HeldRowsFitBuffer, RepliesAreDetermined};
+ghost use Rattle.link_steps.specs.Quiet.{QuietTicksChangeTheClock};
 
 /// In every admissible history of every link the held rows pass the admission test after every entry.
 pub fn held_rows_pass()
@@ -76,4 +77,9 @@ pub fn held_rows_fit_the_buffer()
 /// A legal history goes on with every ask that meets the conditions, and its asks determine its replies.
 pub fn replies_are_determined()
     ensures { RepliesAreDetermined }
+{}
+
+/// A link in which nothing falls due before some tick makes all ticks before it by changing its clock alone.
+pub fn quiet_ticks_change_the_clock()
+    ensures { QuietTicksChangeTheClock }
 {}

@@ -4,7 +4,7 @@ ghost use Rattle.link_steps.specs.declared.asks.Ask.{Ask};
 ghost use Rattle.link_steps.specs.declared.replies.Entry.{Entry};
 ghost use Rattle.link_steps.specs.Legal.{AskFits};
 ghost use Rattle.link_steps.specs.Replies.{reply_to};
-ghost use Rattle.link_steps.specs.Split.{Link};
+ghost use Rattle.link_steps.specs.Split.{Link, SplitFits};
 ghost use Rattle.link_steps.specs.Scan.{clock_of, clock_with};
 
 use crate::asks::Ask;
@@ -51,4 +51,7 @@ pub trait LinkStep: Drop {
 
     /// The clock is that of every history that the link stands for.
     ghost tells_time: { (link : Self) (h : List Entry) → stands_for link h → clock_at link ≡ clock_of h };
+
+    /// A link that stands for a history has a split that fits it.
+    ghost is_fit: { (link : Self) (h : List Entry) → stands_for link h → SplitFits (link_of link) };
 }
