@@ -4,10 +4,15 @@
 use Rattle.std.specs.Prelude.{◌≡◌, ℕ, ◌+◌, ◌<◌, List, length, slice_index}
 use Rattle.net_units.specs.LevelBounds.{bound_at}
 use Rattle.traffic_contract.specs.Admission.{Admitted, total, work_up_to}
+use Rattle.traffic_contract.specs.Contract.{Traffic}
 use Rattle.rcsp_admission.specs.Sums.{AreAdmitted}
 use Rattle.rcsp_admission.specs.Kept.{kept_rows}
 use Rattle.rcsp_admission.specs.Fields.{sums_of, KeepsPlaces}
 use Rattle.rcsp_admission.specs.declared.level_sums.LevelSums.TheInside.{Inside}
+
+-- a row of a contract at a level
+abbrev pub row_at : Traffic → ℕ → Admitted
+row_at contract level = record { contract = contract; level = level }
 
 -- what a row adds to the load of level m
 abbrev pub level_work : ℕ → List ℕ → ℕ → Admitted → ℕ

@@ -10,8 +10,8 @@ ghost use Rattle.rcsp_admission.specs.Room.{IsLastFull, load_with, FitsSome};
 ghost use Rattle.rcsp_admission.specs.Sums.{Holds, HoldsUpTo, AreAdmitted, server_with, has_key, level_held, admitted_rows, added, moved, without_key};
 
 use crate::key_index::KeyIndex;
-use crate::loads::{add_row, level_at, take_row};
-use crate::rows::{KeptRow, work, work_of};
+use crate::loads::{add_row, level_at, take_row, work};
+use crate::rows::{KeptRow, work_of};
 use net_units::limits::MOST_LEVELS;
 use net_units::{Bounds, Level, OutOfMemory};
 use std::alloc::Global;
@@ -147,7 +147,13 @@ impl LevelSums {
             contract,
             level,
         };
-        add_row(&mut self.loads, &self.bounds, self.rate, &row);
+        add_row(
+            &mut self.loads,
+            &self.bounds,
+            self.rate,
+            &row.contract,
+            row.level,
+        );
         self.index.put(key, self.rows.len());
         self.rows.push_reserved(row);
         self.spare -= 1;
@@ -164,9 +170,21 @@ impl LevelSums {
     {
         let place = self.index.place(key).unwrap();
         let before = self.rows[place];
-        take_row(&mut self.loads, &self.bounds, self.rate, &before);
+        take_row(
+            &mut self.loads,
+            &self.bounds,
+            self.rate,
+            &before.contract,
+            before.level,
+        );
         let after = KeptRow { level, ..before };
-        add_row(&mut self.loads, &self.bounds, self.rate, &after);
+        add_row(
+            &mut self.loads,
+            &self.bounds,
+            self.rate,
+            &after.contract,
+            after.level,
+        );
         self.rows[place] = after;
     }
 
@@ -192,7 +210,13 @@ impl LevelSums {
     {
         let place = self.index.remove(key);
         let row = self.rows.remove(place);
-        take_row(&mut self.loads, &self.bounds, self.rate, &row);
+        take_row(
+            &mut self.loads,
+            &self.bounds,
+            self.rate,
+            &row.contract,
+            row.level,
+        );
         self.spare += 1;
     }
 

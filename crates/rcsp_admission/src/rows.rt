@@ -2,10 +2,11 @@
 ghost use Rattle.std.specs.Prelude.{◌≡◌, ◌^◌, ◌<◌, ◌≤◌};
 ghost use Rattle.net_units.specs.Numbers.{level_number};
 ghost use Rattle.net_units.specs.Limits.{most_bound};
-ghost use Rattle.traffic_contract.specs.Admission.{total, work_in, work_up_to};
+ghost use Rattle.traffic_contract.specs.Admission.{total, work_up_to};
 ghost use Rattle.rcsp_admission.specs.Kept.{kept_rows};
 
-use net_units::{Level, ceil_div};
+use crate::loads::work;
+use net_units::Level;
 use traffic_contract::Contract;
 
 // An admitted channel under its key.
@@ -14,17 +15,6 @@ pub(crate) struct KeptRow {
     pub(crate) key: u32,
     pub(crate) contract: Contract,
     pub(crate) level: Level,
-}
-
-// The ticks of work that a contract may bring in a window.
-#[tactic(auto, unfolding(traffic_contract::specs::Admission::work_in))]
-pub(crate) fn work(contract: &Contract, rate: u32, window: u64) -> u64
-    requires rate { 1 ≤ rate }
-    requires window { window ≤ most_bound }
-    ensures value { result ≡ work_in rate contract.now window }
-    ensures small { result < 2 ^ 40 }
-{
-    contract.bound(window) * ceil_div(u64::from(contract.smax()), u64::from(rate))
 }
 
 // The ticks of work that the rows at levels up to this one may bring in a window.

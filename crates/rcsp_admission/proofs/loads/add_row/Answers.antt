@@ -1,8 +1,8 @@
 -- No level before the row's has a part of it, and each from there on has its work.
 use Rattle.std.proofs.Common.{◌≡◌, ◌+◌, ◌-◌, ap, ◌∙◌, subst, sym, get_or, set, arith}
 use Rattle.net_units.specs.LevelBounds.{bound_at}
-use Rattle.rcsp_admission.specs.Kept.{held_of}
-use Rattle.rcsp_admission.specs.Sums.{admitted_row}
+use Rattle.net_units.specs.Numbers.{level_number}
+use Rattle.rcsp_admission.specs.Loads.{row_at}
 use Rattle.rcsp_admission.proofs.LoadsFacts.{AreRaisedTo, raised-begins, raised-one, work-at}
 use Rattle.rcsp_admission.proofs.loads.add_row.Goals as goal
 
@@ -14,12 +14,12 @@ overflow_add-loads c =
 
 pub loop-index-init : goal.loop-index-init
 loop-index-init c =
-    raised-begins c.args.rate c.args.bounds.now (admitted_row (held_of c.args.row.now)) c.args.loads.now (c.get-index.result - 1) (omega (arith, c.get-index.ensures.value, c.get-index.ensures.least))
+    raised-begins c.args.rate c.args.bounds.now (row_at c.args.contract.now (level_number c.args.level)) c.args.loads.now (c.get-index.result - 1) (omega (arith, c.get-index.ensures.value, c.get-index.ensures.least))
 
 pub loop-index-preserved : goal.loop-index-preserved
 loop-index-preserved c =
-    let row = admitted_row (held_of c.args.row.now) in
+    let row = row_at c.args.contract.now (level_number c.args.level) in
     let window : c.from-window.result ≡ bound_at c.args.bounds.now (c.loop-index.index + 1) = c.from-window.ensures ∙ c.at.ensures.value ∙ ap (bound_at c.args.bounds.now) c.level_at.ensures in
-    let part = work-at c.args.rate c.args.bounds.now (admitted_row (held_of c.args.row.now)) c.loop-index.index c.from-window.result c.work.result (omega (arith, c.get-index.ensures.value, c.loop-index.auto.index)) window c.work.ensures.value in
+    let part = work-at c.args.rate c.args.bounds.now (row_at c.args.contract.now (level_number c.args.level)) c.loop-index.index c.from-window.result c.work.result (omega (arith, c.get-index.ensures.value, c.loop-index.auto.index)) window c.work.ensures.value in
     subst (λ i. AreRaisedTo c.args.rate c.args.bounds.now row c.args.loads.now (c.loop-index.index + 1) (set c.loop-index.loads i (get_or c.loop-index.loads i 0 + c.work.result))) (sym c.from.ensures)
     (raised-one c.args.rate c.args.bounds.now row c.args.loads.now c.loop-index.loads c.loop-index.index _ c.loop-index.invariant (omega (arith, c.loop-index-test.true, c.len-index-end.ensures.value, c.requires.count, c.loop-index.auto.loads)) (omega (arith, part)))
