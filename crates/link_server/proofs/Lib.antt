@@ -51,3 +51,4 @@ pub mod KeyFacts
 pub mod DueFacts
 pub mod FirstFacts
 mod KeyedListFacts
+pub mod RestFacts

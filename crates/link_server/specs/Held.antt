@@ -2,8 +2,9 @@
 -- phase, and the units that it keeps. They are the rows held after every history that the link stands for. A caller who
 -- goes by rules of its own, as a link that is split between groups does, may so reserve at a level that it chooses: the
 -- offer has to be one that a link may make that holds these rows.
-use Rattle.std.specs.Prelude.{◌≡◌, ℕ, Option, Some, List, map, slice_get}
+use Rattle.std.specs.Prelude.{◌≡◌, ℕ, Option, Some, List, map, find, option_map, slice_get}
 use Rattle.net_units.specs.Numbers.{level_number}
+use Rattle.net_units.specs.declared.numbers.ChanNo.{ChanNo}
 use Rattle.net_units.specs.declared.numbers.Level.{Level}
 use Rattle.net_units.specs.LevelBounds.{reach_of}
 use Rattle.traffic_contract.specs.Admission.{best_level}
@@ -14,7 +15,7 @@ use Rattle.link_steps.specs.Admissible.{MayOffer}
 use Rattle.link_steps.specs.Buffer.{kept_units}
 use Rattle.link_steps.specs.Kept.{kept_terms}
 use Rattle.link_steps.specs.Levels.{level_of}
-use Rattle.link_steps.specs.Reservation.{Reservation, admitted}
+use Rattle.link_steps.specs.Reservation.{Reservation, admitted, is_of}
 use Rattle.link_steps.specs.Shape.{server_of}
 use Rattle.link_server.specs.State.{kept_in}
 use Rattle.link_server.specs.declared.held_row.HeldRow.{HeldRow}
@@ -31,6 +32,10 @@ seen bounds terms = record { chan = terms.chan; contract = terms.contract; level
 -- the one at a place, from 0, if there is one
 abbrev pub seen_at : List ℕ → List Reservation → ℕ → Option HeldRow
 seen_at bounds held place = slice_get (map (seen bounds) held) place
+
+-- that of a channel, if there is one
+abbrev pub seen_of : List ℕ → List Reservation → ChanNo → Option HeldRow
+seen_of bounds held chan = option_map (seen bounds) (find (is_of chan) held)
 
 -- the reach that a reserve gets at a level; to another ask it is the level
 abbrev pub reach_at : LinkShape → Ask → Level → Level

@@ -4,6 +4,8 @@ use Rattle.std.proofs.Common.{ap}
 use Rattle.link_steps.specs.declared.replies.Entry.{Entry}
 use Rattle.link_steps.specs.Kept.{Kept, StandsFor, kept_at}
 use Rattle.link_steps.specs.Scan.{clock_of}
+use Rattle.link_steps.specs.Split.{SplitFits, whole}
+use Rattle.link_steps.proofs.LegalAdmissible.{whole-fits}
 use Rattle.link_server.specs.Account.{account}
 use Rattle.link_server.specs.declared.link_state.LinkState.{LinkState}
 
@@ -14,6 +16,10 @@ kept_in link = account link.clock link.packets link.rows.items
 -- it stands for this history, newest first
 abbrev pub LinkStands : LinkState → List Entry → Type 0
 LinkStands link h = StandsFor link.shape (kept_in link) h
+
+-- it isn't split, which fits it
+pub stands-fits : (link : LinkState) (h : List Entry) → LinkStands link h → SplitFits (whole link.shape)
+stands-fits link h stands = whole-fits link.shape
 
 -- its clock is that of every history that it stands for
 pub stands-clock : (link : LinkState) (h : List Entry) → LinkStands link h → link.clock ≡ clock_of h

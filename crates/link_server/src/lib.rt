@@ -23,6 +23,7 @@ mod packets;
 mod planned;
 mod plans;
 mod ready;
+mod resting;
 mod row_index;
 mod rows;
 mod served_row;

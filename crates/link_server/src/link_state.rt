@@ -20,12 +20,14 @@ use crate::keyed_list::KeyedList;
 use crate::packets::Packets;
 use crate::plans::Plans;
 use crate::row_index::RowIndex;
+use crate::rows::{need_of, place_of, reach_of};
 use crate::served_row::ServedRow;
 use link_steps::{Ask, LinkShape, LinkStep, Reply};
-use net_units::OutOfMemory;
+use net_units::{ChanNo, Level, OutOfMemory};
 use rcsp_admission::LevelSums;
 use std::alloc::Global;
 use tick_calendar::Calendar;
+use traffic_contract::Contract;
 
 /// A link: its shape, its clock, the reservations that it holds, and its packets.
 #[derive(Drop)]
@@ -62,10 +64,14 @@ pub struct LinkState {
 }
 
 impl LinkState {
+    ghost use Rattle.net_units.specs.LevelBounds.{reach_of};
+    ghost use Rattle.net_units.specs.Limits.{most_bound};
+    ghost use Rattle.net_units.specs.Numbers.{level_number};
+    ghost use Rattle.link_steps.specs.Buffer.{need_of};
     ghost use Rattle.link_steps.specs.declared.replies.Entry.{Entry};
     ghost use Rattle.link_steps.specs.Rows.{row_terms};
     ghost use Rattle.link_steps.specs.Scan.{scan_of};
-    ghost use Rattle.link_server.specs.Held.{reservations_held, seen_at};
+    ghost use Rattle.link_server.specs.Held.{reservations_held, seen_at, seen_of};
     ghost use Rattle.link_server.specs.State.{LinkStands};
 
     /// A link of this shape that has made no step. It takes the memory of the best-effort packets that may be here.
@@ -112,6 +118,41 @@ impl LinkState {
             kept: row.units(&self.shape.bounds),
         })
     }
+
+    /// The row of this channel, if one is held, with the units that it keeps.
+    pub fn held_of(&self, chan: ChanNo) -> Option<HeldRow>
+        ensures row { result ≡ seen_of self.now.shape.bounds (reservations_held self.now) chan }
+    {
+        let Some(place) = place_of(&self.rows, &self.index, chan) else {
+            return None;
+        };
+        let row = &self.rows[place];
+        Some(HeldRow {
+            chan: row.chan,
+            contract: row.contract,
+            level: row.level,
+            phase: row.phase,
+            kept: row.units(&self.shape.bounds),
+        })
+    }
+
+    /// How many rows are held.
+    pub fn rows_held(&self) -> u32
+        ensures count { result ≡ length (reservations_held self.now) }
+    {
+        self.rows.len() as u32
+    }
+
+    /// The units that a new reservation of this contract would keep that is offered this level: the most packets that may be
+    /// here in the reach before this hop and the reach that goes with the level.
+    pub fn need_at(&self, contract: &Contract, delay: u64, up_reach: u64, level: Level) -> u64
+        requires before { up_reach ≤ most_bound }
+        requires within { level_number level ≤ length self.now.shape.bounds }
+        ensures { result ≡ need_of self.now.shape.bounds contract.now up_reach (reach_of self.now.shape.bounds delay (level_number level)) }
+    {
+        let reach = reach_of(&self.shape.bounds, delay, level);
+        need_of(&self.shape.bounds, contract, up_reach, reach)
+    }
 }
 
 impl LinkStep for LinkState {
@@ -122,7 +163,7 @@ impl LinkStep for LinkState {
     ghost use Rattle.link_steps.specs.Split.{whole};
     ghost use Rattle.link_steps.specs.Scan.{clock_with};
     ghost use Rattle.link_server.specs.Asks.{TakesNone, IsOffer};
-    ghost use Rattle.link_server.specs.State.{LinkStands, stands-clock};
+    ghost use Rattle.link_server.specs.State.{LinkStands, stands-clock, stands-fits};
 
     ghost link_of = { λ link. whole link.shape };
 
@@ -167,4 +208,6 @@ impl LinkStep for LinkState {
     }
 
     ghost tells_time = { stands-clock };
+
+    ghost is_fit = { stands-fits };
 }

@@ -14,8 +14,9 @@ pub(crate) struct Planned {
 }
 
 impl Planned {
+    ghost use Rattle.link_steps.specs.Lists.{Each};
     ghost use Rattle.link_steps.specs.Rows.{is_for, left_at};
-    ghost use Rattle.link_server.specs.Planned.{left_in, first_tick, size_of, IsPlannedAhead};
+    ghost use Rattle.link_server.specs.Planned.{left_in, first_tick, size_of, IsPlannedAhead, IsPlannedFrom};
 
     // None are planned.
     pub(crate) const NONE: Planned = Planned {
@@ -33,6 +34,16 @@ impl Planned {
             return None;
         }
         Some(self.tick)
+    }
+
+    // A tick before which none is planned.
+    pub(crate) fn rests_until(&self) -> u64
+        ensures { Each (IsPlannedFrom result) (left_in self.now) }
+    {
+        if self.count == 0 {
+            return u64::MAX;
+        }
+        self.tick
     }
 
     // Whether one is planned for this tick.

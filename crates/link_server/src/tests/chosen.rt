@@ -7,12 +7,17 @@ use net_units::Kind;
 use std::alloc::Global;
 use std::test::Fail;
 
-// What a new link answers where channel 1 is reserved at the second level, and then channel 2 at its best.
+// What a new link answers where channel 1 is reserved at the second level, and then channel 2 at its best: before the first of
+// these what it would keep, and after both the rows held, by place, of the second channel, of a third, and how many.
 #[derive(Drop)]
 struct Answers {
     chosen: Reply,
     next: Reply,
+    need: u64,
     held: [Option<HeldRow>; 3],
+    second: Option<HeldRow>,
+    third: Option<HeldRow>,
+    rows: u32,
 }
 
 fn choose(alloc: Global) -> Result<Answers, Fail> {
@@ -28,12 +33,18 @@ fn choose(alloc: Global) -> Result<Answers, Fail> {
         first: true,
         next: None,
     };
-    let chosen = link.reserve_at(&ask, level(2))?;
+    let at = level(2);
+    let need = link.need_at(&contract, 50, 0, at);
+    let chosen = link.reserve_at(&ask, at)?;
     let next = step(&mut link, &reserve(2, &contract, 12))?;
     Ok(Answers {
         chosen,
         next,
+        need,
         held: [link.held(0), link.held(1), link.held(2)],
+        second: link.held_of(chan(2)),
+        third: link.held_of(chan(3)),
+        rows: link.rows_held(),
     })
 }
 
@@ -44,6 +55,7 @@ fn a_caller_chooses_the_level(rt: HostRuntime) -> Result<(), Fail> {
     let answers = choose(rt.alloc())?;
     assert_eq!(rt; answers.chosen, offer(2, 3));
     assert_eq!(rt; answers.next, offer(1, 1));
+    assert_eq!(rt; (answers.need, answers.rows), (8, 2));
     let first = HeldRow {
         chan: chan(1),
         contract,
@@ -59,5 +71,6 @@ fn a_caller_chooses_the_level(rt: HostRuntime) -> Result<(), Fail> {
         kept: 4,
     };
     assert_eq!(rt; answers.held, [Some(first), Some(second), None]);
+    assert_eq!(rt; (answers.second, answers.third), (Some(second), None));
     Ok(())
 }

@@ -59,12 +59,18 @@ none-held : (shape : LinkShape) (k : Kept) → StandsFor shape k [] → map kept
 unfolding scan_of
 none-held shape k stands = terms-stand shape k [] stands
 
+pub need_at-need-requires-clause-within : goal.need_at-need-requires-clause-within
+need_at-need-requires-clause-within g =
+    let is : IsShapeOf g.in_ok-shape.shape.link 1 4 2 100 bounds Whole 1 g.in_ok-link.link.shape = subst (IsShapeOf g.in_ok-shape.shape.link 1 4 2 100 bounds Whole 1) (sym g.in_ok-link.ensures.shape) g.in_ok-shape.ensures in
+    let levels = ap length is.bounds_are in
+    omega (arith, levels, g.level-at.ensures)
+
 pub reserve_at-requires-clause-may : goal.reserve_at-requires-clause-may
 reserve_at-requires-clause-may g =
     let link = g.in_ok-link.link in
     let number = g.in_ok-shape.shape.link in
     let is : IsShapeOf number 1 4 2 100 bounds Whole 1 link.shape = subst (IsShapeOf number 1 4 2 100 bounds Whole 1) (sym g.in_ok-link.ensures.shape) g.in_ok-shape.ensures in
-    let alone = may-first number link.shape g.chan.result g.level.result is g.level.ensures in
-    let far : Level = level_of (reach_of link.shape.bounds 50 (level_number g.level.result)) in
-    subst (λ terms. MayOffer link.shape (reservations_held link) g.chan.result terms 50 0 g.level.result far) (sym g.in_ok-contract.ensures.value)
-    (subst (λ held. MayOffer link.shape held g.chan.result voice 50 0 g.level.result far) (sym (none-held link.shape (kept_in link) g.in_ok-link.ensures.stands)) alone)
+    let alone = may-first number link.shape g.chan.result g.level-at.result is g.level-at.ensures in
+    let far : Level = level_of (reach_of link.shape.bounds 50 (level_number g.level-at.result)) in
+    subst (λ terms. MayOffer link.shape (reservations_held link) g.chan.result terms 50 0 g.level-at.result far) (sym g.in_ok-contract.ensures.value)
+    (subst (λ held. MayOffer link.shape held g.chan.result voice 50 0 g.level-at.result far) (sym (none-held link.shape (kept_in link) g.in_ok-link.ensures.stands)) alone)
