@@ -1,0 +1,13 @@
+pub mod OwnRows
+pub mod Alone
+pub mod AloneSteps
+pub mod Isolated
+pub mod GroupFacts
+pub mod ChangeFacts
+pub mod RowChanges
+pub mod QuotaFacts
+pub mod AnewFacts
+pub mod BestFacts
+pub mod RoomFacts
+pub mod HeldFacts
+pub mod StepFacts

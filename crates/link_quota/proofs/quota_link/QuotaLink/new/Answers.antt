@@ -1,0 +1,37 @@
+-- A new link holds no rows.
+use Rattle.std.proofs.lemmas.List.{length_push}
+use Rattle.link_quota.specs.declared.share.Share.{Share}
+use Rattle.std.proofs.Common.{◌≡◌, ◌∙◌, List, [], ◌∷◌, ◌++◌, ◌+◌, length, map, sym, ap, subst, arith}
+use Rattle.link_steps.specs.Rows.{row_terms}
+use Rattle.link_steps.specs.Scan.{scan_of}
+use Rattle.link_server.specs.State.{kept_in}
+use Rattle.link_server.specs.Held.{reservations_held}
+use Rattle.link_server.proofs.ChosenFacts.{terms-stand}
+use Rattle.link_quota.specs.Shares.{AreShares}
+use Rattle.link_quota.proofs.AnewFacts.{AreNoneTo, none-push, shares-none}
+use Rattle.link_quota.proofs.QuotaFacts.{stood-new, held-new}
+use Rattle.link_quota.proofs.quota_link.QuotaLink.new.Goals as goal
+
+pub invariant_of-result : goal.invariant_of-result
+invariant_of-result c =
+    let shape = c.in_ok-link.ensures.shape in
+    let stands = c.in_ok-link.ensures.stands in
+    let long = c.loop.invariant.0 in
+    let past = c.loop-test.false in
+    let end = c.loop.auto.index-end in
+    let quotas = ap length c.quotas-items.ensures in
+    record {
+      fits = rw shape c.requires;
+      shared =
+          subst (λ held. AreShares (record { shape = c.in_ok-link.link.shape; split = c.args.split }) held c.loop.shares.items) (sym (held-new c.in_ok-link.link stands))
+          (shares-none (record { shape = c.in_ok-link.link.shape; split = c.args.split }) c.loop.shares.items c.loop.index (omega (arith, long)) (omega (arith, long, past, end, quotas)) c.loop.invariant.1);
+      stood = stood-new (record { shape = c.in_ok-link.link.shape; split = c.args.split }) (kept_in c.in_ok-link.link) stands;
+    }
+
+pub loop-preserved : goal.loop-preserved
+loop-preserved c =
+    let all : c.push_reserved.new.self.items ≡ c.loop.shares.items ++ c.none.result ∷ [] = c.push_reserved.ensures.items ∙ ap (λ (s : List Share). s ++ c.none.result ∷ []) c.reserve.ensures.items in
+    let long = c.loop.invariant.0 in (
+      ap length all ∙ length_push c.loop.shares.items c.none.result ∙ ap (λ n. n + 1) long,
+      subst (λ (s : List Share). AreNoneTo s (c.loop.index + 1)) (sym all) (none-push c.loop.shares.items c.loop.index c.none.result long c.none.ensures.loads c.none.ensures.units c.loop.invariant.1),
+    )

@@ -1,0 +1,110 @@
+-- The reply is by the room of the group, and the new row is held in the group's share.
+use Rattle.std.proofs.Common.{◌≡◌, ◌^◌, ◌<◌, List, ◌∷◌, length, Some, None, refl, sym, ap, ◌∙◌, subst, arith}
+use Rattle.std.specs.Prelude.{IfSome, find}
+use Rattle.net_units.specs.Numbers.{level_number}
+use Rattle.net_units.specs.LevelBounds.{reach_of}
+use Rattle.link_steps.specs.declared.asks.Ask.TheVariants.{Reserve}
+use Rattle.link_steps.specs.declared.replies.Entry.{Entry}
+use Rattle.link_steps.specs.declared.replies.Reply.TheVariants.{Offer, Refused}
+use Rattle.link_steps.specs.Kept.{StandsFor}
+use Rattle.link_steps.specs.Levels.{level_of}
+use Rattle.link_steps.specs.Replies.{reserve_reply, reply_to}
+use Rattle.link_steps.specs.Reservation.{is_of}
+use Rattle.link_steps.specs.Split.{Link, SplitFits}
+use Rattle.std.specs.Option.{option_map}
+use Rattle.link_steps.specs.Scan.{scan_of}
+use Rattle.link_server.specs.Held.{reservations_held, seen, seen_of, reach_at}
+use Rattle.link_quota.proofs.RowChanges.{IsSetupOf, OffersNew}
+use Rattle.link_server.specs.State.{kept_in, LinkStands}
+use Rattle.link_quota.specs.Places.{HavePart, AreSmall, AreChangedBy}
+use Rattle.link_quota.specs.Shares.{AreShares}
+use Rattle.link_quota.specs.State.{rules_of, QuotaStands}
+use Rattle.link_quota.specs.Steps.{GoesOn}
+use Rattle.link_quota.specs.Stood.{IsLegallyStood}
+use Rattle.link_quota.specs.declared.share.Share.{Share}
+use Rattle.link_quota.proofs.QuotaFacts.{stood-goes, stood-same, shares-kept, shares-setup, reserve-legal, refused-enters, offer-may-be, offers-new, offered-none}
+use Rattle.link_quota.proofs.StepFacts.{on-err, written-back, small-after, small-shares}
+use Rattle.link_quota.proofs.quota_link.QuotaLink.reserve.Goals as goal
+use Rattle.link_quota.proofs.quota_link.QuotaLink.reserve.Goals.{In-Ok, In_ok-reply-in-Ok, In_err-reply-in-Ok}
+
+pub reserve_at-requires-clause-may : goal.reserve_at-requires-clause-may
+reserve_at-requires-clause-may c =
+    offer-may-be (rules_of c.args.self.now) (kept_in c.args.self.now.link) c.in-Reserve.chan c.in-Reserve.contract c.in-Reserve.kind c.in-Reserve.delay c.in-Reserve.up_reach c.in-Reserve.first c.in-Reserve.next c.args.ask.now c.in-Ok.level c.args.self.now.fits c.requires.splits c.args.self.now.stood c.in-Reserve.is c.in-Ok.ensures.reply
+
+-- ---- refused
+
+pub returns-in-Err-clause-goes : goal.returns-in-Err-clause-goes
+returns-in-Err-clause-goes c = record {
+  fits = c.requires.fits;
+  legal = reserve-legal (rules_of c.args.self.now) (kept_in c.args.self.now.link) c.in-Reserve.chan c.in-Reserve.contract c.in-Reserve.kind c.in-Reserve.delay c.in-Reserve.up_reach c.in-Reserve.first c.in-Reserve.next c.args.ask.now (Refused c.in-Err.refusal) c.in-Reserve.is c.in-Err.ensures.reply;
+  entered = refused-enters c.args.self.now.link c.in-Reserve.chan c.in-Reserve.contract c.in-Reserve.kind c.in-Reserve.delay c.in-Reserve.up_reach c.in-Reserve.first c.in-Reserve.next c.args.ask.now c.in-Err.refusal c.in-Reserve.is;
+}
+
+-- ---- want of memory
+
+pub returns-in_err-reply-in-Ok-clause-memory : goal.returns-in_err-reply-in-Ok-clause-memory
+returns-in_err-reply-in-Ok-clause-memory c = on-err _ c.from_residual.result (λ h stands. (goal.at.returns-in_err-reply-in-Ok-clause-memory c).In_err-reply-in-Ok.in_err-reply-in-Ok.ensures.memory h stands)
+
+pub invariant_of-self : goal.invariant_of-self
+invariant_of-self c =
+    let shape = c.reserve_at.ensures.shape in
+    let same : (h : List Entry) → StandsFor c.args.self.now.link.shape (kept_in c.args.self.now.link) h → StandsFor c.args.self.now.link.shape (kept_in c.reserve_at.new.self) h = λ h stands. subst (λ s. StandsFor s (kept_in c.reserve_at.new.self) h) c.reserve_at.ensures.shape (c.in_err-reply-in-Ok.ensures.memory h stands) in
+    record {
+      fits = subst (λ s. SplitFits (record { shape = s; split = c.args.self.now.split })) (sym shape) c.args.self.now.fits;
+      shared = subst (λ s. AreShares (record { shape = s; split = c.args.self.now.split }) (reservations_held c.reserve_at.new.self) c.args.self.now.shares.items) (sym shape)
+          (shares-kept (rules_of c.args.self.now) (kept_in c.args.self.now.link) (kept_in c.reserve_at.new.self) c.args.self.now.shares.items same c.args.self.now.stood c.args.self.now.shared);
+      stood = subst (λ s. IsLegallyStood (record { shape = s; split = c.args.self.now.split }) (kept_in c.reserve_at.new.self)) (sym shape)
+          (stood-same (rules_of c.args.self.now) (kept_in c.args.self.now.link) (kept_in c.reserve_at.new.self) same c.args.self.now.stood);
+    }
+
+-- ---- offered
+
+goes : (c : In_ok-reply-in-Ok) → GoesOn (rules_of c.args.self.now) (kept_in c.args.self.now.link) (kept_in c.reserve_at.new.self) c.args.ask.now c.in_ok-reply-in-Ok.reply
+goes c =
+    let reach : reach_at c.args.self.now.link.shape c.args.ask.now c.in-Ok.level ≡ level_of (reach_of c.args.self.now.link.shape.bounds c.in-Reserve.delay (level_number c.in-Ok.level)) = ap (λ a. reach_at c.args.self.now.link.shape a c.in-Ok.level) c.in-Reserve.is in
+    record {
+      fits = c.requires.fits;
+      legal = reserve-legal (rules_of c.args.self.now) (kept_in c.args.self.now.link) c.in-Reserve.chan c.in-Reserve.contract c.in-Reserve.kind c.in-Reserve.delay c.in-Reserve.up_reach c.in-Reserve.first c.in-Reserve.next c.args.ask.now c.in_ok-reply-in-Ok.reply c.in-Reserve.is
+          (c.in_ok-reply-in-Ok.ensures.offered ∙ ap (Offer c.in-Ok.level) reach ∙ c.in-Ok.ensures.reply);
+      entered = λ h stands. subst (λ s. StandsFor s (kept_in c.reserve_at.new.self) (record { ask = c.args.ask.now; reply = c.in_ok-reply-in-Ok.reply } ∷ h)) c.reserve_at.ensures.shape (c.in_ok-reply-in-Ok.ensures.entered h stands);
+    }
+
+stood : (c : In_ok-reply-in-Ok) → IsLegallyStood (rules_of c.args.self.now) (kept_in c.reserve_at.new.self)
+stood c = stood-goes (rules_of c.args.self.now) (kept_in c.args.self.now.link) (kept_in c.reserve_at.new.self) c.args.ask.now c.in_ok-reply-in-Ok.reply (goes c) c.args.self.now.stood
+
+pub returns-in_ok-reply-in-Ok-clause-goes : goal.returns-in_ok-reply-in-Ok-clause-goes
+returns-in_ok-reply-in-Ok-clause-goes c = goes (goal.at.returns-in_ok-reply-in-Ok-clause-goes c).In_ok-reply-in-Ok
+
+pub change_row-requires-clause-few : goal.change_row-requires-clause-few
+change_row-requires-clause-few c =
+    subst (λ s. AreSmall (record { shape = s; split = c.args.self.now.split }) c.deref_mut.result.now) (sym (c.shape-shape.ensures ∙ c.reserve_at.ensures.shape))
+    (subst (λ (items : List Share). AreSmall (rules_of c.args.self.now) items) (sym c.deref_mut.ensures.value)
+    (small-shares (rules_of c.args.self.now) (kept_in c.args.self.now.link) c.args.self.now.shares.items c.args.self.now.fits c.requires.splits c.args.self.now.stood c.args.self.now.shared))
+
+pub change_row-requires-clause-small : goal.change_row-requires-clause-small
+change_row-requires-clause-small c =
+    let here = goal.at.change_row-requires-clause-small c in
+    small-after (rules_of c.args.self.now) (kept_in c.reserve_at.new.self) c.in-Reserve.chan c.held_of-row.result c.args.self.now.fits c.requires.splits (stood here.In_ok-reply-in-Ok)
+    (c.held_of-row.ensures.row ∙ ap (λ s. seen_of s.bounds (reservations_held c.reserve_at.new.self) c.in-Reserve.chan) c.reserve_at.ensures.shape)
+
+pub invariant_of-self-in-Ok : goal.invariant_of-self-in-Ok
+invariant_of-self-in-Ok c =
+    let here = goal.at.invariant_of-self-in-Ok c in
+    let same = c.reserve_at.ensures.shape in
+    let none = offered-none (rules_of c.args.self.now) (reservations_held c.args.self.now.link) c.in-Reserve.chan c.in-Reserve.contract c.in-Reserve.delay c.in-Reserve.up_reach c.in-Ok.level _ c.in-Ok.ensures.reply in
+    let changed : AreChangedBy (rules_of c.args.self.now) (seen_of c.args.self.now.link.shape.bounds (reservations_held c.args.self.now.link) c.in-Reserve.chan) (seen_of c.args.self.now.link.shape.bounds (reservations_held c.reserve_at.new.self) c.in-Reserve.chan) c.args.self.now.shares.items c.change_row.new.shares =
+    subst (λ row. AreChangedBy (rules_of c.args.self.now) row (seen_of c.args.self.now.link.shape.bounds (reservations_held c.reserve_at.new.self) c.in-Reserve.chan) c.args.self.now.shares.items c.change_row.new.shares) (sym (ap (option_map (seen c.args.self.now.link.shape.bounds)) none))
+    (subst (λ row. AreChangedBy (rules_of c.args.self.now) None row c.args.self.now.shares.items c.change_row.new.shares) (c.held_of-row.ensures.row ∙ ap (λ s. seen_of s.bounds (reservations_held c.reserve_at.new.self) c.in-Reserve.chan) c.reserve_at.ensures.shape)
+    (subst (λ (items : List Share). AreChangedBy (rules_of c.args.self.now) None c.held_of-row.result items c.change_row.new.shares) c.deref_mut.ensures.value
+    (subst (λ s. AreChangedBy (record { shape = s; split = c.args.self.now.split }) None c.held_of-row.result c.deref_mut.result.now c.change_row.new.shares) (c.shape-shape.ensures ∙ c.reserve_at.ensures.shape) c.change_row.ensures))) in
+    let back = written-back c.args.self.now.shares.items c.change_row.new.shares c.args.self.now.shares.len changed.long (sym c.args.self.now.shares.ok.0) in
+    record {
+      fits = subst (λ s. SplitFits (record { shape = s; split = c.args.self.now.split })) (sym same) c.args.self.now.fits;
+      shared =
+          subst (λ (items : List Share). AreShares (record { shape = c.reserve_at.new.self.shape; split = c.args.self.now.split }) (reservations_held c.reserve_at.new.self) items) (sym back)
+          (subst (λ s. AreShares (record { shape = s; split = c.args.self.now.split }) (reservations_held c.reserve_at.new.self) c.change_row.new.shares) (sym same)
+          (shares-setup (rules_of c.args.self.now) (kept_in c.args.self.now.link) (kept_in c.reserve_at.new.self) c.args.ask.now c.in_ok-reply-in-Ok.reply c.in-Reserve.chan c.args.self.now.shares.items c.change_row.new.shares c.args.self.now.fits (goes here.In_ok-reply-in-Ok) (subst (IsSetupOf c.in-Reserve.chan) (sym c.in-Reserve.is) refl)
+          (λ h stands. subst (λ reply. OffersNew c.args.ask.now reply (scan_of c.args.self.now.link.shape h).rows) (sym c.in_ok-reply-in-Ok.ensures.offered) (offers-new (rules_of c.args.self.now) (kept_in c.args.self.now.link) c.in-Reserve.chan c.in-Reserve.contract c.in-Reserve.kind c.in-Reserve.delay c.in-Reserve.up_reach c.in-Reserve.first c.in-Reserve.next c.args.ask.now c.in-Ok.level _ c.in-Reserve.is none h stands))
+          c.args.self.now.stood c.args.self.now.shared changed));
+      stood = subst (λ s. IsLegallyStood (record { shape = s; split = c.args.self.now.split }) (kept_in c.reserve_at.new.self)) (sym same) (stood here.In_ok-reply-in-Ok);
+    }

@@ -1,0 +1,16 @@
+//! A link that is split between groups of channels.
+#![tactic(auto)]
+
+mod anew;
+pub mod any_link;
+mod groups;
+pub mod laws;
+mod offer;
+pub mod quota_link;
+mod share;
+
+pub use any_link::AnyLink;
+pub use quota_link::QuotaLink;
+
+#[cfg(test)]
+mod tests;

@@ -1,0 +1,316 @@
+//! A link that is split between groups of channels.
+ghost use Rattle.std.specs.Prelude.{◌≡◌, ◌^◌, ◌<◌, ◌≤◌, ◌∷◌, [], List, length, map, IfOk, OnErr, IsOk};
+ghost use Rattle.link_steps.specs.Split.{Link, SplitFits};
+ghost use Rattle.link_server.specs.Held.{reservations_held};
+ghost use Rattle.link_server.specs.State.{kept_in};
+ghost use Rattle.link_quota.specs.Shares.{AreShares, AreShares-prop};
+ghost use Rattle.link_quota.specs.Stood.{IsLegallyStood, IsLegallyStood-prop, SplitFits-prop};
+
+use crate::anew::count_anew;
+use crate::groups::{change_row, group_of, place_of};
+use crate::offer::best;
+use crate::share::Share;
+use link_server::LinkState;
+use link_steps::{Ask, LinkShape, LinkStep, Quota, Refusal, Reply, Split};
+use net_units::limits::MOST_LEVELS;
+use net_units::{ChanNo, Level, OutOfMemory};
+use std::alloc::Global;
+use std::vec::Vec;
+use traffic_contract::Contract;
+
+/// A link that is split between groups of channels (*ours*): each group has quotas of its own, and a contract goes by those of
+/// its channel's group.
+///
+/// It asks the link inside for all but a reserve. Beside it, it keeps what the rows of each group hold together, so that a
+/// reserve looks at no row.
+#[derive(Drop)]
+pub struct QuotaLink {
+    pub(crate) link: LinkState,
+    pub(crate) split: Split,
+    // What the rows of each group that has a quota hold together, in the order of the quotas.
+    pub(crate) shares: Vec<Share>,
+    ghost fits: { SplitFits (record { shape = link.shape; split = split }) } by { SplitFits-prop (record { shape = link.shape; split = split }) },
+    ghost shared: { AreShares (record { shape = link.shape; split = split }) (reservations_held link) shares.items } by { AreShares-prop (record { shape = link.shape; split = split }) (reservations_held link) shares.items },
+    ghost stood: { IsLegallyStood (record { shape = link.shape; split = split }) (kept_in link) } by { IsLegallyStood-prop (record { shape = link.shape; split = split }) (kept_in link) },
+}
+
+impl QuotaLink {
+    ghost use Rattle.std.specs.Prelude.{true, MatchResult};
+    ghost use Rattle.net_units.specs.Limits.{most_bound};
+    ghost use Rattle.net_units.specs.LevelBounds.{reach_of};
+    ghost use Rattle.net_units.specs.Numbers.{level_number};
+    ghost use Rattle.link_steps.specs.declared.replies.Reply.TheVariants.{Offer, Refused};
+    ghost use Rattle.link_steps.specs.Levels.{level_of};
+    ghost use Rattle.link_steps.specs.Replies.{reserve_reply};
+    ghost use Rattle.link_steps.specs.Split.{is_split};
+    ghost use Rattle.link_quota.specs.Places.{IsSmall, IsQuotaOf};
+    ghost use Rattle.link_quota.specs.Shares.{IsShare};
+    ghost use Rattle.link_quota.specs.State.{rules_of, QuotaStands};
+    ghost use Rattle.link_quota.specs.Steps.{GoesOn, IsReserve, IsSettling, IsCarrying};
+    ghost use Rattle.std.specs.Prelude.{false};
+    ghost use Rattle.link_steps.specs.declared.asks.Ask.TheVariants.{Tick};
+    ghost use Rattle.link_steps.specs.declared.replies.Entry.{Entry};
+    ghost use Rattle.link_steps.specs.Legal.{AskFits};
+    ghost use Rattle.link_steps.specs.Scan.{clock_with};
+
+    /// A link of this shape, split so, that has made no step. The quotas of a level together leave room for the blocking, and
+    /// those of the buffer fit it.
+    pub fn new(alloc: Global, shape: LinkShape, split: Split) -> Result<QuotaLink, OutOfMemory>
+        requires { SplitFits (record { shape = shape; split = split }) }
+        ensures rules { IfOk result (λ quota. rules_of quota ≡ record { shape = shape; split = split }) }
+        ensures stands { IfOk result (λ quota. QuotaStands quota []) }
+    {
+        let link = LinkState::new(alloc, shape)?;
+        let mut shares = Vec::new(alloc);
+        for _ in split.quotas() {
+            shares.reserve(1)?;
+            shares.push_reserved(Share::none());
+        }
+        Ok(QuotaLink {
+            link,
+            split,
+            shares,
+        })
+    }
+
+    // The share of a group, and its quota: nothing where it has none.
+    fn of_group(&self, group: u8) -> (Share, Quota)
+        requires splits { is_split self.now.split ≡ true }
+        ensures share { IsShare (rules_of self.now) group (reservations_held self.now.link) result.0 }
+        ensures small { IsSmall self.now.link.shape.bounds result.0 }
+        ensures quota { IsQuotaOf (rules_of self.now) group result.1 }
+    {
+        match place_of(self.split.quotas(), group) {
+            Some(place) => (self.shares[place], self.split.quotas()[place]),
+            None => (
+                Share::none(),
+                Quota {
+                    group,
+                    buffer: 0,
+                    levels: [0; MOST_LEVELS as usize],
+                },
+            ),
+        }
+    }
+
+    // The level that a reserve is offered, or its refusal.
+    fn offer(
+        &self,
+        chan: ChanNo,
+        contract: &Contract,
+        delay: u64,
+        up_reach: u64,
+    ) -> Result<Level, Refusal>
+        requires splits { is_split self.now.split ≡ true }
+        requires before { up_reach ≤ most_bound }
+        ensures reply { MatchResult result
+            (λ level. Offer level (level_of (reach_of self.now.link.shape.bounds delay (level_number level))) ≡ reserve_reply (rules_of self.now) (reservations_held self.now.link) chan contract.now delay up_reach)
+            (λ refusal. Refused refusal ≡ reserve_reply (rules_of self.now) (reservations_held self.now.link) chan contract.now delay up_reach) }
+    {
+        let shape = self.link.shape();
+        let smax = contract.smax();
+        if smax > shape.cap {
+            return Err(Refusal::TooWide {
+                smax: u64::from(smax),
+                cap: u64::from(shape.cap),
+            });
+        }
+        if let Some(row) = self.link.held_of(chan) {
+            return Err(Refusal::Twice { phase: row.phase });
+        }
+        let group = group_of(&self.split, chan);
+        let (share, quota) = self.of_group(group);
+        match best(&share, &quota, &shape, contract) {
+            Err(over) => Err(Refusal::NoLevel {
+                sum: over.sum,
+                bound: over.bound,
+            }),
+            Ok(level) => {
+                let need = self.link.need_at(contract, delay, up_reach, level);
+                let free = u64::from(quota.buffer) - share.units;
+                if need > free {
+                    return Err(Refusal::NoBuffer { need, free });
+                }
+                Ok(level)
+            }
+        }
+    }
+
+    // Answers an ask of a link that isn't split.
+    fn whole(&mut self, ask: &Ask) -> Result<Reply, OutOfMemory>
+        requires fits { AskFits self.old.link.shape ask.now }
+        requires early { self.old.link.clock < 2 ^ 61 }
+        requires whole { is_split self.old.split ≡ false }
+        ensures shape { self.new.link.shape ≡ self.old.link.shape }
+        ensures split { self.new.split ≡ self.old.split }
+        ensures goes { IfOk result (λ reply. GoesOn (rules_of self.old) (kept_in self.old.link) (kept_in self.new.link) ask.now reply) }
+        ensures memory { OnErr result ((h : List Entry) → QuotaStands self.old h → QuotaStands self.new h) }
+        ensures ticked { IfOk result (λ _. self.new.link.clock ≡ clock_with ask.now self.old.link.clock) }
+        ensures stopped { OnErr result (self.new.link.clock ≡ self.old.link.clock) }
+    {
+        self.link.step(ask)
+    }
+
+    // Answers a reserve.
+    fn reserve(&mut self, ask: &Ask) -> Result<Reply, OutOfMemory>
+        requires fits { AskFits self.old.link.shape ask.now }
+        requires early { self.old.link.clock < 2 ^ 61 }
+        requires splits { is_split self.old.split ≡ true }
+        requires reserves { IsReserve ask.now }
+        ensures shape { self.new.link.shape ≡ self.old.link.shape }
+        ensures split { self.new.split ≡ self.old.split }
+        ensures goes { IfOk result (λ reply. GoesOn (rules_of self.old) (kept_in self.old.link) (kept_in self.new.link) ask.now reply) }
+        ensures memory { OnErr result ((h : List Entry) → QuotaStands self.old h → QuotaStands self.new h) }
+        ensures ticked { IfOk result (λ _. self.new.link.clock ≡ clock_with ask.now self.old.link.clock) }
+        ensures stopped { OnErr result (self.new.link.clock ≡ self.old.link.clock) }
+    {
+        let Ask::Reserve {
+            chan,
+            contract,
+            delay,
+            up_reach,
+            ..
+        } = ask
+        else {
+            unreachable!()
+        };
+        match self.offer(*chan, contract, *delay, *up_reach) {
+            Err(refusal) => Ok(Reply::Refused(refusal)),
+            Ok(level) => {
+                let reply = self.link.reserve_at(ask, level)?;
+                let shape = self.link.shape();
+                let row = self.link.held_of(*chan);
+                change_row(&mut self.shares, &self.split, &shape, None, row);
+                Ok(reply)
+            }
+        }
+    }
+
+    // Answers an ask on the row of a channel.
+    fn settle(&mut self, chan: ChanNo, ask: &Ask) -> Result<Reply, OutOfMemory>
+        requires fits { AskFits self.old.link.shape ask.now }
+        requires early { self.old.link.clock < 2 ^ 61 }
+        requires splits { is_split self.old.split ≡ true }
+        requires settles { IsSettling chan ask.now }
+        ensures shape { self.new.link.shape ≡ self.old.link.shape }
+        ensures split { self.new.split ≡ self.old.split }
+        ensures goes { IfOk result (λ reply. GoesOn (rules_of self.old) (kept_in self.old.link) (kept_in self.new.link) ask.now reply) }
+        ensures memory { OnErr result ((h : List Entry) → QuotaStands self.old h → QuotaStands self.new h) }
+        ensures ticked { IfOk result (λ _. self.new.link.clock ≡ clock_with ask.now self.old.link.clock) }
+        ensures stopped { OnErr result (self.new.link.clock ≡ self.old.link.clock) }
+    {
+        let before = self.link.held_of(chan);
+        let reply = self.link.step(ask)?;
+        let shape = self.link.shape();
+        let after = self.link.held_of(chan);
+        change_row(&mut self.shares, &self.split, &shape, before, after);
+        Ok(reply)
+    }
+
+    // Makes a tick. Rows may expire in it.
+    fn tick(&mut self, ask: &Ask) -> Result<Reply, OutOfMemory>
+        requires fits { AskFits self.old.link.shape ask.now }
+        requires early { self.old.link.clock < 2 ^ 61 }
+        requires splits { is_split self.old.split ≡ true }
+        requires ticks { ask.now ≡ Tick }
+        ensures shape { self.new.link.shape ≡ self.old.link.shape }
+        ensures split { self.new.split ≡ self.old.split }
+        ensures goes { IfOk result (λ reply. GoesOn (rules_of self.old) (kept_in self.old.link) (kept_in self.new.link) ask.now reply) }
+        ensures memory { OnErr result ((h : List Entry) → QuotaStands self.old h → QuotaStands self.new h) }
+        ensures ticked { IfOk result (λ _. self.new.link.clock ≡ clock_with ask.now self.old.link.clock) }
+        ensures stopped { OnErr result (self.new.link.clock ≡ self.old.link.clock) }
+    {
+        let before = self.link.rows_held();
+        let reply = self.link.step(ask)?;
+        if self.link.rows_held() < before {
+            count_anew(&mut self.shares, &self.split, &self.link);
+        }
+        Ok(reply)
+    }
+
+    // Answers an ask that carries packets.
+    fn carry(&mut self, ask: &Ask) -> Result<Reply, OutOfMemory>
+        requires fits { AskFits self.old.link.shape ask.now }
+        requires early { self.old.link.clock < 2 ^ 61 }
+        requires carries { IsCarrying ask.now }
+        ensures shape { self.new.link.shape ≡ self.old.link.shape }
+        ensures split { self.new.split ≡ self.old.split }
+        ensures goes { IfOk result (λ reply. GoesOn (rules_of self.old) (kept_in self.old.link) (kept_in self.new.link) ask.now reply) }
+        ensures memory { OnErr result ((h : List Entry) → QuotaStands self.old h → QuotaStands self.new h) }
+        ensures ticked { IfOk result (λ _. self.new.link.clock ≡ clock_with ask.now self.old.link.clock) }
+        ensures stopped { OnErr result (self.new.link.clock ≡ self.old.link.clock) }
+    {
+        self.link.step(ask)
+    }
+
+    // Answers any ask.
+    fn answer(&mut self, ask: &Ask) -> Result<Reply, OutOfMemory>
+        requires fits { AskFits self.old.link.shape ask.now }
+        requires early { self.old.link.clock < 2 ^ 61 }
+        ensures shape { self.new.link.shape ≡ self.old.link.shape }
+        ensures split { self.new.split ≡ self.old.split }
+        ensures goes { IfOk result (λ reply. GoesOn (rules_of self.old) (kept_in self.old.link) (kept_in self.new.link) ask.now reply) }
+        ensures memory { OnErr result ((h : List Entry) → QuotaStands self.old h → QuotaStands self.new h) }
+        ensures ticked { IfOk result (λ _. self.new.link.clock ≡ clock_with ask.now self.old.link.clock) }
+        ensures stopped { OnErr result (self.new.link.clock ≡ self.old.link.clock) }
+    {
+        if self.split.quotas().is_empty() {
+            return self.whole(ask);
+        }
+        match ask {
+            Ask::Reserve { .. } => self.reserve(ask),
+            Ask::Relax { chan, .. } => self.settle(*chan, ask),
+            Ask::Deny { chan } => self.settle(*chan, ask),
+            Ask::Release { chan, .. } => self.settle(*chan, ask),
+            Ask::Tick => self.tick(ask),
+            Ask::Submit { .. } | Ask::Arrive { .. } | Ask::Pour { .. } => self.carry(ask),
+        }
+    }
+}
+
+impl LinkStep for QuotaLink {
+    ghost use Rattle.link_steps.specs.declared.replies.Entry.{Entry};
+    ghost use Rattle.link_steps.specs.HopGuarantee.{HopGuarantee};
+    ghost use Rattle.link_steps.specs.Legal.{AskFits, IsLegal};
+    ghost use Rattle.link_steps.specs.Replies.{reply_to};
+    ghost use Rattle.link_steps.specs.Scan.{clock_with};
+    ghost use Rattle.link_quota.specs.State.{rules_of, QuotaStands, quota-clock, quota-fits};
+
+    ghost link_of = { rules_of };
+
+    ghost clock_at = { λ quota. quota.link.clock };
+
+    ghost stands_for = { QuotaStands };
+
+    fn shape(&self) -> LinkShape {
+        self.link.shape()
+    }
+
+    fn clock(&self) -> u64 {
+        self.link.clock()
+    }
+
+    /// Makes one step. A refusal among the replies leaves the link as it was, and so does want of memory.
+    ///
+    /// Where the history is legal the next one has the hop guarantee (`guaranteed`): after each of its entries the held
+    /// rows, of all groups together, pass the admission test, and each packet leaves in time.
+    fn step(&mut self, ask: &Ask) -> Result<Reply, OutOfMemory>
+        requires fits { AskFits self.old.link.shape ask.now }
+        requires early { self.old.link.clock < 2 ^ 61 }
+        ensures same { rules_of self.new ≡ rules_of self.old }
+        ensures legal { IfOk result (λ reply. (h : List Entry) → QuotaStands self.old h → reply ≡ reply_to (rules_of self.old) h ask.now) }
+        ensures entered { IfOk result (λ reply. (h : List Entry) → QuotaStands self.old h → QuotaStands self.new (record { ask = ask.now; reply = reply } ∷ h)) }
+        ensures memory { OnErr result ((h : List Entry) → QuotaStands self.old h → QuotaStands self.new h) }
+        ensures ticked { IfOk result (λ _. self.new.link.clock ≡ clock_with ask.now self.old.link.clock) }
+        ensures stopped { OnErr result (self.new.link.clock ≡ self.old.link.clock) }
+
+        // The hop guarantee.
+        ensures guaranteed { IfOk result (λ reply. (h : List Entry) → QuotaStands self.old h → IsLegal (rules_of self.old) h → HopGuarantee self.old.link.shape (record { ask = ask.now; reply = reply } ∷ h)) }
+    {
+        self.answer(ask)
+    }
+
+    ghost tells_time = { quota-clock };
+
+    ghost is_fit = { quota-fits };
+}
