@@ -20,12 +20,13 @@ use Rattle.interleave_core.specs.Runs.{plane_no, next_for}
 use Rattle.interleave_core.specs.Standing.{CallersStand, PlaneStands, ActorsStand, IsDueStep}
 use Rattle.interleave_core.specs.declared.actors.Actors.{Actors}
 use Rattle.interleave_core.proofs.Lookups.{get-push, get-set-same, get-set-other}
+use Rattle.interleave_core.proofs.Punctual.{reply-later}
 use Rattle.interleave_core.proofs.Replying.{replies-expected}
 use Rattle.interleave_core.proofs.RunLegal.{AsksOf, asked-plane, asked-caller, caller-next, plane-next, plane-by, plane-off, replies-by, replies-off}
 use Rattle.run_record.specs.Runs.{replies_to}
 use Rattle.run_record.specs.declared.done.Done.{Done}
 use Rattle.tick_plane.specs.Kept.{KeptPlane}
-use Rattle.tick_plane.specs.Planes.{Plane, next_due, plane_after, plane_ask, plane_expects, plane_of, plane_start}
+use Rattle.tick_plane.specs.Planes.{Plane, next_due, plane_after, plane_ask, plane_expects, plane_of, plane_start, IsDueLater}
 
 -- the plane's number is the number of callers
 pub plane-number : (parts : PlanParts) → plane_no (network_of parts) ≡ length parts.callers
@@ -101,6 +102,11 @@ pub plane-expected : (parts : PlanParts) (actors : Actors) (past : List Done) (d
 plane-expected parts actors past done due same =
     ap (λ (p : Plane). plane_expects (next_due p) done.reply) due.stand.plane.at
     ∙ replies-expected.plane (network_of parts) past done due.next (same ∙ sym (plane-place parts actors.callers.items past due.stand.callers))
+
+pub plane-later : (parts : PlanParts) (actors : Actors) (past : List Done) (done : Done) → IsDueStep parts actors past done → actor_number done.actor ≡ length actors.callers.items → IsDueLater actors.plane.at.round done.reply
+plane-later parts actors past done due same =
+    subst (λ (p : Plane). IsDueLater p.round done.reply) (sym due.stand.plane.at)
+    (reply-later (network_of parts) past done (plan-fits parts due.plan) due.run due.next (same ∙ sym (plane-place parts actors.callers.items past due.stand.callers)))
 
 -- the callers' replies stay the same
 callers-same : (parts : PlanParts) (callers : List Actor) (past : List Done) (done : Done) → CallersStand parts callers past → actor_number done.actor ≡ length callers → CallersStand parts callers (done ∷ past)

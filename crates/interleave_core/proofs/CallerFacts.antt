@@ -143,7 +143,7 @@ pub tested-asks : (request : Request) (offers : List ℕ) (count : ℕ) (denial 
 tested-asks request offers count (Some denial) to ask same is = undone-asks request _ _ to ask same is
 tested-asks request offers count None to ask same is = relaxing-asks request _ _ to ask same is
 
--- an offer after another reply isn't at the front
+-- an offer after another reply doesn't stand among the first ones
 offers-after : (replies : List Reply) (first reply : Reply) (rest : List Reply) → after_offers replies ≡ first ∷ rest → offers_in (replies ++ reply ∷ []) ≡ offers_in replies
 unfolding offers_in after_offers
 offers-after [] first reply rest after = cc

@@ -133,7 +133,7 @@ unnamed-none network c n (done ∷ past) unnamed is =
     ]
 
 -- no numbered packet is of it
-unnamed-packet : (network : Network) (n : ℕ) (link : Link) (p : Arrival) (run : List Done) → NetworkFits network → IsRun network run → slice_get network.links n ≡ Some link → Among p (packets_on link n run) → is_of_channel (channel_number p.chan) p ≡ true → IsUnnamed network (channel_number p.chan) → ⊥
+pub unnamed-packet : (network : Network) (n : ℕ) (link : Link) (p : Arrival) (run : List Done) → NetworkFits network → IsRun network run → slice_get network.links n ≡ Some link → Among p (packets_on link n run) → is_of_channel (channel_number p.chan) p ≡ true → IsUnnamed network (channel_number p.chan) → ⊥
 unnamed-packet network n link p run fits is linked among own unnamed =
     let free = legal-free link.shape any-terms (channel_number p.chan) (part_of n run) (part-admissible network run n link fits is linked) (unnamed-none network (channel_number p.chan) n run unnamed is) in
     subst (Among p) free.packets (Among-passes (is_of_channel (channel_number p.chan)) p (packets_on link n run) own among) where

@@ -47,3 +47,4 @@ pub mod PlayFacts
 pub mod RunFronts
 pub mod OwnerVerdict
 pub mod WorkedSchedules
+mod EngineFacts

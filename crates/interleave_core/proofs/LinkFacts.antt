@@ -6,8 +6,8 @@ use Rattle.std.proofs.lemmas.Option.{slice_get_within, slice_get-map}
 use Rattle.std.specs.List.{slice_get}
 use Rattle.std.specs.Prelude.{nat_eq}
 use Rattle.net_units.specs.Numbers.{actor_number}
-use Rattle.link_server.specs.State.{LinkStands, stands-clock}
-use Rattle.link_server.specs.declared.link_state.LinkState.{LinkState}
+use Rattle.link_quota.specs.Any.{any_rules, any_clock, AnyStands, any-clock-is}
+use Rattle.link_quota.specs.declared.any_link.AnyLink.{AnyLink}
 use Rattle.link_steps.specs.Scan.{clock_of}
 use Rattle.link_steps.specs.Split.{Link, whole}
 use Rattle.link_steps.specs.declared.replies.Reply.{Reply}
@@ -47,25 +47,25 @@ rounds-most network (done ∷ past) run =
       | inr caller ↦ subst (λ (p : Plane). p.round ≤ network.rounds) (sym (plane-off network done past (eqb-false (actor_number done.actor) (plane_no network) caller))) (rounds-most network past run.0)
     ]
 
-pub clock-small : (network : Network) (links : List LinkState) (run : List Done) (n : ℕ) (link : LinkState) → NetworkFits network → IsRun network run → LinksStand network.links links run → slice_get links n ≡ Some link → link.clock < 2 ^ 61
+pub clock-small : (network : Network) (links : List AnyLink) (run : List Done) (n : ℕ) (link : AnyLink) → NetworkFits network → IsRun network run → LinksStand network.links links run → slice_get links n ≡ Some link → any_clock link < 2 ^ 61
 clock-small network links run n link fits is stand found =
-    let within : n < length network.links = slice_get_within network.links n (whole link.shape) (stand.linked n link found) in
-    let clock : link.clock ≡ clock_of (part_of n run) = stands-clock link (part_of n run) (stand.parts n link found) in
+    let within : n < length network.links = slice_get_within network.links n (any_rules link) (stand.linked n link found) in
+    let clock : any_clock link ≡ clock_of (part_of n run) = any-clock-is link (part_of n run) (stand.parts n link found) in
     let follows = clock ∙ clocks-follow network run n fits is within in
     let most = rounds-most network run is in
     let few = fits.rounds in
     elim (cases_Bool (nat_lt n (plane_at network run).ticked)) [
-      | inl made ↦ (let at : link.clock ≡ (plane_at network run).round + 1 = rw made at follows in omega (arith, at, most, few))
-      | inr left ↦ (let at : link.clock ≡ (plane_at network run).round + 0 = rw left at follows in omega (arith, at, most, few))
+      | inl made ↦ (let at : any_clock link ≡ (plane_at network run).round + 1 = rw made at follows in omega (arith, at, most, few))
+      | inr left ↦ (let at : any_clock link ≡ (plane_at network run).round + 0 = rw left at follows in omega (arith, at, most, few))
     ]
 
 -- ---- with one step more
 
 -- one link may have another state, which stands for its part; the parts of the others are the same
-pub links-with : (network : List Link) (old new : List LinkState) (number : ℕ) (run more : List Done) → length new ≡ length old → ((n : ℕ) → n ≢ number → slice_get new n ≡ slice_get old n)
-    → ((link next : LinkState) → slice_get old number ≡ Some link → slice_get new number ≡ Some next → whole next.shape ≡ whole link.shape)
+pub links-with : (network : List Link) (old new : List AnyLink) (number : ℕ) (run more : List Done) → length new ≡ length old → ((n : ℕ) → n ≢ number → slice_get new n ≡ slice_get old n)
+    → ((link next : AnyLink) → slice_get old number ≡ Some link → slice_get new number ≡ Some next → any_rules next ≡ any_rules link)
     → ((n : ℕ) → n ≢ number → part_of n more ≡ part_of n run)
-    → ((link next : LinkState) → slice_get old number ≡ Some link → slice_get new number ≡ Some next → LinkStands link (part_of number run) → LinkStands next (part_of number more))
+    → ((link next : AnyLink) → slice_get old number ≡ Some link → slice_get new number ≡ Some next → AnyStands link (part_of number run) → AnyStands next (part_of number more))
     → LinksStand network old run → LinksStand network new more
 links-with network old new number run more long others same parts at stand = record {
   same = long ∙ stand.same;
@@ -77,47 +77,47 @@ links-with network old new number run more long others same parts at stand = rec
   parts = λ n next found.
       elim (cases_Bool (nat_eq n number)) [
         | inl on ↦ parts-on n next (eqb-true n number on) found
-        | inr off ↦ (let other = eqb-false n number off in subst (LinkStands next) (sym (parts n other)) (stand.parts n next (sym (others n other) ∙ found)))
+        | inr off ↦ (let other = eqb-false n number off in subst (AnyStands next) (sym (parts n other)) (stand.parts n next (sym (others n other) ∙ found)))
       ];
 } where
-  linked-on : (n : ℕ) (next : LinkState) → n ≡ number → slice_get new n ≡ Some next → slice_get network n ≡ Some (whole next.shape)
+  linked-on : (n : ℕ) (next : AnyLink) → n ≡ number → slice_get new n ≡ Some next → slice_get network n ≡ Some (any_rules next)
   linked-on n next on found =
       let there : slice_get new number ≡ Some next = ap (slice_get new) (sym on) ∙ found in
       let was = held old number (let within = slice_get_within new number next there in omega (arith, within, long)) in
       ap (slice_get network) on ∙ stand.linked number was.item was.found ∙ ap (λ link. Some link) (sym (same was.item next was.found there))
 
-  parts-on : (n : ℕ) (next : LinkState) → n ≡ number → slice_get new n ≡ Some next → LinkStands next (part_of n more)
+  parts-on : (n : ℕ) (next : AnyLink) → n ≡ number → slice_get new n ≡ Some next → AnyStands next (part_of n more)
   parts-on n next on found =
       let there : slice_get new number ≡ Some next = ap (slice_get new) (sym on) ∙ found in
       let was = held old number (let within = slice_get_within new number next there in omega (arith, within, long)) in
-      subst (λ m. LinkStands next (part_of m more)) (sym on) (at was.item next was.found there (stand.parts number was.item was.found))
+      subst (λ m. AnyStands next (part_of m more)) (sym on) (at was.item next was.found there (stand.parts number was.item was.found))
 
 -- ---- before any step
 
 -- so many links of these entries are made
-pub record LinksMade (entries : List LinkEntry) (links : List LinkState) : Type 0 where
-  pub linked : (n : ℕ) (link : LinkState) → slice_get links n ≡ Some link → slice_get (map entry_link entries) n ≡ Some (whole link.shape)
-  pub fresh : (n : ℕ) (link : LinkState) → slice_get links n ≡ Some link → LinkStands link []
+pub record LinksMade (entries : List LinkEntry) (links : List AnyLink) : Type 0 where
+  pub linked : (n : ℕ) (link : AnyLink) → slice_get links n ≡ Some link → slice_get (map entry_link entries) n ≡ Some (any_rules link)
+  pub fresh : (n : ℕ) (link : AnyLink) → slice_get links n ≡ Some link → AnyStands link []
 
 pub none-made : (entries : List LinkEntry) → LinksMade entries []
 none-made entries = record { linked = λ n link found. cc; fresh = λ n link found. cc }
 
-pub one-made : (entries : List LinkEntry) (links : List LinkState) (entry : LinkEntry) (link : LinkState) → LinksMade entries links → slice_get entries (length links) ≡ Some entry → link.shape ≡ entry.shape → LinkStands link [] → LinksMade entries (links ++ link ∷ [])
+pub one-made : (entries : List LinkEntry) (links : List AnyLink) (entry : LinkEntry) (link : AnyLink) → LinksMade entries links → slice_get entries (length links) ≡ Some entry → any_rules link ≡ entry_link entry → AnyStands link [] → LinksMade entries (links ++ link ∷ [])
 one-made entries links entry link made found shape stands = record {
   linked = λ n at is.
       elim (get-push links link n at is) [
         | inl before ↦ made.linked n at before
         | inr last ↦
             slice_get-map entry_link entries n ∙ ap (λ m. option_map entry_link (slice_get entries m)) last.0 ∙ ap (option_map entry_link) found
-            ∙ ap (λ s. Some (whole s)) (sym shape) ∙ ap (λ (l : LinkState). Some (whole l.shape)) (sym last.1)
+            ∙ ap (λ (l : Link). Some l) (sym shape) ∙ ap (λ (l : AnyLink). Some (any_rules l)) (sym last.1)
       ];
   fresh = λ n at is.
       elim (get-push links link n at is) [
         | inl before ↦ made.fresh n at before
-        | inr last ↦ subst (λ (l : LinkState). LinkStands l []) (sym last.1) stands
+        | inr last ↦ subst (λ (l : AnyLink). AnyStands l []) (sym last.1) stands
       ];
 }
 
-pub all-made : (entries : List LinkEntry) (links : List LinkState) → length links ≡ length entries → LinksMade entries links → LinksStand (map entry_link entries) links []
+pub all-made : (entries : List LinkEntry) (links : List AnyLink) → length links ≡ length entries → LinksMade entries links → LinksStand (map entry_link entries) links []
 unfolding part_of
 all-made entries links long made = record { same = long ∙ sym (length-map entries entry_link); linked = made.linked; parts = made.fresh }

@@ -5,7 +5,7 @@ use Rattle.std.proofs.lemmas.Option.{slice_get_within}
 use Rattle.std.specs.Prelude.{nat_eq, find}
 use Rattle.net_units.specs.Numbers.{link_number, actor_number}
 use Rattle.net_units.specs.declared.numbers.LinkNo.{LinkNo}
-use Rattle.link_steps.specs.declared.asks.Ask.TheVariants.{Tick}
+use Rattle.link_steps.specs.declared.asks.Ask.TheVariants.{Arrive, Tick}
 use Rattle.link_steps.specs.declared.replies.Entry.{Entry}
 use Rattle.link_steps.specs.declared.replies.Reply.{Reply}
 use Rattle.link_steps.specs.declared.replies.Reply.TheVariants as Is
@@ -24,11 +24,12 @@ use Rattle.interleave_core.specs.Laws.{NoFlightIsLate}
 use Rattle.call_script.specs.Fits.{NetworkFits}
 use Rattle.call_script.specs.Tasks.{Network}
 use Rattle.tick_plane.specs.declared.flight.Flight.{Flight}
-use Rattle.tick_plane.specs.Planes.{Plane, is_due, next_due, ask_due, flight_to, flight_in, tick_made, plane_with, plane_of}
+use Rattle.tick_plane.specs.Planes.{Plane, is_due, next_due, ask_due, flight_to, flight_in, tick_made, plane_with, plane_of, IsDueLater}
 use Rattle.run_record.specs.Runs.{part_of, replies_to}
 use Rattle.interleave_core.specs.Runs.{plane_no, plane_at, IsNext, IsRun}
 use Rattle.interleave_core.proofs.RunLegal.{part-may, RunStands, clock_at, plane-next, plane-off, plane-by, run-stands}
 use Rattle.channel_laws.specs.Departing.{IsSent}
+use Rattle.channel_laws.proofs.ArriveReplies.{arrive-told, of-arrive}
 use Rattle.channel_laws.proofs.SentFacts.{sent-facts, tick-answer}
 
 -- none found means that none passes
@@ -69,15 +70,27 @@ tick-punctual links plane new none punctual later =
       | inr more ↦ rw more (Each-append (λ flight. plane.round ≤ flight.round) plane.flights new punctual (Each-if (λ flight. suc plane.round ≤ flight.round) (λ flight. plane.round ≤ flight.round) new (λ flight h. omega (arith, h)) later))
     ]
 
-with-punctual : (network : Network) (plane : Plane) (found : Option Flight) (done : Done) (past : List Done) → NetworkFits network → RunStands network past → (next : IsNext network past done) → plane ≡ plane_at network past → next_due plane ≡ found → ask_due plane.ticked found ≡ (done.link, done.ask) → IsPunctual plane → IsPunctual (plane_with (length network.links) plane found done.reply)
-with-punctual network plane (Some flight) done past fits stands next is due asks punctual = Each-without_first (λ f. plane.round ≤ f.round) (is_due plane.round) plane.flights punctual
-with-punctual network plane None done past fits stands next is due asks punctual =
+-- what begins with the reply to the plane's ask is due after the round
+due-later : (network : Network) (plane : Plane) (found : Option Flight) (done : Done) (past : List Done) → NetworkFits network → RunStands network past → (next : IsNext network past done) → plane ≡ plane_at network past → ask_due plane.ticked found ≡ (done.link, done.ask) → IsDueLater plane.round done.reply
+due-later network plane (Some flight) done past fits stands next is asks =
+    let arrive : Arrive flight.packet ≡ done.ask = ap (λ pair. pair.1) asks in
+    of-arrive (IsDueLater plane.round) done.reply (λ clock eligible. tt) (λ held slots. tt) (λ why. tt)
+    (arrive-told next.link (part_of (link_number done.link) past) flight.packet done.reply (next.answered ∙ ap (reply_to next.link (part_of (link_number done.link) past)) (sym arrive)))
+due-later network plane None done past fits stands next is asks =
     let tick : Tick ≡ done.ask = ap (λ pair. pair.1) asks in
     let inside : link_number done.link < length network.links = slice_get_within network.links (link_number done.link) next.link next.linked in
     let clock : clock_of (part_of (link_number done.link) past) ≡ clock_at plane (link_number done.link) = stands.clocks (link_number done.link) inside ∙ ap (λ p. clock_at p (link_number done.link)) (sym is) in
     let legal = part-may network past (link_number done.link) next.link fits stands next.linked in
-    tick-punctual (length network.links) plane (flight_in done.reply) due punctual
-    (new-later next.link.shape (part_of (link_number done.link) past) done.reply plane.round (omega (arith, clock)) legal (next.answered ∙ ap (reply_to next.link (part_of (link_number done.link) past)) (sym tick) ∙ tick-answer next.link (part_of (link_number done.link) past)))
+    new-later next.link.shape (part_of (link_number done.link) past) done.reply plane.round (omega (arith, clock)) legal (next.answered ∙ ap (reply_to next.link (part_of (link_number done.link) past)) (sym tick) ∙ tick-answer next.link (part_of (link_number done.link) past))
+
+with-punctual : (network : Network) (plane : Plane) (found : Option Flight) (done : Done) (past : List Done) → NetworkFits network → RunStands network past → (next : IsNext network past done) → plane ≡ plane_at network past → next_due plane ≡ found → ask_due plane.ticked found ≡ (done.link, done.ask) → IsPunctual plane → IsPunctual (plane_with (length network.links) plane found done.reply)
+with-punctual network plane (Some flight) done past fits stands next is due asks punctual = Each-without_first (λ f. plane.round ≤ f.round) (is_due plane.round) plane.flights punctual
+with-punctual network plane None done past fits stands next is due asks punctual = tick-punctual (length network.links) plane (flight_in done.reply) due punctual (due-later network plane None done past fits stands next is asks)
+
+pub reply-later : (network : Network) (past : List Done) (done : Done) → NetworkFits network → IsRun network past → IsNext network past done → actor_number done.actor ≡ plane_no network → IsDueLater (plane_at network past).round done.reply
+reply-later network past done fits run next same =
+    let asks = plane-next network past done next same in
+    due-later network (plane_at network past) (next_due (plane_at network past)) done past fits (run-stands network past fits run) next refl asks.asks
 
 -- in every run
 pub run-punctual : (network : Network) (run : List Done) → NetworkFits network → IsRun network run → IsPunctual (plane_at network run)

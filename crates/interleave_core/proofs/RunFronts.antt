@@ -1,4 +1,4 @@
--- The front of a run's entries, in the order of time, is a run, and the entry after it is its next step.
+-- A prefix of a run's entries, in the order of time, is a run, and the entry after it is its next step.
 use Rattle.std.proofs.Common.{◌≡◌, ℕ, ◌+◌, ◌<◌, List, [], ◌∷◌, ◌++◌, length, get_or, take, drop, reverse, sym, ap, ◌∙◌, subst}
 use Rattle.std.proofs.lemmas.List.{reverse-append, take-append-drop, take_more}
 use Rattle.call_script.specs.Tasks.{Network}

@@ -35,6 +35,7 @@ use Rattle.link_steps.proofs.ListParts.{Each-at}
 use Rattle.interleave_core.proofs.CallerFacts.{IsCallers, StandingFits, standing-asks, begun-fits, replied-fits}
 use Rattle.channel_laws.proofs.SentFacts.{sent-facts, sent-fits, tick-answer}
 use Rattle.tick_plane.proofs.FlightFacts.{AsksDue, asks-due, flight-in, flights-with}
+use Rattle.tick_plane.proofs.RoundFacts.{tick-clocks, other-clocks, ticked-with}
 
 -- the clock of a link where the plane stands so
 abbrev pub clock_at : Plane → ℕ → ℕ
@@ -174,24 +175,6 @@ clock-ticks : (n : ℕ) (done : Done) (past : List Done) → done.ask ≡ Tick �
 unfolding clock_of
 clock-ticks n done past tick on = ap clock_of (part-on n done past on) ∙ ap (λ ask. clock_with ask (clock_of (part_of n past))) tick
 
--- the clocks with one tick more
-tick-clocks : (links n : ℕ) (plane : Plane) (new : List Flight) → plane.ticked < links → n < links → n ≡ plane.ticked → suc (clock_at plane n) ≡ clock_at (tick_made links plane new) n
-tick-clocks links n plane new within few same =
-    elim (cases_Bool (nat_eq (suc plane.ticked) links)) [
-      | inl last ↦ rw (last, le-ltb n plane.ticked (omega arith), le-ltb n 0 (omega arith)) (omega arith)
-      | inr more ↦ rw (more, le-ltb n plane.ticked (omega arith), lt-ltb n (suc plane.ticked) (omega arith)) (omega arith)
-    ]
-
-other-clocks : (links n : ℕ) (plane : Plane) (new : List Flight) → plane.ticked < links → n < links → n ≢ plane.ticked → clock_at plane n ≡ clock_at (tick_made links plane new) n
-other-clocks links n plane new within few other =
-    elim (cases_Bool (nat_eq (suc plane.ticked) links)) [
-      | inl last ↦ (let e : suc plane.ticked ≡ links = eqb-true (suc plane.ticked) links last in rw (last, lt-ltb n plane.ticked (omega (arith, e)), le-ltb n 0 (omega arith)) (omega arith))
-      | inr more ↦ elim (cases_lt n plane.ticked) [
-        | inl before ↦ rw (more, lt-ltb n plane.ticked before, lt-ltb n (suc plane.ticked) (omega arith)) refl
-        | inr rest ↦ rw (more, le-ltb n plane.ticked rest, le-ltb n (suc plane.ticked) (omega (arith, other))) refl
-      ]
-    ]
-
 pub link_at-number : (n : ℕ) → n < 32 → link_number (link_at n) ≡ n
 link_at-number n few = omega arith
 
@@ -224,14 +207,6 @@ clocks-next network past done fits stands next n inside =
     ]
 
 -- ---- the flights
-
-pub ticked-with : (links : ℕ) (plane : Plane) (found : Option Flight) (reply : Reply) → 1 ≤ links → plane.ticked < links → (plane_with links plane found reply).ticked < links
-ticked-with links plane (Some flight) reply some within = within
-ticked-with links plane None reply some within =
-    elim (cases_Bool (nat_eq (suc plane.ticked) links)) [
-      | inl last ↦ rw last some
-      | inr more ↦ rw more (let other = eqb-false (suc plane.ticked) links more in omega (arith, other))
-    ]
 
 -- a link's tick tells a packet that may arrive
 new-flights : (shape : LinkShape) (h : List Entry) (reply : Reply) → clock_of h ≤ 1048576 → IsAdmissible shape h → reply ≡ tick_reply shape (clock_of h) (scan_of shape h) → Each FlightFits (flight_in reply)

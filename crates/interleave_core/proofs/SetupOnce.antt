@@ -73,7 +73,7 @@ way-reserves request replies [] to ask after same is =
     record { alone = after; hop = found.hop; stands = found.stands; at = found.at; reach = reach_after 0 request.route replies; is = found.is }
 way-reserves request replies (first ∷ denied) to ask after same is = absurd (undone-asks request _ _ to ask same is)
 
-reserves : (request : Request) (replies : List Reply) (to : LinkNo) (ask : Ask) → next_ask request replies ≡ Some (to, ask) → IsReserve ask → Reserves request replies to ask
+pub reserves : (request : Request) (replies : List Reply) (to : LinkNo) (ask : Ask) → next_ask request replies ≡ Some (to, ask) → IsReserve ask → Reserves request replies to ask
 reserves request replies to ask same is =
     elim (cases_lt (length (offers_in replies)) (length request.route)) [
       | inl fewer ↦ way-reserves request replies (after_offers replies) to ask refl (subst (λ p. asked request p ≡ Some (to, ask)) (progress-on_the_way request replies fewer) same) is

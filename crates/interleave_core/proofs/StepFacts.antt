@@ -8,8 +8,8 @@ use Rattle.std.specs.List.{slice_get}
 use Rattle.net_units.specs.Numbers.{link_number, actor_number}
 use Rattle.net_units.specs.declared.numbers.ActorNo.{ActorNo}
 use Rattle.net_units.specs.declared.numbers.LinkNo.{LinkNo}
-use Rattle.link_server.specs.State.{LinkStands}
-use Rattle.link_server.specs.declared.link_state.LinkState.{LinkState}
+use Rattle.link_quota.specs.Any.{any_rules, any_clock, AnyStands}
+use Rattle.link_quota.specs.declared.any_link.AnyLink.{AnyLink}
 use Rattle.link_steps.specs.Legal.{AskFits}
 use Rattle.link_steps.specs.Replies.{reply_to}
 use Rattle.link_steps.specs.Split.{whole}
@@ -25,7 +25,7 @@ use Rattle.call_script.specs.Rules.{are_few}
 use Rattle.call_script.specs.Tasks.{entry_link, network_of}
 use Rattle.interleave_core.specs.Linked.{IsLinkThere}
 use Rattle.interleave_core.specs.Runs.{next_for, IsNext, IsRun}
-use Rattle.interleave_core.specs.Standing.{LinksStand, ActorsStand, CoreStands, run_in}
+use Rattle.interleave_core.specs.Standing.{LinksStand, EngineStands, CoreStands, run_in}
 use Rattle.interleave_core.specs.declared.stepping.Core.{Core}
 use Rattle.interleave_core.proofs.LinksAsked.{asks-linked}
 use Rattle.interleave_core.proofs.LinkFacts.{links-with}
@@ -59,59 +59,49 @@ has-few parts plan =
 
 -- ---- the link that is asked
 
-pub asked-within : (parts : PlanParts) (links : List LinkState) (past : List Done) (actor : ℕ) (to : LinkNo) (ask : Ask) → IsPlan parts → IsRun (network_of parts) past → LinksStand (network_of parts).links links past → next_for (network_of parts) actor past ≡ Some (to, ask) → link_number to < length links
+pub asked-within : (parts : PlanParts) (links : List AnyLink) (past : List Done) (actor : ℕ) (to : LinkNo) (ask : Ask) → IsPlan parts → IsRun (network_of parts) past → LinksStand (network_of parts).links links past → next_for (network_of parts) actor past ≡ Some (to, ask) → link_number to < length links
 asked-within parts links past actor to ask plan run stand asked =
     let there : IsLinkThere (network_of parts).links to = asks-linked (network_of parts) past actor to ask (plan-fits parts plan) run asked in
     let within = slice_get_within (network_of parts).links (link_number to) there.link there.found in
     omega (arith, within, stand.same)
 
 -- the entry is the next step, where the reply is that of its link
-pub next-of : (parts : PlanParts) (links : List LinkState) (past : List Done) (actor : ActorNo) (to : LinkNo) (ask : Ask) (reply : Reply) (link : LinkState) → LinksStand (network_of parts).links links past → next_for (network_of parts) (actor_number actor) past ≡ Some (to, ask)
-    → slice_get links (link_number to) ≡ Some link → reply ≡ reply_to (whole link.shape) (part_of (link_number to) past) ask → IsNext (network_of parts) past (record { actor = actor; link = to; ask = ask; reply = reply })
-next-of parts links past actor to ask reply link stand asked found answered = record { link = whole link.shape; linked = stand.linked (link_number to) link found; asked = asked; answered = answered }
+pub next-of : (parts : PlanParts) (links : List AnyLink) (past : List Done) (actor : ActorNo) (to : LinkNo) (ask : Ask) (reply : Reply) (link : AnyLink) → LinksStand (network_of parts).links links past → next_for (network_of parts) (actor_number actor) past ≡ Some (to, ask)
+    → slice_get links (link_number to) ≡ Some link → reply ≡ reply_to (any_rules link) (part_of (link_number to) past) ask → IsNext (network_of parts) past (record { actor = actor; link = to; ask = ask; reply = reply })
+next-of parts links past actor to ask reply link stand asked found answered = record { link = any_rules link; linked = stand.linked (link_number to) link found; asked = asked; answered = answered }
 
-pub fits-at : (parts : PlanParts) (links : List LinkState) (past : List Done) (actor : ActorNo) (to : LinkNo) (ask : Ask) (link : LinkState) → IsPlan parts → IsRun (network_of parts) past → LinksStand (network_of parts).links links past → next_for (network_of parts) (actor_number actor) past ≡ Some (to, ask)
-    → slice_get links (link_number to) ≡ Some link → AskFits link.shape ask
+pub fits-at : (parts : PlanParts) (links : List AnyLink) (past : List Done) (actor : ActorNo) (to : LinkNo) (ask : Ask) (link : AnyLink) → IsPlan parts → IsRun (network_of parts) past → LinksStand (network_of parts).links links past → next_for (network_of parts) (actor_number actor) past ≡ Some (to, ask)
+    → slice_get links (link_number to) ≡ Some link → AskFits (any_rules link).shape ask
 unfolding next-of
 fits-at parts links past actor to ask link plan run stand asked found =
-    let reply = reply_to (whole link.shape) (part_of (link_number to) past) ask in
+    let reply = reply_to (any_rules link) (part_of (link_number to) past) ask in
     asked-fits (network_of parts) past (record { actor = actor; link = to; ask = ask; reply = reply }) (plan-fits parts plan) run (next-of parts links past actor to ask reply link stand asked found refl)
 
 -- so it is by what the link's step says
-pub next-by : (parts : PlanParts) (links : List LinkState) (past : List Done) (actor : ActorNo) (to : LinkNo) (ask : Ask) (reply : Reply) (number : ℕ) → IsPlan parts → IsRun (network_of parts) past → LinksStand (network_of parts).links links past → next_for (network_of parts) (actor_number actor) past ≡ Some (to, ask)
-    → link_number to ≡ number → ((link : LinkState) (h : List Entry) → slice_get links number ≡ Some link → LinkStands link h → reply ≡ reply_to (whole link.shape) h ask) → IsNext (network_of parts) past (record { actor = actor; link = to; ask = ask; reply = reply })
+pub next-by : (parts : PlanParts) (links : List AnyLink) (past : List Done) (actor : ActorNo) (to : LinkNo) (ask : Ask) (reply : Reply) (number : ℕ) → IsPlan parts → IsRun (network_of parts) past → LinksStand (network_of parts).links links past → next_for (network_of parts) (actor_number actor) past ≡ Some (to, ask)
+    → link_number to ≡ number → ((link : AnyLink) (h : List Entry) → slice_get links number ≡ Some link → AnyStands link h → reply ≡ reply_to (any_rules link) h ask) → IsNext (network_of parts) past (record { actor = actor; link = to; ask = ask; reply = reply })
 next-by parts links past actor to ask reply number plan run stand asked is legal =
     let was = held links (link_number to) (asked-within parts links past (actor_number actor) to ask plan run stand asked) in
     next-of parts links past actor to ask reply was.item stand asked was.found
     (legal was.item (part_of (link_number to) past) (ap (slice_get links) (sym is) ∙ was.found) (stand.parts (link_number to) was.item was.found))
 
 -- the links after it
-pub links-stepped : (parts : PlanParts) (old new : List LinkState) (past : List Done) (done : Done) (number : ℕ) → LinksStand (network_of parts).links old past → link_number done.link ≡ number → length new ≡ length old → ((n : ℕ) → n ≢ number → slice_get new n ≡ slice_get old n)
-    → ((link next : LinkState) → slice_get old number ≡ Some link → slice_get new number ≡ Some next → whole next.shape ≡ whole link.shape)
-    → ((link next : LinkState) (h : List Entry) → slice_get old number ≡ Some link → slice_get new number ≡ Some next → LinkStands link h → LinkStands next (entry_of done ∷ h)) → LinksStand (network_of parts).links new (done ∷ past)
+pub links-stepped : (parts : PlanParts) (old new : List AnyLink) (past : List Done) (done : Done) (number : ℕ) → LinksStand (network_of parts).links old past → link_number done.link ≡ number → length new ≡ length old → ((n : ℕ) → n ≢ number → slice_get new n ≡ slice_get old n)
+    → ((link next : AnyLink) → slice_get old number ≡ Some link → slice_get new number ≡ Some next → any_rules next ≡ any_rules link)
+    → ((link next : AnyLink) (h : List Entry) → slice_get old number ≡ Some link → slice_get new number ≡ Some next → AnyStands link h → AnyStands next (entry_of done ∷ h)) → LinksStand (network_of parts).links new (done ∷ past)
 links-stepped parts old new past done number stand is long others same entered =
     links-with (network_of parts).links old new number past (done ∷ past) long others same (λ n other. part-off n done past (λ on. other (sym on ∙ is)))
-    (λ link next found after stands. subst (LinkStands next) (sym (part-on number done past is)) (entered link next (part_of number past) found after stands)) stand
+    (λ link next found after stands. subst (AnyStands next) (sym (part-on number done past is)) (entered link next (part_of number past) found after stands)) stand
 
 -- ---- the core
 
 -- what is known where the core asks the link of this number
-pub record Asking (parts : PlanParts) (links : List LinkState) (past : List Done) (actor : ActorNo) (to : LinkNo) (ask : Ask) (number : ℕ) : Type 0 where
+pub record Asking (parts : PlanParts) (links : List AnyLink) (past : List Done) (actor : ActorNo) (to : LinkNo) (ask : Ask) (number : ℕ) : Type 0 where
   pub plan : IsPlan parts
   pub run : IsRun (network_of parts) past
   pub stand : LinksStand (network_of parts).links links past
   pub asked : next_for (network_of parts) (actor_number actor) past ≡ Some (to, ask)
   pub is : link_number to ≡ number
-
-pub asking : (parts : PlanParts) (core : Core) (links : List LinkState) (actor : ActorNo) (to : LinkNo) (ask : Ask) (next : Option (LinkNo × Ask)) (own number : ℕ) → CoreStands parts core → links ≡ core.links.items → next ≡ next_for (network_of parts) (actor_number actor) (run_in core) → next ≡ Some (to, ask)
-    → number ≡ own → own ≡ link_number to → Asking parts links (run_in core) actor to ask number
-asking parts core links actor to ask next own number stands same asks some from get = record {
-  plan = stands.plan;
-  run = stands.run;
-  stand = subst (λ ls. LinksStand (network_of parts).links ls (run_in core)) (sym same) stands.links;
-  asked = sym asks ∙ some;
-  is = sym (from ∙ get);
-}
 
 -- before any step
 pub fresh-run : (parts : PlanParts) → IsRun (network_of parts) []
@@ -127,14 +117,9 @@ pub recorded : (old ready new : Entries) (done : Done) (spare left : ℕ) → re
 recorded old ready new done spare left kept pushed =
     ap (λ (e : Entries). reverse e.entries) pushed ∙ ap (λ (e : Entries). reverse (e.entries ++ done ∷ [])) kept ∙ reverse-append old.entries (done ∷ [])
 
--- it stands, where all its parts stand for the run that it has recorded
-pub stands-by : (parts : PlanParts) (core : Core) (run : List Done) → run_in core ≡ run → IsPlan parts → IsRun (network_of parts) run → LinksStand (network_of parts).links core.links.items run → ActorsStand parts core.actors run → CoreStands parts core
-stands-by parts core run is plan runs links actors = record {
-  plan = plan;
-  run = subst (IsRun (network_of parts)) (sym is) runs;
-  links = subst (LinksStand (network_of parts).links core.links.items) (sym is) links;
-  actors = subst (ActorsStand parts core.actors) (sym is) actors;
-}
+-- a core stands where its engine stands for the run that it has recorded
+pub stands-by : (parts : PlanParts) (core : Core) (run : List Done) → run_in core ≡ run → EngineStands parts core.engine run → CoreStands parts core
+stands-by parts core run is stands = subst (EngineStands parts core.engine) (sym is) stands
 
 -- ---- the steps of an actor
 

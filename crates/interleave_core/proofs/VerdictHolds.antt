@@ -78,7 +78,7 @@ settled-outcome request replies outcomes quiet = by-verdict (verdict_of request 
 
 -- ---- where the owner stands
 
-data VerdictAt (request : Request) (run : List Done) (at : Standing) : Type 0 where
+pub data VerdictAt (request : Request) (run : List Done) (at : Standing) : Type 0 where
   Before : ScriptOnce request at.tasks → IsBegun request at.tasks at.replies → setup_replies (channel_number request.chan) run ≡ [] → outcome_in request.chan at.outcomes ≡ None → VerdictAt request run at
   Under : (rest : List Task) → at.tasks ≡ Opens request ∷ rest → Each (IsOther (channel_number request.chan)) rest → setup_replies (channel_number request.chan) run ≡ at.replies → verdict_of request at.replies ≡ None → outcome_in request.chan at.outcomes ≡ None → VerdictAt request run at
   After : Each (IsOther (channel_number request.chan)) at.tasks → outcome_in request.chan at.outcomes ≡ verdict_of request (setup_replies (channel_number request.chan) run) → VerdictAt request run at
@@ -188,7 +188,7 @@ verdict-next network request owner tasks past done some once found next was =
           ])
     ]
 
-verdict-run : (network : Network) (request : Request) (owner : ℕ) (tasks : List Task) (run : List Done) → 1 ≤ length request.route → OwnedOnce network request owner → slice_get network.scripts owner ≡ Some tasks → IsRun network run → VerdictAt request run (standing tasks (replies_to owner run))
+pub verdict-run : (network : Network) (request : Request) (owner : ℕ) (tasks : List Task) (run : List Done) → 1 ≤ length request.route → OwnedOnce network request owner → slice_get network.scripts owner ≡ Some tasks → IsRun network run → VerdictAt request run (standing tasks (replies_to owner run))
 unfolding IsRun replies_to standing setup_replies outcome_in
 verdict-run network request owner tasks [] some once found is = before-from request [] [] tasks some (once.own tasks found) refl refl
 verdict-run network request owner tasks (done ∷ past) some once found is = verdict-next network request owner tasks past done some once found is.1 (verdict-run network request owner tasks past some once found is.0)

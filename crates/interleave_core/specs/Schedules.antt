@@ -118,7 +118,7 @@ abbrev pub IsMissing : Network → List Done → Turn → PlayFault → Type 0
 IsMissing network past turn Memory = Unit {0}
 IsMissing network past turn (Step line made) = (next_for network (actor_number turn.actor) past ≡ None) × (line ≡ turn.line) × (made ≡ length (replies_to (actor_number turn.actor) past))
 
--- memory was wanted
+-- memory ran out
 abbrev pub IsWanted : PlayFault → Type 0
 IsWanted Memory = Unit {0}
 IsWanted (Step line made) = ⊥

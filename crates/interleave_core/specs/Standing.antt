@@ -4,8 +4,8 @@ use Rattle.std.specs.Prelude.{◌≡◌, ℕ, suc, ◌-◌, ◌≤◌, None, Som
 use Rattle.std.specs.List.{slice_get}
 use Rattle.net_units.specs.Numbers.{actor_number}
 use Rattle.net_units.specs.declared.numbers.ActorNo.{ActorNo}
-use Rattle.link_server.specs.State.{LinkStands}
-use Rattle.link_server.specs.declared.link_state.LinkState.{LinkState}
+use Rattle.link_quota.specs.Any.{any_rules, any_clock, AnyStands}
+use Rattle.link_quota.specs.declared.any_link.AnyLink.{AnyLink}
 use Rattle.link_steps.specs.Split.{Link, whole}
 use Rattle.link_steps.specs.declared.replies.Reply.{Reply}
 use Rattle.call_script.specs.Parts.{PlanParts}
@@ -17,7 +17,10 @@ use Rattle.interleave_core.specs.Guarantee.{Guaranteed}
 use Rattle.interleave_core.specs.Laws.{AfterEachEntry}
 use Rattle.interleave_core.specs.Runs.{plane_at, next_for, IsNext, IsRun, step}
 use Rattle.interleave_core.specs.declared.actors.Actors.{Actors}
+use Rattle.interleave_core.specs.declared.engine.Engine.{Engine}
 use Rattle.interleave_core.specs.declared.stepping.Core.{Core}
+use Rattle.net_units.specs.declared.numbers.LinkNo.{LinkNo}
+use Rattle.link_steps.specs.declared.asks.Ask.{Ask}
 use Rattle.interleave_core.specs.declared.refusal.CoreRefusal.{CoreRefusal}
 use Rattle.interleave_core.specs.declared.refusal.CoreRefusal.TheVariants.{NoSuchActor, NoStepLeft, Memory}
 use Rattle.run_record.specs.Runs.{replies_to, part_of}
@@ -27,10 +30,10 @@ use Rattle.tick_plane.specs.Kept.{KeptPlane}
 -- ---- the parts of a core
 
 -- each link has its shape, and stands for its part of the run
-pub record LinksStand (network : List Link) (links : List LinkState) (run : List Done) : Type 0 where
+pub record LinksStand (network : List Link) (links : List AnyLink) (run : List Done) : Type 0 where
   pub same : length links ≡ length network
-  pub linked : (n : ℕ) (link : LinkState) → slice_get links n ≡ Some link → slice_get network n ≡ Some (whole link.shape)
-  pub parts : (n : ℕ) (link : LinkState) → slice_get links n ≡ Some link → LinkStands link (part_of n run)
+  pub linked : (n : ℕ) (link : AnyLink) → slice_get links n ≡ Some link → slice_get network n ≡ Some (any_rules link)
+  pub parts : (n : ℕ) (link : AnyLink) → slice_get links n ≡ Some link → AnyStands link (part_of n run)
 
 -- each caller has its number, and stands for its replies
 pub record CallersStand (parts : PlanParts) (callers : List Actor) (run : List Done) : Type 0 where
@@ -47,17 +50,35 @@ pub record ActorsStand (parts : PlanParts) (actors : Actors) (run : List Done) :
   pub callers : CallersStand parts actors.callers.items run
   pub plane : PlaneStands (network_of parts) actors.plane run
 
+-- ---- an engine: the links and the actors, without a record
+
+-- it stands for a run of the plan: its links for their parts of it, and its actors for their replies
+pub record EngineStands (parts : PlanParts) (engine : Engine) (past : List Done) : Type 0 where
+  pub plan : IsPlan parts
+  pub run : IsRun (network_of parts) past
+  pub links : LinksStand (network_of parts).links engine.links.items past
+  pub actors : ActorsStand parts engine.actors past
+
+-- the entry is the next step of the actor, and the engine stands for the run with it
+pub record MakesStep (parts : PlanParts) (engine : Engine) (run : List Done) (actor : ActorNo) (done : Done) : Type 0 where
+  pub next : IsNext (network_of parts) run done
+  pub by : done.actor ≡ actor
+  pub stands : EngineStands parts engine (done ∷ run)
+
+-- it stands for a run in which this is what the actor asks next
+pub record IsAboutTo (parts : PlanParts) (engine : Engine) (run : List Done) (actor : ActorNo) (to : LinkNo) (ask : Ask) : Type 0 where
+  pub stands : EngineStands parts engine run
+  pub asks : next_for (network_of parts) (actor_number actor) run ≡ Some (to, ask)
+
 -- ---- a core
 
 -- the run that it has recorded, newest first
 abbrev pub run_in : Core → List Done
 run_in core = reverse core.steps.entries
 
-pub record CoreStands (parts : PlanParts) (core : Core) : Type 0 where
-  pub plan : IsPlan parts
-  pub run : IsRun (network_of parts) (run_in core)
-  pub links : LinksStand (network_of parts).links core.links.items (run_in core)
-  pub actors : ActorsStand parts core.actors (run_in core)
+-- a core stands for it
+abbrev pub CoreStands : PlanParts → Core → Type 0
+CoreStands parts core = EngineStands parts core.engine (run_in core)
 
 -- ---- its steps
 

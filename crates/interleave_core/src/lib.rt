@@ -6,6 +6,7 @@
 #![tactic(auto)]
 
 pub mod actors;
+pub mod engine;
 pub mod laws;
 pub mod linked_laws;
 mod links;
@@ -14,6 +15,7 @@ pub mod refusal;
 pub mod stepping;
 
 pub use actors::{Actors, replay};
+pub use engine::Engine;
 pub use playing::{PlayFault, play};
 pub use refusal::CoreRefusal;
 pub use stepping::Core;

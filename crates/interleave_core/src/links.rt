@@ -4,47 +4,48 @@ ghost use Rattle.std.specs.List.{slice_get};
 ghost use Rattle.call_script.specs.Plans.{IsPlan};
 ghost use Rattle.call_script.specs.Tasks.{network_of};
 ghost use Rattle.interleave_core.specs.Standing.{LinksStand};
-ghost use Rattle.link_server.specs.State.{LinkStands};
-ghost use Rattle.link_server.specs.declared.link_state.LinkState.{LinkState as Kept};
+ghost use Rattle.link_quota.specs.Any.{any_rules, any_clock, AnyStands};
+ghost use Rattle.link_quota.specs.declared.any_link.AnyLink.{AnyLink as Kept};
 ghost use Rattle.link_steps.specs.Legal.{AskFits};
 ghost use Rattle.link_steps.specs.Replies.{reply_to};
 ghost use Rattle.link_steps.specs.Split.{whole};
 ghost use Rattle.link_steps.specs.declared.replies.Entry.{Entry};
 
 use call_script::Plan;
+use link_quota::AnyLink;
 use link_server::LinkState;
 use link_steps::{Ask, LinkStep, Reply};
 use net_units::OutOfMemory;
 use std::alloc::Global;
 
 // The links of a plan, before they have made a step.
-pub(crate) fn new_links(alloc: Global, plan: &Plan) -> Result<Vec<LinkState>, OutOfMemory>
+pub(crate) fn new_links(alloc: Global, plan: &Plan) -> Result<Vec<AnyLink>, OutOfMemory>
     ensures stand { IfOk result (λ links. LinksStand (network_of plan.now).links links.items []) }
     ensures plan { IsPlan plan.now }
 {
     let entries = plan.links();
     let mut links = Vec::with_capacity(alloc, entries.len())?;
     for entry in entries {
-        links.push(LinkState::new(alloc, entry.shape)?)?;
+        links.push(AnyLink::Plain(LinkState::new(alloc, entry.shape)?))?;
     }
     Ok(links)
 }
 
 // The link of this number makes a step.
 pub(crate) fn step_link(
-    links: &mut [LinkState],
+    links: &mut [AnyLink],
     number: usize,
     ask: &Ask,
 ) -> Result<Reply, OutOfMemory>
     requires inside { number < length links.old }
-    requires fits { (link : Kept) → slice_get links.old number ≡ Some link → AskFits link.shape ask.now }
-    requires early { (link : Kept) → slice_get links.old number ≡ Some link → link.clock < 2 ^ 61 }
+    requires fits { (link : Kept) → slice_get links.old number ≡ Some link → AskFits (any_rules link).shape ask.now }
+    requires early { (link : Kept) → slice_get links.old number ≡ Some link → any_clock link < 2 ^ 61 }
     ensures length { length links.new ≡ length links.old }
     ensures others { (n : ℕ) → n ≢ number → slice_get links.new n ≡ slice_get links.old n }
-    ensures same { (link next : Kept) → slice_get links.old number ≡ Some link → slice_get links.new number ≡ Some next → whole next.shape ≡ whole link.shape }
-    ensures legal { IfOk result (λ reply. (link : Kept) (h : List Entry) → slice_get links.old number ≡ Some link → LinkStands link h → reply ≡ reply_to (whole link.shape) h ask.now) }
-    ensures entered { IfOk result (λ reply. (link next : Kept) (h : List Entry) → slice_get links.old number ≡ Some link → slice_get links.new number ≡ Some next → LinkStands link h → LinkStands next (record { ask = ask.now; reply = reply } ∷ h)) }
-    ensures memory { OnErr result ((link next : Kept) (h : List Entry) → slice_get links.old number ≡ Some link → slice_get links.new number ≡ Some next → LinkStands link h → LinkStands next h) }
+    ensures same { (link next : Kept) → slice_get links.old number ≡ Some link → slice_get links.new number ≡ Some next → any_rules next ≡ any_rules link }
+    ensures legal { IfOk result (λ reply. (link : Kept) (h : List Entry) → slice_get links.old number ≡ Some link → AnyStands link h → reply ≡ reply_to (any_rules link) h ask.now) }
+    ensures entered { IfOk result (λ reply. (link next : Kept) (h : List Entry) → slice_get links.old number ≡ Some link → slice_get links.new number ≡ Some next → AnyStands link h → AnyStands next (record { ask = ask.now; reply = reply } ∷ h)) }
+    ensures memory { OnErr result ((link next : Kept) (h : List Entry) → slice_get links.old number ≡ Some link → slice_get links.new number ≡ Some next → AnyStands link h → AnyStands next h) }
 {
     links[number].step(ask)
 }

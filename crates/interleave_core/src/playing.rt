@@ -16,7 +16,7 @@ use std::alloc::Global;
 /// Why a schedule isn't played to its end.
 #[derive(Clone, Copy, Debug, PartialEq, Eq)]
 pub enum PlayFault {
-    /// Memory was wanted.
+    /// Out of memory.
     Memory,
     /// The item on this line asks for a step that isn't left: its actor has made `made` by then, and has no other.
     Step { line: u64, made: u64 },
@@ -105,8 +105,8 @@ fn play_out(core: &mut Core, plan: &Plan, actor: ActorNo) -> Result<(), PlayFaul
     ensures out { OnOk result (StepsOut (network_of plan.now) (run_in core.old) actor (run_in core.new)) }
     ensures fault { IfErr result IsWanted }
 {
-    while core.has_step(plan, actor) {
-        make_turn(core, plan, actor, 0)?;
+    while let Some((link, ask)) = core.next_ask(plan, actor) {
+        core.make(plan, actor, link, ask)?;
     }
     Ok(())
 }

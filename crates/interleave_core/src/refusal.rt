@@ -8,7 +8,7 @@ pub enum CoreRefusal {
     NoSuchActor { actors: u32 },
     /// The actor has made this many steps, and has none left.
     NoStepLeft { made: u64 },
-    /// Memory was wanted.
+    /// Out of memory.
     Memory,
 }
 

@@ -1,5 +1,5 @@
 //! The links and the actors of a plan, and the steps that they have made.
-ghost use Rattle.std.specs.Prelude.{◌≡◌, ◌≤◌, ◌↔◌, [], ℕ, List, IfOk, IfErr, OnErr, IsSome, IsTrue, length, reverse};
+ghost use Rattle.std.specs.Prelude.{◌≡◌, ◌≤◌, ◌↔◌, [], ℕ, List, Some, IfOk, IfErr, OnErr, IsSome, IsTrue, length, reverse};
 ghost use Rattle.net_units.specs.Numbers.{actor_number};
 ghost use Rattle.call_script.specs.Parts.{PlanParts};
 ghost use Rattle.call_script.specs.Tasks.{network_of};
@@ -7,13 +7,11 @@ ghost use Rattle.interleave_core.specs.Runs.{next_for};
 ghost use Rattle.interleave_core.specs.Standing.{IsGuaranteedRun, IsLeft, IsRightRefusal, CoreStands, StepsTo, run_in};
 ghost use Rattle.run_record.specs.Runs.{replies_to};
 
-use crate::actors::Actors;
-use crate::links::{new_links, step_link};
+use crate::engine::Engine;
 use crate::refusal::CoreRefusal;
 use call_script::Plan;
-use link_server::LinkState;
-use link_steps::Reply;
-use net_units::{ActorNo, OutOfMemory};
+use link_steps::{Ask, Reply};
+use net_units::{ActorNo, LinkNo, OutOfMemory};
 use run_record::{Done, Record};
 use std::alloc::Global;
 
@@ -23,8 +21,7 @@ use std::alloc::Global;
 /// runs holds of it, in whatever order its actors make their steps.
 #[derive(Drop)]
 pub struct Core {
-    pub(crate) links: Vec<LinkState>,
-    pub(crate) actors: Actors,
+    pub(crate) engine: Engine,
     pub(crate) steps: Record,
 }
 
@@ -34,11 +31,8 @@ impl Core {
         ensures stands { IfOk result (CoreStands plan.now) }
         ensures none { IfOk result (λ core. run_in core ≡ []) }
     {
-        let links = new_links(alloc, plan)?;
-        let actors = Actors::new(alloc, plan)?;
         Ok(Core {
-            links,
-            actors,
+            engine: Engine::new(alloc, plan)?,
             steps: Record::new(alloc),
         })
     }
@@ -48,12 +42,12 @@ impl Core {
         requires { CoreStands plan.now self.now }
         ensures { IsTrue result ↔ IsSome (next_for (network_of plan.now) (actor_number actor) (run_in self.now)) }
     {
-        self.actors.next_ask(plan, actor).is_some()
+        self.next_ask(plan, actor).is_some()
     }
 
     /// Makes the actor's next step, and records it: asks the link, and hands the actor the reply. The plan is the one that
-    /// it was made for. The run has the whole guarantee at its beginning and after each of its entries. A refusal leaves the run as it was: there is no such actor, or it has no step left, or memory was
-    /// wanted.
+    /// it was made for. The run has the whole guarantee at its beginning and after each of its entries. A refusal leaves the run
+    /// as it was: there is no such actor, or it has no step left, or memory ran out.
     pub fn step(&mut self, plan: &Plan, actor: ActorNo) -> Result<Reply, CoreRefusal>
         requires { CoreStands plan.now self.old }
         ensures stands { CoreStands plan.now self.new }
@@ -82,30 +76,47 @@ impl Core {
         ensures refused { IfErr result (IsRightRefusal plan.now (actor_number actor) (run_in self.old)) }
         ensures unchanged { OnErr result (run_in self.new ≡ run_in self.old) }
     {
-        let (link, ask) = match self.actors.next_ask(plan, actor) {
-            Some(to) => to,
-            None => return Err(self.refusal(actor)),
-        };
+        match self.next_ask(plan, actor) {
+            Some((link, ask)) => Ok(self.make(plan, actor, link, ask)?),
+            None => Err(self.refusal(actor)),
+        }
+    }
+
+    // What the actor asks next, and of which link.
+    pub(crate) fn next_ask(&self, plan: &Plan, actor: ActorNo) -> Option<(LinkNo, Ask)>
+        requires { CoreStands plan.now self.now }
+        ensures { result ≡ next_for (network_of plan.now) (actor_number actor) (run_in self.now) }
+    {
+        self.engine.next_ask(plan, actor)
+    }
+
+    // Makes the step that the actor asks for next, and records it.
+    pub(crate) fn make(
+        &mut self,
+        plan: &Plan,
+        actor: ActorNo,
+        link: LinkNo,
+        ask: Ask,
+    ) -> Result<Reply, OutOfMemory>
+        requires stands { CoreStands plan.now self.old }
+        requires asks { next_for (network_of plan.now) (actor_number actor) (run_in self.old) ≡ Some (link, ask) }
+        ensures stands { CoreStands plan.now self.new }
+        ensures made { IfOk result (λ reply. StepsTo (network_of plan.now) actor (run_in self.old) reply (run_in self.new)) }
+        ensures unchanged { OnErr result (run_in self.new ≡ run_in self.old) }
+    {
         self.steps.reserve(1)?;
-        self.actors.ready()?;
-        let reply = step_link(&mut self.links, usize::from(link.get()), &ask)?;
-        let done = Done {
-            actor,
-            link,
-            ask,
-            reply,
-        };
-        self.actors.take(plan, &done);
+        let done = self.engine.make(plan, actor, link, ask)?;
+        let reply = done.reply;
         self.steps.push(done);
         Ok(reply)
     }
 
     // Why there is no step of this actor.
     fn refusal(&self, actor: ActorNo) -> CoreRefusal
-        requires { length self.now.actors.callers.items ≤ 64 }
-        ensures { IsLeft (length self.now.actors.callers.items) (actor_number actor) (run_in self.now) result }
+        requires { length self.now.engine.actors.callers.items ≤ 64 }
+        ensures { IsLeft (length self.now.engine.actors.callers.items) (actor_number actor) (run_in self.now) result }
     {
-        let callers = self.actors.callers.len();
+        let callers = self.engine.actors.callers.len();
         if usize::from(actor.get()) > callers {
             return CoreRefusal::NoSuchActor {
                 actors: callers as u32 + 1,

@@ -39,7 +39,6 @@ impl<L: LinkStep, H: Home> Model for Held<L, H> {
 }
 
 impl<L: LinkStep, H: Home> Held<L, H> {
-    ghost use Rattle.link_steps.specs.Split.{SplitFits};
     ghost use Rattle.step_stamp.specs.Seats.{link_table, seat_link, list_of, link_view};
     ghost use Rattle.link_ledger.specs.Order.{IsOrdered, AreInOrder};
 
@@ -47,7 +46,6 @@ impl<L: LinkStep, H: Home> Held<L, H> {
     pub fn new(alloc: Global, link: L, seat: LinkSeat) -> Held<L, H>
         requires table { link_table seat ≡ H.table }
         requires rules { IsLink H.links (seat_link seat) (L.link_of link) }
-        requires split { SplitFits (L.link_of link) }
         requires stands { L.stands_for link [] }
         requires empty { list_of seat ≡ [] }
     {

@@ -23,7 +23,7 @@ use step_stamp::{LinkSeat, PassSeat, Stamps};
 /// Why a step wasn't answered.
 #[derive(Clone, Copy, Debug, PartialEq, Eq)]
 pub enum StepFault {
-    /// Memory was wanted. The pass is spent.
+    /// Out of memory. The pass is spent.
     Memory,
 }
 
@@ -37,15 +37,14 @@ pub struct LockedLink<L: LinkStep, H: Home> {
 }
 
 impl<L: LinkStep + Send, H: Home> LockedLink<L, H> {
-    ghost use Rattle.link_steps.specs.Split.{SplitFits};
     ghost use Rattle.link_steps.specs.Journals.{IsLegalJournal};
     ghost use Rattle.net_units.specs.declared.numbers.ActorNo.{ActorNo};
     ghost use Rattle.step_stamp.specs.Seats.{link_table, seat_link, list_of, link_view};
     ghost use Rattle.link_ledger.specs.Journals.{marks_in, done_in};
     ghost use Rattle.link_ledger.specs.Order.{IsOrdered, AreInOrder};
 
-    /// Puts a link behind a lock. It stands for the empty history (`stands`), its seat's list is empty, and its split fits
-    /// its shape. What is given is as `H` says: the stamps, the link of this number, the actor of each channel by the
+    /// Puts a link behind a lock. It stands for the empty history (`stands`), and its seat's list is empty.
+    /// What is given is as `H` says: the stamps, the link of this number, the actor of each channel by the
     /// channels' numbers, and the number of links. The last two are for contracts alone and aren't kept.
     pub fn open(
         alloc: Global,
@@ -58,7 +57,6 @@ impl<L: LinkStep + Send, H: Home> LockedLink<L, H> {
         requires rules { IsLink H.links (seat_link seat) (L.link_of link) }
         requires owners { owners.items ≡ H.owners }
         requires links { links ≡ length H.links }
-        requires split { SplitFits (L.link_of link) }
         requires stands { L.stands_for link [] }
         requires empty { list_of seat ≡ [] }
         ensures shape { IfOk result (λ locked. locked.shape ≡ (L.link_of link).shape) }

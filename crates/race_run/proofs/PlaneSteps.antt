@@ -12,7 +12,7 @@ use Rattle.link_ledger.specs.declared.entries.OwnEntry.{OwnEntry}
 use Rattle.shared_network.specs.Calls.{Follows, reply_in}
 use Rattle.shared_network.specs.Planes.{next_round}
 use Rattle.interleave_core.specs.Turns.{plane_most}
-use Rattle.interleave_core.proofs.RunLegal.{ticked-with}
+use Rattle.tick_plane.proofs.RoundFacts.{ticked-with}
 use Rattle.interleave_core.proofs.TurnFacts.{with-fewer}
 
 -- ---- the links that have ticked in a round

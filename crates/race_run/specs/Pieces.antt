@@ -65,7 +65,7 @@ pub record HasEnded (table : TableId) (owners : List ActorNo) (links : List Link
   pub actor : (pass_of piece').actor ≡ (pass_of piece).actor
   pub ends : Ends parts piece piece'
 
--- unless memory was wanted
+-- unless memory ran out
 abbrev pub IsMade : TableId → List ActorNo → List Link → PlanParts → Piece → Result Piece OutOfMemory → Type 0
 IsMade table owners links parts piece result = IfOk result (HasEnded table owners links parts piece)
 

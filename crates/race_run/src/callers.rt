@@ -8,8 +8,7 @@ ghost use Rattle.shared_network.specs.Ready.{MayStep, PassGoesOn};
 
 use call_script::{Op, Plan};
 use link_ledger::{Home, Pass};
-use link_server::LinkState;
-use link_steps::Ask;
+use link_steps::{Ask, LinkStep};
 use net_units::{ChanNo, Gate, LinkNo, OutOfMemory};
 use setup_protocol::Verdict;
 use shared_network::Network;
@@ -23,9 +22,9 @@ use std::sync::Wait;
 /// operations before this one and no others; `accepted` tells of each channel, by its number, whether it was accepted so far, and
 /// is kept so (`at`). Each operation draws 32 stamps at most (`few`, `drew`). An `Err` comes only for want of memory; nothing
 /// further is claimed of the pass then. It may wait for each link.
-pub(crate) fn make_op<H: Home, W: Wait, G: Gate>(
+pub(crate) fn make_op<L: LinkStep + Send, H: Home, W: Wait, G: Gate>(
     rt: &W,
-    network: &Network<LinkState, H>,
+    network: &Network<L, H>,
     plan: &Plan,
     gate: &G,
     at: (usize, usize),
@@ -67,9 +66,9 @@ pub(crate) fn make_op<H: Home, W: Wait, G: Gate>(
 }
 
 // Opens a channel.
-fn open_channel<H: Home, W: Wait, G: Gate>(
+fn open_channel<L: LinkStep + Send, H: Home, W: Wait, G: Gate>(
     rt: &W,
-    network: &Network<LinkState, H>,
+    network: &Network<L, H>,
     plan: &Plan,
     gate: &G,
     at: (usize, usize),
@@ -106,9 +105,9 @@ fn accepts(verdict: &Verdict) -> bool
 }
 
 // Sends packets on a channel, if it was accepted.
-fn send_on<H: Home, W: Wait, G: Gate>(
+fn send_on<L: LinkStep + Send, H: Home, W: Wait, G: Gate>(
     rt: &W,
-    network: &Network<LinkState, H>,
+    network: &Network<L, H>,
     plan: &Plan,
     gate: &G,
     at: (usize, usize),
@@ -147,9 +146,9 @@ fn send_on<H: Home, W: Wait, G: Gate>(
 }
 
 // Closes a channel, if it was accepted.
-fn close_channel<H: Home, W: Wait, G: Gate>(
+fn close_channel<L: LinkStep + Send, H: Home, W: Wait, G: Gate>(
     rt: &W,
-    network: &Network<LinkState, H>,
+    network: &Network<L, H>,
     plan: &Plan,
     gate: &G,
     at: (usize, usize),
@@ -181,9 +180,9 @@ fn close_channel<H: Home, W: Wait, G: Gate>(
 }
 
 // Sends best-effort packets over a link.
-fn pour<H: Home, W: Wait, G: Gate>(
+fn pour<L: LinkStep + Send, H: Home, W: Wait, G: Gate>(
     rt: &W,
-    network: &Network<LinkState, H>,
+    network: &Network<L, H>,
     plan: &Plan,
     gate: &G,
     at: (usize, usize),

@@ -1,8 +1,7 @@
 //! What the network of a plan is opened with.
 ghost use Rattle.std.specs.Prelude.{◌≡◌, suc, ◌+◌, [], IfOk, length, map};
 ghost use Rattle.link_steps.specs.Lists.{Each};
-ghost use Rattle.link_steps.specs.Split.{whole};
-ghost use Rattle.link_server.specs.State.{LinkStands};
+ghost use Rattle.link_quota.specs.Any.{any_rules, AnyStands};
 ghost use Rattle.step_stamp.specs.Opening.{AreLinks, ArePasses};
 ghost use Rattle.step_stamp.specs.Seats.{stamps_table};
 ghost use Rattle.call_script.specs.Tasks.{network_of};
@@ -11,6 +10,7 @@ ghost use Rattle.race_run.specs.Callers.{caller_of};
 ghost use Rattle.tick_plane.specs.Planes.{plane_start};
 
 use call_script::Plan;
+use link_quota::AnyLink;
 use link_server::LinkState;
 use net_units::{ActorNo, OutOfMemory};
 use std::alloc::Global;
@@ -18,14 +18,14 @@ use step_stamp::{LinkSeat, PassSeat, Stamps};
 use tick_plane::Plane;
 
 /// The links of a plan, which have made no step.
-pub(crate) fn links_of(alloc: Global, plan: &Plan) -> Result<Vec<LinkState>, OutOfMemory>
-    ensures links { IfOk result (λ links. map (λ link. whole link.shape) links.items ≡ (network_of plan.now).links) }
-    ensures stand { IfOk result (λ links. Each (λ link. LinkStands link []) links.items) }
+pub(crate) fn links_of(alloc: Global, plan: &Plan) -> Result<Vec<AnyLink>, OutOfMemory>
+    ensures links { IfOk result (λ links. map any_rules links.items ≡ (network_of plan.now).links) }
+    ensures stand { IfOk result (λ links. Each (λ link. AnyStands link []) links.items) }
 {
     let entries = plan.links();
     let mut links = Vec::with_capacity(alloc, entries.len())?;
     for entry in entries {
-        links.push(LinkState::new(alloc, entry.shape)?)?;
+        links.push(AnyLink::Plain(LinkState::new(alloc, entry.shape)?))?;
     }
     Ok(links)
 }

@@ -10,7 +10,7 @@ use crate::rounds::make_rounds;
 use crate::scripts::make_script;
 use call_script::Plan;
 use link_ledger::{Home, Pass};
-use link_server::LinkState;
+use link_steps::LinkStep;
 use net_units::{Gate, OutOfMemory};
 use shared_network::Network;
 use std::alloc::Global;
@@ -46,10 +46,10 @@ pub(crate) fn pieces_of(
 }
 
 /// Makes a piece to its end. An `Err` comes only for want of memory. It may wait for each link.
-pub(crate) fn make_piece<H: Home, W: Wait, G: Gate>(
+pub(crate) fn make_piece<L: LinkStep + Send, H: Home, W: Wait, G: Gate>(
     rt: &W,
     alloc: Global,
-    network: &Network<LinkState, H>,
+    network: &Network<L, H>,
     plan: &Plan,
     gate: &G,
     piece: Piece,
@@ -76,10 +76,15 @@ pub(crate) fn make_piece<H: Home, W: Wait, G: Gate>(
 
 /// Makes each piece, on a thread of its own where the machine can start one, and answers what they came to in their order. An
 /// `Err` comes only for want of memory.
-pub(crate) fn make_pieces<H: Home + Send + Sync, R: Threads + Wait + Sync, G: Gate + Sync>(
+pub(crate) fn make_pieces<
+    L: LinkStep + Send,
+    H: Home + Send + Sync,
+    R: Threads + Wait + Sync,
+    G: Gate + Sync,
+>(
     rt: &R,
     alloc: Global,
-    network: &Network<LinkState, H>,
+    network: &Network<L, H>,
     plan: &Plan,
     gate: &G,
     pieces: Vec<Piece>,

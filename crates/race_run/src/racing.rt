@@ -1,8 +1,6 @@
 //! A race: a plan made over locked links, by threads.
 ghost use Rattle.std.specs.Prelude.{◌≡◌, ◌≤◌, suc, [], IfOk, OnOk, length, map};
 ghost use Rattle.link_steps.specs.Lists.{Each};
-ghost use Rattle.link_steps.specs.Split.{whole};
-ghost use Rattle.link_server.specs.State.{LinkStands};
 ghost use Rattle.step_stamp.specs.Lists.{up_to};
 ghost use Rattle.step_stamp.specs.Opening.{AreLinks, ArePasses};
 ghost use Rattle.step_stamp.specs.Seats.{stamps_table};
@@ -20,7 +18,8 @@ use crate::pieces::{make_pieces, passes_of, pieces_of};
 use crate::rounds::make_rounds;
 use call_script::Plan;
 use link_ledger::{Home, Pass};
-use link_server::LinkState;
+use link_quota::AnyLink;
+use link_steps::LinkStep;
 use net_units::{ActorNo, Gate, OutOfMemory};
 use shared_network::{Closed, Network};
 use std::alloc::Global;
@@ -48,17 +47,17 @@ pub fn race<R: Threads + Wait + Sync, G: Gate + Sync>(
     let links = links_of(alloc, plan)?;
     let owners = owners_of(alloc, plan)?;
     let opened = stamps_of(alloc, plan)?;
-    race_over::<Brand, R, G>(rt, alloc, plan, gate, opened, links, owners)
+    race_over::<AnyLink, Brand, R, G>(rt, alloc, plan, gate, opened, links, owners)
 }
 
 // The race over a network that is opened with these stamps and seats, links and owners.
-fn race_over<H: Home + Send + Sync, R: Threads + Wait + Sync, G: Gate + Sync>(
+fn race_over<L: LinkStep + Send, H: Home + Send + Sync, R: Threads + Wait + Sync, G: Gate + Sync>(
     rt: &R,
     alloc: Global,
     plan: &Plan,
     gate: &G,
     opened: (Stamps, Vec<LinkSeat>, Vec<PassSeat>),
-    links: Vec<LinkState>,
+    links: Vec<L>,
     owners: Vec<ActorNo>,
 ) -> Result<Closed, OutOfMemory>
     requires plan { IsPlan plan.now }
@@ -66,12 +65,12 @@ fn race_over<H: Home + Send + Sync, R: Threads + Wait + Sync, G: Gate + Sync>(
     requires table { stamps_table opened.0 ≡ H.table }
     requires seats { AreLinks H.table (suc (length plan.now.callers)) (length plan.now.links) opened.1.items }
     requires passes { ArePasses H.table (suc (length plan.now.callers)) (suc (length plan.now.callers)) opened.2.items }
-    requires links { map (λ link. whole link.shape) links.items ≡ H.links }
-    requires stand { Each (λ link. LinkStands link []) links.items }
+    requires links { map L.link_of links.items ≡ H.links }
+    requires stand { Each (λ link. L.stands_for link []) links.items }
     requires owners { owners.items ≡ H.owners }
     ensures { IfOk result (λ closed. IsWhole (network_of plan.now) closed.passes.items closed.journals.items) }
 {
-    let (network, passes) = Network::<LinkState, H>::open(alloc, opened, links, owners)?;
+    let (network, passes) = Network::<L, H>::open(alloc, opened, links, owners)?;
     let passes = make_all(rt, alloc, &network, plan, gate, passes)?;
     match network.close(alloc, passes) {
         Ok(closed) => Ok(closed),
@@ -80,10 +79,10 @@ fn race_over<H: Home + Send + Sync, R: Threads + Wait + Sync, G: Gate + Sync>(
 }
 
 // All steps of all actors, by these passes, which are theirs in their order.
-fn make_all<H: Home + Send + Sync, R: Threads + Wait + Sync, G: Gate + Sync>(
+fn make_all<L: LinkStep + Send, H: Home + Send + Sync, R: Threads + Wait + Sync, G: Gate + Sync>(
     rt: &R,
     alloc: Global,
-    network: &Network<LinkState, H>,
+    network: &Network<L, H>,
     plan: &Plan,
     gate: &G,
     passes: Vec<Pass>,
@@ -108,9 +107,9 @@ fn make_all<H: Home + Send + Sync, R: Threads + Wait + Sync, G: Gate + Sync>(
 }
 
 // The plane's rounds after the callers, with its pass.
-fn make_tail<H: Home, W: Wait, G: Gate>(
+fn make_tail<L: LinkStep + Send, H: Home, W: Wait, G: Gate>(
     rt: &W,
-    network: &Network<LinkState, H>,
+    network: &Network<L, H>,
     plan: &Plan,
     gate: &G,
     plane: Plane,

@@ -7,7 +7,7 @@ ghost use Rattle.shared_network.specs.Ready.{MayStep, PassGoesOn};
 
 use call_script::Plan;
 use link_ledger::{Home, Pass};
-use link_server::LinkState;
+use link_steps::LinkStep;
 use net_units::{Gate, OutOfMemory};
 use shared_network::Network;
 use std::sync::Wait;
@@ -20,9 +20,9 @@ use tick_plane::Plane;
 ///
 /// An `Err` comes only for want of memory, and nothing further is claimed of the plane and the pass then. It may wait for each
 /// link.
-pub(crate) fn make_rounds<H: Home, W: Wait, G: Gate>(
+pub(crate) fn make_rounds<L: LinkStep + Send, H: Home, W: Wait, G: Gate>(
     rt: &W,
-    network: &Network<LinkState, H>,
+    network: &Network<L, H>,
     plan: &Plan,
     gate: &G,
     plane: &mut Plane,
@@ -45,9 +45,9 @@ pub(crate) fn make_rounds<H: Home, W: Wait, G: Gate>(
 }
 
 // Makes one round.
-fn make_round<H: Home, W: Wait, G: Gate>(
+fn make_round<L: LinkStep + Send, H: Home, W: Wait, G: Gate>(
     rt: &W,
-    network: &Network<LinkState, H>,
+    network: &Network<L, H>,
     plan: &Plan,
     gate: &G,
     plane: &mut Plane,
@@ -70,9 +70,9 @@ fn make_round<H: Home, W: Wait, G: Gate>(
 }
 
 // Makes one step: a packet arrives, or a link ticks.
-fn make_step<H: Home, W: Wait, G: Gate>(
+fn make_step<L: LinkStep + Send, H: Home, W: Wait, G: Gate>(
     rt: &W,
-    network: &Network<LinkState, H>,
+    network: &Network<L, H>,
     plan: &Plan,
     gate: &G,
     plane: &mut Plane,

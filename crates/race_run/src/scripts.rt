@@ -9,7 +9,7 @@ ghost use Rattle.shared_network.specs.Ready.{MayStep, PassGoesOn};
 use crate::callers::make_op;
 use call_script::Plan;
 use link_ledger::{Home, Pass};
-use link_server::LinkState;
+use link_steps::LinkStep;
 use net_units::{Gate, OutOfMemory};
 use shared_network::Network;
 use std::alloc::Global;
@@ -20,10 +20,10 @@ use std::sync::Wait;
 /// plan's requests (`network`).
 ///
 /// An `Err` comes only for want of memory, and nothing further is claimed of the pass then. It may wait for each link.
-pub(crate) fn make_script<H: Home, W: Wait, G: Gate>(
+pub(crate) fn make_script<L: LinkStep + Send, H: Home, W: Wait, G: Gate>(
     rt: &W,
     alloc: Global,
-    network: &Network<LinkState, H>,
+    network: &Network<L, H>,
     plan: &Plan,
     gate: &G,
     caller: usize,
@@ -50,9 +50,9 @@ pub(crate) fn make_script<H: Home, W: Wait, G: Gate>(
 }
 
 // Makes the operations of a caller. `all` is the caller's number, and how many operations it has.
-fn make_ops<H: Home, W: Wait, G: Gate>(
+fn make_ops<L: LinkStep + Send, H: Home, W: Wait, G: Gate>(
     rt: &W,
-    network: &Network<LinkState, H>,
+    network: &Network<L, H>,
     plan: &Plan,
     gate: &G,
     all: (usize, usize),

@@ -9,7 +9,7 @@ ghost use Rattle.race_run.specs.Whole.{IsWhole};
 ghost use Rattle.race_run.specs.Worked.{AreNumbered, IsWorkedCaller, IsWorkedHop, IsWorkedLink, IsWorkedRequest};
 
 use super::*;
-use call_script::{CallerEntry, LinkEntry, Op, Ops, Plan, RequestEntry, Version};
+use call_script::{CallerEntry, LinkEntry, Op, Ops, Plan, RequestEntry, Version, push_request};
 use hop_reservation::{Hop, Route};
 use link_ledger::{Entry, OwnEntry};
 use link_server::LinkState;
@@ -88,8 +88,8 @@ fn route(number: u8, whole: bool) -> Result<Route, Fail>
     }
 }
 
-// The request of a number, which the caller of that number opens.
-fn request(number: u8, whole: bool) -> Result<RequestEntry, Fail>
+// The request of a number, which the caller of that number opens. Its route is given, or was found between these nodes.
+fn request(number: u8, whole: bool, found: Option<(Name, Name)>) -> Result<RequestEntry, Fail>
     ensures { IfOk result (IsWorkedRequest number) }
 {
     Ok(RequestEntry {
@@ -102,6 +102,7 @@ fn request(number: u8, whole: bool) -> Result<RequestEntry, Fail>
             control: Control::Rate,
             delay: if whole { 100 } else { 12 },
         },
+        found,
     })
 }
 
@@ -111,7 +112,7 @@ fn requests(alloc: Global, count: u8, whole: bool) -> Result<Vec<RequestEntry>, 
 {
     let mut requests = Vec::new(alloc);
     for number in 0..count {
-        requests.push(request(number, whole)?)?;
+        push_request(&mut requests, request(number, whole, None)?)?;
     }
     Ok(requests)
 }

@@ -24,7 +24,7 @@ up_to-get (suc n) k below =
           ap (slice_get (up_to n ++ n ∷ [])) is ∙ get-last (up_to n) n ∙ ap (λ j. Some j) (sym (up_to-length n) ∙ sym is))
     ]
 
--- the element after a front
+-- the element after a prefix
 pub get-after : {X : Type 0} (xs ys : List X) (y : X) → slice_get (xs ++ y ∷ ys) (length xs) ≡ Some y
 get-after [] ys y = refl
 get-after (x ∷ xs) ys y = get-after xs ys y

@@ -11,6 +11,7 @@ mod CallFacts
 mod TeardownFacts
 mod RoundReplies
 mod OwnRounds
+mod RoundTicks
 mod RoundSteps
 mod OtherChannels
 mod WorkedFacts

@@ -1,5 +1,5 @@
 -- At opening: the links are locked in the order of their numbers, and a pass that was never used may step every link.
-use Rattle.std.proofs.Common.{◌≡◌, ℕ, true, false, List, [], ◌∷◌, ◌++◌, length, refl, sym, ap, ◌∙◌, subst, arith}
+use Rattle.std.proofs.Common.{◌≡◌, ℕ, true, false, List, [], ◌∷◌, ◌++◌, length, map, refl, sym, ap, ◌∙◌, subst, arith}
 use Rattle.std.proofs.lemmas.List.{append_assoc, length-append}
 use Rattle.std.specs.List.{slice_get}
 use Rattle.atomic_table.specs.Seated.{TableId}
@@ -7,7 +7,7 @@ use Rattle.net_units.specs.Numbers.{actor_number}
 use Rattle.net_units.specs.declared.numbers.ActorNo.{ActorNo}
 use Rattle.link_steps.specs.Legal.{IsLegal}
 use Rattle.link_steps.specs.Lists.{Each}
-use Rattle.link_steps.specs.Split.{Link}
+use Rattle.link_steps.specs.Split.{Link, SplitFits}
 use Rattle.link_steps.proofs.ListFacts.{Each-if}
 use Rattle.step_stamp.specs.Lists.{up_to}
 use Rattle.step_stamp.specs.Opening.{IsNewLink, IsNewPass}
@@ -120,3 +120,8 @@ module _ (table : TableId) (owners : List ActorNo) (links : List Link) (n : ℕ)
 -- its seat knows nothing
 pub new-knows : (table : TableId) (n : ℕ) (seat : PassSeat) → IsNewPass table n seat → (l : ℕ) → marks_of (seat_actor seat) (knows_of seat l) ≡ []
 new-knows table n seat new l = ap (λ (v : View). marks_of (seat_actor seat) (known_of l v)) new.view_is ∙ ap (marks_of (seat_actor seat)) (no_known l)
+
+-- links that stand for the empty history have splits that fit them
+pub links-fit : {X : Type 0} (rules : X → Link) (stands : X → Type 0) (xs : List X) → ((x : X) → stands x → SplitFits (rules x)) → Each stands xs → Each SplitFits (map rules xs)
+links-fit rules stands [] fits each = tt
+links-fit rules stands (x ∷ xs) fits each = (fits x each.0, links-fit rules stands xs fits each.1)

@@ -1,6 +1,6 @@
 -- The legal replies to the plane's asks are ones that it expects. What leaves a link in a tick flies to a link of the network, and
 -- meets the conditions on a packet that arrives there.
-use Rattle.std.proofs.Common.{◌≡◌, ℕ, ◌^◌, ◌<◌, true, List, Option, Some, None, refl, sym, ap, ◌∙◌, subst, arith}
+use Rattle.std.proofs.Common.{◌≡◌, ℕ, ◌+◌, ◌^◌, ◌<◌, ◌≤◌, true, List, Option, Some, None, refl, sym, ap, ◌∙◌, subst, arith}
 use Rattle.std.proofs.Math.Nat.{min-le_right}
 use Rattle.net_units.specs.Numbers.{link_number}
 use Rattle.net_units.specs.declared.numbers.ActorNo.{ActorNo}
@@ -15,6 +15,7 @@ use Rattle.link_steps.specs.Legal.{AskFits, PacketFits, IsLegal}
 use Rattle.link_steps.specs.Lists.{Each}
 use Rattle.link_steps.specs.Replies.{tick_reply, reply_to}
 use Rattle.link_steps.specs.Scan.{clock_of, scan_of}
+use Rattle.link_steps.specs.Service.{leaves_at}
 use Rattle.link_steps.specs.Split.{Link, SplitFits}
 use Rattle.link_steps.proofs.LegalAdmissible.{legal-admissible}
 use Rattle.link_steps.proofs.ListFacts.{Each-find, Each-if}
@@ -24,7 +25,7 @@ use Rattle.channel_laws.specs.Reservations.{IsArriveReply}
 use Rattle.channel_laws.proofs.ArriveReplies.{arrive-told, of-arrive}
 use Rattle.channel_laws.proofs.SentFacts.{sent-facts, sent-fits, tick-answer}
 use Rattle.tick_plane.specs.declared.flight.Flight.{Flight}
-use Rattle.tick_plane.specs.Planes.{Plane, is_due, next_due, ask_due, plane_ask, flight_in, answers_arrive, answers_tick, plane_expects}
+use Rattle.tick_plane.specs.Planes.{Plane, is_due, next_due, ask_due, plane_ask, flight_in, answers_arrive, answers_tick, plane_expects, IsDueLater}
 use Rattle.link_ledger.specs.Owners.{OwnsAsk, NextBelow, IsBelow}
 use Rattle.shared_network.specs.Planes.{is_round}
 use Rattle.channel_laws.proofs.NextLinks.{NamesNext, history-nexts, sent-next}
@@ -63,6 +64,21 @@ pub round-flies : (n : ℕ) (link : Link) (h : List Entry) (ask : Ask) (reply : 
 round-flies n link h (Arrive packet) reply round splits legal below early same = arrive-flies n reply (arrive-told link h packet reply same)
 round-flies n link h Tick reply round splits legal below early same = tick-flies n link.shape h reply early below (legal-admissible link h splits legal) (same ∙ tick-answer link h)
 round-flies n link h _ reply round splits legal below early same = cc
+
+-- what leaves in a tick is due after the clock
+tick-later : (t : ℕ) (shape : LinkShape) (h : List Entry) (reply : Reply) → t ≤ clock_of h → IsAdmissible shape h → reply ≡ tick_reply shape (clock_of h) (scan_of shape h) → IsDueLater t reply
+tick-later t shape h reply early may same =
+    flight-in (λ flight. t < flight.round) reply (λ clock full sent best_sent best_lost to told next.
+    let is = sent-facts shape h clock full sent best_sent best_lost may (told ∙ same) in
+    let arrives : sent.arrives ≡ leaves_at shape.rate is.start + shape.prop = ap (λ s. s.arrives) is.is in
+    let leaves = is.leaves in
+    omega (arith, arrives, leaves, early))
+
+-- so is what begins with a legal reply to such an ask, where the clock of a tick is the round at least
+pub round-later : (t : ℕ) (link : Link) (h : List Entry) (ask : Ask) (reply : Reply) → is_round ask ≡ true → SplitFits link → IsLegal link h → (ask ≡ Tick → t ≤ clock_of h) → reply ≡ reply_to link h ask → IsDueLater t reply
+round-later t link h (Arrive packet) reply round splits legal early same = of-arrive (IsDueLater t) reply (λ clock eligible. tt) (λ held slots. tt) (λ why. tt) (arrive-told link h packet reply same)
+round-later t link h Tick reply round splits legal early same = tick-later t link.shape h reply (early refl) (legal-admissible link h splits legal) (same ∙ tick-answer link h)
+round-later t link h _ reply round splits legal early same = cc
 
 due-expected : (link : Link) (h : List Entry) (found : Option Flight) (ticked : ℕ) (to : LinkNo) (ask : Ask) (reply : Reply) → ask_due ticked found ≡ (to, ask) → reply ≡ reply_to link h ask → plane_expects found reply ≡ true
 due-expected link h None ticked to ask reply asks same =

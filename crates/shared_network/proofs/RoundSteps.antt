@@ -1,33 +1,38 @@
 -- A step of the plane over a network: its ask meets the conditions, its reply is expected, and with it the arrives and ticks of the
 -- pass are again the plane's.
-use Rattle.std.proofs.Common.{◌≡◌, ℕ, ◌<◌, true, List, [], ◌∷◌, ◌++◌, length, map, Some, refl, sym, ap, ◌∙◌, subst}
+use Rattle.std.proofs.Common.{◌≡◌, ℕ, ◌<◌, ◌≤◌, true, List, [], ◌∷◌, ◌++◌, length, map, Some, refl, sym, ap, ◌∙◌, subst}
 use Rattle.std.proofs.lemmas.List.{map-append, reverse-append}
 use Rattle.std.proofs.lemmas.List.Elements.{filter-append}
 use Rattle.std.specs.Prelude.{reverse}
 use Rattle.atomic_table.specs.Seated.{TableId}
-use Rattle.net_units.specs.Numbers.{link_number}
+use Rattle.net_units.specs.Numbers.{actor_number, link_number}
 use Rattle.net_units.specs.declared.numbers.ActorNo.{ActorNo}
 use Rattle.net_units.specs.declared.numbers.LinkNo.{LinkNo}
+use Rattle.link_steps.specs.Legal.{IsLegal}
 use Rattle.link_steps.specs.Lists.{Each}
 use Rattle.link_steps.specs.Split.{Link, SplitFits}
 use Rattle.link_steps.specs.declared.asks.Ask.{Ask}
 use Rattle.link_steps.specs.declared.replies.Reply.{Reply}
 use Rattle.tick_plane.specs.Kept.{KeptPlane}
-use Rattle.tick_plane.specs.Planes.{next_due, plane_ask, plane_after, plane_of, plane_expects}
+use Rattle.tick_plane.specs.Planes.{next_due, plane_ask, plane_after, plane_of, plane_expects, IsDueLater}
+use Rattle.link_ledger.specs.Journals.{done_in, history_in}
+use Rattle.link_ledger.specs.Own.{own_entry, own_mark}
 use Rattle.link_ledger.specs.Tokens.{Token, Steps}
 use Rattle.link_ledger.specs.declared.entries.OwnEntry.{OwnEntry}
 use Rattle.shared_network.specs.Calls.{Follows, reply_in}
 use Rattle.shared_network.specs.Planes.{is_round, rounds_in, next_round, IsPlanes, MakesRound}
 use Rattle.shared_network.specs.Ready.{MayStep}
+use Rattle.step_stamp.specs.Views.{known_of}
 use Rattle.shared_network.proofs.CallFacts.{follows-more}
 use Rattle.net_units.proofs.NumberFacts.{same-link}
 use Rattle.shared_network.proofs.OwnRounds.{rounds-fly}
-use Rattle.shared_network.proofs.RoundReplies.{MayFly, MayAsk, plane-may, plane-expected}
+use Rattle.shared_network.proofs.RoundReplies.{MayFly, MayAsk, plane-may, plane-expected, round-later}
+use Rattle.shared_network.proofs.RoundTicks.{tick-clock}
 use Rattle.shared_network.proofs.StepFacts.{adds-one}
-use Rattle.link_steps.proofs.ListParts.{Each-reverse}
+use Rattle.link_steps.proofs.ListParts.{Each-at, Each-reverse}
 use Rattle.tick_plane.proofs.FlightFacts.{plane-flights}
 
-module _ (table : TableId) (owners : List ActorNo) (links : List Link) (pass : Token) (plane : KeptPlane) (splits : Each SplitFits links) (may : MayStep table owners links pass) (links_are : plane.links ≡ length links) (within : plane.at.ticked < plane.links) (is : IsPlanes (length links) plane pass.own) (to : LinkNo) (ask : Ask) (asks : plane_ask plane.rounds plane.at ≡ Some (to, ask)) where
+module _ (table : TableId) (owners : List ActorNo) (links : List Link) (pass : Token) (plane : KeptPlane) (splits : Each SplitFits links) (may : MayStep table owners links pass) (links_are : plane.links ≡ length links) (within : plane.at.ticked < plane.links) (few : plane.links ≤ 32) (is : IsPlanes (length links) plane pass.own) (to : LinkNo) (ask : Ask) (asks : plane_ask plane.rounds plane.at ≡ Some (to, ask)) where
   flies : Each (MayFly (length links)) plane.at.flights
   flies = subst (λ p. Each (MayFly (length links)) p.flights) (sym is.stands)
       (plane-flights (MayFly (length links)) (length links) (reverse (map reply_in (rounds_in pass.own))) (Each-reverse _ (map reply_in (rounds_in pass.own)) (rounds-fly table owners links pass splits may)))
@@ -41,6 +46,16 @@ module _ (table : TableId) (owners : List ActorNo) (links : List Link) (pass : T
 
     pub expected : plane_expects (next_due plane.at) reply ≡ true
     expected = plane-expected plane.rounds plane.at steps.link _ to ask reply asks (sym steps.reply_is ∙ steps.acted.reply)
+
+    -- what begins with the reply is due after the plane's round
+    pub later : IsDueLater plane.at.round reply
+    unfolding IsLegal
+    later =
+        let turned = reverse-append (map done_in steps.entries) (done_in (own_entry pass.actor e) ∷ []) in
+        let legal : IsLegal steps.link (history_in steps.entries) = (subst (IsLegal steps.link) (ap reverse (map-append done_in steps.entries (own_entry pass.actor e ∷ [])) ∙ turned) steps.acted.legal).0 in
+        round-later plane.at.round steps.link (history_in steps.entries) ask reply may-ask.round (Each-at SplitFits links (link_number to) steps.link splits steps.is_link) legal
+        (tick-clock (length links) plane.rounds (actor_number pass.actor) plane.at pass.own (λ (o : OwnEntry). is_round o.ask) (known_of (link_number to) pass.view) (own_mark pass.actor) steps.entries to ask (subst (λ n. n ≤ 32) links_are few) (subst (λ n. plane.at.ticked < n) links_are within) is.follows is.stands asks (λ o. refl) (may.exact.known (link_number to)) steps.acted.begins)
+        (sym steps.reply_is ∙ steps.acted.reply)
 
     rounds-more : rounds_in pass'.own ≡ rounds_in pass.own ++ e ∷ []
     rounds-more =

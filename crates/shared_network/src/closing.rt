@@ -25,7 +25,7 @@ pub struct Closed {
     pub passes: Vec<Pass>,
 }
 
-/// Memory was wanted before the network was closed.
+/// Memory ran out before the network was closed.
 #[derive(Drop)]
 pub struct CloseFault<L: LinkStep, H: Home> {
     /// The network as it was.

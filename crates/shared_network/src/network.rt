@@ -49,7 +49,7 @@ impl<L: LinkStep, H: Home> Model for Network<L, H> {
 impl<L: LinkStep + Send, H: Home> Network<L, H> {
     /// A network of these links, in their order, with a pass for each actor, in the order of the actors. `opened` is what
     /// `Stamps::open` gave for 1 to 32 links and 1 to 65 actors, with nothing done to it since (`seats`, `passes`). Each link
-    /// stands for the empty history (`stand`), and its split fits it. `owners` gives the actor of each channel, by the
+    /// stands for the empty history (`stand`). `owners` gives the actor of each channel, by the
     /// channels' numbers. All these are as `H` says. Each pass has its seat and has drawn nothing. An `Err` comes only for
     /// want of memory.
     pub fn open(
@@ -63,13 +63,13 @@ impl<L: LinkStep + Send, H: Home> Network<L, H> {
         requires passes { ArePasses H.table (length opened.2.items) (length opened.2.items) opened.2.items }
         requires most { length H.links ≤ 32 }
         requires links { map L.link_of links.items ≡ H.links }
-        requires splits { Each SplitFits H.links }
         requires stand { Each (λ link. L.stands_for link []) links.items }
         requires owners { owners.items ≡ H.owners }
         ensures actors { IfOk result (λ made. map (λ pass. actor_number pass.actor) made.1.items ≡ up_to (length opened.2.items)) }
         ensures passes { IfOk result (λ made. Each (IsNew H.table H.owners H.links (length opened.2.items)) made.1.items) }
     {
         let (stamps, seats, pass_seats) = opened;
+        splits_fit::<L, H>(&links);
         let links = lock_all(alloc, links, seats, &owners)?;
         let passes = passes_of::<H>(alloc, pass_seats)?;
         Ok((Network { stamps, links }, passes))
@@ -146,6 +146,15 @@ impl<L: LinkStep + Send, H: Home> Network<L, H> {
     }
 }
 
+// The splits of links that stand for the empty history fit them, as a link's law says.
+fn splits_fit<L: LinkStep, H: Home>(links: &Vec<L>)
+    requires links { map L.link_of links.now.items ≡ H.links }
+    requires stand { Each (λ link. L.stands_for link []) links.now.items }
+    ensures { Each SplitFits H.links }
+{
+    let _ = links;
+}
+
 // Each link behind a lock, with its seat.
 fn lock_all<L: LinkStep + Send, H: Home>(
     alloc: Global,
@@ -157,7 +166,6 @@ fn lock_all<L: LinkStep + Send, H: Home>(
     requires unused { Each (IsUnusedLink H.table) seats.items }
     requires most { length H.links ≤ 32 }
     requires links { map L.link_of links.items ≡ H.links }
-    requires splits { Each SplitFits H.links }
     requires stand { Each (λ link. L.stands_for link []) links.items }
     requires owners { owners.now.items ≡ H.owners }
     ensures numbers { IfOk result (λ made. map (λ l. link_number l.link) made.items ≡ up_to (length H.links)) }

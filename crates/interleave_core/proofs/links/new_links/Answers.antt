@@ -4,6 +4,8 @@ use Rattle.std.proofs.lemmas.List.{length-append}
 use Rattle.std.proofs.lemmas.Option.{slice_get_read}
 use Rattle.std.specs.List.{slice_get}
 use Rattle.call_script.specs.Tasks.{network_of}
+use Rattle.link_steps.specs.Split.{whole}
+use Rattle.link_quota.specs.declared.any_link.AnyLink.TheVariants.{Plain}
 use Rattle.interleave_core.proofs.LinkFacts.{LinksMade, one-made, all-made}
 use Rattle.interleave_core.proofs.links.new_links.Goals as goal
 
@@ -12,8 +14,8 @@ loop-entry-preserved c =
     let entries = c.links-entries.result.now in
     let found = ap (slice_get entries) c.loop-entry.invariant.count ∙ slice_get_read entries (length entries) c.loop-entry.entry-index c.entry-item.result refl c.loop-entry-test.true c.entry-item.is in
     record {
-      count = omega (arith, ap length c.in_ok-push.ensures.items, length-append c.loop-entry.links.items (c.in_ok-new.field-0 ∷ []), c.loop-entry.invariant.count);
-      made = subst (LinksMade entries) (sym c.in_ok-push.ensures.items) (one-made entries c.loop-entry.links.items c.entry-item.result c.in_ok-new.field-0 c.loop-entry.invariant.made found c.in_ok-new.ensures.shape c.in_ok-new.ensures.stands);
+      count = omega (arith, ap length c.in_ok-push.ensures.items, length-append c.loop-entry.links.items (Plain c.in_ok-new.field-0 ∷ []), c.loop-entry.invariant.count);
+      made = subst (LinksMade entries) (sym c.in_ok-push.ensures.items) (one-made entries c.loop-entry.links.items c.entry-item.result (Plain c.in_ok-new.field-0) c.loop-entry.invariant.made found (ap whole c.in_ok-new.ensures.shape) c.in_ok-new.ensures.stands);
     }
 
 pub returns-clause-stand : goal.returns-clause-stand

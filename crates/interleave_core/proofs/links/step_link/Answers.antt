@@ -1,8 +1,8 @@
 -- What the step says of its link, said of the list of the links.
 use Rattle.std.proofs.Common.{◌≡◌, List, ◌∷◌, sym, subst}
 use Rattle.std.proofs.lemmas.Option.{get_or_from_slice_get}
-use Rattle.link_server.specs.State.{LinkStands}
-use Rattle.link_server.specs.declared.link_state.LinkState.{LinkState}
+use Rattle.link_quota.specs.Any.{any_rules, any_clock, AnyStands}
+use Rattle.link_quota.specs.declared.any_link.AnyLink.{AnyLink}
 use Rattle.link_steps.specs.Replies.{reply_to}
 use Rattle.link_steps.specs.Split.{whole}
 use Rattle.link_steps.specs.declared.replies.Entry.{Entry}
@@ -13,21 +13,21 @@ pub returns-clause-legal : goal.returns-clause-legal
 returns-clause-legal c =
     if-ok c.step.result
     (λ reply legal link h found stands.
-    subst (λ (l : LinkState). (past : List Entry) → LinkStands l past → reply ≡ reply_to (whole l.shape) past c.args.ask.now) (get_or_from_slice_get c.args.links.now c.args.number link c.index-links-number.result found) legal h stands)
+    subst (λ (l : AnyLink). (past : List Entry) → AnyStands l past → reply ≡ reply_to (any_rules l) past c.args.ask.now) (get_or_from_slice_get c.args.links.now c.args.number link c.index-links-number.result found) legal h stands)
     c.step.ensures.legal
 
 pub returns-clause-entered : goal.returns-clause-entered
 returns-clause-entered c =
     if-ok c.step.result
     (λ reply entered link next h found after stands.
-    subst (λ (l : LinkState). LinkStands l (record { ask = c.args.ask.now; reply = reply } ∷ h)) (sym (get-set-same c.args.links.now c.args.number c.step.new.self next after))
-    (subst (λ (l : LinkState). (past : List Entry) → LinkStands l past → LinkStands c.step.new.self (record { ask = c.args.ask.now; reply = reply } ∷ past)) (get_or_from_slice_get c.args.links.now c.args.number link c.index-links-number.result found) entered h stands))
+    subst (λ (l : AnyLink). AnyStands l (record { ask = c.args.ask.now; reply = reply } ∷ h)) (sym (get-set-same c.args.links.now c.args.number c.step.new.self next after))
+    (subst (λ (l : AnyLink). (past : List Entry) → AnyStands l past → AnyStands c.step.new.self (record { ask = c.args.ask.now; reply = reply } ∷ past)) (get_or_from_slice_get c.args.links.now c.args.number link c.index-links-number.result found) entered h stands))
     c.step.ensures.entered
 
 pub returns-clause-memory : goal.returns-clause-memory
 returns-clause-memory c =
     if-err c.step.result
     (λ wanted kept link next h found after stands.
-    subst (λ (l : LinkState). LinkStands l h) (sym (get-set-same c.args.links.now c.args.number c.step.new.self next after))
-    (subst (λ (l : LinkState). (past : List Entry) → LinkStands l past → LinkStands c.step.new.self past) (get_or_from_slice_get c.args.links.now c.args.number link c.index-links-number.result found) kept h stands))
+    subst (λ (l : AnyLink). AnyStands l h) (sym (get-set-same c.args.links.now c.args.number c.step.new.self next after))
+    (subst (λ (l : AnyLink). (past : List Entry) → AnyStands l past → AnyStands c.step.new.self past) (get_or_from_slice_get c.args.links.now c.args.number link c.index-links-number.result found) kept h stands))
     c.step.ensures.memory

@@ -1,7 +1,8 @@
 use Rattle.std.proofs.Common.{[], ◌∷◌, map, sym, ap, ◌∙◌, subst, arith}
 use Rattle.std.proofs.lemmas.List.{take_all}
-use Rattle.link_server.specs.State.{LinkStands}
-use Rattle.link_server.specs.declared.link_state.LinkState.{LinkState}
+use Rattle.link_quota.specs.Any.{any_rules, AnyStands}
+use Rattle.link_quota.specs.declared.any_link.AnyLink.{AnyLink}
+use Rattle.link_quota.specs.declared.any_link.AnyLink.TheVariants.{Plain}
 use Rattle.link_steps.specs.Lists.{Each}
 use Rattle.link_steps.specs.Split.{whole}
 use Rattle.link_steps.proofs.ListFacts.{Each-append}
@@ -11,9 +12,9 @@ use Rattle.race_run.proofs.opening.links_of.Goals as goal
 
 pub loop-entry-preserved : goal.loop-entry-preserved
 loop-entry-preserved c = (
-  ap (map (λ (link : LinkState). whole link.shape)) c.in_ok-push.ensures.items
-      ∙ mapped-more (λ (link : LinkState). whole link.shape) entry_link c.links-entries.result.now c.loop-entry.links.items c.loop-entry.entry-index c.entry-item.result c.in_ok-new.field-0 c.loop-entry-test.true c.entry-item.is c.loop-entry.invariant.0 (ap whole c.in_ok-new.ensures.shape),
-  subst (Each (λ (link : LinkState). LinkStands link [])) (sym c.in_ok-push.ensures.items) (Each-append (λ (link : LinkState). LinkStands link []) c.loop-entry.links.items (c.in_ok-new.field-0 ∷ []) c.loop-entry.invariant.1 (c.in_ok-new.ensures.stands, tt)),
+  ap (map any_rules) c.in_ok-push.ensures.items
+      ∙ mapped-more any_rules entry_link c.links-entries.result.now c.loop-entry.links.items c.loop-entry.entry-index c.entry-item.result (Plain c.in_ok-new.field-0) c.loop-entry-test.true c.entry-item.is c.loop-entry.invariant.0 (ap whole c.in_ok-new.ensures.shape),
+  subst (Each (λ (link : AnyLink). AnyStands link [])) (sym c.in_ok-push.ensures.items) (Each-append (λ (link : AnyLink). AnyStands link []) c.loop-entry.links.items ((Plain c.in_ok-new.field-0) ∷ []) c.loop-entry.invariant.1 (c.in_ok-new.ensures.stands, tt)),
 )
 
 pub returns-clause-links : goal.returns-clause-links

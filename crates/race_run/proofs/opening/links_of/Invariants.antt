@@ -1,6 +1,7 @@
 use Rattle.std.proofs.Common.{◌≡◌, [], map, take}
-use Rattle.link_server.specs.State.{LinkStands}
-use Rattle.link_server.specs.declared.link_state.LinkState.{LinkState}
+use Rattle.link_quota.specs.Any.{any_rules, AnyStands}
+use Rattle.link_quota.specs.declared.any_link.AnyLink.{AnyLink}
+use Rattle.link_quota.specs.declared.any_link.AnyLink.TheVariants.{Plain}
 use Rattle.link_steps.specs.Lists.{Each}
 use Rattle.link_steps.specs.Split.{whole}
 use Rattle.call_script.specs.Tasks.{entry_link}
@@ -8,4 +9,4 @@ use Rattle.race_run.proofs.opening.links_of.Given as goal
 
 -- one link an entry so far
 abbrev pub invariant-loop-entry : goal.invariant-loop-entry
-invariant-loop-entry l = (map (λ (link : LinkState). whole link.shape) l.links.items ≡ map entry_link (take l.entry-index l.entries)) × Each (λ (link : LinkState). LinkStands link []) l.links.items
+invariant-loop-entry l = (map any_rules l.links.items ≡ map entry_link (take l.entry-index l.entries)) × Each (λ (link : AnyLink). AnyStands link []) l.links.items

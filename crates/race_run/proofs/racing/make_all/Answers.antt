@@ -27,11 +27,11 @@ pub passes_of-requires : goal.passes_of-requires
 passes_of-requires g c = made-in_order g.H.Home.table g.H.Home.owners g.H.Home.links c.args.plan.now c.in_ok-pieces.pieces.items c.in_ok-made.made.items c.pop.new.self.items c.in_ok-plane.plane c.in-Some.last c.in_ok-pieces.ensures c.in_ok-made.ensures
 
 pub make_tail-requires-clause-may_step : goal.make_tail-requires-clause-may_step
-make_tail-requires-clause-may_step g c =
+make_tail-requires-clause-may_step g c κs within =
     (made-of g.H.Home.table g.H.Home.owners g.H.Home.links c.args.plan.now c.in_ok-pieces.pieces.items c.in_ok-made.made.items c.pop.new.self.items c.in_ok-callers.callers.items c.in_ok-plane.plane c.in_ok-callers.plane c.in-Some.last c.in_ok-callers.last c.in_ok-pieces.ensures c.in_ok-callers.ensures c.in_ok-made.ensures).rounds.goes.may_step
 
 pub make_tail-requires-clause-at : goal.make_tail-requires-clause-at
-make_tail-requires-clause-at g c =
+make_tail-requires-clause-at g c κs within =
     (made-of g.H.Home.table g.H.Home.owners g.H.Home.links c.args.plan.now c.in_ok-pieces.pieces.items c.in_ok-made.made.items c.pop.new.self.items c.in_ok-callers.callers.items c.in_ok-plane.plane c.in_ok-callers.plane c.in-Some.last c.in_ok-callers.last c.in_ok-pieces.ensures c.in_ok-callers.ensures c.in_ok-made.ensures).rounds.ends
 
 pub returns-clause-all : goal.returns-clause-all

@@ -7,7 +7,7 @@ pub overflow_add-all : goal.overflow_add-all
 overflow_add-all g c = (let few = (has-few c.args.plan.now c.rounds.ensures.valid).rounds in omega (arith, few, c.rounds.ensures.value, c.tail.ensures.value))
 
 pub make_rounds-requires-clause-until : goal.make_rounds-requires-clause-until
-make_rounds-requires-clause-until g c = tail-left c.args.plan.now c.args.plane c.args.pass c.rounds.result c.tail.result c.requires.at c.rounds.ensures.value c.tail.ensures.value
+make_rounds-requires-clause-until g c κs within = tail-left c.args.plan.now c.args.plane c.args.pass c.rounds.result c.tail.result c.requires.at c.rounds.ensures.value c.tail.ensures.value
 
 pub returns-clause-made : goal.returns-clause-made
 returns-clause-made g c = tail-made c.args.plan.now c.make_rounds.new.plane c.make_rounds.new.pass c.rounds.result c.tail.result c.in_ok-make_rounds.ensures.stands c.in_ok-make_rounds.ensures.round c.rounds.ensures.value c.tail.ensures.value

@@ -3,7 +3,7 @@ use Rattle.link_steps.specs.Split.{Link}
 use Rattle.call_script.specs.Tasks.{network_of}
 use Rattle.shared_network.specs.Closing.{IsClosed}
 use Rattle.race_run.proofs.GivenUp.{kept-whole}
-use Rattle.race_run.proofs.RaceFacts.{all-new, links-few, links-split, passes-as, seats-as}
+use Rattle.race_run.proofs.RaceFacts.{all-new, links-few, passes-as, seats-as}
 use Rattle.race_run.proofs.racing.race_over.Goals as goal
 
 pub open-requires-clause-seats : goal.open-requires-clause-seats
@@ -14,9 +14,6 @@ open-requires-clause-passes g c κs within = passes-as g.H.Home.table g.H.Home.o
 
 pub open-requires-clause-most : goal.open-requires-clause-most
 open-requires-clause-most g c κs within = links-few g.H.Home.table g.H.Home.owners g.H.Home.links c.args.plan.now c.requires.plan c.requires.network
-
-pub open-requires-clause-splits : goal.open-requires-clause-splits
-open-requires-clause-splits g c κs within = links-split g.H.Home.table g.H.Home.owners g.H.Home.links c.args.plan.now c.requires.plan c.requires.network
 
 pub make_all-requires-clause-new : goal.make_all-requires-clause-new
 make_all-requires-clause-new g c κs within = all-new g.H.Home.table g.H.Home.owners g.H.Home.links c.args.plan.now c.requires.plan c.requires.network c.args.opened.2.items c.in_ok-network.passes.items c.requires.passes c.in_ok-network.ensures.actors c.in_ok-network.ensures.passes

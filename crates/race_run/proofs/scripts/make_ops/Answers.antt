@@ -6,7 +6,7 @@ pub loop-place-init : goal.loop-place-init
 loop-place-init g c = record { at = c.requires.at; few = (let none = ap length c.requires.drawn in omega (arith, none)); ready = record { may_step = c.requires.pass; among = refl }; actor = refl }
 
 pub make_op-requires-clause-left : goal.make_op-requires-clause-left
-make_op-requires-clause-left g c =
+make_op-requires-clause-left g c κs within =
     let ops = c.requires.all in
     record { entry = ops.entry; found = ops.found; inside = (let all = ops.all in let less = c.loop-place-test.true in omega (arith, all, less)) }
 

@@ -6,7 +6,7 @@ use Rattle.race_run.proofs.tests.requests.Goals as goal
 
 pub loop-number-preserved : goal.loop-number-preserved
 loop-number-preserved c = record {
-  all = subst (AreNumbered IsWorkedRequest 0) (sym c.in_ok-push.ensures.items)
+  all = subst (AreNumbered IsWorkedRequest 0) (sym c.in_ok-push_request.ensures.ok)
       (numbered-more IsWorkedRequest 0 c.loop-number.requests.items c.in_ok-request.field-0 c.loop-number.invariant.all (subst (λ n. IsWorkedRequest n c.in_ok-request.field-0) (let count = c.loop-number.invariant.count in omega (arith, count)) c.in_ok-request.ensures));
-  count = omega (arith, ap length c.in_ok-push.ensures.items, length-append c.loop-number.requests.items (c.in_ok-request.field-0 ∷ []), c.loop-number.invariant.count);
+  count = omega (arith, ap length c.in_ok-push_request.ensures.ok, length-append c.loop-number.requests.items (c.in_ok-request.field-0 ∷ []), c.loop-number.invariant.count);
 }

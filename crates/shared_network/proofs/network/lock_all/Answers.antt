@@ -35,9 +35,6 @@ open-requires-clause-rules g c κs within =
 pub open-requires-clause-owners : goal.open-requires-clause-owners
 open-requires-clause-owners g c κs within = search (rules, same_from_all_zip)
 
-pub open-requires-clause-split : goal.open-requires-clause-split
-open-requires-clause-split g c κs within = Each-at SplitFits g.H.Home.links (seat_link c.in-Some-next.seat) (g.L.LinkStep.link_of c.in-Some.link) c.requires.splits (open-requires-clause-rules g c κs within)
-
 pub loop-link-preserved : goal.loop-link-preserved
 loop-link-preserved g c =
     let made : List ℕ = map (λ x. link_number x.link) c.loop-link.locked.items in

@@ -1,6 +1,6 @@
 use Rattle.std.proofs.Common.{sym, ◌∙◌, arith, length}
 use Rattle.link_server.specs.declared.link_state.LinkState.{LinkState}
-use Rattle.shared_network.proofs.WorkedFacts.{seats-are, passes-are, whole-splits, first-new, first-actor}
+use Rattle.shared_network.proofs.WorkedFacts.{seats-are, passes-are, first-new, first-actor}
 use Rattle.shared_network.proofs.tests.open_for_one.Goals as goal
 
 pub open-requires-clause-seats : goal.open-requires-clause-seats
@@ -8,9 +8,6 @@ open-requires-clause-seats g c κs within = seats-are g.H.Home.table 1 (length g
 
 pub open-requires-clause-passes : goal.open-requires-clause-passes
 open-requires-clause-passes g c κs within = passes-are g.H.Home.table 1 c.args.opened.2.items c.requires.passes
-
-pub open-requires-clause-splits : goal.open-requires-clause-splits
-open-requires-clause-splits g c κs within = whole-splits (λ (l : LinkState). l.shape) c.args.links.items g.H.Home.links c.requires.links
 
 pub returns-clause-new : goal.returns-clause-new
 returns-clause-new g c =

@@ -8,7 +8,7 @@ use Rattle.link_steps.specs.Split.{Link, whole}
 use Rattle.step_stamp.specs.Opening.{AreLinks}
 use Rattle.shared_network.specs.Worked.{IsJob}
 use Rattle.shared_network.specs.declared.tests.Job.{Job}
-use Rattle.shared_network.proofs.WorkedFacts.{seats-are, passes-are, whole-splits, first-new, first-actor, second-new, second-actor, new-job}
+use Rattle.shared_network.proofs.WorkedFacts.{seats-are, passes-are, first-new, first-actor, second-new, second-actor, new-job}
 use Rattle.shared_network.proofs.tests.raced.Goals as goal
 
 pub open-requires-clause-seats : goal.open-requires-clause-seats
@@ -18,9 +18,6 @@ open-requires-clause-seats g c κs within =
 
 pub open-requires-clause-passes : goal.open-requires-clause-passes
 open-requires-clause-passes g c κs within = passes-are g.H.Home.table 2 c.args.opened.2.items c.requires.passes
-
-pub open-requires-clause-splits : goal.open-requires-clause-splits
-open-requires-clause-splits g c κs within = whole-splits (λ (l : LinkState). l.shape) c.in_ok-links.links.items g.H.Home.links (ap (map (λ (l : LinkState). whole l.shape)) c.in_ok-links.ensures ∙ sym c.requires.links)
 
 pub set_up_all-requires-after_bounds : goal.set_up_all-requires-after_bounds
 set_up_all-requires-after_bounds g c κs within =

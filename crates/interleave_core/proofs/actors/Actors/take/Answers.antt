@@ -3,13 +3,17 @@ use Rattle.std.proofs.Common.{◌≢◌, set, ap, ◌∙◌, refl, length, arith
 use Rattle.std.specs.Vec.{with_item}
 use Rattle.net_units.specs.Numbers.{actor_number}
 use Rattle.run_record.specs.Runs.{replies_to}
-use Rattle.interleave_core.proofs.ActorFacts.{plane-left, plane-expected, plane-taken, caller-within, caller-left, caller-expected, caller-taken}
+use Rattle.interleave_core.proofs.ActorFacts.{plane-left, plane-expected, plane-later, plane-taken, caller-within, caller-left, caller-expected, caller-taken}
 use Rattle.interleave_core.proofs.Lookups.{found-at, when-ok}
 use Rattle.interleave_core.proofs.actors.Actors.take.Goals as goal
 
 pub take-requires-clause-left : goal.take-requires-clause-left
 take-requires-clause-left c =
     plane-left c.args.plan.now c.args.self.now c.requires.0 c.args.done.now c.requires.1 (omega (arith, c.get.ensures.value, c.from-number.ensures, c.if-number-len.true, c.len.ensures))
+
+pub take-requires-clause-later : goal.take-requires-clause-later
+take-requires-clause-later c =
+    plane-later c.args.plan.now c.args.self.now c.requires.0 c.args.done.now c.requires.1 (omega (arith, c.get.ensures.value, c.from-number.ensures, c.if-number-len.true, c.len.ensures))
 
 pub unwrap-requires : goal.unwrap-requires
 unwrap-requires c =

@@ -1,0 +1,68 @@
+//! The links and the actors of a plan on their way through a run, which they don't record.
+ghost use Rattle.std.specs.Prelude.{◌≡◌, ◌∷◌, [], List, IfOk, OnErr};
+ghost use Rattle.net_units.specs.Numbers.{actor_number};
+ghost use Rattle.call_script.specs.Tasks.{network_of};
+ghost use Rattle.interleave_core.specs.Runs.{next_for};
+ghost use Rattle.interleave_core.specs.Standing.{EngineStands, IsAboutTo, MakesStep};
+ghost use Rattle.run_record.specs.declared.done.Done.{Done as Entry};
+
+use crate::actors::Actors;
+use crate::links::{new_links, step_link};
+use call_script::Plan;
+use link_quota::AnyLink;
+use link_steps::Ask;
+use net_units::{ActorNo, LinkNo, OutOfMemory};
+use run_record::Done;
+use std::alloc::Global;
+
+/// The links and the actors of a plan, which each call is given. Its clauses hold for every run that it stands for
+/// (`EngineStands`), so that whoever has it may record the run, tally it, or send its steps elsewhere.
+#[derive(Drop)]
+pub struct Engine {
+    pub(crate) links: Vec<AnyLink>,
+    pub(crate) actors: Actors,
+}
+
+impl Engine {
+    /// The links and the actors of a plan, before any step. An `Err` comes only for want of memory.
+    pub fn new(alloc: Global, plan: &Plan) -> Result<Engine, OutOfMemory>
+        ensures { IfOk result (λ engine. EngineStands plan.now engine []) }
+    {
+        let links = new_links(alloc, plan)?;
+        let actors = Actors::new(alloc, plan)?;
+        Ok(Engine { links, actors })
+    }
+
+    /// What the actor asks next, and of which link: None where it has no step left.
+    pub fn next_ask(&self, plan: &Plan, actor: ActorNo) -> Option<(LinkNo, Ask)>
+        requires { (run : List Entry) × EngineStands plan.now self.now run }
+        ensures { (run : List Entry) → EngineStands plan.now self.now run → result ≡ next_for (network_of plan.now) (actor_number actor) run }
+    {
+        self.actors.next_ask(plan, actor)
+    }
+
+    /// Makes the step that the actor asks for next. An `Err` comes only for want of memory, and then it stands for the runs that
+    /// it stood for.
+    pub fn make(
+        &mut self,
+        plan: &Plan,
+        actor: ActorNo,
+        link: LinkNo,
+        ask: Ask,
+    ) -> Result<Done, OutOfMemory>
+        requires { (run : List Entry) × IsAboutTo plan.now self.old run actor link ask }
+        ensures made { IfOk result (λ done. (run : List Entry) → IsAboutTo plan.now self.old run actor link ask → MakesStep plan.now self.new run actor done) }
+        ensures memory { OnErr result ((run : List Entry) → EngineStands plan.now self.old run → EngineStands plan.now self.new run) }
+    {
+        self.actors.ready()?;
+        let reply = step_link(&mut self.links, usize::from(link.get()), &ask)?;
+        let done = Done {
+            actor,
+            link,
+            ask,
+            reply,
+        };
+        self.actors.take(plan, &done);
+        Ok(done)
+    }
+}
