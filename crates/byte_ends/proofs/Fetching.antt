@@ -8,7 +8,7 @@ use Rattle.byte_ends.specs.Cutting.{Cutting, IsCutting, WantsMore, IsOf, ahead}
 use Rattle.byte_ends.specs.Held.{HoldsParts, cutting_of, front_of}
 use Rattle.byte_ends.specs.Answers.{GivesNone}
 
--- the front of the pending line and the whole block after it are what was pending
+-- the beginning of the pending line and the whole block after it are what was pending
 pub gathered : (front block line line' : List ℕ) (n : ℕ) → line ≡ front → n ≡ length block → line' ≡ line ++ take n block → line' ≡ front ++ block
 gathered front block line line' n is_front whole moved =
     moved ∙ rw (is_front, whole, take_all (length block) block (omega arith)) refl

@@ -46,11 +46,11 @@ gathers-next done count piece next a b c gathered gathered' gathered'' is so_far
     let added = gathers-on a c c gathered gathered'' (gathered'' ++ next) (take done piece ++ []) next emptied (gathers-more c gathered'' next) in
     subst (λ (text : List ℕ). Gathers a c gathered (gathered'' ++ next) text) (ap (λ (front : List ℕ). front ++ next) (append-nil (take done piece)) ∙ ap (λ (rest : List ℕ). take done piece ++ rest) is ∙ sym (take-add done count piece)) added
 
--- what was written of a text that was gathered is a front of it
+-- what was written of a text that was gathered is a prefix of it
 pub gathers-part : (a b : Option (List ℕ)) (gathered gathered' text : List ℕ) → Gathers a b gathered gathered' text → WritesPart a b (gathered ++ text)
 gathers-part a b gathered gathered' text g = record { front = g.put; rest = gathered'; appends = g.appends; joined = g.joined }
 
--- a front of a text after what was gathered
+-- a prefix of a text after what was gathered
 pub gathers-then-part : (a b c : Option (List ℕ)) (gathered gathered' text text' : List ℕ) → Gathers a b gathered gathered' text → WritesPart b c (gathered' ++ text') → WritesPart a c (gathered ++ (text ++ text'))
 gathers-then-part a b c gathered gathered' text text' first part = record {
   front = first.put ++ part.front;
@@ -60,7 +60,7 @@ gathers-then-part a b c gathered gathered' text text' first part = record {
       ∙ ap (λ (front : List ℕ). front ++ text') first.joined ∙ append_assoc gathered text text';
 }
 
--- a front of what was gathered, with the first bytes of a piece, is one of what was gathered before and the piece
+-- a prefix of what was gathered, with the first bytes of a piece, is one of what was gathered before and the piece
 pub part-of-piece : (done : ℕ) (piece : List ℕ) (a b c : Option (List ℕ)) (gathered gathered' : List ℕ) → Gathers a b gathered gathered' (take done piece) → WritesPart b c gathered' → WritesPart a c (gathered ++ piece)
 part-of-piece done piece a b c gathered gathered' so_far part = record {
   front = so_far.put ++ part.front;
@@ -70,7 +70,7 @@ part-of-piece done piece a b c gathered gathered' so_far part = record {
       ∙ sym (append_assoc so_far.put gathered' (drop done piece)) ∙ ap (λ (t : List ℕ). t ++ drop done piece) so_far.joined ∙ append_assoc gathered (take done piece) (drop done piece) ∙ ap (λ (t : List ℕ). gathered ++ t) (take-append-drop done piece);
 }
 
--- a front of a text is one of a longer text
+-- a prefix of a text is one of a longer text
 pub part-of-longer : (a b : Option (List ℕ)) (text more : List ℕ) → WritesPart a b text → WritesPart a b (text ++ more)
 part-of-longer a b text more part = record { front = part.front; rest = part.rest ++ more; appends = part.appends; joined = sym (append_assoc part.front part.rest more) ∙ ap (λ (t : List ℕ). t ++ more) part.joined }
 

@@ -1,6 +1,6 @@
 -- What a call for the next line answers. A line comes where one stands whole among the bytes that may stand in lines;
 -- the end comes where the source ended and all its bytes were given. The call refuses where the source failed, where
--- memory was wanted, where one byte too many was taken and no whole line is left, and where the source ended inside a
+-- memory ran out, where one byte too many was taken and no whole line is left, and where the source ended inside a
 -- line. Where the source tells its bytes, the lines given and the answer after them are a function of those bytes,
 -- whatever the sizes of the reads: each call takes the first line off the outlook, or answers what the outlook ends in.
 use Rattle.std.specs.Prelude.{◌≡◌, ℕ, ◌+◌, ◌≤◌, List, [], ◌∷◌, ◌++◌, length, Option, Some, None, Result, Ok, Err, ⊤}
@@ -14,7 +14,7 @@ use Rattle.byte_ends.specs.declared.lines.LineRefusal.{LineRefusal}
 use Rattle.byte_ends.specs.declared.lines.LineRefusal.TheVariants.{ReadFault, TooLong, NoLineEnd, Memory}
 
 -- bytes were taken from the source, `left` being what it told before and after; and the bytes `out` were given, from
--- the front of all that were not given
+-- a prefix of all that were not given
 pub record Moves (s t : Cutting) (left left' : Option (List ℕ)) (out : List ℕ) : Type 0 where
   -- what was taken in this call
   pub bytes : List ℕ
@@ -52,7 +52,7 @@ pub record AnswersReadFault (s t : Cutting) (left left' : Option (List ℕ)) (fa
   pub open_still : WantsMore t
   pub rises : FaultsRise faults faults'
 
--- memory was wanted
+-- memory ran out
 pub record AnswersMemory (s t : Cutting) (left left' : Option (List ℕ)) : Type 0 where
   pub stays : GivesNone s t left left'
   pub open_still : WantsMore t

@@ -1,5 +1,5 @@
 -- Bytes that are gathered before they are written to a sink. What was written, and after it what is gathered now, is what
--- was gathered before and then the pieces pushed since, in their order. After a fault a front of that was written.
+-- was gathered before and then the pieces pushed since, in their order. After a fault a prefix of that was written.
 use Rattle.std.specs.Prelude.{◌≡◌, ℕ, List, ◌++◌, Option}
 use Rattle.std.specs.Io.KnownBytes.{Appends}
 
@@ -9,7 +9,7 @@ pub record Gathers (written written' : Option (List ℕ)) (gathered gathered' te
   pub appends : Appends written written' put
   pub joined : put ++ gathered' ≡ gathered ++ text
 
--- a front of the text was written, maybe all of it
+-- a prefix of the text was written, maybe all of it
 pub record WritesPart (written written' : Option (List ℕ)) (text : List ℕ) : Type 0 where
   pub front : List ℕ
   pub rest : List ℕ

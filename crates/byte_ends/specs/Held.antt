@@ -1,11 +1,11 @@
--- How a cutting is held. What is pending stands in two parts: the front of the line that is pending, which has no line
+-- How a cutting is held. What is pending stands in two parts: the beginning of the line that is pending, which has no line
 -- feed, and after it the rest of the block that was read last. A line that is whole is in hand and isn't pending. Room
--- for the rest of the block is reserved after the front, so a line that was taken is given without taking memory.
+-- for the rest of the block is reserved after the beginning, so a line that was taken is given without taking memory.
 use Rattle.std.specs.Prelude.{◌≡◌, ℕ, ◌+◌, ◌<◌, ◌≤◌, Bool, List, [], ◌++◌, length, take, slice_index, if◌then◌else◌}
 use Rattle.byte_ends.specs.WholeLines.{feed}
 use Rattle.byte_ends.specs.Cutting.{Cutting, HasNoFeed, IsCutting}
 
--- the front of the line that is pending, where a line that is whole isn't pending
+-- the beginning of the line that is pending, where a line that is whole isn't pending
 abbrev pub front_of : Bool → List ℕ → List ℕ
 front_of whole line = if whole then [] else line
 

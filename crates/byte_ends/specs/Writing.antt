@@ -24,7 +24,7 @@ abbrev pub Writes : Put → Option (List ℕ) → Option (List ℕ) → List ℕ
 Writes (Wrote n) written written' piece faults faults' = Puts n written written' piece faults faults'
 Writes Failed written written' piece faults faults' = Refuses written written' faults faults'
 
--- a front of the piece was written, and not all of it
+-- a prefix of the piece was written, and not all of it
 pub record WritesFront (written written' : Option (List ℕ)) (piece : List ℕ) : Type 0 where
   pub count : ℕ
   pub short : count < length piece

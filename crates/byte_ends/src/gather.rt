@@ -41,7 +41,7 @@ impl Gather {
     }
 
     /// Gathers the piece after those before it. What is gathered is written whenever there is no more room. A fault comes
-    /// only where the sink's count of faults rose in this call, and then a front of what was gathered and of the piece was
+    /// only where the sink's count of faults rose in this call, and then a prefix of what was gathered and of the piece was
     /// written.
     pub fn push<K: Sink>(&mut self, sink: &mut K, piece: &[u8]) -> Result<(), WriteFault>
         ensures ok { OnOk result (Gathers (K.written sink.old) (K.written sink.new) self.old self.new piece.now) }
@@ -59,7 +59,7 @@ impl Gather {
         Ok(())
     }
 
-    /// Writes what is gathered. A fault comes only where the sink's count of faults rose in this call, and then a front of it
+    /// Writes what is gathered. A fault comes only where the sink's count of faults rose in this call, and then a prefix of it
     /// was written.
     #[tactic(auto, using(crate::proofs::Gathering::parts))]
     pub fn finish<K: Sink>(self, sink: &mut K) -> Result<(), WriteFault>

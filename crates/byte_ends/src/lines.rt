@@ -39,7 +39,7 @@ pub enum LineRefusal {
         /// The number of that line.
         line: u64,
     },
-    /// Memory was wanted and not there. The call may be made again.
+    /// Out of memory. The call may be made again.
     Memory,
 }
 
@@ -55,7 +55,7 @@ pub struct Lines {
     ended: bool,
     // The line is whole and was given, so it isn't pending.
     whole: bool,
-    // The line in hand, or the front of the line that is pending.
+    // The line in hand, or the beginning of the line that is pending.
     line: Vec<u8>,
     block: Block,
 }

@@ -35,7 +35,7 @@ pub trait Sink {
 #[derive(Clone, Copy, Debug, PartialEq, Eq)]
 pub struct WriteFault;
 
-/// Writes the whole piece. A fault comes only where the sink's count of faults rose in this call, and then a front
+/// Writes the whole piece. A fault comes only where the sink's count of faults rose in this call, and then a prefix
 /// of the piece was written.
 pub fn put_all<K: Sink>(sink: &mut K, piece: &[u8]) -> Result<(), WriteFault>
     ensures ok { OnOk result (Appends (K.written sink.old) (K.written sink.new) piece.now) }

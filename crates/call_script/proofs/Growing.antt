@@ -14,7 +14,7 @@ use Rattle.traffic_contract.specs.Admission.{total}
 use Rattle.call_script.specs.Growing.{nothing_of, new_caller, add_op, last_ops, with_link, with_caller, with_open, with_op, with_rounds, with_tail, MayAddLink, MayAddCaller, MayOpen, IsOpenedThere, IsWithinLoad, MaySend, MayPour, KeepSoFar, AreEnough}
 use Rattle.call_script.specs.Parts.{PlanParts, parts_of, Opening, opened_by, openings_of, opening_of, FollowsLink, ArePlanned}
 use Rattle.call_script.specs.Plans.{HasTerms, IsPlan}
-use Rattle.call_script.specs.Rules.{each_after, unless_broken, link_has_version, op_has_version, have_version, have_links, is_new, are_distinct, link_names, caller_names, request_names, have_names, route_is_there, pour_is_there, opens, is_opened, are_opened, are_there, request_in_range, op_in_range, rounds_in_range, are_in_range, are_few, is_joined, are_joined, closes, is_unclosed, are_unclosed, hops_of, load_of, load_in, are_within_load, pour_is_taken, pours_are_taken, use_rule_broken, range_rule_broken, rule_broken}
+use Rattle.call_script.specs.Rules.{each_after, unless_broken, link_has_version, request_has_version, op_has_version, have_version, have_links, is_new, are_distinct, link_names, caller_names, request_names, have_names, route_is_there, pour_is_there, opens, is_opened, are_opened, are_there, request_in_range, op_in_range, rounds_in_range, are_in_range, are_few, is_joined, are_joined, closes, is_unclosed, are_unclosed, hops_of, load_of, load_in, are_within_load, pour_is_taken, pours_are_taken, use_rule_broken, range_rule_broken, rule_broken}
 use Rattle.call_script.specs.declared.entries.CallerEntry.{CallerEntry}
 use Rattle.call_script.specs.declared.entries.LinkEntry.{LinkEntry}
 use Rattle.call_script.specs.declared.entries.RequestEntry.{RequestEntry}
@@ -47,6 +47,25 @@ unfolding have_names
 names-from parts has =
     and_from (are_distinct (link_names parts.links) && are_distinct (caller_names parts.callers)) (are_distinct (request_names parts.requests))
     (and_from (are_distinct (link_names parts.links)) (are_distinct (caller_names parts.callers)) has.links has.callers) has.requests
+
+-- links, requests and operations of the version
+pub record HasVersion (parts : PlanParts) : Type 0 where
+  pub links : list_all (link_has_version parts.version) parts.links ≡ true
+  pub requests : list_all (request_has_version parts.version) parts.requests ≡ true
+  pub ops : list_all (λ (c : CallerEntry). list_all (op_has_version parts.version) c.ops) parts.callers ≡ true
+
+pub version-in : (parts : PlanParts) → have_version parts ≡ true → HasVersion parts
+unfolding have_version
+version-in parts version =
+    let first = and_parts (list_all (link_has_version parts.version) parts.links && list_all (request_has_version parts.version) parts.requests) (list_all (λ (c : CallerEntry). list_all (op_has_version parts.version) c.ops) parts.callers) version in
+    let second = and_parts (list_all (link_has_version parts.version) parts.links) (list_all (request_has_version parts.version) parts.requests) first.0 in
+    record { links = second.0; requests = second.1; ops = first.1 }
+
+version-from : (parts : PlanParts) → HasVersion parts → have_version parts ≡ true
+unfolding have_version
+version-from parts has =
+    and_from (list_all (link_has_version parts.version) parts.links && list_all (request_has_version parts.version) parts.requests) (list_all (λ (c : CallerEntry). list_all (op_has_version parts.version) c.ops) parts.callers)
+    (and_from (list_all (link_has_version parts.version) parts.links) (list_all (request_has_version parts.version) parts.requests) has.links has.requests) has.ops
 
 -- what routes, pours, sends and closes use is there
 pub record HasUsed (parts : PlanParts) : Type 0 where
@@ -151,7 +170,7 @@ link-grown version links entry rounds tail keep may =
     let names = names-in (parts_of version links [] [] rounds tail) keep.names in
     let longer = length-more links entry in
     record {
-      version = and_from (list_all (link_has_version version) (links ++ entry ∷ [])) true (all-more (link_has_version version) links entry (and_parts (list_all (link_has_version version) links) true keep.version).0 may.version) refl;
+      version = version-from (parts_of version (links ++ entry ∷ []) [] [] rounds tail) (record { links = all-more (link_has_version version) links entry (version-in (parts_of version links [] [] rounds tail) keep.version).links may.version; requests = refl; ops = refl });
       names = names-from (parts_of version (links ++ entry ∷ []) [] [] rounds tail) (record {
         links = ap are_distinct (map-append (λ (e : LinkEntry). e.name) links (entry ∷ [])) ∙ names-more (link_names links) entry.name names.links may.name;
         callers = names.callers;
@@ -194,11 +213,11 @@ caller-keeps parts name keep may =
     let used = used-in parts keep.there in
     let ranges = ranges-in parts keep.range in
     let few = few-in parts keep.few in
-    let version = and_parts (list_all (link_has_version parts.version) parts.links) (list_all (λ (c : CallerEntry). list_all (op_has_version parts.version) c.ops) parts.callers) keep.version in
+    let version = version-in parts keep.version in
     let longer = length-more parts.callers (new_caller name) in
     let load : load_in parts.requests (parts.callers ++ new_caller name ∷ []) ≡ load_in parts.requests parts.callers + 0 = total-push (λ (c : CallerEntry). total (load_of parts.requests) c.ops) parts.callers (new_caller name) in
     record {
-      version = and_from (list_all (link_has_version parts.version) parts.links) (list_all (λ (c : CallerEntry). list_all (op_has_version parts.version) c.ops) (parts.callers ++ new_caller name ∷ [])) version.0 (calm (list_all (op_has_version parts.version)) refl version.1);
+      version = version-from (with_caller name parts) (record { links = version.links; requests = version.requests; ops = calm (list_all (op_has_version parts.version)) refl version.ops });
       names = names-from (with_caller name parts) (record {
         links = names.links;
         callers = ap are_distinct (map-append (λ (c : CallerEntry). c.name) parts.callers (new_caller name ∷ [])) ∙ names-more (caller_names parts.callers) name names.callers may.new;
@@ -238,10 +257,10 @@ op-keeps parts op keep may =
     let used = used-in parts keep.there in
     let ranges = ranges-in parts keep.range in
     let few = few-in parts keep.few in
-    let version = and_parts (list_all (link_has_version parts.version) parts.links) (list_all (λ (c : CallerEntry). list_all (op_has_version parts.version) c.ops) parts.callers) keep.version in
+    let version = version-in parts keep.version in
     let load = added-total (load_of parts.requests) op parts.callers in
     record {
-      version = and_from (list_all (link_has_version parts.version) parts.links) (list_all (λ (c : CallerEntry). list_all (op_has_version parts.version) c.ops) (add_op op parts.callers)) version.0 (added-all (op_has_version parts.version) op parts.callers version.1 may.version);
+      version = version-from (with_op op parts) (record { links = version.links; requests = version.requests; ops = added-all (op_has_version parts.version) op parts.callers version.ops may.version });
       names = names-from (with_op op parts) (record { links = names.links; callers = ap are_distinct (added-names op parts.callers) ∙ names.callers; requests = names.requests });
       there = used-from (with_op op parts) (record { routes = used.routes; pours = added-all (pour_is_there parts.links) op parts.callers used.pours may.there; opened = added-after is_opened op parts.callers used.opened may.opened });
       range = ranges-from (with_op op parts) (record { requests = ranges.requests; ops = added-all op_in_range op parts.callers ranges.ops may.range; rounds = ranges.rounds; tail = ranges.tail });
@@ -349,12 +368,12 @@ open-keeps parts entry keep may =
     let used = used-in parts keep.there in
     let ranges = ranges-in parts keep.range in
     let few = few-in parts keep.few in
-    let version = and_parts (list_all (link_has_version parts.version) parts.links) (list_all (λ (c : CallerEntry). list_all (op_has_version parts.version) c.ops) parts.callers) keep.version in
+    let version = version-in parts keep.version in
     let same = callers-load parts.requests entry parts.callers used.opened (all-have parts keep.planned) in
     let load = added-total (load_of requests) op parts.callers in
     let longer = length-more parts.requests entry in
     record {
-      version = and_from (list_all (link_has_version parts.version) parts.links) (list_all (λ (c : CallerEntry). list_all (op_has_version parts.version) c.ops) (add_op op parts.callers)) version.0 (added-all (op_has_version parts.version) op parts.callers version.1 refl);
+      version = version-from (with_open entry parts) (record { links = version.links; requests = all-more (request_has_version parts.version) parts.requests entry version.requests may.version; ops = added-all (op_has_version parts.version) op parts.callers version.ops refl });
       names = names-from (with_open entry parts) (record {
         links = names.links;
         callers = ap are_distinct (added-names op parts.callers) ∙ names.callers;

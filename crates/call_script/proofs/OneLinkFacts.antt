@@ -1,13 +1,21 @@
--- The parts of one link, one request and one caller may be planned.
-use Rattle.std.proofs.Common.{◌≡◌, ℕ, zero, suc, ◌+◌, Option, Some, None, List, [], ◌∷◌, ◌++◌, map, refl, sym, ap, ◌∙◌, subst}
+-- The parts of one link, one request and one caller may be planned; and the request may be accepted at the first level.
+use Rattle.std.proofs.Common.{◌≡◌, ℕ, zero, suc, ◌+◌, ◌≤◌, Option, Some, None, List, [], ◌∷◌, ◌++◌, length, map, refl, sym, ap, ◌∙◌, subst, arith}
 use Rattle.std.proofs.lemmas.Option.{same_Some}
 use Rattle.std.specs.List.{slice_get}
+use Rattle.net_units.specs.Allotted.{levels_of}
+use Rattle.net_units.specs.LevelBounds.{bound_at}
 use Rattle.net_units.specs.Numbers.{link_number, channel_number, actor_number}
+use Rattle.net_units.specs.declared.levels.Levels.{Levels}
+use Rattle.hop_reservation.specs.Offers.{AreLevels, delay_over}
 use Rattle.hop_reservation.specs.declared.route.Hop.{Hop}
+use Rattle.setup_protocol.specs.Laws.{KeepsRequest}
+use Rattle.setup_protocol.specs.State.{HaveLevels}
+use Rattle.setup_protocol.specs.declared.request.Request.{Request}
 use Rattle.link_steps.proofs.ListFacts.{Each-if}
 use Rattle.link_steps.specs.Lists.{Each}
-use Rattle.call_script.specs.OneLink.{IsThatLink, IsOverIt, IsThatRequest, IsThatScript}
-use Rattle.call_script.specs.Parts.{Opening, parts_of, openings_in, openings_of, opening_of, FollowsLink, ArePlanned}
+use Rattle.call_script.specs.Accepted.{AreAccepted}
+use Rattle.call_script.specs.OneLink.{IsThatLink, IsOverIt, IsThatRequest, IsThatScript, AsksForOne, HasThatRequest}
+use Rattle.call_script.specs.Parts.{PlanParts, Opening, parts_of, openings_in, openings_of, opening_of, FollowsLink, ArePlanned}
 use Rattle.call_script.specs.declared.entries.LinkEntry.{LinkEntry}
 use Rattle.call_script.specs.declared.entries.RequestEntry.{RequestEntry}
 use Rattle.call_script.specs.declared.entries.CallerEntry.{CallerEntry}
@@ -37,3 +45,42 @@ one-planned version link request caller rounds tail is asks opens = record {
 } where
   opening : opening_of request ≡ record { caller = 0; chan = 0 }
   opening = ap (λ (n : ℕ). record { caller = n; chan = channel_number request.request.chan }) asks.caller ∙ ap (λ (n : ℕ). record { caller = 0; chan = n }) asks.chan
+
+-- ---- accepted at the first level
+
+-- the hop has that level, and adds 12 ticks
+one-level : (route : List Hop) → length route ≡ 1 → Each IsOverIt route → HaveLevels route (1 ∷ []) × (delay_over route (1 ∷ []) ≡ 12)
+unfolding AreLevels delay_over
+one-level [] one over = absurd (omega (arith, one))
+one-level (hop ∷ next ∷ hops) one over = absurd (omega (arith, one))
+one-level (hop ∷ []) one over = (
+  record {
+    are_levels = (record { least = omega arith; most = omega (arith, ap length over.0.bounds) }, tt);
+    whole = refl;
+  },
+  omega (arith, ap (λ bounds. bound_at bounds 1) over.0.bounds, over.0.prop),
+)
+
+one-keeps : (entry : RequestEntry) (levels : List ℕ) → IsThatRequest entry → AsksForOne entry.request → levels ≡ 1 ∷ [] → KeepsRequest entry.request levels (delay_over entry.request.route levels)
+one-keeps entry levels is asks at =
+    let by = one-level entry.request.route asks.one is.hops in
+    subst (λ ls. KeepsRequest entry.request ls (delay_over entry.request.route ls)) (sym at)
+    (record {
+      have_levels = by.0;
+      in_time = omega (arith, by.1, asks.delay);
+      in_jitter = λ most jitter. cc (asks.jitter);
+    })
+
+pub one-accepted : (plan : PlanParts) (given : Levels) → HasThatRequest plan → levels_of given ≡ 1 ∷ [] → AreAccepted plan (Some given ∷ [])
+one-accepted plan given has at = record {
+  count = sym (ap length has.only);
+  keep = λ c entry levels requested accepted. keep c entry levels (sym (ap (λ es. slice_get es c) has.only) ∙ requested) accepted;
+} where
+  keep : (c : ℕ) (entry : RequestEntry) (levels : Levels) → slice_get (has.entry ∷ []) c ≡ Some entry → slice_get (Some given ∷ []) c ≡ Some (Some levels)
+      → KeepsRequest entry.request (levels_of levels) (delay_over entry.request.route (levels_of levels))
+  keep zero entry levels requested accepted =
+      let same : has.entry ≡ entry = same_Some has.entry entry requested in
+      let these : given ≡ levels = same_Some given levels (same_Some (Some given) (Some levels) accepted) in
+      subst (λ (e : RequestEntry). KeepsRequest e.request (levels_of levels) (delay_over e.request.route (levels_of levels))) same
+      (one-keeps has.entry (levels_of levels) has.is has.asks (sym (ap levels_of these) ∙ at))
+  keep (suc c) entry levels requested accepted = cc

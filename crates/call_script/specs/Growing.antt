@@ -12,7 +12,7 @@ use Rattle.net_units.specs.Limits.{most_links, most_callers, most_requests, most
 use Rattle.link_steps.specs.Lists.{Each}
 use Rattle.call_script.specs.Parts.{PlanParts, parts_of, FollowsLink, ArePlanned}
 use Rattle.call_script.specs.Plans.{HasTerms, IsPlan}
-use Rattle.call_script.specs.Rules.{have_version, have_names, are_there, are_in_range, are_few, are_joined, are_unclosed, pours_are_taken, link_names, caller_names, request_names, is_new, link_has_version, has_link, route_is_there, opens, request_in_range, packets_in_range, is_joined, closes, load_of, load_in, takes_best_effort}
+use Rattle.call_script.specs.Rules.{have_version, have_names, are_there, are_in_range, are_few, are_joined, are_unclosed, pours_are_taken, link_names, caller_names, request_names, is_new, link_has_version, request_has_version, has_link, route_is_there, opens, request_in_range, packets_in_range, is_joined, closes, load_of, load_in, takes_best_effort}
 use Rattle.call_script.specs.Versions.{has_best_effort}
 use Rattle.call_script.specs.declared.entries.CallerEntry.{CallerEntry}
 use Rattle.call_script.specs.declared.entries.LinkEntry.{LinkEntry}
@@ -82,6 +82,7 @@ pub record MayAddCaller (parts : PlanParts) (name : List ℕ) : Type 0 where
 
 -- the request has the next number, and is that of the last caller
 pub record MayOpen (parts : PlanParts) (entry : RequestEntry) : Type 0 where
+  pub version : request_has_version parts.version entry ≡ true
   pub name : is_new (request_names parts.requests) entry.name ≡ true
   pub few : length parts.requests < most_requests
   pub number : channel_number entry.request.chan ≡ length parts.requests

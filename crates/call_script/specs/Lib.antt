@@ -12,3 +12,4 @@ pub mod Work
 pub mod Standing
 pub mod OneLink
 pub mod ActorNames
+pub mod Accepted

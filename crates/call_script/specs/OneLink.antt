@@ -1,10 +1,12 @@
 -- A plan of one link, one request and one caller, as the tests have it: link 0 has levels of 10, 20 and 40 ticks and a
 -- propagation of 2, channel 0 goes over it, and caller 0 opens that channel and no other.
-use Rattle.std.specs.Prelude.{◌≡◌, ℕ, List, [], ◌∷◌}
+use Rattle.std.specs.Prelude.{◌≡◌, ℕ, None, List, [], ◌∷◌, length}
 use Rattle.net_units.specs.Numbers.{link_number, actor_number, channel_number}
 use Rattle.hop_reservation.specs.declared.route.Hop.{Hop}
 use Rattle.link_steps.specs.Lists.{Each}
-use Rattle.call_script.specs.Parts.{openings_in}
+use Rattle.setup_protocol.specs.Requests.{jitter_of}
+use Rattle.setup_protocol.specs.declared.request.Request.{Request}
+use Rattle.call_script.specs.Parts.{PlanParts, openings_in}
 use Rattle.call_script.specs.declared.entries.LinkEntry.{LinkEntry}
 use Rattle.call_script.specs.declared.entries.RequestEntry.{RequestEntry}
 use Rattle.call_script.specs.declared.entries.CallerEntry.{CallerEntry}
@@ -26,3 +28,16 @@ pub record IsThatRequest (entry : RequestEntry) : Type 0 where
 
 abbrev pub IsThatScript : CallerEntry → Type 0
 IsThatScript caller = openings_in 0 caller.ops ≡ record { caller = 0; chan = 0 } ∷ []
+
+-- it asks for one hop, for at most 12 ticks, and for no bound on its jitter
+pub record AsksForOne (request : Request) : Type 0 where
+  pub one : length request.route ≡ 1
+  pub delay : request.delay ≡ 12
+  pub jitter : jitter_of request.control ≡ None
+
+-- a plan of that request alone
+pub record HasThatRequest (plan : PlanParts) : Type 0 where
+  pub entry : RequestEntry
+  pub only : plan.requests ≡ entry ∷ []
+  pub is : IsThatRequest entry
+  pub asks : AsksForOne entry.request

@@ -1,7 +1,7 @@
 -- A plan keeps the rules of the scenario's language, as far as a plan can break them. Each has the number of the cause by
 -- which a line is refused that breaks it; a plan is refused with the least. (A plan has numbers and names where a scenario
 -- has text, so it breaks no rule on text.)
---   1 a link's test is its version's; best-effort packets come from version three on
+--   1 a link's test is its version's; best-effort packets come from version three on, and routes that are found from version four on
 --   2 there is a link
 --   6 no two links, callers or requests have one name
 --   7 a route and a pour go over links that are there; a send and a close are of a request that the caller has opened above
@@ -12,7 +12,7 @@
 --  14 the packets that are sent, once for each hop that they cross, and those that are poured are within the limit, and so
 --     are the ticks of all links together
 --  19 a pour is at a link that takes best-effort packets
-use Rattle.std.specs.Prelude.{ℕ, ◌+◌, ◌*◌, Bool, true, false, not, nat_eq, nat_le, nat_lt, ◌&&◌, if◌then◌else◌, Option, Some, None, List, [], ◌∷◌, ◌++◌, length, map}
+use Rattle.std.specs.Prelude.{ℕ, ◌+◌, ◌*◌, Bool, true, false, not, nat_eq, nat_le, nat_lt, ◌&&◌, ◌||◌, if◌then◌else◌, Option, Some, None, is_none, List, [], ◌∷◌, ◌++◌, length, map}
 use Rattle.std.specs.List.{list_any, list_all, slice_get}
 use Rattle.std.specs.Cmp.Lexicographic.{pointwise}
 use Rattle.net_units.specs.Numbers.{link_number, channel_number}
@@ -23,7 +23,7 @@ use Rattle.hop_reservation.specs.declared.route.Hop.{Hop}
 use Rattle.setup_protocol.specs.declared.request.Control.{Control}
 use Rattle.setup_protocol.specs.declared.request.Control.TheVariants.{Rate, Jitter}
 use Rattle.call_script.specs.Parts.{PlanParts}
-use Rattle.call_script.specs.Versions.{test_of, has_best_effort, is_test}
+use Rattle.call_script.specs.Versions.{test_of, has_best_effort, has_found_routes, is_test}
 use Rattle.call_script.specs.declared.entries.LinkEntry.{LinkEntry}
 use Rattle.call_script.specs.declared.entries.RequestEntry.{RequestEntry}
 use Rattle.call_script.specs.declared.entries.CallerEntry.{CallerEntry}
@@ -47,6 +47,9 @@ all_ops test callers = list_all (λ caller. list_all test caller.ops) callers
 abbrev pub link_has_version : Version → LinkEntry → Bool
 link_has_version version entry = is_test (test_of version) entry.shape.test && (if has_best_effort version then true else nat_eq entry.shape.best 0)
 
+abbrev pub request_has_version : Version → RequestEntry → Bool
+request_has_version version entry = has_found_routes version || is_none entry.found
+
 abbrev pub op_has_version : Version → Op → Bool
 op_has_version version (Open chan) = true
 op_has_version version (Send chan count gap size) = true
@@ -54,7 +57,7 @@ op_has_version version (Close chan) = true
 op_has_version version (Pour link count gap size) = has_best_effort version
 
 unfoldable pub have_version : PlanParts → Bool
-have_version parts = list_all (link_has_version parts.version) parts.links && all_ops (op_has_version parts.version) parts.callers
+have_version parts = list_all (link_has_version parts.version) parts.links && list_all (request_has_version parts.version) parts.requests && all_ops (op_has_version parts.version) parts.callers
 
 -- ---- 2: a link
 

@@ -1,23 +1,32 @@
 -- The scenario's language has versions. In the first one a link compares the load of a level in the window as long as the
 -- level's bound; from the second one on in some window up to the bound. From the third one on a link may take best-effort
--- packets, and a caller may pour them.
+-- packets, and a caller may pour them. From the fourth one on the route of a request may be found between two nodes.
 use Rattle.std.specs.Prelude.{Bool, true, false}
 use Rattle.traffic_contract.specs.declared.admission.Test.{Test}
 use Rattle.traffic_contract.specs.declared.admission.Test.TheVariants.{Whole, Least}
 use Rattle.call_script.specs.declared.version.Version.{Version}
-use Rattle.call_script.specs.declared.version.Version.TheVariants.{One, Two, Three}
+use Rattle.call_script.specs.declared.version.Version.TheVariants.{One, Two, Three, Four}
 
 -- the test of the links
 abbrev pub test_of : Version → Test
 test_of One = Whole
 test_of Two = Least
 test_of Three = Least
+test_of Four = Least
 
 -- whether a plan may have best-effort packets
 abbrev pub has_best_effort : Version → Bool
 has_best_effort One = false
 has_best_effort Two = false
 has_best_effort Three = true
+has_best_effort Four = true
+
+-- whether the route of a request may be found between two nodes
+abbrev pub has_found_routes : Version → Bool
+has_found_routes One = false
+has_found_routes Two = false
+has_found_routes Three = false
+has_found_routes Four = true
 
 -- whether two tests are the same
 abbrev pub is_test : Test → Test → Bool

@@ -1,8 +1,11 @@
 //! The parts of a plan, with their names.
+ghost use Rattle.std.specs.Prelude.{◌≡◌, ◌++◌, ◌∷◌, [], OnErr, OnOk};
+
 use crate::operations::Ops;
 use link_steps::LinkShape;
 use net_units::{ActorNo, Name};
 use setup_protocol::Request;
+use std::alloc::AllocError;
 
 /// A link of the network.
 #[derive(Clone, Copy)]
@@ -26,6 +29,8 @@ pub struct RequestEntry {
     pub caller: ActorNo,
     /// What is asked for.
     pub request: Request,
+    /// The nodes between which its route was found, None where its links were given.
+    pub found: Option<(Name, Name)>,
 }
 
 /// A caller.
@@ -35,4 +40,21 @@ pub struct CallerEntry {
     pub name: Name,
     /// What it does, in its order.
     pub ops: Ops,
+}
+
+/// Adds a request at the end of the list. Out of memory, the list stays as it was.
+pub fn push_request(requests: &mut Vec<RequestEntry>, entry: RequestEntry) -> Result<(), AllocError>
+    ensures ok { OnOk result (requests.new.items ≡ requests.old.items ++ entry ∷ []) }
+    ensures err { OnErr result (requests.new.items ≡ requests.old.items) }
+{
+    push(requests, entry)
+}
+
+// A push at a type with an option of names in it is proved in a function over any type, and not where it is called.
+fn push<T: Copy>(items: &mut Vec<T>, item: T) -> Result<(), AllocError>
+    ensures ok { OnOk result (items.new.items ≡ items.old.items ++ item ∷ []) }
+    ensures err { OnErr result (items.new.items ≡ items.old.items) }
+{
+    items.push(item)?;
+    Ok(())
 }

@@ -19,7 +19,7 @@ pub mod version;
 pub(crate) mod work;
 
 pub use actor::Actor;
-pub use entries::{CallerEntry, LinkEntry, RequestEntry};
+pub use entries::{CallerEntry, LinkEntry, RequestEntry, push_request};
 pub use operations::{Op, Ops};
 pub use plan::{BadPlan, Plan};
 pub use schedule::{Do, Dos, Schedule};

@@ -14,7 +14,7 @@ use std::marker::Model;
 /// Why parts don't make a plan.
 #[derive(Clone, Copy, Debug, PartialEq, Eq)]
 pub enum BadPlan {
-    /// Memory was wanted.
+    /// Out of memory.
     Memory,
     /// The least rule that they break, by the number of its cause in the scenario's language: 1 a link's test that isn't
     /// its version's, or best-effort packets in a version before three; 2 no link; 6 a name known already; 7 a link or a

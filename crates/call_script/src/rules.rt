@@ -81,6 +81,7 @@ impl Parts {
         ensures { result ≡ have_version (parts_in self.now) }
     {
         versions::links_have_version(self.version, &self.links)
+            && versions::requests_have_version(self.version, &self.requests)
             && versions::callers_have_version(self.version, &self.callers)
     }
 

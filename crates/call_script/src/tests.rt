@@ -1,8 +1,9 @@
 //! Plans and a caller over one link, worked by hand. The link has levels of 10, 20 and 40 ticks and a propagation of 2.
 ghost use Rattle.std.specs.Prelude.{◌≡◌, [], ◌∷◌, IfOk, OnOk, List, length};
 ghost use Rattle.net_units.specs.Numbers.{link_number, channel_number};
+ghost use Rattle.link_steps.specs.Lists.{Each};
 ghost use Rattle.link_steps.specs.declared.replies.Reply.{Reply as Replied};
-ghost use Rattle.call_script.specs.OneLink.{IsThatLink, IsThatRequest, IsThatScript};
+ghost use Rattle.call_script.specs.OneLink.{IsOverIt, IsThatLink, IsThatRequest, IsThatScript};
 ghost use Rattle.call_script.specs.Standing.{CallerStands};
 
 use super::*;
@@ -42,24 +43,32 @@ fn link(test: Test, best: u32) -> Result<LinkEntry, Fail>
     })
 }
 
-fn request() -> Result<RequestEntry, Fail>
-    ensures { IfOk result IsThatRequest }
+fn asked() -> Result<Request, Fail>
+    ensures { IfOk result (λ made. channel_number made.chan ≡ 0 × Each IsOverIt made.route) }
 {
     let hop = Hop {
         link: link_no()?,
         bounds: bounds()?,
         prop: 2,
     };
+    Ok(Request {
+        chan: ChanNo::new(0).ok_or("channel")?,
+        route: Route::new(&[hop])?,
+        contract: Contract::new(5, 10, 20, 2)?,
+        control: Control::Rate,
+        delay: 12,
+    })
+}
+
+// The request, whose route is given or was found between these nodes.
+fn request(found: Option<(Name, Name)>) -> Result<RequestEntry, Fail>
+    ensures { IfOk result IsThatRequest }
+{
     Ok(RequestEntry {
         name: name("r1")?,
         caller: ActorNo::new(0).ok_or("caller")?,
-        request: Request {
-            chan: ChanNo::new(0).ok_or("channel")?,
-            route: Route::new(&[hop])?,
-            contract: Contract::new(5, 10, 20, 2)?,
-            control: Control::Rate,
-            delay: 12,
-        },
+        request: asked()?,
+        found,
     })
 }
 
@@ -90,18 +99,19 @@ fn plan(
     alloc: Global,
     version: Version,
     link: LinkEntry,
+    found: Option<(Name, Name)>,
     pours: bool,
     rounds: u64,
 ) -> Result<Result<Plan, BadPlan>, Fail>
     requires { IsThatLink link }
     ensures { IfOk result (λ made. IfOk made (λ plan. length plan.callers ≡ 1)) }
 {
-    let request = request()?;
+    let request = request(found)?;
     let caller = caller(alloc, request.request.chan, pours)?;
     let mut links = Vec::new(alloc);
     links.push(link)?;
     let mut requests = Vec::new(alloc);
-    requests.push(request)?;
+    push_request(&mut requests, request)?;
     let mut callers = Vec::new(alloc);
     callers.push(caller)?;
     Ok(Plan::new(alloc, version, links, requests, callers, rounds, 0))
@@ -109,17 +119,25 @@ fn plan(
 
 #[test]
 fn a_plan_keeps_the_rules_of_its_version(rt: HostRuntime) -> Result<(), Fail> {
-    for (version, test, best, pours, rounds, rule) in [
-        (Version::One, Test::Whole, 0, false, 524_288, None),
-        (Version::One, Test::Whole, 0, false, 524_289, Some(8)),
-        (Version::One, Test::Least, 0, false, 0, Some(1)),
-        (Version::Two, Test::Whole, 0, false, 0, Some(1)),
-        (Version::Two, Test::Least, 1, false, 0, Some(1)),
-        (Version::Two, Test::Least, 0, true, 0, Some(1)),
-        (Version::Three, Test::Least, 0, true, 0, Some(19)),
-        (Version::Three, Test::Least, 1, true, 0, None),
+    for (version, test, best, found, pours, rounds, rule) in [
+        (Version::One, Test::Whole, 0, false, false, 524_288, None),
+        (Version::One, Test::Whole, 0, false, false, 524_289, Some(8)),
+        (Version::One, Test::Least, 0, false, false, 0, Some(1)),
+        (Version::Two, Test::Whole, 0, false, false, 0, Some(1)),
+        (Version::Two, Test::Least, 1, false, false, 0, Some(1)),
+        (Version::Two, Test::Least, 0, false, true, 0, Some(1)),
+        (Version::Three, Test::Least, 0, false, true, 0, Some(19)),
+        (Version::Three, Test::Least, 1, false, true, 0, None),
+        (Version::Three, Test::Least, 1, true, true, 0, Some(1)),
+        (Version::Four, Test::Least, 1, true, true, 0, None),
     ] {
-        let made = plan(rt.alloc(), version, link(test, best)?, pours, rounds)?;
+        let link = link(test, best)?;
+        let nodes = if found {
+            Some((link.from, link.to))
+        } else {
+            None
+        };
+        let made = plan(rt.alloc(), version, link, nodes, pours, rounds)?;
         let broken = rule.map(|rule| BadPlan::Broken { rule });
         assert_eq!(rt; made.err(), broken, "{version:?}, {test:?}, best {best}");
     }
@@ -193,12 +211,9 @@ const OFFER: Reply = Reply::Offer {
 #[test]
 fn a_reply_of_another_ask_changes_nothing(rt: HostRuntime) -> Result<(), Fail> {
     let alloc = rt.alloc();
-    let RequestEntry {
-        caller,
-        request,
-        ..
-    } = request()?;
-    let plan = plan(alloc, Version::One, link(Test::Whole, 0)?, false, 0)??;
+    let request = asked()?;
+    let caller = ActorNo::new(0).ok_or("caller")?;
+    let plan = plan(alloc, Version::One, link(Test::Whole, 0)?, None, false, 0)??;
     let mut actor = Actor::new(alloc, &plan, caller)?;
     refuses(&rt, &mut actor, &plan, &reserve(&request), Reply::Denied)?;
     asks(&rt, &mut actor, &plan, &reserve(&request), OFFER)
@@ -207,12 +222,9 @@ fn a_reply_of_another_ask_changes_nothing(rt: HostRuntime) -> Result<(), Fail> {
 #[test]
 fn a_caller_opens_its_request(rt: HostRuntime) -> Result<(), Fail> {
     let alloc = rt.alloc();
-    let RequestEntry {
-        caller,
-        request,
-        ..
-    } = request()?;
-    let plan = plan(alloc, Version::One, link(Test::Whole, 0)?, false, 0)??;
+    let request = asked()?;
+    let caller = ActorNo::new(0).ok_or("caller")?;
+    let plan = plan(alloc, Version::One, link(Test::Whole, 0)?, None, false, 0)??;
     let mut actor = Actor::new(alloc, &plan, caller)?;
     asks(&rt, &mut actor, &plan, &reserve(&request), OFFER)?;
     assert!(rt; actor.verdict(request.chan).is_none());

@@ -1,6 +1,6 @@
 //! The versions of the scenario's language.
 ghost use Rattle.std.specs.Prelude.{◌≡◌};
-ghost use Rattle.call_script.specs.Versions.{test_of, has_best_effort};
+ghost use Rattle.call_script.specs.Versions.{test_of, has_best_effort, has_found_routes};
 
 use traffic_contract::Test;
 
@@ -13,6 +13,8 @@ pub enum Version {
     Two,
     /// As version two; links may take best-effort packets, and callers may pour them.
     Three,
+    /// As version three; the route of a request may be found between two nodes.
+    Four,
 }
 
 impl Version {
@@ -22,7 +24,7 @@ impl Version {
     {
         match self {
             Version::One => Test::Whole,
-            Version::Two | Version::Three => Test::Least,
+            Version::Two | Version::Three | Version::Four => Test::Least,
         }
     }
 
@@ -32,7 +34,17 @@ impl Version {
     {
         match self {
             Version::One | Version::Two => false,
-            Version::Three => true,
+            Version::Three | Version::Four => true,
+        }
+    }
+
+    /// Whether a request of its plans may have a route that was found.
+    pub fn has_found_routes(&self) -> bool
+        ensures { result ≡ has_found_routes self.now }
+    {
+        match self {
+            Version::One | Version::Two | Version::Three => false,
+            Version::Four => true,
         }
     }
 }

@@ -91,7 +91,7 @@ sent-fresh rate t packets head departed =
     let leaves = head.leaves in
     omega (arith, left, leaves)
 
--- ---- counting a front
+-- ---- counting a prefix
 
 count-front : (test : Arrival → Bool) (own : List Arrival) (index : ℕ) → index ≤ length own → ((k : ℕ) (p : Arrival) → slice_get own k ≡ Some p → k < index → test p ≡ true) → ((k : ℕ) (p : Arrival) → slice_get own k ≡ Some p → index ≤ k → test p ≡ false) → length (filter test own) ≡ index
 count-front test [] zero upto yes' no' = refl

@@ -2,6 +2,7 @@ pub mod LinkFacts
 pub mod TellingFacts
 pub mod LineFacts
 pub mod TickFacts
+pub mod RouteFacts
 pub mod SourceFacts
 pub mod ChannelTallies
 pub mod DelayFacts

@@ -1,4 +1,4 @@
--- The text of a list is told item by item. What was told before a fault is a front of it.
+-- The text of a list is told item by item. What was told before a fault is a prefix of it.
 use Rattle.std.proofs.Common.{◌≡◌, ℕ, ◌+◌, ◌<◌, ◌≤◌, Option, Result, Ok, Err, List, [], ◌∷◌, ◌++◌, length, get_or, take, drop, refl, sym, ap, ◌∙◌, subst, append_assoc, append-nil, arith}
 use Rattle.std.proofs.lemmas.List.{take_more, take_all, take-append-drop}
 use Rattle.std.specs.List.{flat_map}
@@ -101,7 +101,7 @@ both-told (Err why) a b c gathered gathered' gathered'' f f' f'' text more first
 
 -- ---- the end of a text
 
--- all of a text is written, or a front of it
+-- all of a text is written, or a prefix of it
 pub ended : (a b c : Option (List ℕ)) (gathered : List ℕ) (f f' f'' : ℕ) (text : List ℕ) (result : Result (Unit {0}) ReportFault) → Gathers a b [] gathered text × (f ≤ f') → Tells result b c gathered [] f' f'' [] → WritesText result a c f f'' text
 ended a b c gathered f f' f'' text (Ok done) told last = (subst (λ t. Appends a c t) (sym (append-nil _) ∙ (gathers-on a b c [] gathered [] text [] told.0 last.0).joined ∙ append-nil text) (gathers-on a b c [] gathered [] text [] told.0 last.0).appends, omega (arith, told.1, last.1))
 ended a b c gathered f f' f'' text (Err why) told last =

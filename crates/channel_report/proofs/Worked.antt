@@ -1,6 +1,6 @@
 -- A worked report, computed from the definitions alone: one caller opens a channel over one link and sends a packet on it, and
 -- the plane makes three rounds. The packet is on the link in ticks 0 and 1, and crosses it in 2 more.
-use Rattle.std.proofs.Common.{◌≡◌, ℕ, List, [], ◌∷◌, ◌++◌, codes, refl, lit≤, lit<}
+use Rattle.std.proofs.Common.{None, ◌≡◌, ℕ, List, [], ◌∷◌, ◌++◌, codes, refl, lit≤, lit<}
 use Rattle.std.specs.Prelude.{Bool, true, false, reverse}
 use Rattle.std.specs.Fmt.{digits}
 use Rattle.net_units.specs.declared.numbers.ActorNo.{ActorNo}
@@ -86,6 +86,7 @@ plan = parts_of One
         control = Rate;
         delay = 12;
       };
+      found = None;
     } ∷ [])
     (record { name = codes "k1"; ops = Open chan ∷ Send chan 1 10 2 ∷ [] } ∷ [])
     3 0

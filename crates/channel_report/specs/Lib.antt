@@ -2,6 +2,7 @@ pub mod Lines
 pub mod Verdicts
 pub mod Links
 pub mod Report
+pub mod Routes
 pub mod Schedule
 pub mod Telling
 pub mod Tallies

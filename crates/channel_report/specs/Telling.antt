@@ -12,12 +12,12 @@ abbrev pub IsWhy : ReportFault → ℕ → ℕ → Type 0
 IsWhy Memory faults faults' = faults ≤ faults'
 IsWhy WriteFault faults faults' = FaultsRise faults faults'
 
--- all of the text was gathered after what was gathered before; or a front of both was written
+-- all of the text was gathered after what was gathered before; or a prefix of both was written
 abbrev pub Tells : {X : Type 0} → Result X ReportFault → Option (List ℕ) → Option (List ℕ) → List ℕ → List ℕ → ℕ → ℕ → List ℕ → Type 0
 Tells (Ok done) written written' gathered gathered' faults faults' text = Gathers written written' gathered gathered' text × (faults ≤ faults')
 Tells (Err why) written written' gathered gathered' faults faults' text = WritesPart written written' (gathered ++ text) × IsWhy why faults faults'
 
--- the text was written whole, or a front of it
+-- the text was written whole, or a prefix of it
 abbrev pub WritesText : {X : Type 0} → Result X ReportFault → Option (List ℕ) → Option (List ℕ) → ℕ → ℕ → List ℕ → Type 0
 WritesText (Ok done) written written' faults faults' text = Appends written written' text × (faults ≤ faults')
 WritesText (Err why) written written' faults faults' text = WritesPart written written' text × IsWhy why faults faults'

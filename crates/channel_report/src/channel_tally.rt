@@ -33,7 +33,7 @@ impl ChannelTally {
         }
     }
 
-    // KeepsTally what an entry does for this source, where the link's clock was this.
+    // Keeps what an entry does for this source, where the link's clock was this.
     pub(crate) fn keep(&mut self, alloc: Global, clock: u64, act: &Act) -> Result<(), OutOfMemory>
         requires few { self.old.refused < 2 ^ 62 }
         ensures { OnOk result ((number : ℕ) (chan : Chan) (planned : List ℕ) (refused : ℕ) → chan_of act.now ≡ Some chan → channel_number chan ≡ number → KeepsTally planned refused self.old

@@ -6,8 +6,8 @@ use thiserror::Error;
 /// Why a report wasn't written whole.
 #[derive(Clone, Copy, Debug, PartialEq, Eq, Error)]
 pub enum ReportFault {
-    /// Memory was wanted.
-    #[error("memory was wanted")]
+    /// Out of memory.
+    #[error("out of memory")]
     Memory,
     /// The sink failed.
     #[error("the sink failed")]

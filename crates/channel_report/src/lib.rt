@@ -17,6 +17,7 @@ mod link_lines;
 mod link_tally;
 pub mod report;
 mod request_lines;
+mod route_lines;
 pub mod schedule;
 mod source_act;
 pub mod summary;

@@ -7,6 +7,7 @@ ghost use Rattle.run_record.specs.Rows.{rows_of};
 ghost use Rattle.channel_report.specs.Channels.{channel_lines};
 ghost use Rattle.channel_report.specs.Findings.{AreFound};
 ghost use Rattle.channel_report.specs.Report.{end_line, link_lines, report_of, request_lines, table_if};
+ghost use Rattle.channel_report.specs.Routes.{route_lines};
 ghost use Rattle.channel_report.specs.Telling.{Tells, WritesText};
 
 use crate::channel_lines::tell_channels;
@@ -15,6 +16,7 @@ use crate::fault::ReportFault;
 use crate::findings::Findings;
 use crate::link_lines::tell_links;
 use crate::request_lines::tell_requests;
+use crate::route_lines::tell_routes;
 use crate::table::tell_table;
 use crate::telling::finish;
 use byte_ends::{Gather, Sink};
@@ -22,9 +24,9 @@ use call_script::Plan;
 use run_record::Record;
 use std::alloc::Global;
 
-/// WritesText the report of a run of this plan: its requests, its established channels, its links, the number of its steps, and, where it is asked for, the
-/// table of its packets. A write fault comes only where
-/// the sink's count of faults rose in this call. Where the report isn't written whole, a front of it is.
+/// Writes the report of a run of this plan: its requests, the routes that were found, its established channels, its links, the
+/// number of its steps, and, where it is asked for, the table of its packets. A write fault comes only where the sink's count of
+/// faults rose in this call. Where the report isn't written whole, a prefix of it is.
 pub fn write_report<K: Sink>(
     alloc: Global,
     plan: &Plan,
@@ -54,6 +56,22 @@ fn tell_report<K: Sink>(
     ensures { (entries : List Step) → AreFound plan.now entries findings.now → Tells result (K.written sink.old) (K.written sink.new) gather.old gather.new (K.faults sink.old) (K.faults sink.new) (report_of plan.now entries packets) }
 {
     tell_requests(alloc, plan, &findings.actors, gather, sink)?;
+    tell_found(alloc, plan, findings, packets, gather, sink)
+}
+
+// Tells the lines of the routes that were found, and those after them.
+fn tell_found<K: Sink>(
+    alloc: Global,
+    plan: &Plan,
+    findings: &Findings,
+    packets: bool,
+    gather: &mut Gather,
+    sink: &mut K,
+) -> Result<(), ReportFault>
+    requires { (entries : List Step) × AreFound plan.now entries findings.now }
+    ensures { (entries : List Step) → AreFound plan.now entries findings.now → Tells result (K.written sink.old) (K.written sink.new) gather.old gather.new (K.faults sink.old) (K.faults sink.new) (route_lines plan.now.links plan.now.requests ++ (channel_lines plan.now (rows_of entries) (reverse entries) ++ (link_lines plan.now (reverse entries) ++ (end_line (length entries) ++ table_if packets plan.now entries)))) }
+{
+    tell_routes(alloc, plan.links(), plan.requests(), gather, sink)?;
     tell_carried(alloc, plan, findings, packets, gather, sink)
 }
 

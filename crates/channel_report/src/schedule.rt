@@ -15,8 +15,8 @@ use call_script::{Do, Plan, Schedule};
 use net_units::ActorNo;
 use std::alloc::{AllocError, Global};
 
-/// WritesText the `do` lines of a schedule whose actors are those of the plan. A write fault comes only where the sink's count of
-/// faults rose in this call. Where the lines aren't all written, a front of them is.
+/// Writes the `do` lines of a schedule whose actors are those of the plan. A write fault comes only where the sink's count of
+/// faults rose in this call. Where the lines aren't all written, a prefix of them is.
 pub fn write_schedule<K: Sink>(
     alloc: Global,
     plan: &Plan,

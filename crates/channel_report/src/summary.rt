@@ -55,9 +55,9 @@ impl Sums {
     }
 }
 
-/// WritesText the summary of a run of this plan, which was made from this number with so many requests: how many requests were accepted and how
+/// Writes the summary of a run of this plan, which was made from this number with so many requests: how many requests were accepted and how
 /// many denied, how many packets were delivered, and how many steps the run has. A write fault comes only where the sink's count of faults rose in
-/// this call. Where the line isn't written whole, a front of it is.
+/// this call. Where the line isn't written whole, a prefix of it is.
 pub fn write_summary<K: Sink>(
     alloc: Global,
     number: u32,
@@ -75,7 +75,7 @@ pub fn write_summary<K: Sink>(
     put_line(sink, line.as_bytes())
 }
 
-// WritesText a line.
+// Writes a line.
 fn put_line<K: Sink>(sink: &mut K, line: &[u8]) -> Result<(), ReportFault>
     ensures { WritesText result (K.written sink.old) (K.written sink.new) (K.faults sink.old) (K.faults sink.new) line.now }
 {

@@ -9,7 +9,7 @@ ghost use Rattle.interleave_core.specs.Standing.{CoreStands};
 use super::*;
 use byte_ends::MemSink;
 use call_script::{
-    CallerEntry, Do, Dos, LinkEntry, Op, Ops, Plan, RequestEntry, Schedule, Version,
+    CallerEntry, Do, Dos, LinkEntry, Op, Ops, Plan, RequestEntry, Schedule, Version, push_request,
 };
 use hop_reservation::{Hop, Route};
 use interleave_core::Core;
@@ -51,7 +51,8 @@ fn link() -> Result<LinkEntry, Fail>
     })
 }
 
-fn request() -> Result<RequestEntry, Fail>
+// A request whose route is given, or was found between these nodes.
+fn request(found: Option<(Name, Name)>) -> Result<RequestEntry, Fail>
     ensures { IfOk result IsThatRequest }
 {
     let hop = Hop {
@@ -69,6 +70,7 @@ fn request() -> Result<RequestEntry, Fail>
             control: Control::Rate,
             delay: 12,
         },
+        found,
     })
 }
 
@@ -94,12 +96,12 @@ fn caller(alloc: Global, chan: ChanNo) -> Result<CallerEntry, Fail>
 
 // A plan of that link, that request and that caller, with 30 rounds.
 fn plan(alloc: Global) -> Result<Plan, Fail> {
-    let request = request()?;
+    let request = request(None)?;
     let caller = caller(alloc, request.request.chan)?;
     let mut links = Vec::new(alloc);
     links.push(link()?)?;
     let mut requests = Vec::new(alloc);
-    requests.push(request)?;
+    push_request(&mut requests, request)?;
     let mut callers = Vec::new(alloc);
     callers.push(caller)?;
     Ok(Plan::new(alloc, Version::One, links, requests, callers, 30, 0)?)

@@ -127,6 +127,7 @@ may-open number size caller n name next =
     let both = length-append (callers_to number size caller) (caller_of name (ops_far number size caller n) ∷ []) in
     let who = actor-is caller (omega (arith, next.caller_few)) in
     record {
+      version = refl;
       name =
           new-entries (requests_to number size caller) (own_requests number (first_of size caller) caller n) _
           (requests-new number size n caller (omega (arith, next.within, next.few)) next.few (omega (arith, is)))

@@ -2,7 +2,7 @@
 -- script of a caller opens each of its requests and sends on it; and from the third one on it closes after that the request two
 -- before it. Requests and links are counted from 0 here, and from 1 in their names. Channels have the order in which the callers,
 -- one after the other, open them.
-use Rattle.std.specs.Prelude.{ℕ, zero, suc, ◌+◌, ◌%◌, min, refl, Bool, nat_eq, if◌then◌else◌, List, [], ◌∷◌, ◌++◌, take, drop}
+use Rattle.std.specs.Prelude.{None, ℕ, zero, suc, ◌+◌, ◌%◌, min, refl, Bool, nat_eq, if◌then◌else◌, List, [], ◌∷◌, ◌++◌, take, drop}
 use Rattle.std.specs.Fmt.{decimal}
 use Rattle.std.proofs.Common.{lit<, lit≤}
 use Rattle.std.proofs.Math.Nat.{min-le_left, lt_of_le_of_lt}
@@ -87,6 +87,7 @@ request_entry_of load n caller chan = record {
     control = load.control;
     delay = load.delay;
   };
+  found = None;
 }
 
 -- ---- whose a request is

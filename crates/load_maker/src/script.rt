@@ -1,5 +1,5 @@
 //! The requests of a caller, and what it does.
-ghost use Rattle.std.specs.Prelude.{◌≡◌, ◌+◌, ◌<◌, ◌≤◌, ◌++◌, IfOk, OnOk, length};
+ghost use Rattle.std.specs.Prelude.{◌≡◌, ◌+◌, ◌<◌, ◌≤◌, ◌++◌, ◌∷◌, [], IfOk, OnOk, length};
 ghost use Rattle.net_units.specs.Limits.{most_channels, most_requests};
 ghost use Rattle.net_units.specs.Numbers.{actor_at, channel_at};
 ghost use Rattle.load_maker.specs.Made.{request_entry_of, ops_for, own_ops, own_requests, request_name};
@@ -7,7 +7,7 @@ ghost use Rattle.load_maker.specs.Made.{request_entry_of, ops_for, own_ops, own_
 use crate::draws::Draws;
 use crate::links::route;
 use crate::load::Load;
-use call_script::{Op, RequestEntry};
+use call_script::{Op, RequestEntry, push_request};
 use net_units::{ActorNo, ChanNo, Name, OutOfMemory};
 use setup_protocol::Request;
 use std::alloc::Global;
@@ -35,39 +35,46 @@ pub(crate) fn script(
         let load = draws.load();
         if n % 4 == u32::from(caller) {
             let chan = requests.len();
-            requests.push(request(alloc, &load, n, caller, chan)?)?;
+            add_request(alloc, requests, &load, n, caller, chan)?;
             push_ops(&mut ops, &load, first, chan - first)?;
         }
     }
     Ok(ops)
 }
 
-// The request of this number, with its load, its caller and its channel.
-fn request(
+// Adds the request of this number, with its load, its caller and its channel.
+fn add_request(
     alloc: Global,
+    requests: &mut Vec<RequestEntry>,
     load: &Load,
     number: u32,
     caller: u8,
     chan: usize,
-) -> Result<RequestEntry, OutOfMemory>
+) -> Result<(), OutOfMemory>
     requires some { 1 ≤ load.now.hops }
     requires within { load.now.first + load.now.hops ≤ 4 }
     requires number { number < most_requests }
     requires caller { caller < 4 }
     requires chan { chan < most_channels }
-    ensures { IfOk result (λ entry. entry ≡ request_entry_of load.now number caller chan) }
+    ensures { OnOk result (requests.new.items ≡ requests.old.items ++ request_entry_of load.now number caller chan ∷ []) }
 {
-    Ok(RequestEntry {
-        name: request_name(alloc, number)?,
-        caller: actor(caller),
-        request: Request {
-            chan: channel(chan),
-            route: route(load.first, load.hops),
-            contract: load.contract,
-            control: load.control,
-            delay: load.delay,
+    let name = request_name(alloc, number)?;
+    push_request(
+        requests,
+        RequestEntry {
+            name,
+            caller: actor(caller),
+            request: Request {
+                chan: channel(chan),
+                route: route(load.first, load.hops),
+                contract: load.contract,
+                control: load.control,
+                delay: load.delay,
+            },
+            found: None,
         },
-    })
+    )?;
+    Ok(())
 }
 
 // Adds what a caller does for the request at this place of its own, the first of which has that channel.

@@ -15,10 +15,10 @@ use Rattle.run_record.specs.declared.rows.HopRow.{HopRow}
 -- ---- lists in order
 
 -- none of these is less
-abbrev NoneBelow : {X : Type 0} → (X → X → Bool) → X → List X → Type 0
+abbrev pub NoneBelow : {X : Type 0} → (X → X → Bool) → X → List X → Type 0
 NoneBelow lt x ys = Each (λ y. lt y x ≡ false) ys
 
-abbrev Ascends : {X : Type 0} → (X → X → Bool) → List X → Type 0
+abbrev pub Ascends : {X : Type 0} → (X → X → Bool) → List X → Type 0
 Ascends lt [] = Unit {0}
 Ascends lt (x ∷ xs) = NoneBelow lt x xs × Ascends lt xs
 
@@ -104,7 +104,7 @@ each-put P row (other ∷ rows) here all = elim (cases_Bool (comes_before other 
   | inr after ↦ rw (after) (here, all)
 ]
 
-each-after : (o : IsStrictWeakOrder comes_before) (row other : HopRow) (rows : List HopRow) → comes_before other row ≡ false → NoneBelow comes_before other rows → NoneBelow comes_before row rows
+pub each-after : (o : IsStrictWeakOrder comes_before) (row other : HopRow) (rows : List HopRow) → comes_before other row ≡ false → NoneBelow comes_before other rows → NoneBelow comes_before row rows
 each-after o row other [] after all = tt
 each-after o row other (next ∷ rows) after all = (o.chain next other row all.0 after, each-after o row other rows after all.1)
 
@@ -116,7 +116,7 @@ put-ascends o row (other ∷ rows) up = elim (cases_Bool (comes_before other row
   | inr after ↦ rw (after) ((after, each-after o row other rows after up.0), up)
 ]
 
-order-ascends : (o : IsStrictWeakOrder comes_before) (rows : List HopRow) → Ascends comes_before (in_order rows)
+pub order-ascends : (o : IsStrictWeakOrder comes_before) (rows : List HopRow) → Ascends comes_before (in_order rows)
 unfolding in_order
 order-ascends o [] = tt
 order-ascends o (row ∷ rows) = put-ascends o row (in_order rows) (order-ascends o rows)

@@ -2,3 +2,4 @@ pub mod Entries
 pub mod Runs
 pub mod Rows
 pub mod Hops
+pub mod SmallRows

@@ -32,7 +32,7 @@ value_more bs i d h =
 pub value_below : (bs : List ℕ) → all_ascii_digits bs ≡ true → length bs ≤ 18 → digits_value 10 bs < 10 ^ 18
 value_below bs d h = digits_value_short numerals bs 18 d h
 
--- and so does each front of them
+-- and so does each prefix of them
 pub value_so_far : (bs : List ℕ) (i : ℕ) → all_ascii_digits bs ≡ true → length bs ≤ 18 → digits_value 10 (take i bs) < 10 ^ 18
 value_so_far bs i d h =
     omega (arith, value_below bs d h, digits_value-take-le 10 bs i (omega arith))

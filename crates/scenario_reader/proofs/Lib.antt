@@ -2,6 +2,10 @@ pub mod FormFacts
 pub mod DecimalFacts
 pub mod NameFacts
 pub mod NamedFacts
+pub mod NodeFacts
+pub mod NodeSteps
+pub mod FoundNodes
+pub mod LeastRoutes
 pub mod HopFacts
 pub mod ShapeFacts
 pub mod FormText

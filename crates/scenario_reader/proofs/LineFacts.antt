@@ -10,7 +10,7 @@ use Rattle.hop_reservation.specs.declared.route.Hop.{Hop}
 use Rattle.call_script.specs.declared.entries.LinkEntry.{LinkEntry}
 use Rattle.call_script.specs.declared.entries.RequestEntry.{RequestEntry}
 use Rattle.scenario_reader.specs.Fields.{line_of, ended_line}
-use Rattle.scenario_reader.specs.PlanText.{best_fields, bounds_fields, route_names, with_name, contract_fields, delay_fields, open_fields, link_text, spaced, link_line_front}
+use Rattle.scenario_reader.specs.PlanText.{best_fields, bounds_fields, route_names, way_fields, with_name, contract_fields, delay_fields, open_fields, link_text, spaced, link_line_front}
 
 -- the bounds from one on: that bound, and those after it
 pub bounds-next : (bounds : List ℕ) (i j : ℕ) (before after all : List ℕ) → i < length bounds → j ≡ i + 1 → after ≡ before ++ 32 ∷ decimal (get_or bounds i 0) → before ++ spaced (map decimal (drop i bounds)) ≡ all → after ++ spaced (map decimal (drop j bounds)) ≡ all
@@ -66,11 +66,11 @@ link-line entry = three-parts (codes "link")
     (entry.name ∷ entry.from ∷ entry.to ∷ codes "rate" ∷ decimal entry.shape.rate ∷ codes "cap" ∷ decimal entry.shape.cap ∷ codes "prop" ∷ decimal entry.shape.prop ∷ codes "buffer" ∷ decimal entry.shape.buffer ∷ [])
     (best_fields entry.shape.best) (bounds_fields entry.shape.bounds)
 
-pub open-line : (links : List LinkEntry) (entry : RequestEntry) (line : List ℕ) → line ≡ codes "open" ++ spaced (entry.name ∷ codes "route" ∷ [])
-    → (((line ++ spaced (route_names links entry.request.route)) ++ spaced (contract_fields entry.request.contract)) ++ spaced (delay_fields entry.request)) ++ 10 ∷ [] ≡ ended_line (open_fields links entry)
+pub open-line : (links : List LinkEntry) (entry : RequestEntry) (line : List ℕ) → line ≡ codes "open" ++ 32 ∷ entry.name
+    → (((line ++ spaced (way_fields links entry.request.route entry.found)) ++ spaced (contract_fields entry.request.contract)) ++ spaced (delay_fields entry.request)) ++ 10 ∷ [] ≡ ended_line (open_fields links entry)
 open-line links entry line begins =
-    let front = entry.name ∷ codes "route" ∷ [] in
-    let route = route_names links entry.request.route in
-    ap (λ (l : List ℕ). (((l ++ spaced route) ++ spaced (contract_fields entry.request.contract)) ++ spaced (delay_fields entry.request)) ++ 10 ∷ []) begins
+    let front = entry.name ∷ [] in
+    let route = way_fields links entry.request.route entry.found in
+    ap (λ (l : List ℕ). (((l ++ spaced route) ++ spaced (contract_fields entry.request.contract)) ++ spaced (delay_fields entry.request)) ++ 10 ∷ []) (begins ∙ ap (λ (rest : List ℕ). codes "open" ++ rest) (sym (append-nil (32 ∷ entry.name))))
     ∙ ap (λ (l : List ℕ). ((l ++ spaced (contract_fields entry.request.contract)) ++ spaced (delay_fields entry.request)) ++ 10 ∷ []) (append_assoc (codes "open") (spaced front) (spaced route) ∙ ap (λ (rest : List ℕ). codes "open" ++ rest) (sym (spaced-append front route)))
     ∙ three-parts (codes "open") (front ++ route) (contract_fields entry.request.contract) (delay_fields entry.request)

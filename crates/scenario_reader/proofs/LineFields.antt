@@ -1,5 +1,5 @@
 -- The lines of a plan are made of fields.
-use Rattle.std.proofs.Common.{◌≡◌, ℕ, suc, ◌<◌, ◌≤◌, ◌^◌, Bool, true, false, nat_eq, List, [], ◌∷◌, ◌++◌, length, map, get_or, Option, decimal, codes, refl, ◌∙◌, ap, arith}
+use Rattle.std.proofs.Common.{Some, None, ◌≡◌, ℕ, suc, ◌<◌, ◌≤◌, ◌^◌, Bool, true, false, nat_eq, List, [], ◌∷◌, ◌++◌, length, map, get_or, Option, decimal, codes, refl, ◌∙◌, ap, arith}
 use Rattle.std.specs.Prelude.{if◌then◌else◌}
 use Rattle.std.proofs.lemmas.Bool.{and_from, and_parts}
 use Rattle.std.proofs.lemmas.List.Folds.{list_all-append}
@@ -15,9 +15,10 @@ use Rattle.call_script.specs.Rules.{request_in_range, control_in_range}
 use Rattle.call_script.specs.declared.entries.LinkEntry.{LinkEntry}
 use Rattle.call_script.specs.declared.entries.RequestEntry.{RequestEntry}
 use Rattle.call_script.proofs.RuleFacts.{from-low}
+use Rattle.scenario_reader.specs.BothWays.{AreNodesNamed}
 use Rattle.scenario_reader.specs.BothWays.{HasNames}
 use Rattle.scenario_reader.specs.Fields.{is_field, are_fields}
-use Rattle.scenario_reader.specs.PlanText.{best_fields, bounds_fields, link_fields, caller_fields, with_name, route_names, contract_fields, control_fields, delay_fields, open_fields, send_fields, close_fields, pour_fields, rounds_fields, tail_fields}
+use Rattle.scenario_reader.specs.PlanText.{best_fields, bounds_fields, link_fields, caller_fields, with_name, route_names, way_fields, contract_fields, control_fields, delay_fields, open_fields, send_fields, close_fields, pour_fields, rounds_fields, tail_fields}
 use Rattle.scenario_reader.proofs.FieldText.{name_field, number_field}
 use Rattle.scenario_reader.proofs.LinesBack.{ArePackets}
 use Rattle.scenario_reader.proofs.OpenBack.{IsHopHere}
@@ -63,16 +64,20 @@ control_is_fields : (control : Control) → control_in_range control ≡ true �
 control_is_fields Rate range = refl
 control_is_fields (Jitter bound) range = (let within = from-low 1 67108864 bound range in rw (number_field bound (omega (arith, within.1))) refl)
 
-pub open_is_line : (links : List LinkEntry) (entry : RequestEntry) → is_name entry.name ≡ true → Each (IsHopHere links) entry.request.route → IsContract entry.request.contract → request_in_range entry ≡ true → are_fields (open_fields links entry) ≡ true
-open_is_line links entry is here c range =
+way_is_fields : (links : List LinkEntry) (route : List Hop) (found : Option (List ℕ × List ℕ)) → AreNodesNamed found → Each (IsHopHere links) route → are_fields (way_fields links route found) ≡ true
+way_is_fields links route None named here = route_fields links route here
+way_is_fields links route (Some (from, to)) named here = rw (name_field from named.0, name_field to named.1) refl
+
+pub open_is_line : (links : List LinkEntry) (entry : RequestEntry) → is_name entry.name ≡ true → AreNodesNamed entry.found → Each (IsHopHere links) entry.request.route → IsContract entry.request.contract → request_in_range entry ≡ true → are_fields (open_fields links entry) ≡ true
+open_is_line links entry is named here c range =
     let parts = and_parts (is_within 1 67108864 entry.request.delay) (control_in_range entry.request.control) range in
     let delay = from-low 1 67108864 entry.request.delay parts.0 in
     let contract : are_fields (contract_fields entry.request.contract) ≡ true =
     rw (number_field entry.request.contract.xmin (omega (arith, c.xave_least, c.xave_most)), number_field entry.request.contract.xave (omega (arith, c.xave_most)), number_field entry.request.contract.interval (omega (arith, c.interval_most)), number_field entry.request.contract.smax (omega (arith, c.smax_most))) refl in
     let bound : are_fields (delay_fields entry.request) ≡ true = rw (number_field entry.request.delay (omega (arith, delay.1)), control_is_fields entry.request.control parts.1) refl in
-    both_fields (codes "open" ∷ entry.name ∷ codes "route" ∷ []) (route_names links entry.request.route ++ (contract_fields entry.request.contract ++ delay_fields entry.request))
+    both_fields (codes "open" ∷ entry.name ∷ []) (way_fields links entry.request.route entry.found ++ (contract_fields entry.request.contract ++ delay_fields entry.request))
     (rw (name_field entry.name is) refl)
-    (both_fields (route_names links entry.request.route) (contract_fields entry.request.contract ++ delay_fields entry.request) (route_fields links entry.request.route here) (both_fields (contract_fields entry.request.contract) (delay_fields entry.request) contract bound))
+    (both_fields (way_fields links entry.request.route entry.found) (contract_fields entry.request.contract ++ delay_fields entry.request) (way_is_fields links entry.request.route entry.found named here) (both_fields (contract_fields entry.request.contract) (delay_fields entry.request) contract bound))
 
 pub send_is_line : (count gap size : ℕ) (entry : RequestEntry) → is_name entry.name ≡ true → ArePackets count gap size → are_fields (send_fields count gap size entry) ≡ true
 send_is_line count gap size entry is are = rw (name_field entry.name is, number_field count (omega (arith, are.count_most)), number_field gap (omega (arith, are.gap_most)), number_field size (omega (arith, are.size_most))) refl

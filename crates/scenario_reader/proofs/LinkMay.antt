@@ -13,7 +13,7 @@ use Rattle.call_script.specs.Rules.{link_names, caller_names, link_has_version}
 use Rattle.call_script.specs.Versions.{test_of, has_best_effort, is_test}
 use Rattle.call_script.specs.declared.entries.LinkEntry.{LinkEntry}
 use Rattle.call_script.specs.declared.version.Version.{Version}
-use Rattle.call_script.specs.declared.version.Version.TheVariants.{One, Two, Three}
+use Rattle.call_script.specs.declared.version.Version.TheVariants.{One, Two, Three, Four}
 use Rattle.scenario_reader.specs.Causes.{unless}
 use Rattle.scenario_reader.specs.Drafts.{Said, parts_said}
 use Rattle.scenario_reader.specs.Entries.{LinkNumbers, has_rate, has_room, has_bounds, shape_with, shape_where, shape_of}
@@ -76,6 +76,7 @@ no_best Two fields e = plain fields (or_cases (has_form plain_form fields) false
   plain fields (inl is) = rw (plain_best fields is) refl
   plain fields (inr e) = cc
 no_best Three fields e = refl
+no_best Four fields e = refl
 
 -- ---- links
 

@@ -1,5 +1,5 @@
 -- The line of a plan's open passes, and says its request.
-use Rattle.std.proofs.Common.{◌≡◌, ℕ, suc, zero, ◌+◌, ◌<◌, ◌≤◌, true, false, nat_lt, List, [], ◌∷◌, ◌++◌, length, take, drop, Option, Some, None, decimal, codes, refl, sym, ◌∙◌, ap, subst, arith}
+use Rattle.std.proofs.Common.{◌≡◌, ℕ, suc, zero, ◌+◌, ◌<◌, ◌≤◌, true, false, Bool, ◌||◌, nat_lt, List, [], ◌∷◌, ◌++◌, length, take, drop, Option, Some, None, decimal, codes, refl, sym, ◌∙◌, ap, subst, arith}
 use Rattle.std.specs.Prelude.{is_some, is_none}
 use Rattle.std.proofs.lemmas.Bool.{le-leb, lt-ltb, and_from, and_parts, or_left, or_right}
 use Rattle.std.specs.List.{slice_get}
@@ -16,7 +16,9 @@ use Rattle.hop_reservation.proofs.RouteFacts.{none-from_route}
 use Rattle.link_steps.specs.Lists.{Each}
 use Rattle.setup_protocol.specs.declared.request.Control.{Control}
 use Rattle.setup_protocol.specs.declared.request.Control.TheVariants.{Rate, Jitter}
-use Rattle.call_script.specs.Rules.{request_names, is_joined, request_in_range, control_in_range}
+use Rattle.call_script.specs.Versions.{has_found_routes}
+use Rattle.call_script.specs.declared.version.Version.{Version}
+use Rattle.call_script.specs.Rules.{request_has_version, request_names, is_joined, request_in_range, control_in_range}
 use Rattle.call_script.specs.declared.entries.LinkEntry.{LinkEntry}
 use Rattle.call_script.specs.declared.entries.RequestEntry.{RequestEntry}
 use Rattle.call_script.proofs.RuleFacts.{from-low}
@@ -26,12 +28,15 @@ use Rattle.scenario_reader.specs.Drafts.{Said, last_caller, link_named, route_ov
 use Rattle.scenario_reader.specs.Entries.{hop_of}
 use Rattle.scenario_reader.specs.Fields.{field_at}
 use Rattle.scenario_reader.specs.Forms.{is_word, is_among, route_length, has_form, new_name_rule, number_rule}
-use Rattle.scenario_reader.specs.OpenLine.{is_open_line, route_hops, route_fields, after_route, has_jitter, control_in, contract_told, contract_of, hops_in, route_names_rule, terms_rule, jitter_rule, open_fields_rule, is_way, open_limits_rule, open_rule, request_said}
-use Rattle.scenario_reader.specs.PlanText.{with_name, route_names, control_fields, delay_fields, open_fields}
+use Rattle.scenario_reader.specs.OpenLine.{rate_form, jitter_form, is_found_line, is_open_line, is_found, nodes_in, route_in, way_fields_rule, way_rule, route_hops, route_fields, after_route, has_jitter, control_in, contract_told, contract_of, hops_in, route_names_rule, terms_rule, jitter_rule, open_fields_rule, is_way, open_limits_rule, open_rule, request_said}
+use Rattle.scenario_reader.specs.PlanText.{with_name, route_names, way_fields, contract_fields, control_fields, delay_fields, open_fields}
 use Rattle.scenario_reader.specs.declared.cause.Cause.TheVariants as cause
 use Rattle.scenario_reader.specs.declared.form.Keyword.TheVariants as word
 use Rattle.scenario_reader.specs.declared.form.Part.{Part}
 use Rattle.scenario_reader.specs.declared.form.Part.TheVariants as part
+use Rattle.scenario_reader.specs.BothWays.{AreNodesNamed, IsFoundRoute}
+use Rattle.scenario_reader.specs.Nodes.{AreNumbered, is_node, route_between}
+use Rattle.scenario_reader.proofs.FoundNodes.{found-nodes}
 use Rattle.scenario_reader.proofs.ShapeFacts.{actor_is, channel_is}
 use Rattle.scenario_reader.proofs.NumberText.{value-decimal, decimal_passes}
 use Rattle.scenario_reader.proofs.RulesBack.{pass_all, unless_holds, new_name_back, used_name_back, name_no_word}
@@ -74,8 +79,9 @@ route_again links (hop ∷ hops) here =
 
 -- ---- the fields of an open line
 
-abbrev line_with : List ℕ → List (List ℕ) → List (List ℕ) → List (List ℕ)
-line_with name names after = codes "open" ∷ name ∷ codes "route" ∷ (names ++ codes "contract" ∷ after)
+-- with this word before the links or the nodes
+abbrev line_with : List ℕ → List ℕ → List (List ℕ) → List (List ℕ) → List (List ℕ)
+line_with way name names after = codes "open" ∷ name ∷ way ∷ (names ++ codes "contract" ∷ after)
 
 hops_count : (names after : List (List ℕ)) → NoWords names → route_length (names ++ codes "contract" ∷ after) ≡ length names
 unfolding NoWords
@@ -95,20 +101,20 @@ at_after [] after place k same = ap (field_at after) (omega (arith, same))
 at_after (name ∷ names) after place zero same = absurd (omega (arith, same))
 at_after (name ∷ names) after place (suc k) same = at_after names after place k (omega (arith, same))
 
-record IsLine (name : List ℕ) (names after : List (List ℕ)) : Type 0 where
-  hops : route_hops (line_with name names after) ≡ length names
-  route : route_fields (line_with name names after) ≡ names
-  fields : (place : ℕ) → after_route (line_with name names after) place ≡ field_at (codes "contract" ∷ after) place
+record IsLine (way name : List ℕ) (names after : List (List ℕ)) : Type 0 where
+  hops : route_hops (line_with way name names after) ≡ length names
+  route : route_fields (line_with way name names after) ≡ names
+  fields : (place : ℕ) → after_route (line_with way name names after) place ≡ field_at (codes "contract" ∷ after) place
 
-line_is : (name : List ℕ) (names after : List (List ℕ)) → NoWords names → IsLine name names after
-line_is name names after none =
+line_is : (way name : List ℕ) (names after : List (List ℕ)) → NoWords names → IsLine way name names after
+line_is way name names after none =
     let count = hops_count names after none in
     record {
       hops = count;
       route = ap (λ (n : ℕ). take n (names ++ codes "contract" ∷ after)) count ∙ take_names names (codes "contract" ∷ after);
       fields = λ place.
           let at : 3 + route_length (names ++ codes "contract" ∷ after) + place ≡ suc (suc (suc (length names + place))) = omega (arith, count) in
-          ap (field_at (line_with name names after)) at ∙ at_after names (codes "contract" ∷ after) place (length names + place) refl;
+          ap (field_at (line_with way name names after)) at ∙ at_after names (codes "contract" ∷ after) place (length names + place) refl;
     }
 
 -- a form after the route
@@ -136,14 +142,21 @@ control_says (Jitter bound) fields at range =
       rw yes (ap (number_rule 1 67108864) (at 1) ∙ decimal_passes 1 67108864 bound within.0 within.1 (omega arith)),
     )
 
-form_says : (name : List ℕ) (names : List (List ℕ)) (entry : RequestEntry) → NoWords names → 1 ≤ length names → length names ≤ 16 → is_open_line (line_with name names (end_fields entry)) ≡ true
-form_says name names entry none least most = by entry.request.control refl where
+form_says : (version : Version) (name : List ℕ) (names : List (List ℕ)) (entry : RequestEntry) → NoWords names → 1 ≤ length names → length names ≤ 16 → is_open_line version (line_with (codes "route") name names (end_fields entry)) ≡ true
+form_says version name names entry none least most = or_left _ _ (by entry.request.control refl) where
   with_end : (control : List Part) → has_form (part.Route ∷ end_parts control) (names ++ codes "contract" ∷ end_fields entry) ≡ has_form (end_parts control) (codes "contract" ∷ end_fields entry)
   with_end control = form_after (end_parts control) names (end_fields entry) none least most
 
-  by : (control : Control) → entry.request.control ≡ control → is_open_line (line_with name names (end_fields entry)) ≡ true
+  by : (control : Control) → entry.request.control ≡ control → (has_form rate_form (line_with (codes "route") name names (end_fields entry)) || has_form jitter_form (line_with (codes "route") name names (end_fields entry))) ≡ true
   by Rate is = or_left _ _ (with_end (part.Word word.Rate ∷ []) ∙ ap (λ (c : Control). has_form (part.Word word.Rate ∷ []) (control_fields c)) is)
   by (Jitter bound) is = or_right _ _ (with_end (part.Word word.Jitter ∷ part.Field ∷ []) ∙ ap (λ (c : Control). has_form (part.Word word.Jitter ∷ part.Field ∷ []) (control_fields c)) is)
+
+-- the same between two nodes
+found_says : (version : Version) (name from to : List ℕ) (entry : RequestEntry) → has_found_routes version ≡ true → is_open_line version (line_with (codes "from") name (from ∷ codes "to" ∷ to ∷ []) (end_fields entry)) ≡ true
+found_says version name from to entry has = or_right (has_form rate_form (line_with (codes "from") name (from ∷ codes "to" ∷ to ∷ []) (end_fields entry)) || has_form jitter_form (line_with (codes "from") name (from ∷ codes "to" ∷ to ∷ []) (end_fields entry))) _ (and_from (has_found_routes version) (is_found_line (line_with (codes "from") name (from ∷ codes "to" ∷ to ∷ []) (end_fields entry))) has (by entry.request.control refl)) where
+  by : (control : Control) → entry.request.control ≡ control → is_found_line (line_with (codes "from") name (from ∷ codes "to" ∷ to ∷ []) (end_fields entry)) ≡ true
+  by Rate is = or_left _ _ (ap (λ (c : Control). has_form (part.Word word.Rate ∷ []) (control_fields c)) is)
+  by (Jitter bound) is = or_right _ _ (ap (λ (c : Control). has_form (part.Word word.Jitter ∷ part.Field ∷ []) (control_fields c)) is)
 
 -- ---- the contract
 
@@ -167,7 +180,12 @@ contract_back terms c = rw (good_terms terms c) refl
 -- ---- the line passes
 
 -- a request that may be opened next
-pub record IsNextOpen (said : Said) (entry : RequestEntry) : Type 0 where
+pub record IsNextOpen (version : Version) (said : Said) (entry : RequestEntry) : Type 0 where
+  pub kept : request_has_version version entry ≡ true
+  pub nodes : AreNodesNamed entry.found
+  pub found : IsFoundRoute said.links entry.request.route entry.found
+  pub numbered : AreNumbered said.links
+  pub few_links : length said.links ≤ 32
   pub name : is_name entry.name ≡ true
   pub new : is_among (request_names said.requests) entry.name ≡ false
   pub few : length said.requests < 1024
@@ -180,19 +198,72 @@ pub record IsNextOpen (said : Said) (entry : RequestEntry) : Type 0 where
   pub contract : IsContract entry.request.contract
   pub range : request_in_range entry ≡ true
 
-pub record IsOpenRead (said : Said) (entry : RequestEntry) : Type 0 where
-  pub passes : open_rule said (open_fields said.links entry) ≡ None
-  pub says : request_said said (open_fields said.links entry) ≡ entry
+pub record IsReadAs (version : Version) (said : Said) (entry : RequestEntry) (fields : List (List ℕ)) : Type 0 where
+  pub passes : open_rule version said fields ≡ None
+  pub says : request_said said fields ≡ entry
 
-pub open_back : (said : Said) (entry : RequestEntry) → IsNextOpen said entry → IsOpenRead said entry
-open_back said entry is =
+abbrev pub IsOpenRead : Version → Said → RequestEntry → Type 0
+IsOpenRead version said entry = IsReadAs version said entry (open_fields said.links entry)
+
+-- the way of a line, be it written or found
+record IsWay (version : Version) (said : Said) (entry : RequestEntry) (way : List ℕ) (names : List (List ℕ)) : Type 0 where
+  fields : open_fields said.links entry ≡ line_with way entry.name names (end_fields entry)
+  none : NoWords names
+  form : is_open_line version (line_with way entry.name names (end_fields entry)) ≡ true
+  names_pass : way_fields_rule said (line_with way entry.name names (end_fields entry)) ≡ None
+  way_passes : way_rule said (line_with way entry.name names (end_fields entry)) ≡ None
+  route : route_in said (line_with way entry.name names (end_fields entry)) ≡ entry.request.route
+  found : nodes_in (line_with way entry.name names (end_fields entry)) ≡ entry.found
+
+written_way : (version : Version) (said : Said) (entry : RequestEntry) → entry.found ≡ None → IsNextOpen version said entry → IsWay version said entry (codes "route") (route_names said.links entry.request.route)
+written_way version said entry written is =
     let request = entry.request in
-    let c = is.contract in
     let names = route_names said.links request.route in
-    let fields = open_fields said.links entry in
+    let fields = line_with (codes "route") entry.name names (end_fields entry) in
     let none = no_words said.links request.route is.hops in
     let count = names_count said.links request.route is.hops in
-    let line = line_is entry.name names (end_fields entry) none in
+    let line = line_is (codes "route") entry.name names (end_fields entry) none in
+    let route : hops_in said fields ≡ request.route = ap (route_over said.links) line.route ∙ route_again said.links request.route is.hops in
+    let way : is_way said (hops_in said fields) ≡ true = ap (is_way said) route ∙ and_from (is_none (fault_in request.route)) (is_joined said.links request.route) (ap is_none (none-from_route request.route is.route)) is.joined in
+    record {
+      fields = ap (λ (found : Option (List ℕ × List ℕ)). codes "open" ∷ entry.name ∷ (way_fields said.links request.route found ++ (contract_fields request.contract ++ delay_fields request))) written;
+      none = none;
+      form = form_says version entry.name names entry none (omega (arith, count, is.route.least)) (omega (arith, count, is.route.most));
+      names_pass = ap (route_names_rule said) line.route ∙ names_pass said request.route is.hops;
+      way_passes = unless_holds (is_way said (hops_in said fields)) cause.Route way;
+      route = route;
+      found = sym written;
+    }
+
+found_way : (version : Version) (said : Said) (entry : RequestEntry) (from to : List ℕ) → entry.found ≡ Some (from, to) → IsNextOpen version said entry → IsWay version said entry (codes "from") (from ∷ codes "to" ∷ to ∷ [])
+unfolding NoWords
+found_way version said entry from to at is =
+    let request = entry.request in
+    let nodes : AreNodesNamed (Some (from, to)) = subst AreNodesNamed at is.nodes in
+    let found : route_between said.links from to ≡ Some request.route = subst (IsFoundRoute said.links request.route) at is.found in
+    let ends = found-nodes said.links from to request.route is.numbered is.few_links is.route.least found in
+    let has : has_found_routes version ≡ true = has_it (has_found_routes version) entry.found (from, to) at is.kept in
+    record {
+      fields = ap (λ (found : Option (List ℕ × List ℕ)). codes "open" ∷ entry.name ∷ (way_fields said.links request.route found ++ (contract_fields request.contract ++ delay_fields request))) at;
+      none = ((name_no_word from nodes.0).0, (refl, ((name_no_word to nodes.1).0, tt)));
+      form = found_says version entry.name from to entry has;
+      names_pass = rw (used_name_back (is_node said.links from) from nodes.0 ends.first) (used_name_back (is_node said.links to) to nodes.1 ends.second);
+      way_passes = rw (ends.apart, found) refl;
+      route = rw found refl;
+      found = sym at;
+    } where
+      has_it : (has : Bool) (found : Option (List ℕ × List ℕ)) (nodes : List ℕ × List ℕ) → found ≡ Some nodes → (has || is_none found) ≡ true → has ≡ true
+      has_it has found nodes at kept = by has (ap (λ (f : Option (List ℕ × List ℕ)). has || is_none f) (sym at) ∙ kept) where
+        by : (has : Bool) → (has || false) ≡ true → has ≡ true
+        by true e = refl
+        by false e = e
+
+read_as : (version : Version) (said : Said) (entry : RequestEntry) (way : List ℕ) (names : List (List ℕ)) → IsNextOpen version said entry → IsWay version said entry way names → IsReadAs version said entry (line_with way entry.name names (end_fields entry))
+read_as version said entry way names is w =
+    let request = entry.request in
+    let c = is.contract in
+    let fields = line_with way entry.name names (end_fields entry) in
+    let line = line_is way entry.name names (end_fields entry) w.none in
     let range = and_parts (is_within 1 67108864 request.delay) (control_in_range request.control) is.range in
     let delay = from-low 1 67108864 request.delay range.0 in
     let at_control : (place : ℕ) → after_route fields (7 + place) ≡ field_at (control_fields request.control) place = λ place.
@@ -205,7 +276,6 @@ open_back said entry is =
     let smax : value_of (after_route fields 4) ≡ request.contract.smax = ap value_of (line.fields 4) ∙ small request.contract.smax (omega (arith, c.smax_most)) in
     let terms : contract_told fields ≡ request.contract = rw (xmin, xave, interval, smax) refl in
     let wait : value_of (after_route fields 6) ≡ request.delay = ap value_of (line.fields 6) ∙ value-decimal request.delay (omega (arith, delay.1)) in
-    let route : hops_in said fields ≡ request.route = ap (route_over said.links) line.route ∙ route_again said.links request.route is.hops in
     let numbers = pass_all (number_rule 1 1048576 (after_route fields 1) ∷ number_rule 1 1048576 (after_route fields 2) ∷ number_rule 1 16777216 (after_route fields 3) ∷ number_rule 1 65536 (after_route fields 4) ∷ []) (
       ap (number_rule 1 1048576) (line.fields 1) ∙ decimal_passes 1 1048576 request.contract.xmin c.xmin_least (omega (arith, c.xave_least, c.xave_most)) (omega arith),
       (
@@ -216,31 +286,35 @@ open_back said entry is =
         ),
       ),
     ) in
-    let left = pass_all (new_name_rule (request_names said.requests) (field_at fields 1) ∷ route_names_rule said (route_fields fields) ∷ terms_rule fields ∷ number_rule 1 67108864 (after_route fields 6) ∷ jitter_rule fields ∷ []) (
+    let left = pass_all (new_name_rule (request_names said.requests) (field_at fields 1) ∷ way_fields_rule said fields ∷ terms_rule fields ∷ number_rule 1 67108864 (after_route fields 6) ∷ jitter_rule fields ∷ []) (
       new_name_back (request_names said.requests) entry.name is.name is.new,
       (
-        ap (route_names_rule said) line.route ∙ names_pass said request.route is.hops,
+        w.names_pass,
         (numbers, (ap (number_rule 1 67108864) (line.fields 6) ∙ decimal_passes 1 67108864 request.delay delay.0 delay.1 (omega arith), (control.1, tt))),
       ),
     ) in
-    let way : is_way said (hops_in said fields) ≡ true = ap (is_way said) route ∙ and_from (is_none (fault_in request.route)) (is_joined said.links request.route) (ap is_none (none-from_route request.route is.route)) is.joined in
-    let limits = pass_all (unless (nat_lt (length said.requests) 1024) cause.Many ∷ unless (is_some (contract_of (contract_told fields))) cause.Contract ∷ unless (is_way said (hops_in said fields)) cause.Route ∷ []) (
+    let limits = pass_all (unless (nat_lt (length said.requests) 1024) cause.Many ∷ unless (is_some (contract_of (contract_told fields))) cause.Contract ∷ way_rule said fields ∷ []) (
       unless_holds (nat_lt (length said.requests) 1024) cause.Many (lt-ltb (length said.requests) 1024 is.few),
-      (unless_holds (is_some (contract_of (contract_told fields))) cause.Contract (ap (λ (t : Traffic). is_some (contract_of t)) terms ∙ contract_back request.contract c), (unless_holds (is_way said (hops_in said fields)) cause.Route way, tt)),
+      (unless_holds (is_some (contract_of (contract_told fields))) cause.Contract (ap (λ (t : Traffic). is_some (contract_of t)) terms ∙ contract_back request.contract c), (w.way_passes, tt)),
     ) in
-    let form = form_says entry.name names entry none (omega (arith, count, is.route.least)) (omega (arith, count, is.route.most)) in
     record {
-      passes = pass_all (unless (is_open_line fields) cause.Shape ∷ open_fields_rule said fields ∷ open_limits_rule said fields ∷ []) (unless_holds (is_open_line fields) cause.Shape form, (left, (limits, tt)));
+      passes = pass_all (unless (is_open_line version fields) cause.Shape ∷ open_fields_rule said fields ∷ open_limits_rule said fields ∷ []) (unless_holds (is_open_line version fields) cause.Shape w.form, (left, (limits, tt)));
       says =
           let caller : actor_at (last_caller said) ≡ entry.caller = sym (actor_is entry.caller (last_caller said) is.callers is.caller) in
           let chan : channel_at (length said.requests) ≡ entry.request.chan = sym (channel_is entry.request.chan (length said.requests) (omega (arith, is.few)) is.number) in
-          same_entry entry (actor_at (last_caller said)) (channel_at (length said.requests)) (hops_in said fields) (contract_told fields) (control_in fields) (value_of (after_route fields 6)) caller chan route terms control.0 wait;
+          same_entry entry (actor_at (last_caller said)) (channel_at (length said.requests)) (route_in said fields) (contract_told fields) (control_in fields) (value_of (after_route fields 6)) (nodes_in fields) caller chan w.route terms control.0 wait w.found;
     }
   where
     seven : (place : ℕ) → 7 + place ≡ suc (suc (suc (suc (suc (suc (suc place))))))
     seven place = omega arith
 
-    same_entry : (e : RequestEntry) (caller : ActorNo) (chan : ChanNo) (route : List Hop) (contract : Traffic) (control : Control) (delay : ℕ) → caller ≡ e.caller → chan ≡ e.request.chan → route ≡ e.request.route → contract ≡ e.request.contract
-        → control ≡ e.request.control → delay ≡ e.request.delay
-        → record { name = e.name; caller = caller; request = record { chan = chan; route = route; contract = contract; control = control; delay = delay } } ≡ e
-    same_entry e caller chan route contract control delay a b c d f g = rw (a, b, c, d, f, g) refl
+    same_entry : (e : RequestEntry) (caller : ActorNo) (chan : ChanNo) (route : List Hop) (contract : Traffic) (control : Control) (delay : ℕ) (found : Option (List ℕ × List ℕ)) → caller ≡ e.caller → chan ≡ e.request.chan → route ≡ e.request.route → contract ≡ e.request.contract
+        → control ≡ e.request.control → delay ≡ e.request.delay → found ≡ e.found
+        → record { name = e.name; caller = caller; request = record { chan = chan; route = route; contract = contract; control = control; delay = delay }; found = found } ≡ e
+    same_entry e caller chan route contract control delay found a b c d f g h = rw (a, b, c, d, f, g, h) refl
+
+pub open_back : (version : Version) (said : Said) (entry : RequestEntry) → IsNextOpen version said entry → IsOpenRead version said entry
+open_back version said entry is = by entry.found refl where
+  by : (found : Option (List ℕ × List ℕ)) → entry.found ≡ found → IsOpenRead version said entry
+  by None at = (let w = written_way version said entry at is in subst (IsReadAs version said entry) (sym w.fields) (read_as version said entry _ _ is w))
+  by (Some (from, to)) at = (let w = found_way version said entry from to at is in subst (IsReadAs version said entry) (sym w.fields) (read_as version said entry _ _ is w))

@@ -1,12 +1,12 @@
 -- An open line that passes may open its request.
-use Rattle.std.proofs.Common.{◌≡◌, ℕ, Bool, true, false, not, ◌&&◌, nat_eq, nat_lt, nat_le, List, [], ◌∷◌, length, Option, Some, None, is_some, is_none, refl, sym, ◌∙◌, ap, subst, arith}
-use Rattle.std.proofs.lemmas.Bool.{le-leb, lt-ltb, ltb-true, and_parts, and_from}
+use Rattle.std.proofs.Common.{◌≡◌, ◌≤◌, ℕ, Bool, true, false, not, ◌&&◌, ◌||◌, inl, inr, nat_eq, nat_lt, nat_le, List, [], ◌∷◌, length, Option, Some, None, is_some, is_none, refl, sym, ◌∙◌, ap, subst, arith}
+use Rattle.std.proofs.lemmas.Bool.{cases_Bool, le-leb, lt-ltb, ltb-true, and_parts, and_from, or_left, or_right}
 use Rattle.std.proofs.lemmas.List.Folds.{find_at}
 use Rattle.std.proofs.lemmas.Option.{same_Some, slice_get_within}
 use Rattle.std.specs.List.{list_all, slice_get, position_or_len}
 use Rattle.net_units.specs.Numbers.{link_number}
 use Rattle.net_units.specs.Limits.{is_within}
-use Rattle.hop_reservation.specs.Routes.{fault_in}
+use Rattle.hop_reservation.specs.Routes.{fault_in, IsRoute}
 use Rattle.hop_reservation.specs.declared.route.Hop.{Hop}
 use Rattle.hop_reservation.proofs.RouteFacts.{route-from_none}
 use Rattle.link_steps.specs.Lists.{Each}
@@ -20,11 +20,15 @@ use Rattle.scenario_reader.specs.Drafts.{Said, parts_said, link_named, with_hop,
 use Rattle.scenario_reader.specs.Fields.{field_at}
 use Rattle.scenario_reader.specs.Forms.{new_name_rule, number_rule}
 use Rattle.scenario_reader.specs.Kept.{IsDraft, MayPutOpen}
-use Rattle.scenario_reader.specs.OpenLine.{is_open_line, route_fields, after_route, has_jitter, control_in, contract_told, contract_of, hops_in, route_names_rule, terms_rule, jitter_rule, open_fields_rule, is_way, open_limits_rule, open_rule, request_said}
+use Rattle.scenario_reader.specs.OpenLine.{is_open_line, is_found, nodes_in, found_in, route_in, node_rule, nodes_rule, way_fields_rule, between_rule, way_rule, route_fields, after_route, has_jitter, control_in, contract_told, contract_of, hops_in, route_names_rule, terms_rule, jitter_rule, open_fields_rule, is_way, open_limits_rule, open_rule, request_said}
 use Rattle.scenario_reader.specs.declared.cause.Cause.TheVariants as cause
 use Rattle.scenario_reader.proofs.LinkMay.{headed_is, some_items, longer_than_none}
-use Rattle.scenario_reader.proofs.PassFacts.{all_pass, unless_passes, new_name_passes, number_passes, contract_passes, not_said}
+use Rattle.scenario_reader.proofs.PassFacts.{all_pass, both_pass, used_name_passes, unless_passes, new_name_passes, number_passes, contract_passes, not_said}
 use Rattle.call_script.proofs.Growing.{few-in}
+use Rattle.call_script.specs.Versions.{has_found_routes}
+use Rattle.scenario_reader.specs.Nodes.{is_node}
+use Rattle.scenario_reader.proofs.LineForms.{found_version}
+use Rattle.scenario_reader.proofs.NodeFacts.{found-route, named-equal}
 
 -- links with the numbers of their places
 abbrev pub AreNumbered : List LinkEntry → Type 0
@@ -77,38 +81,98 @@ control_range fields e = by (has_jitter fields) refl where
   by true is = rw is (from_range 1 67108864 (after_route fields 8) (rw is at e))
   by false is = rw is refl
 
+-- what a line's route has, be it written or found
+record MayGo (said : Said) (fields : List (List ℕ)) : Type 0 where
+  there : list_all (λ (hop : Hop). has_link said.links hop.link) (route_in said fields) ≡ true
+  joined : is_joined said.links (route_in said fields) ≡ true
+  hops : Each (FollowsLink said.links) (route_in said fields)
+  route : IsRoute (route_in said fields)
+
+written_may : (said : Said) (fields : List (List ℕ)) → is_found fields ≡ false → AreNumbered said.links → way_rule said fields ≡ None → MayGo said fields
+written_may said fields is numbered rule =
+    let passes : unless (is_way said (hops_in said fields)) cause.Route ≡ None = rw is at rule in
+    let way = and_parts (is_none (fault_in (hops_in said fields))) (is_joined said.links (hops_in said fields)) (unless_passes (is_way said (hops_in said fields)) cause.Route passes) in
+    let same : hops_in said fields ≡ route_in said fields = rw is refl in
+    record {
+      there = subst (λ (hops : List Hop). list_all (λ (hop : Hop). has_link said.links hop.link) hops ≡ true) same (route_there said.links (route_fields fields) numbered);
+      joined = subst (λ (hops : List Hop). is_joined said.links hops ≡ true) same way.1;
+      hops = subst (λ (hops : List Hop). Each (FollowsLink said.links) hops) same (route_follows said.links (route_fields fields) numbered);
+      route = subst IsRoute same (route-from_none (hops_in said fields) (not_said (fault_in (hops_in said fields)) way.0));
+    }
+
+some_is : {X : Type 0} (o : Option X) → is_some o ≡ true → (x : X) × (o ≡ Some x)
+some_is None is = absurd (let clash : false ≡ true = is in cc)
+some_is (Some x) is = (x, refl)
+
+found_is : (said : Said) (fields : List (List ℕ)) (hops : List Hop) → is_found fields ≡ true → found_in said fields ≡ Some hops → hops ≡ route_in said fields
+found_is said fields hops is found = rw is (rw found refl)
+
+found_may : (said : Said) (fields : List (List ℕ)) → is_found fields ≡ true → AreNumbered said.links → length said.links ≤ 32 → way_fields_rule said fields ≡ None → way_rule said fields ≡ None → MayGo said fields
+found_may said fields is numbered few names rule =
+    let nodes : nodes_rule said fields ≡ None = rw is at names in
+    let both = both_pass (node_rule said (field_at fields 3)) (node_rule said (field_at fields 5)) nodes in
+    let from = (used_name_passes (is_node said.links (field_at fields 3)) (field_at fields 3) both.0).1 in
+    let to = (used_name_passes (is_node said.links (field_at fields 5)) (field_at fields 5) both.1).1 in
+    let between : between_rule said (field_at fields 3) (field_at fields 5) ≡ None = rw is at rule in
+    let limits = both_pass (unless (not (is_named (field_at fields 5) (field_at fields 3))) cause.Route) (unless (is_some (found_in said fields)) cause.Reach) between in
+    let apart = unless_passes (not (is_named (field_at fields 5) (field_at fields 3))) cause.Route limits.0 in
+    let some = some_is (found_in said fields) (unless_passes (is_some (found_in said fields)) cause.Reach limits.1) in
+    let same = found_is said fields some.0 is some.1 in
+    let good = found-route said.links (field_at fields 3) (field_at fields 5) some.0 (record { number = numbered }) few from to (λ one. (let named = named-equal (field_at fields 5) (field_at fields 3) one in let clash : false ≡ true = sym (ap not named) ∙ apart in cc)) some.1 in
+    record {
+      there = subst (λ (hops : List Hop). list_all (λ (hop : Hop). has_link said.links hop.link) hops ≡ true) same good.way.there;
+      joined = subst (λ (hops : List Hop). is_joined said.links hops ≡ true) same good.way.joined;
+      hops = subst (λ (hops : List Hop). Each (FollowsLink said.links) hops) same good.way.follows;
+      route = subst IsRoute same good.route;
+    }
+
+may_go : (said : Said) (fields : List (List ℕ)) → AreNumbered said.links → length said.links ≤ 32 → way_fields_rule said fields ≡ None → way_rule said fields ≡ None → MayGo said fields
+may_go said fields numbered few names rule = elim (cases_Bool (is_found fields)) [
+  | inl is ↦ found_may said fields is numbered few names rule
+  | inr is ↦ written_may said fields is numbered rule
+]
+
+-- a route that is found is of a version that has it
+may_find : (version : Version) (fields : List (List ℕ)) → is_open_line version fields ≡ true → (has_found_routes version || is_none (nodes_in fields)) ≡ true
+may_find version fields line = elim (cases_Bool (is_found fields)) [
+  | inl is ↦ or_left (has_found_routes version) (is_none (nodes_in fields)) (found_version version fields line is)
+  | inr is ↦ or_right (has_found_routes version) (is_none (nodes_in fields)) (rw is refl)
+]
+
 pub open_may : (version : Version) (said : Said) (fields : List (List ℕ)) → IsDraft said → said.version ≡ Some version
-    → (not (nat_eq (length said.callers) 0) && is_none said.rounds) ≡ true → open_rule said fields ≡ None → MayPutOpen said (request_said said fields)
+    → (not (nat_eq (length said.callers) 0) && is_none said.rounds) ≡ true → open_rule version said fields ≡ None → MayPutOpen said (request_said said fields)
 open_may version said fields draft v stands rule =
-    let p = all_pass (unless (is_open_line fields) cause.Shape ∷ open_fields_rule said fields ∷ open_limits_rule said fields ∷ []) rule in
-    let q = all_pass (new_name_rule (request_names said.requests) (field_at fields 1) ∷ route_names_rule said (route_fields fields) ∷ terms_rule fields
+    let p = all_pass (unless (is_open_line version fields) cause.Shape ∷ open_fields_rule said fields ∷ open_limits_rule said fields ∷ []) rule in
+    let q = all_pass (new_name_rule (request_names said.requests) (field_at fields 1) ∷ way_fields_rule said fields ∷ terms_rule fields
     ∷ number_rule 1 67108864 (after_route fields 6) ∷ jitter_rule fields ∷ []) p.1.0 in
     let l = all_pass (unless (nat_lt (length said.requests) 1024) cause.Many ∷ unless (is_some (contract_of (contract_told fields))) cause.Contract
-    ∷ unless (is_way said (hops_in said fields)) cause.Route ∷ []) p.1.1.0 in
+    ∷ way_rule said fields ∷ []) p.1.1.0 in
     let may = and_parts (not (nat_eq (length said.callers) 0)) (is_none said.rounds) stands in
     let some = longer_than_none said.callers may.0 in
     let few = ltb-true (length said.requests) 1024 (unless_passes (nat_lt (length said.requests) 1024) cause.Many l.0) in
-    let way = and_parts (is_none (fault_in (hops_in said fields))) (is_joined said.links (hops_in said fields)) (unless_passes (is_way said (hops_in said fields)) cause.Route l.1.1.0) in
     let callers = (few-in (parts_said said) draft.keeps.few).callers in
     let numbered = draft.keeps.planned.links in
+    let go = may_go said fields numbered (few-in (parts_said said) draft.keeps.few).links q.1.0 l.1.1.0 in
+    let line = unless_passes (is_open_line version fields) cause.Shape p.0 in
     record {
       before = record {
         before = record { headed = headed_is said version v; unrounded = not_said said.rounds may.1 };
         linked = λ none. some_items said.callers may.0 (draft.unlinked_callers none);
       };
       request = record {
+        version = rw v (may_find version fields line);
         name = (new_name_passes (request_names said.requests) (field_at fields 1) q.0).1;
         few = few;
         number = omega arith;
         caller = omega arith;
-        there = route_there said.links (route_fields fields) numbered;
-        joined = way.1;
+        there = go.there;
+        joined = go.joined;
         range = and_from (is_within 1 67108864 (value_of (after_route fields 6))) (control_in_range (control_in fields))
             (from_range 1 67108864 (after_route fields 6) q.1.1.1.0) (control_range fields q.1.1.1.1.0);
-        hops = route_follows said.links (route_fields fields) numbered;
+        hops = go.hops;
         terms = record {
           contract = contract_passes (contract_told fields) (unless_passes (is_some (contract_of (contract_told fields))) cause.Contract l.1.0);
-          route = route-from_none (hops_in said fields) (not_said (fault_in (hops_in said fields)) way.0);
+          route = go.route;
         };
       };
     }

@@ -136,9 +136,9 @@ pub record CallersLeft (version : Version) (links : List LinkEntry) (all : List 
   pub load : load_in all callers + load_in all left ≤ 262144
 
 -- what was read of the requests
-pub record RequestsStand (links : List LinkEntry) (all requests rest : List RequestEntry) : Type 0 where
+pub record RequestsStand (version : Version) (links : List LinkEntry) (all requests rest : List RequestEntry) : Type 0 where
   pub same : all ≡ requests ++ rest
-  pub stand : RestStands links requests rest
+  pub stand : RestStands version links requests rest
   pub named : Each (λ (entry : RequestEntry). is_name entry.name ≡ true) requests
 
 pub record CallersRead (version : Version) (links : List LinkEntry) (all requests : List RequestEntry) (callers left : List CallerEntry) : Type 0 where
@@ -151,7 +151,7 @@ load_new all callers name = (let both : load_in all (callers ++ new_caller name 
 load_both : (all : List RequestEntry) (callers : List CallerEntry) (caller : CallerEntry) → load_in all (callers ++ caller ∷ []) ≡ load_in all callers + total (load_of all) caller.ops
 load_both all callers caller = (let both : load_in all (callers ++ caller ∷ []) ≡ load_in all callers + (total (load_of all) caller.ops + 0) = total-append (λ (c : CallerEntry). total (load_of all) c.ops) callers (caller ∷ []) in omega (arith, both))
 
-pub callers_read : (version : Version) (links : List LinkEntry) (all requests rest : List RequestEntry) (callers left : List CallerEntry) → LinksStand links → KeepSoFar (parts_of version links requests callers 0 0) → RequestsStand links all requests rest
+pub callers_read : (version : Version) (links : List LinkEntry) (all requests rest : List RequestEntry) (callers left : List CallerEntry) → LinksStand links → KeepSoFar (parts_of version links requests callers 0 0) → RequestsStand version links all requests rest
     → CallersLeft version links all callers left → openings_of (length callers) left ≡ map opening_of rest → CallersRead version links all requests callers left
 unfolding each_after openings_of
 callers_read version links all requests [] callers [] stand keeps rs cs is =

@@ -13,7 +13,7 @@ use Rattle.call_script.specs.declared.entries.LinkEntry.{LinkEntry}
 use Rattle.call_script.specs.declared.entries.RequestEntry.{RequestEntry}
 use Rattle.call_script.specs.declared.operations.Op.TheVariants as op
 use Rattle.call_script.specs.declared.version.Version.{Version}
-use Rattle.call_script.specs.declared.version.Version.TheVariants.{One, Two, Three}
+use Rattle.call_script.specs.declared.version.Version.TheVariants.{One, Two, Three, Four}
 use Rattle.scenario_reader.specs.Drafts.{Said, nothing_said, with_item}
 use Rattle.scenario_reader.specs.Forms.{is_among}
 use Rattle.scenario_reader.specs.Grammar.{judge, caller_rule, send_rule, send_said, close_rule, close_said, pour_rule, pour_said, rounds_rule, tail_rule}
@@ -43,6 +43,7 @@ unfolding judge
 header_read One = reads_one (header_fields One) nothing_said (item.Header One) refl (λ number. refl)
 header_read Two = reads_one (header_fields Two) nothing_said (item.Header Two) refl (λ number. refl)
 header_read Three = reads_one (header_fields Three) nothing_said (item.Header Three) refl (λ number. refl)
+header_read Four = reads_one (header_fields Four) nothing_said (item.Header Four) refl (λ number. refl)
 
 pub link_read : (version : Version) (links : List LinkEntry) (entry : LinkEntry) → IsNextLink version links entry → Reads (link_fields entry ∷ []) (front version links [] []) (front version (links ++ entry ∷ []) [] [])
 link_read version links entry is =
@@ -62,15 +63,15 @@ caller_read version links requests callers name some is new few =
     judged_as version said number (caller_fields name) word.Caller (item.Caller name) are refl refl refl (and_from (not (nat_eq (length links) 0)) true (not_none links some) refl)
     (judged_back (caller_rule said (caller_fields name)) (item.Caller name) (caller_back said name is new few)))
 
-pub open_read : (version : Version) (links : List LinkEntry) (requests : List RequestEntry) (callers : List CallerEntry) (entry : RequestEntry) → 1 ≤ length callers → IsNextOpen (front version links requests callers) entry
+pub open_read : (version : Version) (links : List LinkEntry) (requests : List RequestEntry) (callers : List CallerEntry) (entry : RequestEntry) → 1 ≤ length callers → IsNextOpen version (front version links requests callers) entry
     → Reads (open_fields links entry ∷ []) (front version links requests callers) (front version links (requests ++ entry ∷ []) (add_op (op.Open entry.request.chan) callers))
 open_read version links requests callers entry some is =
     let said = front version links requests callers in
-    let back = open_back said entry is in
-    let are = open_is_line links entry is.name is.hops is.contract is.range in
+    let back = open_back version said entry is in
+    let are = open_is_line links entry is.name is.nodes is.hops is.contract is.range in
     reads_one (open_fields links entry) said (item.Open entry) are (λ number.
     judged_as version said number (open_fields links entry) word.Open (item.Open entry) are refl refl refl (and_from (not (nat_eq (length callers) 0)) true (not_none callers some) refl)
-    (judged_back (open_rule said (open_fields links entry)) (item.Open (request_said said (open_fields links entry))) back.passes ∙ ap (λ (e : RequestEntry). Ok (item.Open e)) back.says))
+    (judged_back (open_rule version said (open_fields links entry)) (item.Open (request_said said (open_fields links entry))) back.passes ∙ ap (λ (e : RequestEntry). Ok (item.Open e)) back.says))
 
 pub send_read : (version : Version) (links : List LinkEntry) (requests : List RequestEntry) (callers : List CallerEntry) (chan : ChanNo) (count gap size : ℕ) (entry : RequestEntry) → 1 ≤ length callers → IsOpenHere (front version links requests callers) chan entry → ArePackets count gap size
     → load_in requests callers + count * hops_of (Some entry) ≤ 262144 → Reads (send_fields count gap size entry ∷ []) (front version links requests callers) (front version links requests (add_op (op.Send chan count gap size) callers))

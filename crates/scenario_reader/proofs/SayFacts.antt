@@ -8,6 +8,8 @@ use Rattle.call_script.specs.Rules.{is_named, caller_names}
 use Rattle.call_script.specs.declared.entries.CallerEntry.{CallerEntry}
 use Rattle.call_script.specs.declared.schedule.Do.{Do}
 use Rattle.call_script.specs.declared.version.Version.{Version}
+use Rattle.scenario_reader.specs.Causes.{AnswersWithRoom}
+use Rattle.scenario_reader.specs.declared.cause.LineFault.{LineFault}
 use Rattle.scenario_reader.specs.Causes.{unless}
 use Rattle.scenario_reader.specs.Decimal.{value_of}
 use Rattle.scenario_reader.specs.Drafts.{Said, rounds_of, caller_named}
@@ -94,7 +96,7 @@ says_as word.Caller version said number fields what draft v m e =
     let p = judged_ok (caller_rule said fields) (item.Caller (field_at fields 1)) what e in
     subst (MayAdd said) p.1 (caller_may version said fields v m p.0)
 says_as word.Open version said number fields what draft v m e =
-    let p = judged_ok (open_rule said fields) (item.Open (request_said said fields)) what e in
+    let p = judged_ok (open_rule version said fields) (item.Open (request_said said fields)) what e in
     subst (MayAdd said) p.1 (open_may version said fields draft v m p.0)
 says_as word.Send version said number fields what draft v m e =
     let p = stated_ok (send_rule said fields) (option_map item.Op (send_said said fields)) what e in
@@ -163,7 +165,7 @@ may_add said number line what draft e = by (is_passed_over line) e where
   by false e = says_after said.version said number (fields_of line) what draft refl (ok_unless (not (are_fields (fields_of line))) (judge_after said.version said number (fields_of line)) cause.Shape what e)
 
 -- the same of the answer of a judge
-pub word_may : (keyword : Keyword) (version : Version) (said : Said) (number : ℕ) (fields : List (List ℕ)) (r : Result Item Cause) → IsDraft said → said.version ≡ Some version
-    → r ≡ judge_word (Some keyword) version said number fields → IfOk r (MayAdd said)
-word_may keyword version said number fields (Ok what) draft v e = says_word (Some keyword) version said number fields what draft v (sym e)
-word_may keyword version said number fields (Err c) draft v e = tt
+pub word_may : (keyword : Keyword) (version : Version) (said : Said) (number : ℕ) (fields : List (List ℕ)) (r : Result Item LineFault) → IsDraft said → said.version ≡ Some version
+    → AnswersWithRoom r (judge_word (Some keyword) version said number fields) → IfOk r (MayAdd said)
+word_may keyword version said number fields (Ok what) draft v e = says_word (Some keyword) version said number fields what draft v e
+word_may keyword version said number fields (Err fault) draft v e = tt

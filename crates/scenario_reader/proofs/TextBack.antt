@@ -7,7 +7,8 @@ use Rattle.net_units.specs.Text.{is_name}
 use Rattle.link_steps.specs.Lists.{Each}
 use Rattle.call_script.specs.Parts.{PlanParts}
 use Rattle.call_script.specs.Plans.{HasTerms, IsPlan}
-use Rattle.call_script.specs.Rules.{each_after, link_has_version, have_version, have_links, route_is_there, pour_is_there, is_unclosed, op_has_version, op_in_range, request_in_range, is_joined, are_joined, are_unclosed, load_in, are_within_load, pour_is_taken, pours_are_taken}
+use Rattle.scenario_reader.specs.BothWays.{AreNodesNamed, IsFoundRoute, HaveFoundRoutes}
+use Rattle.call_script.specs.Rules.{each_after, link_has_version, request_has_version, have_version, have_links, route_is_there, pour_is_there, is_unclosed, op_has_version, op_in_range, request_in_range, is_joined, are_joined, are_unclosed, load_in, are_within_load, pour_is_taken, pours_are_taken}
 use Rattle.call_script.specs.declared.entries.CallerEntry.{CallerEntry}
 use Rattle.call_script.specs.declared.entries.LinkEntry.{LinkEntry}
 use Rattle.call_script.specs.declared.entries.RequestEntry.{RequestEntry}
@@ -15,7 +16,7 @@ use Rattle.call_script.specs.declared.operations.Op.{Op}
 use Rattle.call_script.specs.declared.schedule.Schedule.{Schedule}
 use Rattle.call_script.specs.declared.version.Version.{Version}
 use Rattle.link_steps.proofs.ListParts.{Each-at, Each-by_place}
-use Rattle.call_script.proofs.Growing.{nothing-keeps, names-in, used-in, ranges-in, few-in}
+use Rattle.call_script.proofs.Growing.{version-in, nothing-keeps, names-in, used-in, ranges-in, few-in}
 use Rattle.call_script.proofs.RuleFacts.{each-of, keeps-rules}
 use Rattle.scenario_reader.specs.BothWays.{AreNamed, unnumbered, APlansTextIsRead, ATextIsOfOnePlan}
 use Rattle.scenario_reader.specs.Drafts.{Said, nothing_said, is_complete, parts_said, schedule_said}
@@ -48,11 +49,11 @@ plan_says : (parts : PlanParts) → IsPlan parts → PlanSays parts
 unfolding have_version have_links are_joined are_unclosed are_within_load pours_are_taken
 plan_says parts plan =
     let rules = keeps-rules parts plan.kept in
-    let version = and_parts (list_all (link_has_version parts.version) parts.links) (list_all (λ (c : CallerEntry). list_all (op_has_version parts.version) c.ops) parts.callers) rules.version in
+    let version = version-in parts rules.version in
     let load = and_parts (nat_le (load_in parts.requests parts.callers) 262144) (nat_le ((parts.rounds + parts.tail) * length parts.links) 524288) rules.load in
     record {
-      kept = version.0;
-      ops_kept = version.1;
+      kept = version.links;
+      ops_kept = version.ops;
       some = leb-true 1 (length parts.links) rules.links;
       joined = rules.joined;
       unclosed = rules.unclosed;
@@ -82,8 +83,8 @@ callers_sound version links (caller ∷ callers) kept there range taken =
 
 -- ---- all lines
 
-plan_leads : (parts : PlanParts) (schedule : Schedule) → IsPlan parts → AreNamed parts → IsScheduleOf parts.callers schedule → SomeLead (plan_lines parts schedule) nothing_said (IsWhole parts schedule) 0
-plan_leads parts schedule plan named is =
+plan_leads : (parts : PlanParts) (schedule : Schedule) → IsPlan parts → AreNamed parts → HaveFoundRoutes parts → IsScheduleOf parts.callers schedule → SomeLead (plan_lines parts schedule) nothing_said (IsWhole parts schedule) 0
+plan_leads parts schedule plan named routes is =
     let rules = keeps-rules parts plan.kept in
     let says = plan_says parts plan in
     let names = names-in parts rules.names in
@@ -104,13 +105,16 @@ plan_leads parts schedule plan named is =
     let callers_few = few.callers in
     let stand : LinksStand l = record { some = says.some; named = named.links; apart = names.links; numbers = plan.planned.links } in
     let links = links_read v [] l (nothing-keeps v) (record { named = named.links; kept = says.kept; new = names.links; few = omega (arith, links_few); numbers = λ k e found. plan.planned.links k e found ∙ omega arith }) in
-    let sound : Each (IsSound l) rs = Each-by_place (IsSound l) rs (λ n e found. record {
+    let sound : Each (IsSound v l) rs = Each-by_place (IsSound v l) rs (λ n e found. record {
       name = Each-at (λ (x : RequestEntry). is_name x.name ≡ true) rs n e named.requests found;
       there = Each-at (λ (x : RequestEntry). route_is_there l x ≡ true) rs n e (each-of (route_is_there l) rs used.routes) found;
       joined = Each-at (λ (x : RequestEntry). is_joined l x.request.route ≡ true) rs n e (each-of (λ (x : RequestEntry). is_joined l x.request.route) rs says.joined) found;
       range = Each-at (λ (x : RequestEntry). request_in_range x ≡ true) rs n e (each-of request_in_range rs ranges.requests) found;
       hops = plan.planned.hops n e found;
       terms = Each-at HasTerms rs n e plan.terms found;
+      kept = Each-at (λ (x : RequestEntry). request_has_version v x ≡ true) rs n e (each-of (request_has_version v) rs (version-in parts rules.version).requests) found;
+      nodes = Each-at (λ (x : RequestEntry). AreNodesNamed x.found) rs n e named.nodes found;
+      found = Each-at (λ (x : RequestEntry). IsFoundRoute l x.request.route x.found) rs n e routes found;
     }) in
     let load = says.load in
     let callers = callers_read v l rs [] rs [] cs stand links.keeps
@@ -129,8 +133,8 @@ plan_leads parts schedule plan named is =
 
 pub text_is_read : APlansTextIsRead
 unfolding reading plan_text
-text_is_read parts schedule plan named is few =
-    let lead = plan_leads parts schedule plan named is in
+text_is_read parts schedule plan named routes is few =
+    let lead = plan_leads parts schedule plan named routes is in
     let are = leads_lines (plan_lines parts schedule) 0 lead.end nothing_said lead.after lead.leads in
     record {
       again = schedule_said lead.after;
@@ -150,9 +154,9 @@ one_read : (parts other : PlanParts) (schedule its : Schedule) → PlanRead part
 one_read parts other schedule its same = (cc, cc)
 
 pub text_of_one : ATextIsOfOnePlan
-text_of_one parts other schedule its plan its_plan named its_named is its_is few same =
-    let first = text_is_read parts schedule plan named is few in
-    let second = text_is_read other its its_plan its_named its_is (subst (λ (text : List ℕ). length text ≤ 4194304) same few) in
+text_of_one parts other schedule its plan its_plan named its_named routes its_routes is its_is few same =
+    let first = text_is_read parts schedule plan named routes is few in
+    let second = text_is_read other its its_plan its_named its_routes its_is (subst (λ (text : List ℕ). length text ≤ 4194304) same few) in
     let one = one_read parts other first.again second.again (sym first.is ∙ ap (reading 4194304) same ∙ second.is) in
     record {
       parts_same = one.0;

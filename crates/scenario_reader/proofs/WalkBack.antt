@@ -26,9 +26,11 @@ use Rattle.call_script.specs.declared.operations.Op.TheVariants.{Open, Send, Clo
 use Rattle.call_script.specs.declared.version.Version.{Version}
 use Rattle.link_steps.proofs.ListParts.{Each-at}
 use Rattle.call_script.proofs.GrowthFacts.{get-before, added-last, last-of}
-use Rattle.call_script.proofs.Growing.{open-keeps, send-keeps, close-keeps, pour-keeps, length-more}
+use Rattle.call_script.proofs.Growing.{few-in, open-keeps, send-keeps, close-keeps, pour-keeps, length-more}
 use Rattle.call_script.proofs.OpeningFacts.{opened-has}
 use Rattle.call_script.proofs.OwnerFacts.{twice-not}
+use Rattle.call_script.specs.Rules.{request_has_version}
+use Rattle.scenario_reader.specs.BothWays.{AreNodesNamed, IsFoundRoute}
 use Rattle.scenario_reader.specs.BothWays.{HasNames}
 use Rattle.scenario_reader.specs.Drafts.{link_named, if_own}
 use Rattle.scenario_reader.specs.PlanText.{op_fields, lines_if, op_lines, open_fields, send_fields, close_fields, pour_fields}
@@ -91,7 +93,10 @@ hops_here links (hop ∷ hops) stand there follows =
 
 -- ---- the requests that are left
 
-pub record IsSound (links : List LinkEntry) (entry : RequestEntry) : Type 0 where
+pub record IsSound (version : Version) (links : List LinkEntry) (entry : RequestEntry) : Type 0 where
+  pub kept : request_has_version version entry ≡ true
+  pub nodes : AreNodesNamed entry.found
+  pub found : IsFoundRoute links entry.request.route entry.found
   pub name : is_name entry.name ≡ true
   pub there : route_is_there links entry ≡ true
   pub joined : is_joined links entry.request.route ≡ true
@@ -99,15 +104,15 @@ pub record IsSound (links : List LinkEntry) (entry : RequestEntry) : Type 0 wher
   pub hops : Each (FollowsLink links) entry.request.route
   pub terms : HasTerms entry
 
-pub record RestStands (links : List LinkEntry) (requests rest : List RequestEntry) : Type 0 where
-  pub sound : Each (IsSound links) rest
+pub record RestStands (version : Version) (links : List LinkEntry) (requests rest : List RequestEntry) : Type 0 where
+  pub sound : Each (IsSound version links) rest
   pub new : each_after is_new (request_names requests) (request_names rest) ≡ true
   pub few : length requests + length rest ≤ 1024
   pub numbers : (k : ℕ) (entry : RequestEntry) → slice_get rest k ≡ Some entry → channel_number entry.request.chan ≡ length requests + k
 
-rest_next : (links : List LinkEntry) (requests : List RequestEntry) (entry : RequestEntry) (rest : List RequestEntry) → RestStands links requests (entry ∷ rest) → RestStands links (requests ++ entry ∷ []) rest
+rest_next : (version : Version) (links : List LinkEntry) (requests : List RequestEntry) (entry : RequestEntry) (rest : List RequestEntry) → RestStands version links requests (entry ∷ rest) → RestStands version links (requests ++ entry ∷ []) rest
 unfolding each_after
-rest_next links requests entry rest stand =
+rest_next version links requests entry rest stand =
     let longer = length-more requests entry in
     record {
       sound = stand.sound.1;
@@ -143,7 +148,7 @@ callers_less requests rest (caller ∷ callers) = (let one = ops_less requests r
 pub record Stands (version : Version) (links : List LinkEntry) (all requests rest : List RequestEntry) (callers : List CallerEntry) (caller : CallerEntry) : Type 0 where
   pub keeps : KeepSoFar (parts_of version links requests (callers ++ caller ∷ []) 0 0)
   pub same : all ≡ requests ++ rest
-  pub stand : RestStands links requests rest
+  pub stand : RestStands version links requests rest
   pub named : Each (λ (entry : RequestEntry). is_name entry.name ≡ true) requests
   pub few : length callers < 64
 
@@ -278,6 +283,7 @@ open_step version links all requests (entry ∷ rest) callers caller chan openin
     let new = new_first requests entry rest s.stand.new in
     let few : length requests < 1024 = (let all_few = s.stand.few in omega (arith, all_few)) in
     let keeps = open-keeps parts entry s.keeps (record {
+      version = sound.kept;
       name = new;
       few = few;
       number = number;
@@ -289,6 +295,11 @@ open_step version links all requests (entry ∷ rest) callers caller chan openin
       terms = sound.terms;
     }) in
     let reads = open_read version links requests (callers ++ caller ∷ []) entry (some_callers callers caller) (record {
+      kept = sound.kept;
+      nodes = sound.nodes;
+      found = sound.found;
+      numbered = record { number = stand.numbers };
+      few_links = (few-in (parts_of version links requests (callers ++ caller ∷ []) 0 0) s.keeps.few).links;
       name = sound.name;
       new = not-true (list_any (is_named entry.name) (request_names requests)) new;
       few = few;
@@ -310,7 +321,7 @@ open_step version links all requests (entry ∷ rest) callers caller chan openin
       stands = record {
         keeps = subst (λ (cs : List CallerEntry). KeepSoFar (parts_of version links (requests ++ entry ∷ []) cs 0 0)) to keeps;
         same = s.same ∙ sym (append_assoc requests (entry ∷ []) rest);
-        stand = rest_next links requests entry rest s.stand;
+        stand = rest_next version links requests entry rest s.stand;
         named = Each-append (λ (e : RequestEntry). is_name e.name ≡ true) requests (entry ∷ []) s.named (sound.name, tt);
         few = s.few;
       };

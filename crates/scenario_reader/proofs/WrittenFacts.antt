@@ -75,7 +75,7 @@ pub failed-rises : (e : ReportFault) (r : Result (Unit {0}) ReportFault) (a b : 
 failed-rises Memory r a b g g' f f' text is failed fault = cc
 failed-rises WriteFault r a b g g' f f' text is failed fault = failed.rises
 
--- a front of what was gathered of a text is a front of the text
+-- a prefix of what was gathered of a text is a prefix of the text
 pub last-failed : (a b c : Option (List ℕ)) (g g' : List ℕ) (f f' : ℕ) (text : List ℕ) → g ≡ [] → AddsAll a b g g' f f' text → WritesPart b c g' → WritesPart a c text
 last-failed a b c g g' f f' text none first part = record {
   front = first.gathers.put ++ part.front;

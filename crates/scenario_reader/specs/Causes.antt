@@ -3,6 +3,8 @@
 use Rattle.std.specs.Prelude.{◌≡◌, Bool, if◌then◌else◌, Option, Some, None, Result, Ok, Err, List, [], ◌∷◌}
 use Rattle.scenario_reader.specs.declared.cause.Cause.{Cause}
 use Rattle.scenario_reader.specs.declared.cause.Cause.TheVariants as cause
+use Rattle.scenario_reader.specs.declared.cause.LineFault.{LineFault}
+use Rattle.scenario_reader.specs.declared.cause.LineFault.TheVariants.{Memory, Refused}
 
 -- the cause by which a rule refuses, if it does
 abbrev pub Rule : Type 0
@@ -37,6 +39,18 @@ stated (Some cause) said = Err cause
 abbrev pub Judges : {X : Type 0} → Result X Cause → Rule → X → Type 0
 Judges (Ok x) rule said = (rule ≡ None) × (x ≡ said)
 Judges (Err cause) rule said = rule ≡ Some cause
+
+-- the same where judging may run out of memory, which tells nothing of the line
+abbrev pub JudgesWithRoom : {X : Type 0} → Result X LineFault → Rule → X → Type 0
+JudgesWithRoom (Ok x) rule said = (rule ≡ None) × (x ≡ said)
+JudgesWithRoom (Err (Refused cause)) rule said = rule ≡ Some cause
+JudgesWithRoom (Err Memory) rule said = Unit {0}
+
+-- the answer is what is said or the cause, but where judging runs out of memory
+abbrev pub AnswersWithRoom : {X : Type 0} → Result X LineFault → Result X Cause → Type 0
+AnswersWithRoom (Ok x) said = said ≡ Ok x
+AnswersWithRoom (Err (Refused cause)) said = said ≡ Err cause
+AnswersWithRoom (Err Memory) said = Unit {0}
 
 -- the same of what a line may say
 abbrev pub States : {X : Type 0} → Result X Cause → Rule → Option X → Type 0

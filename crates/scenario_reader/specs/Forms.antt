@@ -35,6 +35,8 @@ text_of word.Route = codes "route"
 text_of word.Contract = codes "contract"
 text_of word.Delay = codes "delay"
 text_of word.Jitter = codes "jitter"
+text_of word.From = codes "from"
+text_of word.To = codes "to"
 
 -- whether a field is this word
 abbrev pub is_word : Keyword → List ℕ → Bool

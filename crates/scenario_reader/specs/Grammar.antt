@@ -13,7 +13,7 @@ use Rattle.call_script.specs.declared.operations.Op.{Op}
 use Rattle.call_script.specs.declared.operations.Op.TheVariants as op
 use Rattle.call_script.specs.declared.schedule.Do.{Do}
 use Rattle.call_script.specs.declared.version.Version.{Version}
-use Rattle.call_script.specs.declared.version.Version.TheVariants.{One, Two, Three}
+use Rattle.call_script.specs.declared.version.Version.TheVariants.{One, Two, Three, Four}
 use Rattle.net_units.specs.declared.numbers.ActorNo.{ActorNo}
 use Rattle.net_units.specs.Limits.{most_steps, most_callers, most_packets, most_gap, most_size, most_rounds}
 use Rattle.net_units.specs.Numbers.{actor_at}
@@ -39,7 +39,8 @@ abbrev pub version_in : List ℕ → Option Version
 version_in field =
     if pointwise nat_eq field (codes "1") then Some One else (
     if pointwise nat_eq field (codes "2") then Some Two else (
-    if pointwise nat_eq field (codes "3") then Some Three else None))
+    if pointwise nat_eq field (codes "3") then Some Three else (
+    if pointwise nat_eq field (codes "4") then Some Four else None)))
 
 abbrev pub header_version : List (List ℕ) → Option Version
 header_version fields =
@@ -244,7 +245,7 @@ line_word field =
 abbrev pub judge_as : Keyword → Version → Said → ℕ → List (List ℕ) → Result Item Cause
 judge_as word.Link version said number fields = stated (link_rule version said fields) (option_map item.Link (link_said version said fields))
 judge_as word.Caller version said number fields = judged (caller_rule said fields) (item.Caller (field_at fields 1))
-judge_as word.Open version said number fields = judged (open_rule said fields) (item.Open (request_said said fields))
+judge_as word.Open version said number fields = judged (open_rule version said fields) (item.Open (request_said said fields))
 judge_as word.Send version said number fields = stated (send_rule said fields) (option_map item.Op (send_said said fields))
 judge_as word.Close version said number fields = stated (close_rule said fields) (option_map item.Op (close_said said fields))
 judge_as word.Pour version said number fields = stated (pour_rule said fields) (option_map item.Op (pour_said said fields))

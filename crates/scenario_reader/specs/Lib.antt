@@ -6,6 +6,8 @@ pub mod Forms
 pub mod Entries
 pub mod Drafts
 pub mod LinkLine
+pub mod Nodes
+pub mod FoundRoutes
 pub mod OpenLine
 pub mod Grammar
 pub mod Reading

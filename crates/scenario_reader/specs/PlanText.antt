@@ -21,7 +21,7 @@ use Rattle.call_script.specs.declared.operations.Op.TheVariants.{Open, Send, Clo
 use Rattle.call_script.specs.declared.schedule.Do.{Do}
 use Rattle.call_script.specs.declared.schedule.Schedule.{Schedule}
 use Rattle.call_script.specs.declared.version.Version.{Version}
-use Rattle.call_script.specs.declared.version.Version.TheVariants.{One, Two, Three}
+use Rattle.call_script.specs.declared.version.Version.TheVariants.{One, Two, Three, Four}
 use Rattle.scenario_reader.specs.Fields.{ended_line}
 
 -- ---- tenet VERSION
@@ -30,6 +30,7 @@ abbrev pub version_field : Version → List ℕ
 version_field One = codes "1"
 version_field Two = codes "2"
 version_field Three = codes "3"
+version_field Four = codes "4"
 
 abbrev pub header_fields : Version → List (List ℕ)
 header_fields version = codes "tenet" ∷ version_field version ∷ []
@@ -51,7 +52,8 @@ link_fields entry = codes "link" ∷ entry.name ∷ entry.from ∷ entry.to ∷ 
 abbrev pub caller_fields : List ℕ → List (List ℕ)
 caller_fields name = codes "caller" ∷ name ∷ []
 
--- ---- open NAME route LINK1 .. LINKh contract XMIN XAVE I SMAX delay D rate, or jitter J in place of rate
+-- ---- open NAME route LINK1 .. LINKh contract XMIN XAVE I SMAX delay D rate, or jitter J in place of rate, or from NODE1 to NODE2
+-- ---- in place of the route
 
 -- a link's name more
 abbrev pub with_name : Option LinkEntry → List (List ℕ) → List (List ℕ)
@@ -73,8 +75,13 @@ control_fields (Jitter bound) = codes "jitter" ∷ decimal bound ∷ []
 abbrev pub delay_fields : Request → List (List ℕ)
 delay_fields request = codes "delay" ∷ decimal request.delay ∷ control_fields request.control
 
+-- the links of the route, or the nodes between which it was found
+abbrev pub way_fields : List LinkEntry → List Hop → Option (List ℕ × List ℕ) → List (List ℕ)
+way_fields links route None = codes "route" ∷ route_names links route
+way_fields links route (Some (from, to)) = codes "from" ∷ from ∷ codes "to" ∷ to ∷ []
+
 abbrev pub open_fields : List LinkEntry → RequestEntry → List (List ℕ)
-open_fields links entry = codes "open" ∷ entry.name ∷ codes "route" ∷ (route_names links entry.request.route ++ (contract_fields entry.request.contract ++ delay_fields entry.request))
+open_fields links entry = codes "open" ∷ entry.name ∷ (way_fields links entry.request.route entry.found ++ (contract_fields entry.request.contract ++ delay_fields entry.request))
 
 -- ---- send NAME COUNT GAP SIZE
 

@@ -20,7 +20,7 @@ abbrev pub reading_ahead : Cutting → Said → Option (List ℕ) → Option Rea
 reading_ahead t said None = None
 reading_ahead t said (Some left) = Some (reading_on t.number (outlook (allowance t) (t.pending ++ left)) said)
 
--- a line was judged and what it says was added, or it was refused, or memory was wanted
+-- a line was judged and what it says was added, or it was refused, or memory ran out
 abbrev pub AddsLine : Result (Unit {0}) ReadRefusal → ℕ → List ℕ → Said → Said → Type 0
 AddsLine (Ok _) number line said after = (item : Item) × (judge said number line ≡ Ok item) × (after ≡ with_item item said)
 AddsLine (Err (refusal.Refused at cause)) number line said after = (at ≡ number) × (judge said number line ≡ Err cause)

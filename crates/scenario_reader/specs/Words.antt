@@ -25,6 +25,7 @@ cause_word cause.End = codes "end"
 cause_word cause.Cut = codes "cut"
 cause_word cause.Step = codes "step"
 cause_word cause.Best = codes "best"
+cause_word cause.Reach = codes "reach"
 
 -- what a refusal says
 abbrev pub refusal_text : ReadRefusal → List ℕ

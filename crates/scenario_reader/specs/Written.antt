@@ -1,4 +1,4 @@
--- What writing does. A text goes into what is gathered, of which the front may have been written. After a refusal a front
+-- What writing does. A text goes into what is gathered, of which a prefix may have been written. After a refusal a prefix
 -- of what was gathered before and of the text was written, and a write fails only where the sink's count of faults rose.
 use Rattle.std.specs.Prelude.{ℕ, ◌≤◌, List, ◌++◌, Option, Result, Ok, Err}
 use Rattle.byte_ends.specs.Faults.{FaultsRise}
@@ -11,12 +11,12 @@ pub record AddsAll (written written' : Option (List ℕ)) (gathered gathered' : 
   pub gathers : Gathers written written' gathered gathered' text
   pub counts : faults ≤ faults'
 
--- a front was written, and there was no memory
+-- a prefix was written, and there was no memory
 pub record StopsThere (written written' : Option (List ℕ)) (faults faults' : ℕ) (text : List ℕ) : Type 0 where
   pub part : WritesPart written written' text
   pub counts : faults ≤ faults'
 
--- a front was written, and the sink failed
+-- a prefix was written, and the sink failed
 pub record FailsThere (written written' : Option (List ℕ)) (faults faults' : ℕ) (text : List ℕ) : Type 0 where
   pub part : WritesPart written written' text
   pub rises : FaultsRise faults faults'

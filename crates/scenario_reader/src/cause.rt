@@ -2,6 +2,7 @@
 ghost use Rattle.std.specs.Prelude.{◌≡◌, Some};
 ghost use Rattle.scenario_reader.specs.Words.{cause_word};
 
+use net_units::OutOfMemory;
 use std::fmt::{self, Display};
 
 /// Why a line of a scenario is refused. Where several causes apply to a line, the order in which a line is
@@ -31,7 +32,7 @@ pub enum Cause {
     Contract,
     /// The bounds don't rise, or the link's largest packet takes longer than the first bound.
     Levels,
-    /// A link stands twice in a route, or doesn't begin where the one before it ends.
+    /// A link stands twice in a route, or doesn't begin where the one before it ends; or a route is to be found from a node to itself.
     Route,
     /// The request was closed above.
     Closed,
@@ -45,6 +46,39 @@ pub enum Cause {
     Step,
     /// The link takes no best-effort packets.
     Best,
+    /// No walk of at most 16 links leads from the first node to the second.
+    Reach,
+}
+
+/// Why a line isn't let pass.
+#[derive(Clone, Copy, Debug, PartialEq, Eq)]
+pub enum LineFault {
+    /// Out of memory while its route was searched for; whether it is refused isn't known.
+    Memory,
+    /// The line is refused.
+    Refused(Cause),
+}
+
+impl From<Cause> for LineFault {
+    ghost use Rattle.std.specs.Prelude.{◌≡◌};
+    ghost use Rattle.scenario_reader.specs.declared.cause.LineFault.TheVariants.{Refused};
+
+    ghost from_gives = { λ cause fault. fault ≡ Refused cause };
+
+    fn from(cause: Cause) -> LineFault {
+        LineFault::Refused(cause)
+    }
+}
+
+impl From<OutOfMemory> for LineFault {
+    ghost use Rattle.std.specs.Prelude.{◌≡◌};
+    ghost use Rattle.scenario_reader.specs.declared.cause.LineFault.TheVariants.{Memory};
+
+    ghost from_gives = { λ _ fault. fault ≡ Memory };
+
+    fn from(_error: OutOfMemory) -> LineFault {
+        LineFault::Memory
+    }
 }
 
 impl Cause {
@@ -71,6 +105,7 @@ impl Cause {
             Cause::Cut => "cut",
             Cause::Step => "step",
             Cause::Best => "best",
+            Cause::Reach => "reach",
         }
     }
 }

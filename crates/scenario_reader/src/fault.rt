@@ -1,14 +1,14 @@
-//! Why a text isn't written whole.
+//! Why a text wasn't written whole.
 ghost use Rattle.std.specs.Prelude.{◌≡◌};
 
 use net_units::OutOfMemory;
 use std::alloc::AllocError;
 use thiserror::Error;
 
-/// Why a text isn't written whole. A front of it may have been.
+/// Why a text wasn't written whole. A prefix of it may have been.
 #[derive(Clone, Copy, Debug, PartialEq, Eq, Error)]
 pub enum ReportFault {
-    /// Memory was wanted and not there.
+    /// Out of memory.
     #[error("out of memory")]
     Memory,
     /// The sink failed, as its count of faults shows.

@@ -28,6 +28,8 @@ pub enum Keyword {
     Contract,
     Delay,
     Jitter,
+    From,
+    To,
 }
 
 impl Keyword {
@@ -56,6 +58,8 @@ impl Keyword {
             Keyword::Contract => b"contract",
             Keyword::Delay => b"delay",
             Keyword::Jitter => b"jitter",
+            Keyword::From => b"from",
+            Keyword::To => b"to",
         }
     }
 

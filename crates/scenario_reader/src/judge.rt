@@ -3,13 +3,13 @@
 //! Each kind of line has a form, a list of rules in the order in which they are judged, and what it says.
 ghost use Rattle.std.specs.Prelude.{◌≡◌, ◌≤◌, Some, Ok, IfOk};
 ghost use Rattle.call_script.specs.Rules.{caller_names};
-ghost use Rattle.scenario_reader.specs.Causes.{Judges, States};
+ghost use Rattle.scenario_reader.specs.Causes.{AnswersWithRoom, Judges, States};
 ghost use Rattle.scenario_reader.specs.Decimal.{value_of};
 ghost use Rattle.scenario_reader.specs.Fields.{fields_of, field_at};
 ghost use Rattle.scenario_reader.specs.Kept.{MayAdd};
 ghost use Rattle.scenario_reader.specs.Grammar.{version_in, header_version, header_said, may_stand, line_word, judge_as, judge_word, judge_after, judge, is_passed_over, caller_rule};
 
-use crate::cause::Cause;
+use crate::cause::{Cause, LineFault};
 use crate::draft::Draft;
 use crate::fields::{field, field_count, has_fields};
 use crate::form::{Keyword, Part, has_form};
@@ -19,68 +19,71 @@ use crate::values::{new_name, require};
 use call_script::Version;
 use net_units::Name;
 use net_units::limits::MOST_CALLERS;
+use std::alloc::Global;
 
 const CALLER_FORM: [Part; 2] = [Part::Word(Keyword::Caller), Part::Field];
 
 impl Draft {
     /// What the line of this number says after what was read, or the cause by which it is refused.
     #[tactic(auto, unfolding(crate::specs::Grammar::judge))]
-    pub fn judge(&self, number: u64, line: &[u8]) -> Result<Item, Cause>
-        ensures judged { result ≡ judge self.now number line.now }
+    pub fn judge(&self, alloc: Global, number: u64, line: &[u8]) -> Result<Item, LineFault>
+        ensures judged { AnswersWithRoom result (judge self.now number line.now) }
         ensures room { IfOk result (MayAdd self.now) }
     {
         if is_passed_over(line) {
             return Ok(Item::Nothing);
         }
         if !has_fields(line) {
-            return Err(Cause::Shape);
+            return Err(LineFault::Refused(Cause::Shape));
         }
-        self.judge_after(number, line)
+        self.judge_after(alloc, number, line)
     }
 
     // The first line is the header; after it each line begins with a word.
-    fn judge_after(&self, number: u64, line: &[u8]) -> Result<Item, Cause>
-        ensures judged { result ≡ judge_after self.now.version self.now number (fields_of line.now) }
+    fn judge_after(&self, alloc: Global, number: u64, line: &[u8]) -> Result<Item, LineFault>
+        ensures judged { AnswersWithRoom result (judge_after self.now.version self.now number (fields_of line.now)) }
         ensures room { IfOk result (MayAdd self.now) }
     {
         match self.version {
-            None => judge_header(line),
+            None => Ok(judge_header(line)?),
             Some(version) => match line_word(field(line, 0)) {
-                None => Err(Cause::Word),
-                Some(word) => self.judge_word(word, version, number, line),
+                None => Err(LineFault::Refused(Cause::Word)),
+                Some(word) => self.judge_word(alloc, word, version, number, line),
             },
         }
     }
 
     fn judge_word(
         &self,
+        alloc: Global,
         word: Keyword,
         version: Version,
         number: u64,
         line: &[u8],
-    ) -> Result<Item, Cause>
-        ensures { result ≡ judge_word (Some word) version self.now number (fields_of line.now) }
+    ) -> Result<Item, LineFault>
+        ensures { AnswersWithRoom result (judge_word (Some word) version self.now number (fields_of line.now)) }
     {
         if self.may_stand(version, word) {
-            self.judge_as(word, version, number, line)
+            self.judge_as(alloc, word, version, number, line)
         } else {
-            Err(Cause::Word)
+            Err(LineFault::Refused(Cause::Word))
         }
     }
 
     fn judge_as(
         &self,
+        alloc: Global,
         word: Keyword,
         version: Version,
         number: u64,
         line: &[u8],
-    ) -> Result<Item, Cause>
-        ensures { result ≡ judge_as word version self.now number (fields_of line.now) }
+    ) -> Result<Item, LineFault>
+        ensures { AnswersWithRoom result (judge_as word version self.now number (fields_of line.now)) }
     {
         match word {
             Keyword::Link => Ok(Item::Link(self.judge_link(version, line)?)),
             Keyword::Caller => Ok(Item::Caller(self.judge_caller(line)?)),
-            Keyword::Open => Ok(Item::Open(self.judge_open(line)?)),
+            Keyword::Open => Ok(Item::Open(self.judge_open(alloc, version, line)?)),
             Keyword::Send => Ok(Item::Op(self.judge_send(line)?)),
             Keyword::Close => Ok(Item::Op(self.judge_close(line)?)),
             Keyword::Pour => Ok(Item::Op(self.judge_pour(line)?)),
@@ -91,7 +94,7 @@ impl Draft {
                 Ok(Item::Schedule)
             }
             Keyword::Do => Ok(Item::Do(self.judge_do(number, line)?)),
-            _ => Err(Cause::Word),
+            _ => Err(LineFault::Refused(Cause::Word)),
         }
     }
 
@@ -162,6 +165,8 @@ fn version_in(field: &[u8]) -> Option<Version>
         Some(Version::Two)
     } else if field == b"3".as_slice() {
         Some(Version::Three)
+    } else if field == b"4".as_slice() {
+        Some(Version::Four)
     } else {
         None
     }

@@ -1,6 +1,7 @@
 //! Laws of scenarios, each as the contract of a function that does nothing.
 ghost use Rattle.std.specs.Prelude.{◌≡◌};
 ghost use Rattle.scenario_reader.specs.BothWays.{APlansTextIsRead, ATextIsOfOnePlan};
+ghost use Rattle.scenario_reader.specs.FoundRoutes.{FindsLeastRoutes, TellsNodesApart};
 ghost use Rattle.scenario_reader.specs.declared.reader.TheConstants.{MOST_BYTES};
 
 /// The text of a plan, where it has at most 4,194,304 bytes, is read as that plan and its schedule, whose items then have the
@@ -12,6 +13,17 @@ pub fn a_plans_text_is_read()
 /// A text of at most 4,194,304 bytes is that of one plan, with one schedule up to the numbers of lines.
 pub fn a_text_is_of_one_plan()
     ensures { ATextIsOfOnePlan }
+{}
+
+/// The route that is found from a node to another one is that of the least walk; where none is found, no walk of at most 16 links
+/// leads there.
+pub fn a_found_route_is_the_least()
+    ensures { FindsLeastRoutes }
+{}
+
+/// Two nodes of a network have two numbers.
+pub fn two_nodes_have_two_numbers()
+    ensures { TellsNodesApart }
 {}
 
 /// A scenario may have 4,194,304 bytes.

@@ -13,6 +13,7 @@ pub mod laws;
 mod lines;
 pub mod link_line;
 pub mod names;
+mod nodes;
 pub mod open_line;
 pub mod operation_lines;
 mod out;
@@ -22,6 +23,7 @@ pub mod round_lines;
 pub mod values;
 pub mod writer;
 
+pub use call_script::{Do, Schedule};
 pub use cause::Cause;
 pub use fault::ReportFault;
 pub use reader::{MOST_BYTES, ReadRefusal, read_plan};

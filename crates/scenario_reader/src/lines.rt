@@ -4,7 +4,7 @@ ghost use Rattle.std.specs.List.{slice_get};
 ghost use Rattle.net_units.specs.Numbers.{link_number, actor_number};
 ghost use Rattle.call_script.specs.ActorNames.{name_of_actor};
 ghost use Rattle.scenario_reader.specs.Fields.{ended_line};
-ghost use Rattle.scenario_reader.specs.PlanText.{header_fields, best_fields, bounds_fields, link_text, caller_fields, route_names, with_name, contract_fields, delay_fields, open_fields, send_fields, close_fields, pour_fields, op_text, rounds_fields, tail_fields, do_text, schedule_fields, spaced, link_line_front};
+ghost use Rattle.scenario_reader.specs.PlanText.{header_fields, best_fields, bounds_fields, link_text, caller_fields, route_names, way_fields, with_name, contract_fields, delay_fields, open_fields, send_fields, close_fields, pour_fields, op_text, rounds_fields, tail_fields, do_text, schedule_fields, spaced, link_line_front};
 
 use call_script::{CallerEntry, Do, LinkEntry, Op, RequestEntry, Version};
 use hop_reservation::Route;
@@ -20,6 +20,7 @@ pub(crate) fn header_line(alloc: Global, version: Version) -> Result<String, Out
         Version::One => "1",
         Version::Two => "2",
         Version::Three => "3",
+        Version::Four => "4",
     };
     Ok(format!(in alloc; "tenet {number}\n")?)
 }
@@ -97,12 +98,25 @@ pub(crate) fn open_line(
 {
     let name = entry.name;
     let mut line = String::new(alloc);
-    write!(line, "open {name} route")?;
-    push_route(&mut line, links, &entry.request.route)?;
+    write!(line, "open {name}")?;
+    push_way(&mut line, links, entry)?;
     push_contract(&mut line, &entry.request.contract)?;
     push_bound(&mut line, &entry.request)?;
     writeln!(line)?;
     Ok(line)
+}
+
+// The links of the route, or the nodes between which it was found.
+fn push_way(line: &mut String, links: &[LinkEntry], entry: &RequestEntry) -> Result<(), AllocError>
+    ensures { OnOk result (string_bytes line.new ≡ string_bytes line.old ++ spaced (way_fields links.now entry.now.request.route entry.now.found)) }
+{
+    match entry.found {
+        Some((from, to)) => write!(line, " from {from} to {to}"),
+        None => {
+            write!(line, " route")?;
+            push_route(line, links, &entry.request.route)
+        }
+    }
 }
 
 // The links of a route.

@@ -67,7 +67,8 @@ impl Draft {
         ensures { States result (close_rule self.now (fields_of line.now)) (close_said self.now (fields_of line.now)) }
     {
         require(has_form(&CLOSE_FORM, line), Cause::Shape)?;
-        let entry = self.judge_own(field(line, 1))?;
+        let named = name(field(line, 1))?;
+        let entry = self.own_request(&named).ok_or(Cause::Unknown)?;
         require(!self.is_closed(&entry), Cause::Closed)?;
         Ok(Op::Close(entry.request.chan))
     }

@@ -6,7 +6,7 @@ use crate::fault::ReportFault;
 use byte_ends::{Gather, Sink};
 use net_units::OutOfMemory;
 
-// AddsText the line, if there was memory for it.
+// Adds the line, if there was memory for it.
 pub(crate) fn write_line<K: Sink>(
     out: &mut Gather,
     sink: &mut K,

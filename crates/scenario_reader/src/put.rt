@@ -1,5 +1,5 @@
 //! Adding what a line says to what was read.
-ghost use Rattle.std.specs.Prelude.{◌≡◌, ◌≤◌, ℕ, false, OnOk, OnErr, length};
+ghost use Rattle.std.specs.Prelude.{◌≡◌, ◌≤◌, ◌++◌, ◌∷◌, [], ℕ, ◌<◌, false, OnOk, OnErr, length, vec_len, vec_capacity};
 ghost use Rattle.std.specs.List.{slice_get};
 ghost use Rattle.net_units.specs.Numbers.{channel_number};
 ghost use Rattle.call_script.specs.Growing.{add_op};
@@ -76,7 +76,7 @@ impl Draft {
         self.requests.reserve(1)?;
         self.closed.reserve(1)?;
         add_op(&mut self.callers, Op::Open(entry.request.chan))?;
-        self.requests.push_reserved(*entry);
+        push_reserved(&mut self.requests, entry);
         self.closed.push_reserved(false);
         self.request_names.add(entry.name);
         Ok(())
@@ -161,6 +161,15 @@ impl Draft {
         self.items.push(*what)?;
         Ok(())
     }
+}
+
+// Adds an item at the end, where there is room. (At a type with an option of names in it, `push_reserved` is proved in a function
+// over any type, and not where it is called.)
+fn push_reserved<T: Copy>(items: &mut Vec<T>, item: &T)
+    requires { vec_len items.old < vec_capacity items.old }
+    ensures { items.new.items ≡ items.old.items ++ item.now ∷ [] }
+{
+    items.push_reserved(*item);
 }
 
 // Adds an operation after those of the last caller. Want of memory changes nothing.

@@ -8,7 +8,7 @@ ghost use Rattle.scenario_reader.specs.ReadSteps.{AddsLine, ReadsLine, TellsRead
 ghost use Rattle.scenario_reader.specs.Reading.{LetsPass};
 ghost use Rattle.scenario_reader.specs.Words.{refusal_text};
 
-use crate::cause::Cause;
+use crate::cause::{Cause, LineFault};
 use crate::draft::Draft;
 use byte_ends::{Cut, LineRefusal, Lines, Source};
 use call_script::{Plan, Schedule};
@@ -23,7 +23,7 @@ pub const MOST_BYTES: u64 = 4_194_304;
 /// Why no scenario was read.
 #[derive(Clone, Copy, Debug, PartialEq, Eq, Error)]
 pub enum ReadRefusal {
-    /// Memory was wanted and not there.
+    /// Out of memory.
     Memory,
     /// The source failed, as its count of faults shows.
     ReadFault,
@@ -122,9 +122,10 @@ fn read_line<S: Source>(
 fn add_line(alloc: Global, draft: &mut Draft, number: u64, line: &[u8]) -> Result<(), ReadRefusal>
     ensures { AddsLine result number line.now draft.old draft.new }
 {
-    match draft.judge(number, line) {
+    match draft.judge(alloc, number, line) {
         Ok(item) => Ok(draft.put(alloc, &item)?),
-        Err(cause) => Err(ReadRefusal::Refused {
+        Err(LineFault::Memory) => Err(ReadRefusal::Memory),
+        Err(LineFault::Refused(cause)) => Err(ReadRefusal::Refused {
             line: number,
             cause,
         }),

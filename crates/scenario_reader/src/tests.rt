@@ -296,3 +296,59 @@ fn a_refusal_says_its_line_and_its_cause(rt: HostRuntime) -> Result<(), Fail> {
     assert_eq!(rt; format!(in rt.alloc(); "{}", Cause::Step)?.as_str(), "step");
     Ok(())
 }
+
+// Five links, and an open between two of their nodes.
+fn five_links(alloc: Global, version: &str, direct: u32, way: &str) -> Result<String, Fail> {
+    Ok(format!(in alloc;
+        "tenet {version}
+link A n1 n2 rate 1 cap 4 prop 2 buffer 100 levels 10 20 40
+link B n2 n4 rate 1 cap 4 prop 2 buffer 100 levels 10 20 40
+link C n1 n3 rate 1 cap 4 prop 1 buffer 100 levels 10 20 40
+link D n3 n4 rate 1 cap 4 prop 3 buffer 100 levels 10 20 40
+link E n1 n4 rate 1 cap 4 prop {direct} buffer 100 levels 10 20 40
+caller k1
+open r1 {way} contract 5 10 20 2 delay 50 rate
+rounds 0
+tail 0
+"
+    )?)
+}
+
+// The links of the first request's route.
+fn first_route(alloc: Global, text: &str) -> Result<Vec<u8>, Fail> {
+    let (plan, _) = planned(alloc, text)?;
+    let mut links = Vec::new(alloc);
+    if let [entry, ..] = plan.requests() {
+        for place in 1..=entry.request.route.len() {
+            links.push(entry.request.route.hop(place).link.get())?;
+        }
+    }
+    Ok(links)
+}
+
+#[test]
+fn a_route_is_found_between_two_nodes(rt: HostRuntime) -> Result<(), Fail> {
+    let alloc = rt.alloc();
+    let found = first_route(alloc, five_links(alloc, "4", 5, "from n1 to n4")?.as_str())?;
+    assert_eq!(rt; found.as_slice(), &[0, 1][..]);
+    let found = first_route(alloc, five_links(alloc, "4", 4, "from n1 to n4")?.as_str())?;
+    assert_eq!(rt; found.as_slice(), &[4][..]);
+    let found = first_route(alloc, five_links(alloc, "4", 4, "route C D")?.as_str())?;
+    assert_eq!(rt; found.as_slice(), &[2, 3][..]);
+    for (version, way, cause) in [
+        ("4", "from n4 to n1", Cause::Reach),
+        ("4", "from n4 to n4", Cause::Route),
+        ("4", "from n4 to n5", Cause::Unknown),
+        ("4", "from contract to n4", Cause::Name),
+        ("4", "from n1 to contract", Cause::Name),
+        ("4", "from n1 n4", Cause::Shape),
+        ("3", "from n1 to n4", Cause::Shape),
+    ] {
+        let text = five_links(alloc, version, 5, way)?;
+        assert_eq!(rt;
+            read(alloc, text.as_str())?,
+            Err(ReadRefusal::Refused { line: 8, cause })
+        );
+    }
+    Ok(())
+}

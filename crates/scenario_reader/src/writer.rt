@@ -20,10 +20,11 @@ use call_script::{CallerEntry, Do, LinkEntry, Op, Plan, RequestEntry, Schedule};
 use std::alloc::Global;
 
 /// Writes the one text of the plan: the header, the links, the callers each with its operations in their order, `rounds` and
-/// `tail`, and, where the schedule is written, `schedule` and its `do` lines. The schedule's actors are those of the plan.
+/// `tail`, and, where the schedule is written, `schedule` and its `do` lines. A request whose route was found has its two nodes in
+/// place of the links. The schedule's actors are those of the plan.
 ///
 /// The text is gathered and written in pieces of at most 65,536 bytes. `WriteFault` comes only where the sink's count of
-/// faults rose in this call. After a refusal a front of the text was written.
+/// faults rose in this call. After a refusal a prefix of the text was written.
 pub fn write_plan<K: Sink>(
     alloc: Global,
     plan: &Plan,

@@ -33,7 +33,7 @@ use Rattle.setup_protocol.proofs.HopAsks.{asked-at}
 use Rattle.setup_protocol.proofs.ProgressFacts.{progress-on_the_way, progress-tested}
 use Rattle.setup_protocol.proofs.RouteFacts.{reach-have}
 
--- ---- a front of the offers
+-- ---- a prefix of the offers
 
 -- of so many replies as there are offers, or fewer, each is an offer
 record AreOffersAlone (replies : List Reply) (count : ℕ) : Type 0 where

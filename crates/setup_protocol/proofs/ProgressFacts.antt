@@ -1,4 +1,4 @@
--- One reply more: what it makes of the offers at the front of the replies, and of how far a setup has come.
+-- One reply more: what it makes of the offers at the start of the replies, and of how far a setup has come.
 use Rattle.std.proofs.Common.{◌≡◌, ℕ, zero, suc, ◌-◌, ◌<◌, ◌≤◌, true, false, Option, Some, None, List, [], ◌∷◌, ◌++◌, length, inl, inr, ap, subst, sym, refl, ◌∙◌, arith}
 use Rattle.std.proofs.lemmas.Bool.{cases_Bool, cases_lt, lt-ltb, le-ltb}
 use Rattle.std.proofs.lemmas.List.{length-append}

@@ -20,7 +20,7 @@ use Rattle.setup_protocol.specs.declared.verdict.Deny.{Deny}
 use Rattle.setup_protocol.specs.declared.verdict.Deny.TheVariants.{Hop as AtHop}
 use Rattle.setup_protocol.proofs.ProgressFacts.{progress-on_the_way, progress-tested}
 
--- ---- a front of the replies that has all offers
+-- ---- a prefix of the replies that has all offers
 
 take-none : {X : Type 0} (count : ℕ) → take {A = X} count [] ≡ []
 take-none zero = refl
@@ -66,7 +66,7 @@ count-all (first ∷ replies) =
       | inr plain ↦ rw plain (omega arith)
     ]
 
--- ---- the ask after a front
+-- ---- the ask after a prefix
 
 -- a list at one of its places
 record IsSplit {X : Type 0} (xs : List X) (place : ℕ) : Type 0 where
@@ -81,7 +81,7 @@ split-at (x ∷ xs) (suc place) less =
     let rest = split-at xs place (omega arith) in
     record { here = rest.here; after = rest.after; same = ap (λ ys. x ∷ ys) rest.same }
 
--- where the front is followed by a reply, and its progress asks the hop so, the hop is asked back
+-- where the prefix is followed by a reply, and its progress asks the hop so, the hop is asked back
 asked-back : (request : Request) (replies : List Reply) (place : ℕ) (progress : Progress) (hop : Hop) (ask : Ask) → place < length replies → progress_of request (take place replies) ≡ progress
     → asked request progress ≡ Some (hop.link, ask) → IsAskedBack request replies hop ask
 asked-back request replies place progress hop ask less is asks =
@@ -160,7 +160,7 @@ relax-asked request (suc left) index levels hop is found =
     let same : suc left - 1 ≡ index = omega (arith, is) in
     ap (λ f. asked_of f (λ h. relax_of request levels (suc left))) (ap (slice_get request.route) same ∙ found) ∙ ap (λ n. Some (hop.link, relax_of request levels n)) is
 
--- the progress after a front of a tested request
+-- the progress after a prefix of a tested request
 front-tested : (request : Request) (replies : List Reply) (made : ℕ) (denial : Option EndDenial) → length request.route ≤ length (offers_in replies) → made ≤ length (after_offers replies)
     → denial_of request.route (offers_in replies) request.delay (jitter_of request.control) ≡ denial
     → progress_of request (take (length (offers_in replies) + made) replies) ≡ after_test request (offers_in replies) made denial

@@ -26,7 +26,7 @@ use Rattle.setup_protocol.specs.declared.request.Request.{Request}
 use Rattle.setup_protocol.specs.declared.verdict.Deny.{Deny}
 use Rattle.setup_protocol.specs.declared.verdict.Deny.TheVariants.{Hop as AtHop, End}
 
--- ---- the offers at the front of the replies
+-- ---- the offers at the start of the replies
 
 -- whether a reply is an offer
 abbrev pub is_offer : Reply → Bool

@@ -46,7 +46,7 @@ EveryHopIsAskedBack = (request : Request) (replies : List Reply) (outcome : Outc
 
 -- ---- no relax is unfit
 
--- the offers at the front of the replies tell the reach of their hops
+-- the offers at the start of the replies tell the reach of their hops
 unfoldable pub TellReaches : ℕ → List Hop → List Reply → Type 0
 TellReaches delay hops [] = Unit {0}
 TellReaches delay [] (reply ∷ replies) = Unit {0}

@@ -11,6 +11,7 @@ pub mod setup;
 pub mod teardown;
 pub mod verdict;
 
+pub use link_steps::Unexpected;
 pub use request::{Control, Request};
 pub use setup::Setup;
 pub use teardown::Teardown;

@@ -26,7 +26,7 @@ use Rattle.tenet_app.specs.declared.status.Status.TheVariants as status
 
 -- ---- a refused line
 
--- a front of a piece is some of it
+-- a prefix of a piece is some of it
 pub part-of-front : (written written' : Option (List ℕ)) (piece text : List ℕ) → piece ≡ text → WritesFront written written' piece → WritesPart written written' text
 part-of-front written written' piece text is front = record { front = take front.count piece; rest = drop front.count piece; appends = front.appends; joined = take-append-drop front.count piece ∙ is }
 

@@ -16,7 +16,7 @@ use Rattle.tenet_app.proofs.AnswerFacts.{due-as}
 
 -- ---- a race that was told
 
--- a front of its text was written
+-- a prefix of its text was written
 pub front-of-race : (packets : Bool) (parts : PlanParts) (closed : Closed) (schedule : Schedule) (entries : List Done) (written written' : Option (List ℕ)) → IsRaceOf parts closed schedule entries → WritesPart written written' (race_text parts schedule.items entries packets)
     → FrontOfPlansRace packets parts written written'
 front-of-race packets parts closed schedule entries written written' race part =
@@ -56,7 +56,7 @@ plan-raced packets before after status.WriteFault raced parts unused plan read e
 plan-raced packets before after (status.Refused line told) raced parts unused plan read ended answers = absurd answers
 plan-raced packets before after status.TooLong raced parts unused plan read ended answers = absurd answers
 
--- a front of a refusal is one of the text due
+-- a prefix of a refusal is one of the text due
 front-of-refusal : (packets : Bool) (left written written' : Option (List ℕ)) → BytesComeTo left (FrontOfRefusal written written') → BytesComeTo left (FrontOfAnyRace packets written written')
 front-of-refusal packets None written written' come = tt
 front-of-refusal packets (Some bytes) written written' come =

@@ -1,5 +1,5 @@
 -- What the word `make` answers. A number and a size determine a plan, the plan has one run by turns, and the text that is due is the summary
--- of that run. Nothing is read. A fault of writing is answered only where the count of faults of the sink rose, and then a front of the text was
+-- of that run. Nothing is read. A fault of writing is answered only where the count of faults of the sink rose, and then a prefix of the text was
 -- written. What is said of bytes is said where the sink tells them.
 use Rattle.std.specs.Prelude.{◌≡◌, ℕ, nat_le, ◌&&◌, if◌then◌else◌, ◌⊎◌, Option, Some, None, Result, Ok, Err, List, [], ◌∷◌, reverse, codes}
 use Rattle.std.specs.Io.KnownBytes.{Appends, Keeps}
@@ -36,7 +36,7 @@ pub record MakesDone (number size : ℕ) (written written' : Option (List ℕ)) 
   pub guaranteed : IsGuaranteedRun (made_parts number size) run
   pub appends : Appends written written' (summary_of number size (made_parts number size) (reverse run))
 
--- a front of the text that is due was written
+-- a prefix of the text that is due was written
 pub record FrontOfLoad (number size : ℕ) (written written' : Option (List ℕ)) : Type 0 where
   pub text : List ℕ
   pub due : DueOfLoad number size status.Done text
@@ -52,7 +52,7 @@ Makes number size status.ReadFault written written' faults faults' = ⊥
 Makes number size (status.Refused line told) written written' faults faults' = ⊥
 Makes number size status.TooLong written written' faults faults' = ⊥
 
--- what writing the summary says: it was written whole; or memory was wanted, or the sink failed
+-- what writing the summary says: it was written whole; or memory ran out, or the sink failed
 abbrev pub Summarizes : {X : Type 0} → ℕ → ℕ → Result X ReportFault → Option (List ℕ) → Option (List ℕ) → ℕ → ℕ → Type 0
 Summarizes number size (Ok done) written written' faults faults' = Makes number size status.Done written written' faults faults'
 Summarizes number size (Err fault.Memory) written written' faults faults' = Makes number size status.Memory written written' faults faults'
@@ -66,7 +66,7 @@ pub record DueAs (number size : ℕ) (answer : Status) : Type 0 where
   pub due : DueOfLoad number size answer text
 
 pub record LoadsDetermine : Type 0 where
-  -- where the sink doesn't fail, an answer that `make` may give is due for the number and the size, or memory was wanted
+  -- where the sink doesn't fail, an answer that `make` may give is due for the number and the size, or memory ran out
   pub answers : (number size : ℕ) (answer : Status) (written written' : Option (List ℕ)) (faults faults' : ℕ) → (FaultsRise faults faults' → ⊥) → Makes number size answer written written' faults faults' → (answer ≡ status.Memory) ⊎ DueAs number size answer
   -- and no two are due
   pub one : (number size : ℕ) (answer other : Status) (text text_other : List ℕ) → DueOfLoad number size answer text → DueOfLoad number size other text_other → (answer ≡ other) × (text ≡ text_other)

@@ -54,7 +54,7 @@ IsDueFor packets answer text TooManyBytes = (answer ≡ status.TooLong) × (text
 abbrev pub BytesComeTo : Option (List ℕ) → (Reading → Type 0) → Type 0
 BytesComeTo left P = IfSome left (λ bytes. P (reading MOST_BYTES bytes))
 
--- a front of a text that is due was written
+-- a prefix of a text that is due was written
 pub record FrontOfDue (packets : Bool) (written written' : Option (List ℕ)) (r : Reading) : Type 0 where
   pub answer : Status
   pub text : List ℕ
@@ -92,12 +92,12 @@ pub record PlaysReadFault (before after : Ends) : Type 0 where
   pub rises : FaultsRise before.read_faults after.read_faults
   pub written : Keeps before.written after.written
 
--- the sink failed, and a front of the text due was written
+-- the sink failed, and a prefix of the text due was written
 pub record PlaysWriteFault (packets : Bool) (before after : Ends) : Type 0 where
   pub rises : FaultsRise before.write_faults after.write_faults
   pub written : BytesComeTo before.left (FrontOfDue packets before.written after.written)
 
--- memory was wanted before anything was written, or after a front of the text due
+-- memory ran out before anything was written, or after a prefix of the text due
 abbrev pub PlaysMemory : Bool → Ends → Ends → Type 0
 PlaysMemory packets before after = Keeps before.written after.written ⊎ BytesComeTo before.left (FrontOfDue packets before.written after.written)
 
@@ -112,7 +112,7 @@ Plays packets status.TooLong before after = PlaysTooLong before after
 
 -- ---- the parts of an answer
 
--- a front of a text that is due for a plan and its schedule was written
+-- a prefix of a text that is due for a plan and its schedule was written
 pub record FrontOfPlan (packets : Bool) (parts : PlanParts) (schedule : Schedule) (written written' : Option (List ℕ)) : Type 0 where
   pub answer : Status
   pub text : List ℕ
@@ -143,13 +143,13 @@ AnswersPlan packets parts schedule status.Words written written' faults faults' 
 AnswersPlan packets parts schedule status.ReadFault written written' faults faults' = ⊥
 AnswersPlan packets parts schedule status.TooLong written written' faults faults' = ⊥
 
--- a report was written, or a front of it
+-- a report was written, or a prefix of it
 pub data WritesReport (answer : Status) (text : List ℕ) (written written' : Option (List ℕ)) (faults faults' : ℕ) : Type 0 where
   ReportWritten : answer ≡ status.Done → Appends written written' text → WritesReport answer text written written' faults faults'
   FrontWritten : answer ≡ status.WriteFault → FaultsRise faults faults' → WritesPart written written' text → WritesReport answer text written written' faults faults'
   LacksMemory : answer ≡ status.Memory → WritesPart written written' text → WritesReport answer text written written' faults faults'
 
--- a refusal was told, or memory was wanted before, or the sink failed after a front of its line
+-- a refusal was told, or memory ran out before, or the sink failed after a prefix of its line
 pub data TellsRefusal (line : ℕ) (told : Cause) (answer : Status) (written written' : Option (List ℕ)) (faults faults' : ℕ) : Type 0 where
   RefusalTold : answer ≡ status.Refused line told → Appends written written' (refusal_line line told) → TellsRefusal line told answer written written' faults faults'
   FrontTold : answer ≡ status.WriteFault → FaultsRise faults faults' → WritesPart written written' (refusal_line line told) → TellsRefusal line told answer written written' faults faults'
@@ -173,7 +173,7 @@ pub record DueFor (packets : Bool) (answer : Status) (bytes : List ℕ) : Type 0
   pub due : IsDueFor packets answer text (reading MOST_BYTES bytes)
 
 pub record BytesDetermine : Type 0 where
-  -- where nothing fails, an answer that `play` may give is due for the bytes, or memory was wanted
+  -- where nothing fails, an answer that `play` may give is due for the bytes, or memory ran out
   pub answers : (packets : Bool) (before after : Ends) (answer : Status) (bytes : List ℕ) → before.left ≡ Some bytes → MeetsNoFault before after → Plays packets answer before after → (answer ≡ status.Memory) ⊎ DueFor packets answer bytes
   -- and no two are due
   pub one : (packets : Bool) (r : Reading) (answer other : Status) (text text_other : List ℕ) → IsDueFor packets answer text r → IsDueFor packets other text_other r → (answer ≡ other) × (text ≡ text_other)

@@ -69,7 +69,7 @@ IsDueForRace packets answer text (PlanRead parts schedule) = (answer ≡ status.
 IsDueForRace packets answer text (BadLine line why) = (answer ≡ status.Refused line why) × (text ≡ refusal_line line why)
 IsDueForRace packets answer text TooManyBytes = (answer ≡ status.TooLong) × (text ≡ [])
 
--- a front of a text that is due was written
+-- a prefix of a text that is due was written
 pub record FrontOfRace (packets : Bool) (answer : Status) (written written' : Option (List ℕ)) (r : Reading) : Type 0 where
   pub text : List ℕ
   pub due : IsDueForRace packets answer text r
@@ -102,12 +102,12 @@ pub record RacesRefused (line : ℕ) (told : Cause) (before after : Ends) : Type
   pub due : BytesComeTo before.left (λ r. r ≡ BadLine line told)
   pub written : Appends before.written after.written (refusal_line line told)
 
--- the sink failed, and a front of the text due was written
+-- the sink failed, and a prefix of the text due was written
 pub record RacesWriteFault (packets : Bool) (before after : Ends) : Type 0 where
   pub rises : FaultsRise before.write_faults after.write_faults
   pub written : BytesComeTo before.left (FrontOfAnyRace packets before.written after.written)
 
--- memory was wanted before anything was written, or after a front of the text of one complete schedule
+-- memory ran out before anything was written, or after a prefix of the text of one complete schedule
 abbrev pub RacesMemory : Bool → Ends → Ends → Type 0
 RacesMemory packets before after = Keeps before.written after.written ⊎ BytesComeTo before.left (FrontOfRace packets status.Done before.written after.written)
 
@@ -129,7 +129,7 @@ pub record ReadsPlan (parts : PlanParts) (before after : Ends) : Type 0 where
   pub read : BytesComeTo before.left (λ r. r ≡ PlanRead parts unused)
   pub ended : IsAtEnd after.left
 
--- a front of the line that refuses a line was written
+-- a prefix of the line that refuses a line was written
 pub record FrontOfRefusal (written written' : Option (List ℕ)) (r : Reading) : Type 0 where
   pub line : ℕ
   pub why : Cause
@@ -160,7 +160,7 @@ pub record TellsRace (packets : Bool) (parts : PlanParts) (raced : Option Closed
   pub race : IsRaceOf parts closed schedule entries
   pub appends : Appends written written' (race_text parts schedule.items entries packets)
 
--- a front of the text of a race of the plan was written
+-- a prefix of the text of a race of the plan was written
 pub record FrontOfPlansRace (packets : Bool) (parts : PlanParts) (written written' : Option (List ℕ)) : Type 0 where
   pub text : List ℕ
   pub due : DueOfRace packets parts text
@@ -184,7 +184,7 @@ pub record DueForRace (packets : Bool) (answer : Status) (bytes : List ℕ) : Ty
   pub due : IsDueForRace packets answer text (reading MOST_BYTES bytes)
 
 pub record RacesAreDue : Type 0 where
-  -- where nothing fails, an answer that `race` may give is due for the bytes, or memory was wanted
+  -- where nothing fails, an answer that `race` may give is due for the bytes, or memory ran out
   pub answers : (packets : Bool) (before after : Ends) (answer : Status) (raced : Option Closed) (bytes : List ℕ) → before.left ≡ Some bytes → MeetsNoFault before after → Races packets answer raced before after → (answer ≡ status.Memory) ⊎ DueForRace packets answer bytes
   -- no two statuses are due
   pub one : (packets : Bool) (r : Reading) (answer other : Status) (text text_other : List ℕ) → IsDueForRace packets answer text r → IsDueForRace packets other text_other r → answer ≡ other

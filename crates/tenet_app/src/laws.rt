@@ -4,7 +4,7 @@ ghost use Rattle.tenet_app.specs.Playing.{BytesDetermine};
 ghost use Rattle.tenet_app.specs.Racing.{RacesAreDue};
 
 /// Where nothing fails, the bytes determine the answer: a status that `play` may give is due for what the bytes come to, or
-/// memory was wanted; and only one status and one text are due for them. So it is for `make`, of which the number and the size
+/// memory ran out; and only one status and one text are due for them. So it is for `make`, of which the number and the size
 /// determine the answer, and so for the status of `race`, whose text is that of some race.
 pub fn without_a_fault_the_bytes_determine_the_answer()
     ensures plays { BytesDetermine }

@@ -7,13 +7,13 @@ use shared_network::Closed;
 pub enum Status {
     /// The work was done and its text was written.
     Done,
-    /// Memory was wanted and not there.
+    /// Out of memory.
     Memory,
     /// The words aren't among those that are accepted.
     Words,
     /// The source failed, as its count of faults shows.
     ReadFault,
-    /// The sink failed, as its count of faults shows. A front of the text was written.
+    /// The sink failed, as its count of faults shows. A prefix of the text was written.
     WriteFault,
     /// A line of the scenario is refused, or asks for a step that isn't left, and one line that tells it was written.
     Refused {

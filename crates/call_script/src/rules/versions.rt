@@ -1,9 +1,9 @@
-//! Links and operations of a version.
+//! Links, requests and operations of a version.
 ghost use Rattle.std.specs.Prelude.{◌≡◌};
 ghost use Rattle.std.specs.List.{list_all};
-ghost use Rattle.call_script.specs.Rules.{all_ops, link_has_version, op_has_version};
+ghost use Rattle.call_script.specs.Rules.{all_ops, link_has_version, request_has_version, op_has_version};
 
-use crate::entries::{CallerEntry, LinkEntry};
+use crate::entries::{CallerEntry, LinkEntry, RequestEntry};
 use crate::operations::Op;
 use crate::version::Version;
 
@@ -17,6 +17,20 @@ fn link_has_version(version: Version, entry: &LinkEntry) -> bool
     ensures { result ≡ link_has_version version entry.now }
 {
     version.test() == entry.shape.test && (version.has_best_effort() || entry.shape.best == 0)
+}
+
+pub(crate) fn requests_have_version(version: Version, requests: &[RequestEntry]) -> bool
+    ensures { result ≡ list_all (request_has_version version) requests.now }
+{
+    requests
+        .iter()
+        .all(|entry| request_has_version(version, entry))
+}
+
+fn request_has_version(version: Version, entry: &RequestEntry) -> bool
+    ensures { result ≡ request_has_version version entry.now }
+{
+    version.has_found_routes() || entry.found.is_none()
 }
 
 pub(crate) fn callers_have_version(version: Version, callers: &[CallerEntry]) -> bool

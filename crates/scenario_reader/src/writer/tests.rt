@@ -7,6 +7,7 @@ use super::write_plan;
 use byte_ends::MemSink;
 use call_script::{
     BadPlan, CallerEntry, Do, Dos, LinkEntry, Op, Ops, Plan, RequestEntry, Schedule, Version,
+    push_request,
 };
 use hop_reservation::{Hop, Route};
 use link_steps::LinkShape;
@@ -44,7 +45,8 @@ fn link(version: Version, best: u32) -> Result<LinkEntry, Fail>
     })
 }
 
-fn request(control: Control) -> Result<RequestEntry, Fail>
+// A request whose route is given, or was found between these nodes.
+fn request(control: Control, found: Option<(Name, Name)>) -> Result<RequestEntry, Fail>
     ensures { IfOk result IsThatRequest }
 {
     let hop = Hop {
@@ -62,6 +64,7 @@ fn request(control: Control) -> Result<RequestEntry, Fail>
             control,
             delay: 12,
         },
+        found,
     })
 }
 
@@ -122,7 +125,8 @@ fn plan(
     ensures { IfOk result (λ plan. length plan.callers ≡ 1) }
 {
     let links = vec![in alloc; link]?;
-    let requests = vec![in alloc; request]?;
+    let mut requests = Vec::new(alloc);
+    push_request(&mut requests, request)?;
     let callers = vec![in alloc; caller]?;
     match Plan::new(alloc, version, links, requests, callers, rounds, 0) {
         Ok(plan) => Ok(plan),
@@ -135,7 +139,7 @@ fn plan(
 fn a_plan_of_one_link_has_six_lines(rt: HostRuntime) -> Result<(), Fail> {
     let alloc = rt.alloc();
     let link = link(Version::One, 0)?;
-    let request = request(Control::Rate)?;
+    let request = request(Control::Rate, None)?;
     let caller = opener(alloc, request.request.chan)?;
     let plan = plan(alloc, Version::One, link, request, caller, 0)?;
     let schedule = Schedule {
@@ -158,10 +162,10 @@ tail 0
 #[test]
 fn a_plan_with_every_form_has_each_line(rt: HostRuntime) -> Result<(), Fail> {
     let alloc = rt.alloc();
-    let link = link(Version::Three, 7)?;
-    let request = request(Control::Jitter(15))?;
+    let link = link(Version::Four, 7)?;
+    let request = request(Control::Jitter(15), Some((link.from, link.to)))?;
     let caller = busy_caller(alloc, request.request.chan, link.shape.link)?;
-    let plan = plan(alloc, Version::Three, link, request, caller, 30)?;
+    let plan = plan(alloc, Version::Four, link, request, caller, 30)?;
     let (line, count) = (0, 2);
     let (first, second) = (
         ActorNo::new(0).ok_or("k1")?,
@@ -185,10 +189,10 @@ fn a_plan_with_every_form_has_each_line(rt: HostRuntime) -> Result<(), Fail> {
     };
     let mut sink = MemSink::new(alloc, 1_000, 50, Vec::new(alloc))?;
     assert_eq!(rt; write_plan(alloc, &plan, &schedule, &mut sink), Ok(()));
-    let text = "tenet 3
+    let text = "tenet 4
 link A n1 n2 rate 1 cap 4 prop 2 buffer 100 best 7 levels 10 20 40
 caller k1
-open r1 route A contract 5 10 20 2 delay 12 jitter 15
+open r1 from n1 to n2 contract 5 10 20 2 delay 12 jitter 15
 send r1 3 10 2
 pour A 3 10 2
 close r1

@@ -1,0 +1,47 @@
+//! An audit of a table.
+ghost use Rattle.std.specs.Prelude.{◌≡◌, ℕ, IfOk};
+ghost use Rattle.call_script.specs.Plans.{IsPlan};
+ghost use Rattle.call_script.specs.Accepted.{AreAccepted};
+ghost use Rattle.run_record.specs.SmallRows.{AreSmall};
+ghost use Rattle.trace_audit.specs.Bounds.{TableKept};
+ghost use Rattle.trace_audit.specs.Checks.{finding_of, IsSound};
+
+use crate::finding::Finding;
+use crate::trail::Trail;
+use call_script::Plan;
+use net_units::{Levels, OutOfMemory};
+use run_record::HopRow;
+use std::alloc::Global;
+
+/// Audits a table of rows against a plan and the levels of its accepted requests: one entry a request. It tells the first row that
+/// fails, numbered from 1, and the first check that it fails, or that none does. Where it answers `Sound`, the packets of the table
+/// keep the bounds of their hops and of their requests.
+///
+/// An `Err` comes only for want of memory. It keeps what the rows of one channel leave alone, so a table takes time as its
+/// length.
+pub fn audit(
+    alloc: Global,
+    plan: &Plan,
+    levels: &[Option<Levels>],
+    table: &[HopRow],
+) -> Result<Finding, OutOfMemory>
+    requires accepted { AreAccepted plan.now levels.now }
+    requires small { AreSmall table.now }
+    ensures value { IfOk result (λ finding. finding ≡ finding_of plan.now levels.now table.now) }
+    ensures sound { IfOk result (λ finding. (rows : ℕ) → finding ≡ Finding.Sound rows → IsSound plan.now levels.now table.now) }
+    ensures kept { IfOk result (λ finding. (rows : ℕ) → finding ≡ Finding.Sound rows → TableKept plan.now levels.now table.now) }
+{
+    let _valid = plan.requests();
+    let mut trail = Trail::new(alloc);
+    for (index, row) in table.iter().enumerate() {
+        if let Some(word) = trail.take(alloc, plan, levels, row)? {
+            return Ok(Finding::Fault {
+                row: index as u64 + 1,
+                word,
+            });
+        }
+    }
+    Ok(Finding::Sound {
+        rows: table.len() as u64,
+    })
+}
