@@ -1,0 +1,78 @@
+# common.sh: what the scripts of this folder share. Each sets `here`, its folder, and reads this. They end with 0, with 2 for other words,
+# with 3 where a file can't be read or written, with 5 where the program refuses the scenario, and with 70 where the program isn't built.
+# shellcheck shell=sh disable=SC2034,SC2154
+LC_ALL=C
+export LC_ALL
+script=${0##*/}
+program=${TENET:-$here/../crates/tenet_app/out/tenet_app}
+
+# fail STATUS WHY
+fail() {
+  printf 'ask/%s: %s\n' "$script" "$2" >&2
+  exit "$1"
+}
+
+# words FEWEST MOST WORDS..: prints the head of the script where help is asked for, and judges the number of words
+words() {
+  fewest=$1
+  most=$2
+  shift 2
+  case ${1-} in
+    -h | --help)
+      sed -n '2,/^$/s/^# \{0,1\}//p' "$0"
+      exit 0
+      ;;
+  esac
+  if [ $# -lt "$fewest" ] || [ $# -gt "$most" ]; then fail 2 "other words are wanted; ask/$script --help has them"; fi
+}
+
+# begin FILE: a folder for what is kept meanwhile, and the scenario in it, whatever the file is called
+begin() {
+  [ -x "$program" ] || fail 70 'the program is not built; ./tenet play builds it'
+  work=$(mktemp -d) || exit 3
+  trap 'rm -rf "$work"' EXIT
+  trap 'exit 129' HUP
+  trap 'exit 130' INT
+  trap 'exit 143' TERM
+  if [ -d "$1" ] || ! cat <"$1" >"$work/scenario" 2>"$work/told"; then fail 3 "$1 can't be read"; fi
+}
+
+# play FILE REPORT [WORD]: plays a scenario that was made of the one asked about
+play() {
+  "$program" play ${3+"$3"} <"$1" >"$2"
+  status=$?
+  case $status in
+    0) ;;
+    5) fail 5 "$(head -n 1 "$2"), where the scenario is asked about; ./tenet play < FILE shows a line that is refused" ;;
+    *) fail "$status" "the program ends with $status" ;;
+  esac
+}
+
+# opens FILE: the scenario's links and requests alone: nothing is sent, closed or run, so all accepted channels are held at once
+opens() {
+  awk '$1 == "rounds" { exit } $1 == "send" || $1 == "close" || $1 == "pour" { print "#"; next } { print }' "$1"
+  printf 'rounds 0\ntail 0\n'
+}
+
+is_scheduled() {
+  grep -q '^schedule$' "$work/scenario"
+}
+
+# judge: plays what decides the verdicts of the scenario, to $work/report: with a schedule all of it, and else the requests alone
+judge() {
+  if is_scheduled; then cp "$work/scenario" "$work/judged"; else opens "$work/scenario" >"$work/judged"; fi
+  play "$work/judged" "$work/report"
+}
+
+# known NAME: whether the scenario opens it
+known() {
+  awk -v name="$1" '$1 == "open" && $2 == name { found = 1 } END { exit !found }' "$work/scenario" || fail 2 "the scenario opens no $1"
+}
+
+# insert NAME STEPS: plays the requests of $work/probes just before the setup of NAME, or after all others where no NAME is given, to
+# $work/answers. Each makes at most STEPS steps. They have to be such that are denied by the destination, and so keep nothing.
+insert() {
+  awk -v before="$1" -v steps="$2" -f "$here/network.awk" -f "$here/insert.awk" "$work/probes" "$work/report" "$work/judged" >"$work/probing" ||
+    fail 2 "the schedule ends before the setup of $1"
+  play "$work/probing" "$work/answers"
+}

@@ -1,0 +1,41 @@
+# least.awk: what ask/least says of the request `name`. Read after network.awk; the files are the scenario, its report, and the answers to the
+# requests of probe_delays.awk.
+
+FNR == 1 { file++ }
+
+file == 1 { read_scenario() }
+
+file == 2 { read_report() }
+
+file == 3 && $1 == "deny" && $2 ~ /^ask_[0-9]+$/ {
+  delay = substr($2, 5) + 0
+  answered[delay] = 1
+  if ($3 == "hop") refusal[delay] = substr($0, index($0, " hop ") + 1)
+  else if ($4 == "delay") sum = $5
+}
+
+file == 3 && $1 == "deny" && $2 == "ask_last" && $3 == "end" { last = $5 - prop[route[name, hops[name]]] }
+
+# the answer that speaks for a delay: that of the largest delay asked with up to it
+function speaker(delay,    d, best) {
+  for (d in answered) if (d + 0 <= delay && d + 0 > best) best = d + 0
+  return best
+}
+
+# the least of the delays asked with over this one that a link refuses, or 0
+function first_refused(delay,    d, best) {
+  for (d in refusal) if (d + 0 > delay && (!best || d + 0 < best)) best = d + 0
+  return best
+}
+
+END {
+  if (!sum) print "no delay will do: " refusal[1]
+  else if (speaker(sum) in refusal) print "no delay will do: " told_ticks(sum) " are on offer, and with this delay or a longer one " refusal[speaker(sum)]
+  else {
+    print "least delay " told_ticks(sum)
+    over = first_refused(sum)
+    if (over) print "longest delay " told_ticks(over - 1) "; with a longer one " refusal[over]
+    if (last) print "least jitter " told_ticks(last)
+    print "it wants delay " told_ticks(wanted[name]) (name in jitter ? ", jitter " told_ticks(jitter[name]) : "")
+  }
+}
