@@ -1,84 +1,18 @@
-# Reads a scenario and then the report of its run with the table of packets, and writes what gnuplot draws to the folder `work`:
+# run.awk: reads a scenario and then the report of its run with the table of packets, and writes what gnuplot draws to the folder `work`. Read after
+# network.awk of ask/. It ends with 1 where the two aren't of one network.
 #   channels  place, name, least, worst, delay bound, end of the jitter bound
 #   packets   delay, place: each delay of a channel once
-#   links     name, and the load of each level in percent of its bound
-#   scale     gnuplot's settings that follow from the numbers
-
-function ceiling(a, b) {
-  return int((a + b - 1) / b)
-}
-
-function least_of(a, b) {
-  return a < b ? a : b
-}
-
-# the most packets that the contract of a request brings into w ticks
-function most_in(request, w,    burst) {
-  burst = int(interval[request] / xave[request])
-  return int(w / interval[request]) * burst + least_of(burst, ceiling(w % interval[request], xmin[request]))
-}
-
-# the ticks that levels up to m of a link may bring into w ticks, the largest packet included
-function load(link, m, w,    sum, i, request, hop) {
-  sum = ceiling(cap[link], rate[link])
-  for (i = 1; i <= accepted; i++) {
-    request = channel[i]
-    if (request in closed) continue
-    for (hop = 1; hop <= hops[request]; hop++)
-      if (route[request, hop] == link && level[request, hop] <= m) sum += most_in(request, w) * ceiling(smax[request], rate[link])
-  }
-  return sum
-}
-
-# the load of a level in percent of its bound: in the window as long as the bound, or, by the least test, the least window that fits
-function percent(link, m,    bound, w, next_w) {
-  bound = bounds[link, m]
-  if (version == 1) return 100 * load(link, m, bound) / bound
-  w = ceiling(cap[link], rate[link])
-  for (;;) {
-    next_w = load(link, m, w)
-    if (next_w <= w || next_w > bound) return 100 * next_w / bound
-    w = next_w
-  }
-}
-
-# ---- the scenario
-
-FNR == 1 { file++ }
-
-file == 1 && $1 == "tenet" { version = $2 }
-
-file == 1 && $1 == "link" {
-  link_names[++links] = $2
-  rate[$2] = $6
-  cap[$2] = $8
-  prop[$2] = $10
-  from = $13 == "best" ? 15 : 13
-  levels[$2] = NF - from
-  for (i = from + 1; i <= NF; i++) bounds[$2, i - from] = $i
-}
-
-file == 1 && $1 == "open" {
-  for (i = 4; $i != "contract"; i++) route[$2, i - 3] = $i
-  hops[$2] = i - 4
-  xmin[$2] = $(i + 1)
-  xave[$2] = $(i + 2)
-  interval[$2] = $(i + 3)
-  smax[$2] = $(i + 4)
-  if ($(i + 7) == "jitter") jitter[$2] = $(i + 8)
-}
-
-file == 1 && $1 == "close" { closed[$2] = 1 }
+#   requests  place, what it wants, the sum on offer where that denies it (or NaN), and what is said beside it; in percent of the delay wanted
+#   hops      place, hop, begin and end of its bound, begin and end of its worst (or NaN), in percent of the delay wanted
+#   names, names_of_requests, names_of_links      gnuplot's settings for the tics of channels, requests and links
+#   links     name, then for each of 8 levels the load in percent of its bound, and for each the load if all channels were held at once
+#   settings  what gnuplot is told of the numbers
 
 # ---- the report and its table
 
-file == 2 && $1 == "accept" {
-  if (!($2 in hops)) wrong = 1
-  channel[++accepted] = $2
-  place[$2] = accepted
-  bound_of[$2] = $4
-  for (i = 6; i <= NF; i++) level[$2, i - 5] = $i
-}
+FNR == 1 { file++ }
+
+file == 1 { read_scenario() }
 
 file == 2 && $0 == "channel,packet,hop,link,size,at,eligible,departed" {
   has_table = 1
@@ -86,49 +20,137 @@ file == 2 && $0 == "channel,packet,hop,link,size,at,eligible,departed" {
   next
 }
 
-file == 2 && has_table {
-  if (!($1 in place)) wrong = 1
-  if ($3 == 1) came[$1, $2] = $6
-  if ($3 == hops[$1]) {
-    delay = $8 + prop[$4] - came[$1, $2]
-    if (!($1 in worst) || delay > worst[$1]) worst[$1] = delay
-    if (!($1 in least) || delay < least[$1]) least[$1] = delay
-    if (!(($1, delay) in drawn)) print delay, place[$1] >(work "/packets")
-    drawn[$1, delay] = 1
+file == 2 && !has_table {
+  read_report()
+  if ($1 == "accept") read_accept()
+  if ($1 == "accept" || $1 == "deny" || $1 == "pending") {
+    if ($2 != request_name[++verdicts]) wrong = 1
   }
+  if ($1 == "link" && $2 != link_name[++seen_links]) wrong = 1
+}
+
+function read_accept() {
+  channel[++channels] = $2
+  place_of[$2] = channels
+  levels_of[$2] = NF - 5
+}
+
+file == 2 && has_table {
+  if (!($1 in place_of) || route[$1, $3] != $4) wrong = 1
+  else read_departure()
+}
+
+# a row: what the packet has taken at this hop, from its arrival there to the next, and from end to end
+function read_departure(    arrived, taken) {
+  if ($3 == 1) came[$1, $2] = $6
+  arrived = $8 + prop[$4]
+  taken = arrived - $6
+  if (!(($1, $3) in worst_hop) || taken > worst_hop[$1, $3]) worst_hop[$1, $3] = taken
+  if ($3 == hops[$1]) read_delay($1, arrived - came[$1, $2])
+}
+
+function read_delay(name, delay) {
+  if (!(name in most) || delay > most[name]) most[name] = delay
+  if (!(name in fewest) || delay < fewest[name]) fewest[name] = delay
+  if (!((name, delay) in drawn)) print delay, place_of[name] >(work "/packets")
+  drawn[name, delay] = 1
+}
+
+# whether the two files are of one network: the same requests and links, and of each channel a level of each link of its route
+function is_one_network(    i, hop, name) {
+  if (wrong || !has_table || verdicts != requests || seen_links != links) return 0
+  for (i = 1; i <= channels; i++) {
+    name = channel[i]
+    if (levels_of[name] != hops[name]) return 0
+    for (hop = 1; hop <= hops[name]; hop++) if (level[name, hop] > levels[route[name, hop]]) return 0
+  }
+  return 1
+}
+
+# ---- what is drawn
+
+function stretch(value) {
+  if (value == "NaN") return
+  if (value > highest) highest = value
+  if (!lowest || value < lowest) lowest = value
+}
+
+# the delays of a channel. Its jitter bound is what is promised: the jitter that it wants, or the last bound where that is less.
+function put_channel(i, name,    last, end) {
+  last = bound[route[name, hops[name]], level[name, hops[name]]]
+  end = name in jitter && name in fewest ? fewest[name] + least_of(jitter[name], last) : "NaN"
+  if (name in jitter) has_jitter = 1
+  print "set ytics add ('" name "' " i ")" >(work "/names")
+  print i, name, (name in fewest ? fewest[name] : "NaN"), (name in most ? most[name] : "NaN"), promised[name], end >(work "/channels")
+  stretch(promised[name])
+  stretch(end)
+  if (name in fewest) stretch(fewest[name])
+}
+
+function put_request(i, name,    why, sum, part) {
+  why = name in denial ? denial[name] : name in promised ? "" : "pending"
+  sum = "NaN"
+  if (why ~ /^end delay/) {
+    split(why, part, " ")
+    sum = 100 * part[3] / wanted[name]
+    if (sum > furthest) furthest = sum
+  }
+  print "set ytics add ('" name "' " i ")" >(work "/names_of_requests")
+  print i, "\"" told_ticks(wanted[name]) "\"", sum, "\"" why "\"" >(work "/requests")
+  if (name in promised) put_hops(i, name, 100 / wanted[name])
+}
+
+function put_hops(i, name, scale,    hop, link, from, taken, width) {
+  for (hop = 1; hop <= hops[name]; hop++) {
+    link = route[name, hop]
+    width = scale * (bound[link, level[name, hop]] + prop[link])
+    if ((name, hop) in worst_hop) print i, hop, from + 0, from + width, taken + 0, taken + scale * worst_hop[name, hop] >(work "/hops")
+    else print i, hop, from + 0, from + width, "NaN", "NaN" >(work "/hops")
+    from += width
+    taken += scale * worst_hop[name, hop]
+  }
+  if (taken > furthest) furthest = taken
+  if (hops[name] > most_hops) most_hops = hops[name]
+}
+
+function percent(link, m, open_only) {
+  return m <= levels[link] ? sprintf("%.2f", 100 * judged_load(link, m, open_only) / bound[link, m]) : "NaN"
+}
+
+function put_link(i, link,    m, open_ones, all) {
+  for (m = 1; m <= 8; m++) {
+    open_ones = open_ones " " percent(link, m, 1)
+    all = all " " percent(link, m, 0)
+  }
+  if (levels[link] > most_levels) most_levels = levels[link]
+  print link open_ones all >(work "/links")
+  print "set xtics add ('" link "' " i ")" >(work "/names_of_links")
+}
+
+function put_settings() {
+  print "channels = " channels + 0 "\nrequests = " requests "\nlinks = " links >(work "/settings")
+  print "lowest = " lowest + 0 "\nhighest = " highest + 0 "\nfurthest = " furthest + 0 >(work "/settings")
+  print "has_jitter = " has_jitter + 0 "\nmost_levels = " most_levels "\nmost_hops = " most_hops + 0 >(work "/settings")
+  print "least_test = " (version > 1) "\nhas_closed = " has_closed + 0 >(work "/settings")
+  put_time()
+}
+
+# the time of a tick, in the unit that suits the longest delay, where the scenario says what a tick is
+function put_time(    per, unit) {
+  per = highest * tick_length < 1000000 ? 1000 : highest * tick_length < 1000000000 ? 1000000 : 1000000000
+  unit = per == 1000 ? "microseconds" : per == 1000000 ? "milliseconds" : "seconds"
+  print "tick = " tick_length / per "\ntime_unit = '" unit "'" >(work "/settings")
 }
 
 END {
-  if (wrong || !has_table) exit 1
-  printf "" >(work "/packets")
+  if (!is_one_network()) exit 1
+  list_crossings()
+  for (name in is_closed) has_closed = 1
   printf "" >(work "/channels")
-  printf "" >(work "/links")
-  lowest = highest = 0
-  for (i = 1; i <= accepted; i++) {
-    name = channel[i]
-    from = name in least ? least[name] : "NaN"
-    to = name in worst ? worst[name] : "NaN"
-    end = name in jitter && name in least ? least[name] + jitter[name] : "NaN"
-    print i, name, from, to, bound_of[name], end >(work "/channels")
-    for (what = 1; what <= 3; what++) {
-      x = what == 1 ? bound_of[name] : what == 2 ? end : from
-      if (x == "NaN") continue
-      if (x > highest) highest = x
-      if (lowest == 0 || x < lowest) lowest = x
-    }
-    if (name in jitter) has_jitter = 1
-  }
-  most_levels = 0
-  for (i = 1; i <= links; i++) {
-    name = link_names[i]
-    line = name
-    for (m = 1; m <= 8; m++) line = line " " (m <= levels[name] ? percent(name, m) : "NaN")
-    if (levels[name] > most_levels) most_levels = levels[name]
-    print line >(work "/links")
-  }
-  print "lowest = " lowest >(work "/scale")
-  print "highest = " highest >(work "/scale")
-  print "has_jitter = " has_jitter + 0 >(work "/scale")
-  print "most_levels = " most_levels >(work "/scale")
-  print "least_test = " (version == 1 ? 0 : 1) >(work "/scale")
+  printf "" >(work "/hops")
+  for (i = 1; i <= channels; i++) put_channel(i, channel[i])
+  for (i = 1; i <= requests; i++) put_request(i, request_name[i])
+  for (i = 1; i <= links; i++) put_link(i, link_name[i])
+  printf "" >(work "/packets")
+  put_settings()
 }
