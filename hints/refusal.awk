@@ -1,5 +1,6 @@
 # Explains a refused line, for ./tenet: awk -v at=LINE -v cause=CAUSE -f refusal.awk SCENARIO prints the line, the field where it can
-# be told, and a sentence on the cause. It decides nothing: the program has refused the line, and this only looks for what to show.
+# be told, and a sentence on the cause. Of the cause `step`, -v left=COUNT says how many steps are left. It decides nothing: the program has
+# refused the line, and this only looks for what to show.
 
 # ---- what a field has to be
 
@@ -15,6 +16,16 @@ function is_number(field) {
 function place_of(word,    i) {
   for (i = 2; i <= NF && $i != word; i++) { }
   return i
+}
+
+# whether this line asks for a route between two nodes
+function is_found() {
+  return $3 == "from" && $5 == "to"
+}
+
+# the place of the word contract in an open line
+function place_of_contract() {
+  return is_found() ? 7 : place_of("contract")
 }
 
 # ---- the forms of lines: each place of a name or a number, from left to right
@@ -60,8 +71,11 @@ function link_form(    i, next_word) {
 
 function open_form(    i, from) {
   name(2, "the request's name", "new", "request")
-  from = place_of("contract")
-  for (i = 4; i < from; i++) name(i, "a link of the route", "used", "link")
+  from = place_of_contract()
+  if (is_found()) {
+    name(4, "the node where the route begins", "used", "node")
+    name(6, "the node where it ends", "used", "node")
+  } else for (i = 4; i < from; i++) name(i, "a link of the route", "used", "link")
   number(from + 1, "XMIN", 1, 1048576)
   number(from + 2, "XAVE", 1, 1048576)
   number(from + 3, "I", 1, 16777216)
@@ -85,7 +99,7 @@ function form_of_line() {
   if ($1 == "send") send_form("own", "the request")
   if ($1 == "pour") send_form("link", "the link")
   if ($1 == "close") name(2, "the request", "used", "own")
-  if ($1 == "rounds" || $1 == "tail") number(2, "the rounds", 0, 524288)
+  if ($1 == "rounds" || $1 == "tail") number(2, "the number of rounds", 0, 524288)
   if ($1 == "do") {
     name(2, "the actor", "used", "actor")
     number(3, "COUNT", 1, 1048576)
@@ -138,14 +152,15 @@ function of_levels(    i, from) {
 
 # a number of a contract
 function of_contract(    from) {
-  from = place_of("contract")
+  from = place_of_contract()
   if ($(from + 1) + 0 > $(from + 2) + 0) tell_field(from + 1, "XMIN, which is at most XAVE")
   else if ($(from + 2) + 0 > $(from + 3) + 0) tell_field(from + 2, "XAVE, which is at most I")
   else tell_field(from + 3, "I, which is less than 257 times XAVE")
 }
 
-# a link of a route
+# a link of a route, or two nodes that are one
 function of_route(    i, j, from) {
+  if (is_found()) return tell_field(6, "the node where the route begins")
   from = place_of("contract")
   for (i = 4; i < from; i++) {
     for (j = 4; j < i; j++) if ($j == $i) return tell_field(i, "a link that stands twice")
@@ -156,6 +171,17 @@ function of_route(    i, j, from) {
   }
 }
 
+# a node that can't be reached, or only by too many links: count has the fewest links to each node from the first one
+function of_reach(    link, links) {
+  count[$4] = 0
+  for (links = 1; links <= 32; links++) {
+    for (link in begins) if (begins[link] in count && count[begins[link]] == links - 1 && !(ends[link] in count)) count[ends[link]] = links
+  }
+  tell_field(6, "the node where the route ends")
+  if ($6 in count) print "  from " $4 " it takes " count[$6] " links at least, and a route has at most 16"
+  else print "  no links lead there from " $4
+}
+
 # a byte or a space that may not stand there
 function of_shape() {
   if ($0 ~ /\r$/) print "  it ends with a carriage return: tr -d '\\r' takes them out"
@@ -163,26 +189,114 @@ function of_shape() {
   else if ($0 ~ /^ / || $0 ~ / $/) print "  it has a space at an end"
   else if ($0 ~ /  /) print "  it has two spaces in a row"
   else if ($0 ~ /[^ -~]/) print "  it has a byte that isn't a printable one of ASCII"
-  else print "  it has " NF " fields" (usual[$1] == "" ? "" : "; its form is: " usual[$1])
+  else of_fields()
+}
+
+# ---- fields that may not stand there, where bytes and spaces are right
+
+# a note behind the line, more levels or links than there may be, a word of a later header, or a wrong fixed word; else how many fields it has
+function of_fields() {
+  if (tell_note() || tell_count() || tell_later_word() || tell_wrong_word()) return
+  print "  it has " NF " fields" (usual[$1] == "" ? "" : "; its form is: " usual[$1])
+}
+
+# whether a note stands behind the line
+function tell_note(    i) {
+  for (i = 2; i <= NF; i++) if ($i ~ /^#/) {
+    tell_field(i, "the beginning of a note")
+    print "  a note has a line of its own"
+    return 1
+  }
+  return 0
+}
+
+# whether a link has too many levels, or a route too many links
+function tell_count(    count) {
+  count = NF - place_of("levels")
+  if ($1 == "link" && count > 8) return told_count(count " levels", "a link has at most 8")
+  count = place_of("contract") - 4
+  if ($1 == "open" && $3 == "route" && count > 16 && count < NF - 3) return told_count("a route of " count " links", "a route has at most 16")
+  return 0
+}
+
+function told_count(has, most) {
+  print "  it has " has "; " most
+  return 1
+}
+
+# whether it is `best`, `pour` or `from`, and the header hasn't that word yet
+function tell_later_word() {
+  if ($1 == "link" && $13 == "best") return is_later(13, 3)
+  if ($1 == "pour") return is_later(1, 3)
+  if ($1 == "open" && is_found()) return is_later(3, 4)
+  return 0
+}
+
+# whether the field is a word of a later header, the first that has it being `tenet since`
+function is_later(place, since) {
+  if (version >= since) return 0
+  tell_field(place, "a word of tenet " since)
+  print "  this scenario begins with tenet " version
+  return 1
+}
+
+# whether a fixed word doesn't stand in its place; the first one that doesn't is told
+function tell_wrong_word(    from) {
+  if ($1 == "link") return stands(5, "rate") || stands(7, "cap") || stands(9, "prop") || stands(11, "buffer") || stands($13 == "best" ? 15 : 13, "levels")
+  if ($1 != "open") return 0
+  from = place_of("contract")
+  if (from > NF) return 0
+  return stands(3, "route") || stands(from + 5, "delay") || ($(from + 7) != "jitter" && stands(from + 7, "rate"))
+}
+
+function stands(place, word) {
+  if (place > NF || $place == word) return 0
+  print "  field " place " is " shown($place) "; " word " belongs there"
+  return 1
+}
+
+# ---- counts that are too large
+
+# the sum of a send's or a pour's packets with all above, or of the ticks
+function of_load(    sum) {
+  if ($1 == "tail") print "  (rounds + tail) * links is (" rounds " + " $2 ") * " link_count " = " (rounds + $2) * link_count "; at most 524288 are allowed"
+  else print "  with this line the packets times their hops come to " packets + $3 * ($1 == "send" ? hops[$2] : 1) "; at most 262144 are allowed"
+}
+
+function of_step() {
+  tell_field(2, "the actor")
+  if (left != "") print "  steps left there: " left
+}
+
+# ---- a word or a name that isn't there
+
+function of_word() {
+  if (!tell_later_word()) tell_field(1, "the first word")
+}
+
+# a request that another caller has opened
+function tell_owner() {
+  if (($1 == "send" || $1 == "close") && ("request" SUBSEP $2) in known) print "  " shown($2) " is a request of caller " owner[$2]
 }
 
 # ---- sentences
 
 function sentences() {
-  means["header"] = "the first line that isn't passed over is tenet 1, tenet 2 or tenet 3"
+  means["header"] = "the first line that isn't passed over is tenet 1, tenet 2, tenet 3 or tenet 4"
   means["word"] = "this word may not stand here; the order is: the header, links, callers each with its operations, rounds, tail, schedule, do"
   means["shape"] = "bytes, spaces, the number of fields or a fixed word aren't those of such a line"
   means["name"] = "a name is a letter and then letters, digits and _, at most 16 in all, and neither contract nor plane"
   means["number"] = "a number has decimal digits alone, at most 18, with no sign, point, comma or 0 in front"
   means["known"] = "a link, a caller and a request each take a name that no other of their kind has"
-  means["unknown"] = "no link, request of this caller, or actor has this name above this line"
+  means["unknown"] = "no link, node, request of this caller, or actor has this name above this line"
   means["range"] = "the number is out of its range"
   means["many"] = "a scenario has at most 32 links, 64 callers and 1,024 requests, and this is one more"
   means["contract"] = "a contract has XMIN at most XAVE, XAVE at most I, and I / XAVE, rounded down, at most 256"
   means["levels"] = "the bounds of a link rise, and its largest packet fits into the first"
-  means["route"] = "each link of a route is another one, and begins at the node where the one before it ends"
+  means["route"] = "each link of a route is another one, and begins at the node where the one before it ends; the nodes after from and to differ"
   means["closed"] = "the request was closed above; after that nothing is sent on it and it isn't closed again"
   means["load"] = "the COUNTs times the hops of all sends come to at most 262,144, and the rounds and the tail times the links to at most 524,288"
+  means["reach"] = "no route of at most 16 links leads from the first node to the second"
   means["best"] = "a pour wants a link with best"
   means["end"] = "the input ended before its tail line"
   means["cut"] = "the input ended inside this line: its line feed is missing"
@@ -190,9 +304,9 @@ function sentences() {
 }
 
 function forms_of_lines() {
-  usual["link"] = "link NAME NODE NODE rate R cap C prop P buffer U levels D1 .. Dn"
+  usual["link"] = "link NAME NODE NODE rate R cap C prop P buffer U" (version >= 3 ? ", with or without best K, and then" : "") " levels D1 .. Dn"
   usual["caller"] = "caller NAME"
-  usual["open"] = "open NAME route LINK1 .. LINKh contract XMIN XAVE I SMAX delay D rate, or with jitter J for rate"
+  usual["open"] = "open NAME route LINK1 .. LINKh contract XMIN XAVE I SMAX delay D rate, or with jitter J for rate, or under tenet 4 with from NODE1 to NODE2 for the route"
   usual["send"] = "send NAME COUNT GAP SIZE"
   usual["close"] = "close NAME"
   usual["pour"] = "pour LINK COUNT GAP SIZE"
@@ -216,29 +330,35 @@ function tell() {
   else if (cause == "levels") of_levels()
   else if (cause == "contract") of_contract()
   else if (cause == "route") of_route()
-  else if (cause == "header" || cause == "word") tell_field(1, "the first word")
+  else if (cause == "reach") of_reach()
+  else if (cause == "header") tell_field(1, "the first word")
+  else if (cause == "word") of_word()
   else if (cause == "closed") tell_field(2, "the request")
   else if (cause == "best") tell_field(2, "the link")
-  else if (cause == "step") tell_field(2, "the actor")
+  else if (cause == "step") of_step()
+  else if (cause == "load") of_load()
   else of_form()
+  if (cause == "unknown") tell_owner()
   print "  " cause ": " means[cause]
 }
 
-BEGIN {
+NR == at {
   sentences()
   forms_of_lines()
-}
-
-NR == at {
   tell()
   told = 1
   exit
 }
 
+$1 == "tenet" { version = $2 }
+
 $1 == "link" {
+  link_count++
   known["link", $2] = 1
   begins[$2] = $3
   ends[$2] = $4
+  known["node", $3] = 1
+  known["node", $4] = 1
 }
 
 $1 == "caller" {
@@ -249,10 +369,19 @@ $1 == "caller" {
 $1 == "open" {
   known["request", $2] = 1
   own[caller, $2] = 1
+  owner[$2] = caller
+  hops[$2] = place_of("contract") - 4
 }
+
+$1 == "send" { packets += $3 * hops[$2] }
+
+$1 == "pour" { packets += $3 }
+
+$1 == "rounds" { rounds = $2 }
 
 END {
   if (!told) {
+    sentences()
     print "tenet: line " at " is missing"
     print "  " cause ": " means[cause]
   }
