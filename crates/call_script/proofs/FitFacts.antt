@@ -9,17 +9,18 @@ use Rattle.net_units.specs.LevelBounds.{are_bounds}
 use Rattle.net_units.specs.Numbers.{link_number, channel_number}
 use Rattle.net_units.specs.declared.numbers.LinkNo.{LinkNo}
 use Rattle.hop_reservation.specs.declared.route.Hop.{Hop}
-use Rattle.link_steps.proofs.LegalAdmissible.{whole-fits}
 use Rattle.link_steps.specs.Lists.{Each}
 use Rattle.link_steps.specs.Split.{Link, SplitFits}
 use Rattle.relaxation.specs.Laws.{HaveBounds}
 use Rattle.setup_protocol.specs.declared.request.Request.{Request}
 use Rattle.call_script.specs.Fits.{TaskFits, NetworkFits}
+use Rattle.call_script.specs.Groups.{have_own_groups, quota_is_there, quotas_fit, KeepGroups}
 use Rattle.setup_protocol.specs.Hops.{IsHopOf, RequestFits}
 use Rattle.call_script.specs.Parts.{PlanParts, FollowsLink}
 use Rattle.call_script.specs.Plans.{HasTerms, IsPlan}
 use Rattle.call_script.specs.Rules.{have_links, has_link, route_is_there, pour_is_there, are_opened, are_there, request_in_range, op_in_range, rounds_in_range, are_in_range, are_few, takes_best_effort, pour_is_taken, pours_are_taken}
-use Rattle.call_script.specs.Tasks.{request_of, entry_link, task_of, with_task, tasks_of, script_of, network_of}
+use Rattle.call_script.specs.Splits.{entry_link, groups_in}
+use Rattle.call_script.specs.Tasks.{request_of, task_of, with_task, tasks_of, script_of, network_of}
 use Rattle.call_script.specs.declared.entries.CallerEntry.{CallerEntry}
 use Rattle.call_script.specs.declared.entries.LinkEntry.{LinkEntry}
 use Rattle.call_script.specs.declared.entries.RequestEntry.{RequestEntry}
@@ -27,27 +28,28 @@ use Rattle.call_script.specs.declared.operations.Op.{Op}
 use Rattle.call_script.specs.declared.operations.Op.TheVariants.{Open, Send, Close, Pour}
 use Rattle.call_script.specs.declared.tasks.Task.{Task}
 use Rattle.call_script.proofs.RuleFacts.{both, each-of, packets-fit, keeps-rules}
+use Rattle.call_script.proofs.SplitFits.{entry-fits}
 use Rattle.link_steps.proofs.ListParts.{Each-at, comes-from}
 
 -- ---- requests
 
-hop-there : (links : List LinkEntry) (hop : Hop) → has_link links hop.link ≡ true → FollowsLink links hop → IsHopOf (map entry_link links) hop
-hop-there links hop there follows =
+hop-there : (groups : List ℕ) (links : List LinkEntry) (hop : Hop) → has_link links hop.link ≡ true → FollowsLink links hop → IsHopOf (map (entry_link groups) links) hop
+hop-there groups links hop there follows =
     elim (slice_get_cases links (link_number hop.link)).1 [
       | inl at ↦ record {
-        link = entry_link at.0;
-        linked = slice_get-map entry_link links (link_number hop.link) ∙ ap (option_map entry_link) at.2;
+        link = entry_link groups at.0;
+        linked = slice_get-map (entry_link groups) links (link_number hop.link) ∙ ap (option_map (entry_link groups)) at.2;
         bounds = follows.bounds at.0 at.2;
         prop = follows.prop at.0 at.2;
       }
       | inr past ↦ (let within : link_number hop.link < length links = ltb-true (link_number hop.link) (length links) there in absurd (omega (arith, past.0)))
     ]
 
-hops-there : (links : List LinkEntry) (route : List Hop) → list_all (λ (hop : Hop). has_link links hop.link) route ≡ true → Each (FollowsLink links) route → Each (IsHopOf (map entry_link links)) route
-hops-there links [] there follows = tt
-hops-there links (hop ∷ route) there follows =
+hops-there : (groups : List ℕ) (links : List LinkEntry) (route : List Hop) → list_all (λ (hop : Hop). has_link links hop.link) route ≡ true → Each (FollowsLink links) route → Each (IsHopOf (map (entry_link groups) links)) route
+hops-there groups links [] there follows = tt
+hops-there groups links (hop ∷ route) there follows =
     let split = both (has_link links hop.link) (list_all (λ (h : Hop). has_link links h.link) route) there in
-    (hop-there links hop split.0 follows.0, hops-there links route split.1 follows.1)
+    (hop-there groups links hop split.0 follows.0, hops-there groups links route split.1 follows.1)
 
 -- a hop has the bounds of its link, which are a link's bounds
 hops-bounds : (links : List LinkEntry) (route : List Hop) → list_all (λ (hop : Hop). has_link links hop.link) route ≡ true → Each (FollowsLink links) route → HaveBounds route
@@ -60,7 +62,7 @@ hops-bounds links (hop ∷ route) there follows =
       | inr past ↦ (let within : link_number hop.link < length links = ltb-true (link_number hop.link) (length links) split.0 in absurd (omega (arith, past.0)))
     ]
 
-pub request-fits : (parts : PlanParts) (n : ℕ) (entry : RequestEntry) → IsPlan parts → slice_get parts.requests n ≡ Some entry → RequestFits (map entry_link parts.links) entry.request
+pub request-fits : (parts : PlanParts) (n : ℕ) (entry : RequestEntry) → IsPlan parts → slice_get parts.requests n ≡ Some entry → RequestFits (map (entry_link (groups_in parts)) parts.links) entry.request
 unfolding are_there
 request-fits parts n entry plan found =
     let rules = keeps-rules parts plan.kept in
@@ -69,7 +71,7 @@ request-fits parts n entry plan found =
     let there = Each-at (λ e. route_is_there parts.links e ≡ true) parts.requests n entry (each-of (route_is_there parts.links) parts.requests routes.0) found in
     let follows = plan.planned.hops n entry found in
     let terms = Each-at HasTerms parts.requests n entry plan.terms found in
-    record { contract = terms.contract; bounds = hops-bounds parts.links entry.request.route there follows; route = terms.route; hops = hops-there parts.links entry.request.route there follows }
+    record { contract = terms.contract; bounds = hops-bounds parts.links entry.request.route there follows; route = terms.route; hops = hops-there (groups_in parts) parts.links entry.request.route there follows }
 
 -- ---- tasks
 
@@ -84,38 +86,38 @@ with-fits links None tasks fits each = each
 with-fits links (Some task) tasks fits each = (fits, each)
 
 -- of the request at an index
-of-request : (parts : PlanParts) (own : Request → Task) (n : ℕ) → IsPlan parts → ((request : Request) → RequestFits (map entry_link parts.links) request → TaskFits (map entry_link parts.links) (own request))
-    → (found : Option Request) → slice_get (map request_of parts.requests) n ≡ found → TaskFitsIf (map entry_link parts.links) (option_map own found)
+of-request : (parts : PlanParts) (own : Request → Task) (n : ℕ) → IsPlan parts → ((request : Request) → RequestFits (map (entry_link (groups_in parts)) parts.links) request → TaskFits (map (entry_link (groups_in parts)) parts.links) (own request))
+    → (found : Option Request) → slice_get (map request_of parts.requests) n ≡ found → TaskFitsIf (map (entry_link (groups_in parts)) parts.links) (option_map own found)
 unfolding TaskFitsIf
 of-request parts own n plan fits None is = tt
 of-request parts own n plan fits (Some request) is =
     let at = comes-from request_of parts.requests n request is in
-    fits request (subst (RequestFits (map entry_link parts.links)) at.is (request-fits parts n at.from plan at.found))
+    fits request (subst (RequestFits (map (entry_link (groups_in parts)) parts.links)) at.is (request-fits parts n at.from plan at.found))
 
-pour-fits : (links : List LinkEntry) (link : LinkNo) (count gap size : ℕ) → takes_best_effort (slice_get links (link_number link)) ≡ true → op_in_range (Pour link count gap size) ≡ true → TaskFitsIf (map entry_link links) (task_of [] (Pour link count gap size))
+pour-fits : (groups : List ℕ) (links : List LinkEntry) (link : LinkNo) (count gap size : ℕ) → takes_best_effort (slice_get links (link_number link)) ≡ true → op_in_range (Pour link count gap size) ≡ true → TaskFitsIf (map (entry_link groups) links) (task_of [] (Pour link count gap size))
 unfolding TaskFitsIf
-pour-fits links link count gap size taken range = by (slice_get links (link_number link)) refl taken where
-  by : (found : Option LinkEntry) → slice_get links (link_number link) ≡ found → takes_best_effort found ≡ true → TaskFitsIf (map entry_link links) (task_of [] (Pour link count gap size))
+pour-fits groups links link count gap size taken range = by (slice_get links (link_number link)) refl taken where
+  by : (found : Option LinkEntry) → slice_get links (link_number link) ≡ found → takes_best_effort found ≡ true → TaskFitsIf (map (entry_link groups) links) (task_of [] (Pour link count gap size))
   by None is none = cc
-  by (Some entry) is some = record { link = entry_link entry; linked = slice_get-map entry_link links (link_number link) ∙ ap (option_map entry_link) is; best = leb-true 1 entry.shape.best some; pour = packets-fit count gap size range }
+  by (Some entry) is some = record { link = entry_link groups entry; linked = slice_get-map (entry_link groups) links (link_number link) ∙ ap (option_map (entry_link groups)) is; best = leb-true 1 entry.shape.best some; pour = packets-fit count gap size range }
 
-op-fits : (parts : PlanParts) (op : Op) → IsPlan parts → op_in_range op ≡ true → pour_is_taken parts.links op ≡ true → TaskFitsIf (map entry_link parts.links) (task_of (map request_of parts.requests) op)
+op-fits : (parts : PlanParts) (op : Op) → IsPlan parts → op_in_range op ≡ true → pour_is_taken parts.links op ≡ true → TaskFitsIf (map (entry_link (groups_in parts)) parts.links) (task_of (map request_of parts.requests) op)
 op-fits parts (Open chan) plan range taken = of-request parts _ (channel_number chan) plan (λ request fits. fits) (slice_get (map request_of parts.requests) (channel_number chan)) refl
 op-fits parts (Send chan count gap size) plan range taken =
     of-request parts _ (channel_number chan) plan (λ request fits. record { of_request = fits; send = packets-fit count gap size range }) (slice_get (map request_of parts.requests) (channel_number chan)) refl
 op-fits parts (Close chan) plan range taken = of-request parts _ (channel_number chan) plan (λ request fits. fits) (slice_get (map request_of parts.requests) (channel_number chan)) refl
-op-fits parts (Pour link count gap size) plan range taken = pour-fits parts.links link count gap size taken range
+op-fits parts (Pour link count gap size) plan range taken = pour-fits (groups_in parts) parts.links link count gap size taken range
 
-ops-fit : (parts : PlanParts) (ops : List Op) → IsPlan parts → list_all op_in_range ops ≡ true → list_all (pour_is_taken parts.links) ops ≡ true → Each (TaskFits (map entry_link parts.links)) (tasks_of (map request_of parts.requests) ops)
+ops-fit : (parts : PlanParts) (ops : List Op) → IsPlan parts → list_all op_in_range ops ≡ true → list_all (pour_is_taken parts.links) ops ≡ true → Each (TaskFits (map (entry_link (groups_in parts)) parts.links)) (tasks_of (map request_of parts.requests) ops)
 unfolding tasks_of
 ops-fit parts [] plan range taken = tt
 ops-fit parts (op ∷ ops) plan range taken =
     let ranges = both (op_in_range op) (list_all op_in_range ops) range in
     let takes = both (pour_is_taken parts.links op) (list_all (pour_is_taken parts.links) ops) taken in
-    with-fits (map entry_link parts.links) (task_of (map request_of parts.requests) op) (tasks_of (map request_of parts.requests) ops) (op-fits parts op plan ranges.0 takes.0) (ops-fit parts ops plan ranges.1 takes.1)
+    with-fits (map (entry_link (groups_in parts)) parts.links) (task_of (map request_of parts.requests) op) (tasks_of (map request_of parts.requests) ops) (op-fits parts op plan ranges.0 takes.0) (ops-fit parts ops plan ranges.1 takes.1)
 
 callers-fit : (parts : PlanParts) (callers : List CallerEntry) → IsPlan parts → list_all (λ (caller : CallerEntry). list_all op_in_range caller.ops) callers ≡ true → list_all (λ (caller : CallerEntry). list_all (pour_is_taken parts.links) caller.ops) callers ≡ true
-    → Each (Each (TaskFits (map entry_link parts.links))) (map (script_of (map request_of parts.requests)) callers)
+    → Each (Each (TaskFits (map (entry_link (groups_in parts)) parts.links))) (map (script_of (map request_of parts.requests)) callers)
 callers-fit parts [] plan range taken = tt
 callers-fit parts (caller ∷ callers) plan range taken =
     let ranges = both (list_all op_in_range caller.ops) (list_all (λ (c : CallerEntry). list_all op_in_range c.ops) callers) range in
@@ -124,9 +126,16 @@ callers-fit parts (caller ∷ callers) plan range taken =
 
 -- ---- the network
 
-links-fit : (links : List LinkEntry) → Each SplitFits (map entry_link links)
-links-fit [] = tt
-links-fit (entry ∷ links) = (whole-fits entry.shape, links-fit links)
+links-fit : (parts : PlanParts) → KeepGroups parts.version parts.groups parts.links parts.callers → Each SplitFits (map (entry_link (groups_in parts)) parts.links)
+links-fit parts keep = by parts.links keep.own keep.quotas_there keep.fit where
+  by : (links : List LinkEntry) → list_all (λ (entry : LinkEntry). have_own_groups entry.quotas) links ≡ true → list_all (λ (entry : LinkEntry). list_all (quota_is_there parts.groups) entry.quotas) links ≡ true
+      → list_all (λ (entry : LinkEntry). quotas_fit entry.shape entry.quotas) links ≡ true → Each SplitFits (map (entry_link (groups_in parts)) links)
+  by [] own there fit = tt
+  by (entry ∷ links) own there fit =
+      let owns = both (have_own_groups entry.quotas) (list_all (λ (e : LinkEntry). have_own_groups e.quotas) links) own in
+      let theres = both (list_all (quota_is_there parts.groups) entry.quotas) (list_all (λ (e : LinkEntry). list_all (quota_is_there parts.groups) e.quotas) links) there in
+      let fits = both (quotas_fit entry.shape entry.quotas) (list_all (λ (e : LinkEntry). quotas_fit e.shape e.quotas) links) fit in
+      (entry-fits parts.groups (groups_in parts) entry keep.few owns.0 theres.0 fits.0, by links owns.1 theres.1 fits.1)
 
 pub plan-fits : (parts : PlanParts) → IsPlan parts → NetworkFits (network_of parts)
 unfolding network_of have_links are_few are_in_range pours_are_taken
@@ -142,9 +151,9 @@ plan-fits parts plan =
     let r : parts.rounds ≤ 524288 = leb-true parts.rounds 524288 rounds.0 in
     let t : parts.tail ≤ 524288 = leb-true parts.tail 524288 rounds.1 in
     record {
-      some = omega (arith, length-map parts.links entry_link);
-      few = omega (arith, length-map parts.links entry_link);
-      splits = links-fit parts.links;
+      some = omega (arith, length-map parts.links (entry_link (groups_in parts)));
+      few = omega (arith, length-map parts.links (entry_link (groups_in parts)));
+      splits = links-fit parts rules.groups;
       tasks = callers-fit parts parts.callers plan ops.1 rules.pours;
       rounds = omega arith;
     }

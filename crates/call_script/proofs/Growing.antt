@@ -3,7 +3,7 @@ use Rattle.std.proofs.Common.{◌≡◌, ℕ, suc, ◌+◌, ◌<◌, ◌≤◌, 
 use Rattle.std.proofs.lemmas.Bool.{and_from, and_parts, le-leb, leb-true}
 use Rattle.std.proofs.lemmas.List.{length-append, map-append}
 use Rattle.std.proofs.lemmas.Option.{slice_get_within}
-use Rattle.std.specs.List.{list_all, list_any}
+use Rattle.std.specs.List.{All, list_all, list_any}
 use Rattle.std.specs.Prelude.{nat_le, ◌&&◌, ◌*◌}
 use Rattle.net_units.specs.Numbers.{link_number, actor_number, channel_number}
 use Rattle.net_units.specs.declared.numbers.ChanNo.{ChanNo}
@@ -11,10 +11,12 @@ use Rattle.net_units.specs.declared.numbers.LinkNo.{LinkNo}
 use Rattle.link_steps.proofs.ListFacts.{Each-append}
 use Rattle.link_steps.specs.Lists.{Each}
 use Rattle.traffic_contract.specs.Admission.{total}
+use Rattle.call_script.specs.Broken.{unless_broken, use_rule_broken, range_rule_broken, name_rule_broken, rule_broken}
+use Rattle.call_script.specs.Groups.{groups_have_version, groups_have_names, groups_are_there, quotas_are_in_range, groups_are_few, quotas_are_fit}
 use Rattle.call_script.specs.Growing.{nothing_of, new_caller, add_op, last_ops, with_link, with_caller, with_open, with_op, with_rounds, with_tail, MayAddLink, MayAddCaller, MayOpen, IsOpenedThere, IsWithinLoad, MaySend, MayPour, KeepSoFar, AreEnough}
-use Rattle.call_script.specs.Parts.{PlanParts, parts_of, Opening, opened_by, openings_of, opening_of, FollowsLink, ArePlanned}
+use Rattle.call_script.specs.Parts.{PlanParts, parts_with, Opening, opened_by, openings_of, opening_of, FollowsLink, LeavesUnused, ArePlanned}
 use Rattle.call_script.specs.Plans.{HasTerms, IsPlan}
-use Rattle.call_script.specs.Rules.{each_after, unless_broken, link_has_version, request_has_version, op_has_version, have_version, have_links, is_new, are_distinct, link_names, caller_names, request_names, have_names, route_is_there, pour_is_there, opens, is_opened, are_opened, are_there, request_in_range, op_in_range, rounds_in_range, are_in_range, are_few, is_joined, are_joined, closes, is_unclosed, are_unclosed, hops_of, load_of, load_in, are_within_load, pour_is_taken, pours_are_taken, use_rule_broken, range_rule_broken, rule_broken}
+use Rattle.call_script.specs.Rules.{each_after, link_has_version, request_has_version, op_has_version, have_version, have_links, is_new, are_distinct, link_names, caller_names, request_names, have_names, route_is_there, pour_is_there, opens, is_opened, are_opened, are_there, request_in_range, op_in_range, rounds_in_range, are_in_range, are_few, is_joined, are_joined, closes, is_unclosed, are_unclosed, hops_of, load_of, load_in, are_within_load, pour_is_taken, pours_are_taken}
 use Rattle.call_script.specs.declared.entries.CallerEntry.{CallerEntry}
 use Rattle.call_script.specs.declared.entries.LinkEntry.{LinkEntry}
 use Rattle.call_script.specs.declared.entries.RequestEntry.{RequestEntry}
@@ -23,6 +25,7 @@ use Rattle.call_script.specs.declared.operations.Op.TheVariants.{Open, Send, Clo
 use Rattle.call_script.specs.declared.version.Version.{Version}
 use Rattle.link_steps.proofs.ListParts.{Each-by_place}
 use Rattle.call_script.proofs.GrowthFacts.{all-more, after-more, get-before, get-more, added-all, added-after, added-names, added-length, added-total, added-openings, added-opens-none, new-opens-none}
+use Rattle.call_script.proofs.GroupFacts.{no-groups, none-unused, groups-with-link, groups-with-caller, groups-with-op, groups-from}
 use Rattle.call_script.proofs.OpeningFacts.{opened-has}
 use Rattle.call_script.proofs.OwnerFacts.{any-later, twice-not}
 use Rattle.traffic_contract.proofs.AdmissionFacts.{total-push}
@@ -149,7 +152,8 @@ nothing-keeps version = record {
   unclosed = refl;
   load = omega arith;
   pours = refl;
-  planned = record { links = λ n entry found. cc; requests = λ n entry found. cc; openings = refl; hops = λ n entry found. cc };
+  groups = no-groups version;
+  planned = record { links = λ n entry found. cc; requests = λ n entry found. cc; openings = refl; hops = λ n entry found. cc; unused = λ n entry found. cc };
   terms = tt;
 }
 
@@ -162,27 +166,28 @@ no-request parts planned none = by parts.requests (sym (ap (openings_of 0) none)
   by [] same = refl
   by (request ∷ requests) same = cc
 
-link-grown : (version : Version) (links : List LinkEntry) (entry : LinkEntry) (rounds tail : ℕ) → KeepSoFar (parts_of version links [] [] rounds tail)
-    → MayAddLink (parts_of version links [] [] rounds tail) entry → KeepSoFar (parts_of version (links ++ entry ∷ []) [] [] rounds tail)
+link-grown : (version : Version) (links : List LinkEntry) (groups : List (List ℕ)) (entry : LinkEntry) (rounds tail : ℕ) → KeepSoFar (parts_with version links groups [] [] rounds tail)
+    → MayAddLink (parts_with version links groups [] [] rounds tail) entry → KeepSoFar (parts_with version (links ++ entry ∷ []) groups [] [] rounds tail)
 unfolding have_version are_there are_in_range are_joined are_unclosed pours_are_taken openings_of
-link-grown version links entry rounds tail keep may =
-    let few = few-in (parts_of version links [] [] rounds tail) keep.few in
-    let names = names-in (parts_of version links [] [] rounds tail) keep.names in
+link-grown version links groups entry rounds tail keep may =
+    let few = few-in (parts_with version links groups [] [] rounds tail) keep.few in
+    let names = names-in (parts_with version links groups [] [] rounds tail) keep.names in
     let longer = length-more links entry in
     record {
-      version = version-from (parts_of version (links ++ entry ∷ []) [] [] rounds tail) (record { links = all-more (link_has_version version) links entry (version-in (parts_of version links [] [] rounds tail) keep.version).links may.version; requests = refl; ops = refl });
-      names = names-from (parts_of version (links ++ entry ∷ []) [] [] rounds tail) (record {
+      version = version-from (parts_with version (links ++ entry ∷ []) groups [] [] rounds tail) (record { links = all-more (link_has_version version) links entry (version-in (parts_with version links groups [] [] rounds tail) keep.version).links may.version; requests = refl; ops = refl });
+      names = names-from (parts_with version (links ++ entry ∷ []) groups [] [] rounds tail) (record {
         links = ap are_distinct (map-append (λ (e : LinkEntry). e.name) links (entry ∷ [])) ∙ names-more (link_names links) entry.name names.links may.name;
         callers = names.callers;
         requests = names.requests;
       });
       there = refl;
       range = keep.range;
-      few = few-from (parts_of version (links ++ entry ∷ []) [] [] rounds tail) (record { links = omega (arith, may.few, longer); callers = few.callers; requests = few.requests });
+      few = few-from (parts_with version (links ++ entry ∷ []) groups [] [] rounds tail) (record { links = omega (arith, may.few, longer); callers = few.callers; requests = few.requests });
       joined = refl;
       unclosed = refl;
       load = keep.load;
       pours = refl;
+      groups = groups-with-link version groups links entry [] may.unsplit keep.groups;
       planned = record {
         links = λ n e found. elim (get-more links entry n e found) [
           | inl old ↦ keep.planned.links n e old
@@ -191,6 +196,10 @@ link-grown version links entry rounds tail keep may =
         requests = λ n e found. cc;
         openings = refl;
         hops = λ n e found. cc;
+        unused = λ n e found. elim (get-more links entry n e found) [
+          | inl old ↦ keep.planned.unused n e old
+          | inr new ↦ subst (λ (x : LinkEntry). All (LeavesUnused x.shape.bounds) x.quotas) new.1 (none-unused entry may.unsplit)
+        ];
       };
       terms = tt;
     }
@@ -198,44 +207,45 @@ link-grown version links entry rounds tail keep may =
 pub link-keeps : (parts : PlanParts) (entry : LinkEntry) → KeepSoFar parts → MayAddLink parts entry → KeepSoFar (with_link entry parts)
 link-keeps parts entry keep may = by parts.callers parts.requests (sym may.first) (no-request parts keep.planned may.first) keep may where
   by : (callers : List CallerEntry) (requests : List RequestEntry) → [] ≡ callers → [] ≡ requests
-      → KeepSoFar (parts_of parts.version parts.links requests callers parts.rounds parts.tail) → MayAddLink (parts_of parts.version parts.links requests callers parts.rounds parts.tail) entry
-      → KeepSoFar (parts_of parts.version (parts.links ++ entry ∷ []) requests callers parts.rounds parts.tail)
-  by [] [] nobody nothing = link-grown parts.version parts.links entry parts.rounds parts.tail
+      → KeepSoFar (parts_with parts.version parts.links parts.groups requests callers parts.rounds parts.tail) → MayAddLink (parts_with parts.version parts.links parts.groups requests callers parts.rounds parts.tail) entry
+      → KeepSoFar (parts_with parts.version (parts.links ++ entry ∷ []) parts.groups requests callers parts.rounds parts.tail)
+  by [] [] nobody nothing = link-grown parts.version parts.links parts.groups entry parts.rounds parts.tail
   by (caller ∷ callers) requests nobody nothing = cc
   by [] (request ∷ requests) nobody nothing = cc
 
 -- ---- a caller
 
-pub caller-keeps : (parts : PlanParts) (name : List ℕ) → KeepSoFar parts → MayAddCaller parts name → KeepSoFar (with_caller name parts)
+pub caller-keeps : (parts : PlanParts) (name : List ℕ) (group : ℕ) → KeepSoFar parts → MayAddCaller parts name group → KeepSoFar (with_caller name group parts)
 unfolding have_version are_joined are_unclosed pours_are_taken each_after
-caller-keeps parts name keep may =
+caller-keeps parts name group keep may =
     let names = names-in parts keep.names in
     let used = used-in parts keep.there in
     let ranges = ranges-in parts keep.range in
     let few = few-in parts keep.few in
     let version = version-in parts keep.version in
-    let longer = length-more parts.callers (new_caller name) in
-    let load : load_in parts.requests (parts.callers ++ new_caller name ∷ []) ≡ load_in parts.requests parts.callers + 0 = total-push (λ (c : CallerEntry). total (load_of parts.requests) c.ops) parts.callers (new_caller name) in
+    let longer = length-more parts.callers (new_caller name group) in
+    let load : load_in parts.requests (parts.callers ++ new_caller name group ∷ []) ≡ load_in parts.requests parts.callers + 0 = total-push (λ (c : CallerEntry). total (load_of parts.requests) c.ops) parts.callers (new_caller name group) in
     record {
-      version = version-from (with_caller name parts) (record { links = version.links; requests = version.requests; ops = calm (list_all (op_has_version parts.version)) refl version.ops });
-      names = names-from (with_caller name parts) (record {
+      version = version-from (with_caller name group parts) (record { links = version.links; requests = version.requests; ops = calm (list_all (op_has_version parts.version)) refl version.ops });
+      names = names-from (with_caller name group parts) (record {
         links = names.links;
-        callers = ap are_distinct (map-append (λ (c : CallerEntry). c.name) parts.callers (new_caller name ∷ [])) ∙ names-more (caller_names parts.callers) name names.callers may.new;
+        callers = ap are_distinct (map-append (λ (c : CallerEntry). c.name) parts.callers (new_caller name group ∷ [])) ∙ names-more (caller_names parts.callers) name names.callers may.new;
         requests = names.requests;
       });
-      there = used-from (with_caller name parts) (record { routes = used.routes; pours = calm (list_all (pour_is_there parts.links)) refl used.pours; opened = calm (each_after is_opened []) refl used.opened });
-      range = ranges-from (with_caller name parts) (record { requests = ranges.requests; ops = calm (list_all op_in_range) refl ranges.ops; rounds = ranges.rounds; tail = ranges.tail });
-      few = few-from (with_caller name parts) (record { links = few.links; callers = omega (arith, may.few, longer); requests = few.requests });
+      there = used-from (with_caller name group parts) (record { routes = used.routes; pours = calm (list_all (pour_is_there parts.links)) refl used.pours; opened = calm (each_after is_opened []) refl used.opened });
+      range = ranges-from (with_caller name group parts) (record { requests = ranges.requests; ops = calm (list_all op_in_range) refl ranges.ops; rounds = ranges.rounds; tail = ranges.tail });
+      few = few-from (with_caller name group parts) (record { links = few.links; callers = omega (arith, may.few, longer); requests = few.requests });
       joined = keep.joined;
       unclosed = calm (each_after is_unclosed []) refl keep.unclosed;
       load = omega (arith, keep.load, load);
       pours = calm (list_all (pour_is_taken parts.links)) refl keep.pours;
-      planned = record { links = keep.planned.links; requests = keep.planned.requests; openings = new-opens-none 0 name parts.callers ∙ keep.planned.openings; hops = keep.planned.hops };
+      groups = groups-with-caller parts.version parts.groups parts.links parts.callers name group may.version may.there keep.groups;
+      planned = record { links = keep.planned.links; requests = keep.planned.requests; openings = new-opens-none 0 name group parts.callers ∙ keep.planned.openings; hops = keep.planned.hops; unused = keep.planned.unused };
       terms = keep.terms;
     } where
       -- a caller without operations passes what no operations pass
-      calm : (test : List Op → Bool) → test [] ≡ true → list_all (λ (c : CallerEntry). test c.ops) parts.callers ≡ true → list_all (λ (c : CallerEntry). test c.ops) (parts.callers ++ new_caller name ∷ []) ≡ true
-      calm test none all = all-more (λ (c : CallerEntry). test c.ops) parts.callers (new_caller name) all none
+      calm : (test : List Op → Bool) → test [] ≡ true → list_all (λ (c : CallerEntry). test c.ops) parts.callers ≡ true → list_all (λ (c : CallerEntry). test c.ops) (parts.callers ++ new_caller name group ∷ []) ≡ true
+      calm test none all = all-more (λ (c : CallerEntry). test c.ops) parts.callers (new_caller name group) all none
 
 -- ---- an operation
 
@@ -269,7 +279,8 @@ op-keeps parts op keep may =
       unclosed = added-after is_unclosed op parts.callers keep.unclosed may.unclosed;
       load = omega (arith, load, may.load);
       pours = added-all (pour_is_taken parts.links) op parts.callers keep.pours may.taken;
-      planned = record { links = keep.planned.links; requests = keep.planned.requests; openings = added-opens-none op parts.callers may.opens_none ∙ keep.planned.openings; hops = keep.planned.hops };
+      groups = groups-with-op parts.version parts.groups parts.links parts.callers op keep.groups;
+      planned = record { links = keep.planned.links; requests = keep.planned.requests; openings = added-opens-none op parts.callers may.opens_none ∙ keep.planned.openings; hops = keep.planned.hops; unused = keep.planned.unused };
       terms = keep.terms;
     }
 
@@ -390,6 +401,7 @@ open-keeps parts entry keep may =
       unclosed = added-after is_unclosed op parts.callers keep.unclosed refl;
       load = omega (arith, load, same, keep.load);
       pours = added-all (pour_is_taken parts.links) op parts.callers keep.pours refl;
+      groups = groups-with-op parts.version parts.groups parts.links parts.callers op keep.groups;
       planned = record {
         links = keep.planned.links;
         requests = λ n e found. elim (get-more parts.requests entry n e found) [
@@ -401,6 +413,7 @@ open-keeps parts entry keep may =
           | inl old ↦ keep.planned.hops n e old
           | inr new ↦ subst (λ (x : RequestEntry). Each (FollowsLink parts.links) x.request.route) new.1 may.hops
         ];
+        unused = keep.planned.unused;
       };
       terms = Each-append HasTerms parts.requests (entry ∷ []) keep.terms (may.terms, tt);
     }
@@ -421,7 +434,8 @@ rounds-keep parts rounds keep few =
       unclosed = keep.unclosed;
       load = keep.load;
       pours = keep.pours;
-      planned = record { links = keep.planned.links; requests = keep.planned.requests; openings = keep.planned.openings; hops = keep.planned.hops };
+      groups = keep.groups;
+      planned = record { links = keep.planned.links; requests = keep.planned.requests; openings = keep.planned.openings; hops = keep.planned.hops; unused = keep.planned.unused };
       terms = keep.terms;
     }
 
@@ -439,7 +453,8 @@ tail-keeps parts tail keep few =
       unclosed = keep.unclosed;
       load = keep.load;
       pours = keep.pours;
-      planned = record { links = keep.planned.links; requests = keep.planned.requests; openings = keep.planned.openings; hops = keep.planned.hops };
+      groups = keep.groups;
+      planned = record { links = keep.planned.links; requests = keep.planned.requests; openings = keep.planned.openings; hops = keep.planned.hops; unused = keep.planned.unused };
       terms = keep.terms;
     }
 
@@ -450,13 +465,17 @@ passes true rule other holds none = none
 passes false rule other fails none = cc
 
 pub grown-is-plan : (parts : PlanParts) → KeepSoFar parts → AreEnough parts → IsPlan parts
-unfolding rule_broken range_rule_broken use_rule_broken have_links are_within_load
-grown-is-plan parts keep enough = record {
-  planned = keep.planned;
-  terms = keep.terms;
-  kept =
-      passes (have_version parts) 1 _ keep.version (passes (have_links parts) 2 _ (le-leb 1 (length parts.links) enough.links) (passes (have_names parts) 6 _ keep.names
-      (passes (are_there parts) 7 _ keep.there (passes (are_in_range parts) 8 _ keep.range (passes (are_few parts) 9 _ keep.few (passes (are_joined parts) 12 _ keep.joined
-      (passes (are_unclosed parts) 13 _ keep.unclosed (passes (are_within_load parts) 14 _ (and_from (nat_le (load_in parts.requests parts.callers) 262144) (nat_le ((parts.rounds + parts.tail) * length parts.links) 524288) (le-leb (load_in parts.requests parts.callers) 262144 keep.load) (le-leb ((parts.rounds + parts.tail) * length parts.links) 524288 enough.ticks))
-      (passes (pours_are_taken parts) 19 _ keep.pours refl)))))))));
-}
+unfolding rule_broken name_rule_broken range_rule_broken use_rule_broken have_links are_within_load
+grown-is-plan parts keep enough =
+    let groups = groups-from parts keep.groups in
+    let ticks = (parts.rounds + parts.tail) * length parts.links in
+    let load = load_in parts.requests parts.callers in
+    let within = and_from (nat_le load 262144) (nat_le ticks 524288) (le-leb load 262144 keep.load) (le-leb ticks 524288 enough.ticks) in
+    let uses = passes (are_unclosed parts) 13 _ keep.unclosed (passes (are_within_load parts) 14 _ within (passes (pours_are_taken parts) 19 _ keep.pours (passes (quotas_are_fit parts) 23 None groups.fit refl))) in
+    let range = passes (are_in_range parts) 8 _ keep.range (passes (quotas_are_in_range parts) 8 _ groups.range (passes (are_few parts) 9 _ keep.few (passes (groups_are_few parts) 9 _ groups.few (passes (are_joined parts) 12 _ keep.joined uses)))) in
+    let names = passes (have_names parts) 6 _ keep.names (passes (groups_have_names parts) 6 _ groups.names (passes (are_there parts) 7 _ keep.there (passes (groups_are_there parts) 7 _ groups.there range))) in
+    record {
+      planned = keep.planned;
+      terms = keep.terms;
+      kept = passes (have_version parts) 1 _ keep.version (passes (groups_have_version parts) 1 _ groups.version (passes (have_links parts) 2 _ (le-leb 1 (length parts.links) enough.links) names));
+    }

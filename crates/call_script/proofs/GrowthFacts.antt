@@ -118,7 +118,7 @@ added-opens-none op (caller ∷ callers) none =
     added-openings 0 (length callers) op caller callers (omega arith) ∙ ap (λ (more : List Opening). openings_of 0 (caller ∷ callers) ++ more) (none (length callers)) ∙ append-nil (openings_of 0 (caller ∷ callers))
 
 -- nor does a new caller
-pub new-opens-none : (n : ℕ) (name : List ℕ) (callers : List CallerEntry) → openings_of n (callers ++ new_caller name ∷ []) ≡ openings_of n callers
+pub new-opens-none : (n : ℕ) (name : List ℕ) (group : ℕ) (callers : List CallerEntry) → openings_of n (callers ++ new_caller name group ∷ []) ≡ openings_of n callers
 unfolding openings_of openings_in
-new-opens-none n name [] = refl
-new-opens-none n name (caller ∷ callers) = ap (λ (rest : List Opening). openings_in n caller.ops ++ rest) (new-opens-none (suc n) name callers)
+new-opens-none n name group [] = refl
+new-opens-none n name group (caller ∷ callers) = ap (λ (rest : List Opening). openings_in n caller.ops ++ rest) (new-opens-none (suc n) name group callers)

@@ -1,7 +1,7 @@
 -- The parts of one link, one request and one caller may be planned; and the request may be accepted at the first level.
 use Rattle.std.proofs.Common.{◌≡◌, ℕ, zero, suc, ◌+◌, ◌≤◌, Option, Some, None, List, [], ◌∷◌, ◌++◌, length, map, refl, sym, ap, ◌∙◌, subst, arith}
 use Rattle.std.proofs.lemmas.Option.{same_Some}
-use Rattle.std.specs.List.{slice_get}
+use Rattle.std.specs.List.{All, slice_get}
 use Rattle.net_units.specs.Allotted.{levels_of}
 use Rattle.net_units.specs.LevelBounds.{bound_at}
 use Rattle.net_units.specs.Numbers.{link_number, channel_number, actor_number}
@@ -15,11 +15,12 @@ use Rattle.link_steps.proofs.ListFacts.{Each-if}
 use Rattle.link_steps.specs.Lists.{Each}
 use Rattle.call_script.specs.Accepted.{AreAccepted}
 use Rattle.call_script.specs.OneLink.{IsThatLink, IsOverIt, IsThatRequest, IsThatScript, AsksForOne, HasThatRequest}
-use Rattle.call_script.specs.Parts.{PlanParts, Opening, parts_of, openings_in, openings_of, opening_of, FollowsLink, ArePlanned}
+use Rattle.call_script.specs.Parts.{PlanParts, Opening, parts_of, openings_in, openings_of, opening_of, FollowsLink, LeavesUnused, ArePlanned}
 use Rattle.call_script.specs.declared.entries.LinkEntry.{LinkEntry}
 use Rattle.call_script.specs.declared.entries.RequestEntry.{RequestEntry}
 use Rattle.call_script.specs.declared.entries.CallerEntry.{CallerEntry}
 use Rattle.call_script.specs.declared.version.Version.{Version}
+use Rattle.call_script.proofs.GroupFacts.{none-unused}
 
 -- what the only element has, the one at an index has
 only : {X : Type 0} (P : ℕ → X → Type 0) (x : X) → P 0 x → (n : ℕ) (y : X) → slice_get (x ∷ []) n ≡ Some y → P n y
@@ -39,6 +40,7 @@ pub one-planned : (version : Version) (link : LinkEntry) (request : RequestEntry
 unfolding openings_of
 one-planned version link request caller rounds tail is asks opens = record {
   links = only (λ n (entry : LinkEntry). link_number entry.shape.link ≡ n) link is.number;
+  unused = only (λ n (entry : LinkEntry). All (LeavesUnused entry.shape.bounds) entry.quotas) link (none-unused link is.unsplit);
   requests = only (λ n (entry : RequestEntry). channel_number entry.request.chan ≡ n) request asks.chan;
   openings = ap (λ os. os ++ []) opens ∙ ap (λ (o : Opening). o ∷ []) (sym opening);
   hops = only (λ n (entry : RequestEntry). Each (FollowsLink (link ∷ [])) entry.request.route) request (Each-if IsOverIt (FollowsLink (link ∷ [])) request.request.route (λ hop over. follows link hop is over) asks.hops);

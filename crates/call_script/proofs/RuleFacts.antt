@@ -6,8 +6,11 @@ use Rattle.std.specs.Prelude.{nat_le, ◌&&◌}
 use Rattle.net_units.specs.Limits.{is_within}
 use Rattle.link_steps.specs.Legal.{SubmitFits}
 use Rattle.link_steps.specs.Lists.{Each}
+use Rattle.call_script.specs.Broken.{unless_broken, use_rule_broken, range_rule_broken, name_rule_broken, rule_broken}
+use Rattle.call_script.specs.Groups.{groups_have_version, groups_have_names, groups_are_there, quotas_are_in_range, groups_are_few, quotas_are_fit, KeepGroups}
 use Rattle.call_script.specs.Parts.{PlanParts}
-use Rattle.call_script.specs.Rules.{each_after, unless_broken, packets_in_range, have_version, have_links, have_names, are_there, are_in_range, are_few, are_joined, are_unclosed, are_within_load, pours_are_taken, use_rule_broken, range_rule_broken, rule_broken}
+use Rattle.call_script.specs.Rules.{each_after, packets_in_range, have_version, have_links, have_names, are_there, are_in_range, are_few, are_joined, are_unclosed, are_within_load, pours_are_taken}
+use Rattle.call_script.proofs.GroupFacts.{groups-in}
 
 -- ---- tests
 
@@ -48,22 +51,30 @@ pub record KeepsRules (parts : PlanParts) : Type 0 where
   pub unclosed : are_unclosed parts ≡ true
   pub load : are_within_load parts ≡ true
   pub pours : pours_are_taken parts ≡ true
+  pub groups : KeepGroups parts.version parts.groups parts.links parts.callers
 
 kept-rule : (kept : Bool) (rule : ℕ) (other : Option ℕ) → unless_broken kept rule other ≡ None → (kept ≡ true) × (other ≡ None)
 kept-rule true rule other none = (refl, none)
 kept-rule false rule other none = cc
 
 pub keeps-rules : (parts : PlanParts) → rule_broken parts ≡ None → KeepsRules parts
-unfolding rule_broken range_rule_broken use_rule_broken
+unfolding rule_broken name_rule_broken range_rule_broken use_rule_broken
 keeps-rules parts none =
     let r1 = kept-rule (have_version parts) 1 _ none in
-    let r2 = kept-rule (have_links parts) 2 _ r1.1 in
+    let g1 = kept-rule (groups_have_version parts) 1 _ r1.1 in
+    let r2 = kept-rule (have_links parts) 2 _ g1.1 in
     let r6 = kept-rule (have_names parts) 6 _ r2.1 in
-    let r7 = kept-rule (are_there parts) 7 _ r6.1 in
-    let r8 = kept-rule (are_in_range parts) 8 _ r7.1 in
-    let r9 = kept-rule (are_few parts) 9 _ r8.1 in
-    let r12 = kept-rule (are_joined parts) 12 _ r9.1 in
+    let g6 = kept-rule (groups_have_names parts) 6 _ r6.1 in
+    let r7 = kept-rule (are_there parts) 7 _ g6.1 in
+    let g7 = kept-rule (groups_are_there parts) 7 _ r7.1 in
+    let r8 = kept-rule (are_in_range parts) 8 _ g7.1 in
+    let g8 = kept-rule (quotas_are_in_range parts) 8 _ r8.1 in
+    let r9 = kept-rule (are_few parts) 9 _ g8.1 in
+    let g9 = kept-rule (groups_are_few parts) 9 _ r9.1 in
+    let r12 = kept-rule (are_joined parts) 12 _ g9.1 in
     let r13 = kept-rule (are_unclosed parts) 13 _ r12.1 in
     let r14 = kept-rule (are_within_load parts) 14 _ r13.1 in
     let r19 = kept-rule (pours_are_taken parts) 19 _ r14.1 in
-    record { version = r1.0; links = r2.0; names = r6.0; there = r7.0; range = r8.0; few = r9.0; joined = r12.0; unclosed = r13.0; load = r14.0; pours = r19.0 }
+    let g23 = kept-rule (quotas_are_fit parts) 23 _ r19.1 in
+    let groups = groups-in parts (record { version = g1.0; names = g6.0; there = g7.0; range = g8.0; few = g9.0; fit = g23.0 }) in
+    record { version = r1.0; links = r2.0; names = r6.0; there = r7.0; range = r8.0; few = r9.0; joined = r12.0; unclosed = r13.0; load = r14.0; pours = r19.0; groups = groups }

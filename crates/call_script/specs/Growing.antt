@@ -1,4 +1,4 @@
--- How the parts of a plan grow, a line at a time. A link is added while there is no caller; then callers, each first without
+-- How the parts of a plan grow, a line at a time. A link without quotas is added while there is no caller; then callers, each first without
 -- operations; after the operations of the last caller an open, with its request, or a send, a close or a pour; and at last
 -- the numbers of rounds. Each addition has what a reader judges of its line. Parts that grew so keep all rules but two, that
 -- there is a link and that the ticks of all links are within the limit; with these they are those of a plan.
@@ -10,6 +10,7 @@ use Rattle.net_units.specs.declared.numbers.LinkNo.{LinkNo}
 use Rattle.std.specs.List.{slice_get}
 use Rattle.net_units.specs.Limits.{most_links, most_callers, most_requests, most_packets, most_rounds}
 use Rattle.link_steps.specs.Lists.{Each}
+use Rattle.call_script.specs.Groups.{group_has_version, group_is_there, KeepGroups}
 use Rattle.call_script.specs.Parts.{PlanParts, parts_of, FollowsLink, ArePlanned}
 use Rattle.call_script.specs.Plans.{HasTerms, IsPlan}
 use Rattle.call_script.specs.Rules.{have_version, have_names, are_there, are_in_range, are_few, are_joined, are_unclosed, pours_are_taken, link_names, caller_names, request_names, is_new, link_has_version, request_has_version, has_link, route_is_there, opens, request_in_range, packets_in_range, is_joined, closes, load_of, load_in, takes_best_effort}
@@ -27,13 +28,13 @@ use Rattle.call_script.specs.declared.version.Version.{Version}
 abbrev pub nothing_of : Version → PlanParts
 nothing_of version = parts_of version [] [] [] 0 0
 
--- a caller of this name that does nothing yet
-abbrev pub new_caller : List ℕ → CallerEntry
-new_caller name = record { name = name; ops = [] }
+-- a caller of this name and group that does nothing yet
+abbrev pub new_caller : List ℕ → ℕ → CallerEntry
+new_caller name group = record { name = name; group = group; ops = [] }
 
 -- a caller with one operation more
 abbrev pub with_its_op : Op → CallerEntry → CallerEntry
-with_its_op op caller = record { name = caller.name; ops = caller.ops ++ op ∷ [] }
+with_its_op op caller = record { name = caller.name; group = caller.group; ops = caller.ops ++ op ∷ [] }
 
 -- the last caller with one operation more
 abbrev pub add_op : Op → List CallerEntry → List CallerEntry
@@ -50,8 +51,8 @@ last_ops (caller ∷ next ∷ callers) = last_ops (next ∷ callers)
 abbrev pub with_link : LinkEntry → PlanParts → PlanParts
 with_link entry parts = record parts { links = parts.links ++ entry ∷ [] }
 
-abbrev pub with_caller : List ℕ → PlanParts → PlanParts
-with_caller name parts = record parts { callers = parts.callers ++ new_caller name ∷ [] }
+abbrev pub with_caller : List ℕ → ℕ → PlanParts → PlanParts
+with_caller name group parts = record parts { callers = parts.callers ++ new_caller name group ∷ [] }
 
 -- a request, and its open after the operations of the last caller
 abbrev pub with_open : RequestEntry → PlanParts → PlanParts
@@ -75,10 +76,13 @@ pub record MayAddLink (parts : PlanParts) (entry : LinkEntry) : Type 0 where
   pub name : is_new (link_names parts.links) entry.name ≡ true
   pub few : length parts.links < most_links
   pub number : link_number entry.shape.link ≡ length parts.links
+  pub unsplit : entry.quotas ≡ []
 
-pub record MayAddCaller (parts : PlanParts) (name : List ℕ) : Type 0 where
+pub record MayAddCaller (parts : PlanParts) (name : List ℕ) (group : ℕ) : Type 0 where
   pub new : is_new (caller_names parts.callers) name ≡ true
   pub few : length parts.callers < most_callers
+  pub version : group_has_version parts.version group ≡ true
+  pub there : group_is_there parts.groups group ≡ true
 
 -- the request has the next number, and is that of the last caller
 pub record MayOpen (parts : PlanParts) (entry : RequestEntry) : Type 0 where
@@ -128,6 +132,7 @@ pub record KeepSoFar (parts : PlanParts) : Type 0 where
   pub unclosed : are_unclosed parts ≡ true
   pub load : load_in parts.requests parts.callers ≤ most_packets
   pub pours : pours_are_taken parts ≡ true
+  pub groups : KeepGroups parts.version parts.groups parts.links parts.callers
   pub planned : ArePlanned parts
   pub terms : Each HasTerms parts.requests
 
@@ -145,7 +150,7 @@ abbrev pub LinksKeep : Type 0
 LinksKeep = (parts : PlanParts) (entry : LinkEntry) → KeepSoFar parts → MayAddLink parts entry → KeepSoFar (with_link entry parts)
 
 abbrev pub CallersKeep : Type 0
-CallersKeep = (parts : PlanParts) (name : List ℕ) → KeepSoFar parts → MayAddCaller parts name → KeepSoFar (with_caller name parts)
+CallersKeep = (parts : PlanParts) (name : List ℕ) (group : ℕ) → KeepSoFar parts → MayAddCaller parts name group → KeepSoFar (with_caller name group parts)
 
 abbrev pub OpensKeep : Type 0
 OpensKeep = (parts : PlanParts) (entry : RequestEntry) → KeepSoFar parts → MayOpen parts entry → KeepSoFar (with_open entry parts)

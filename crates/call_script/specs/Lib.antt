@@ -2,6 +2,9 @@ pub mod Versions
 pub mod Parts
 pub mod Draft
 pub mod Rules
+pub mod Groups
+pub mod Broken
+pub mod Splits
 pub mod Tasks
 pub mod Scripts
 pub mod Fits

@@ -1,5 +1,5 @@
--- A plan of one link, one request and one caller, as the tests have it: link 0 has levels of 10, 20 and 40 ticks and a
--- propagation of 2, channel 0 goes over it, and caller 0 opens that channel and no other.
+-- A plan of one link, one request and one caller, as the tests have it: link 0 has levels of 10, 20 and 40 ticks, a
+-- propagation of 2 and no quotas, channel 0 goes over it, and caller 0 opens that channel and no other.
 use Rattle.std.specs.Prelude.{◌≡◌, ℕ, None, List, [], ◌∷◌, length}
 use Rattle.net_units.specs.Numbers.{link_number, actor_number, channel_number}
 use Rattle.hop_reservation.specs.declared.route.Hop.{Hop}
@@ -15,6 +15,7 @@ pub record IsThatLink (entry : LinkEntry) : Type 0 where
   pub number : link_number entry.shape.link ≡ 0
   pub bounds : entry.shape.bounds ≡ 10 ∷ 20 ∷ 40 ∷ []
   pub prop : entry.shape.prop ≡ 2
+  pub unsplit : entry.quotas ≡ []
 
 pub record IsOverIt (hop : Hop) : Type 0 where
   pub link : link_number hop.link ≡ 0

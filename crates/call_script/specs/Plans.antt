@@ -7,7 +7,7 @@ use Rattle.traffic_contract.specs.Contract.{IsContract}
 use Rattle.call_script.specs.Fits.{NetworkFits}
 use Rattle.call_script.specs.Owners.{AllOwned}
 use Rattle.call_script.specs.Parts.{PlanParts, ArePlanned}
-use Rattle.call_script.specs.Rules.{rule_broken}
+use Rattle.call_script.specs.Broken.{rule_broken}
 use Rattle.call_script.specs.Tasks.{network_of}
 use Rattle.call_script.specs.declared.entries.RequestEntry.{RequestEntry}
 

@@ -1,6 +1,6 @@
 -- A plan keeps the rules of the scenario's language, as far as a plan can break them. Each has the number of the cause by
--- which a line is refused that breaks it; a plan is refused with the least. (A plan has numbers and names where a scenario
--- has text, so it breaks no rule on text.)
+-- which a line is refused that breaks it. (A plan has numbers and names where a scenario has text, so it breaks no rule on
+-- text. Those on groups and quotas are in `Groups`, and `Broken` has them all in their order.)
 --   1 a link's test is its version's; best-effort packets come from version three on, and routes that are found from version four on
 --   2 there is a link
 --   6 no two links, callers or requests have one name
@@ -246,22 +246,3 @@ pour_is_taken links (Pour link count gap size) = takes_best_effort (slice_get li
 
 unfoldable pub pours_are_taken : PlanParts → Bool
 pours_are_taken parts = all_ops (pour_is_taken parts.links) parts.callers
-
--- ---- the least rule broken
-
--- a rule that isn't kept, or else those after it
-abbrev pub unless_broken : Bool → ℕ → Option ℕ → Option ℕ
-unless_broken kept rule other = if kept then other else Some rule
-
--- the rules on how the scripts use the channels and load the links
-unfoldable pub use_rule_broken : PlanParts → Option ℕ
-use_rule_broken parts = unless_broken (are_unclosed parts) 13 (unless_broken (are_within_load parts) 14 (unless_broken (pours_are_taken parts) 19 None))
-
--- those on what is there, and in which ranges, and those after them
-unfoldable pub range_rule_broken : PlanParts → Option ℕ
-range_rule_broken parts =
-    unless_broken (are_there parts) 7 (unless_broken (are_in_range parts) 8 (unless_broken (are_few parts) 9 (unless_broken (are_joined parts) 12 (use_rule_broken parts))))
-
--- all rules
-unfoldable pub rule_broken : PlanParts → Option ℕ
-rule_broken parts = unless_broken (have_version parts) 1 (unless_broken (have_links parts) 2 (unless_broken (have_names parts) 6 (range_rule_broken parts)))

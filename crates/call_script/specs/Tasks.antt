@@ -4,10 +4,10 @@
 use Rattle.std.specs.Prelude.{ℕ, ◌+◌, Option, Some, None, List, [], ◌∷◌, map, option_map}
 use Rattle.std.specs.List.{slice_get}
 use Rattle.net_units.specs.Numbers.{channel_number}
-use Rattle.link_steps.specs.Split.{Link, whole}
+use Rattle.link_steps.specs.Split.{Link}
 use Rattle.setup_protocol.specs.declared.request.Request.{Request}
 use Rattle.call_script.specs.Parts.{PlanParts}
-use Rattle.call_script.specs.declared.entries.LinkEntry.{LinkEntry}
+use Rattle.call_script.specs.Splits.{entry_link, groups_in}
 use Rattle.call_script.specs.declared.entries.RequestEntry.{RequestEntry}
 use Rattle.call_script.specs.declared.entries.CallerEntry.{CallerEntry}
 use Rattle.call_script.specs.declared.operations.Op.{Op}
@@ -39,16 +39,13 @@ unfoldable pub tasks_of : List Request → List Op → List Task
 tasks_of requests [] = []
 tasks_of requests (op ∷ ops) = with_task (task_of requests op) (tasks_of requests ops)
 
-abbrev pub entry_link : LinkEntry → Link
-entry_link entry = whole entry.shape
-
 abbrev pub script_of : List Request → CallerEntry → List Task
 script_of requests caller = tasks_of requests caller.ops
 
 -- what a plan's run goes over
 unfoldable pub network_of : PlanParts → Network
 network_of parts = record {
-  links = map entry_link parts.links;
+  links = map (entry_link (groups_in parts)) parts.links;
   requests = map request_of parts.requests;
   scripts = map (script_of (map request_of parts.requests)) parts.callers;
   rounds = parts.rounds + parts.tail;

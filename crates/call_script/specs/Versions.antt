@@ -1,6 +1,7 @@
 -- The scenario's language has versions. In the first one a link compares the load of a level in the window as long as the
 -- level's bound; from the second one on in some window up to the bound. From the third one on a link may take best-effort
--- packets, and a caller may pour them. From the fourth one on the route of a request may be found between two nodes.
+-- packets, and a caller may pour them. From the fourth one on the route of a request may be found between two nodes. None of
+-- them has groups of callers yet.
 use Rattle.std.specs.Prelude.{Bool, true, false}
 use Rattle.traffic_contract.specs.declared.admission.Test.{Test}
 use Rattle.traffic_contract.specs.declared.admission.Test.TheVariants.{Whole, Least}
@@ -27,6 +28,13 @@ has_found_routes One = false
 has_found_routes Two = false
 has_found_routes Three = false
 has_found_routes Four = true
+
+-- whether callers may be of groups, and links have quotas
+abbrev pub has_groups : Version → Bool
+has_groups One = false
+has_groups Two = false
+has_groups Three = false
+has_groups Four = false
 
 -- whether two tests are the same
 abbrev pub is_test : Test → Test → Bool

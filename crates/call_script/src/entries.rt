@@ -2,13 +2,14 @@
 ghost use Rattle.std.specs.Prelude.{◌≡◌, ◌++◌, ◌∷◌, [], OnErr, OnOk};
 
 use crate::operations::Ops;
+use crate::quotas::Quotas;
 use link_steps::LinkShape;
 use net_units::{ActorNo, Name};
 use setup_protocol::Request;
 use std::alloc::AllocError;
 
 /// A link of the network.
-#[derive(Clone, Copy)]
+#[derive(Drop)]
 pub struct LinkEntry {
     /// Its name.
     pub name: Name,
@@ -18,6 +19,8 @@ pub struct LinkEntry {
     pub to: Name,
     /// Its number and its numbers.
     pub shape: LinkShape,
+    /// The quotas of the groups that have a share of it; a link without quotas isn't split.
+    pub quotas: Quotas,
 }
 
 /// A request for a channel.
@@ -38,6 +41,8 @@ pub struct RequestEntry {
 pub struct CallerEntry {
     /// Its name.
     pub name: Name,
+    /// The number of its group, from 1, or 0 for none.
+    pub group: u8,
     /// What it does, in its order.
     pub ops: Ops,
 }

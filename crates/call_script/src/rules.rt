@@ -1,17 +1,20 @@
 //! The rules that a plan keeps.
 ghost use Rattle.std.specs.Prelude.{◌≡◌, None, IsTrue, IfOk};
 ghost use Rattle.link_steps.specs.Lists.{Each};
+ghost use Rattle.call_script.specs.Broken.{use_rule_broken, range_rule_broken, name_rule_broken, rule_broken};
 ghost use Rattle.call_script.specs.Draft.{parts_in};
 ghost use Rattle.call_script.specs.Plans.{HasTerms};
-ghost use Rattle.call_script.specs.Rules.{have_version, have_links, have_names, are_there, are_in_range, are_few, are_joined, are_unclosed, are_within_load, pours_are_taken, use_rule_broken, range_rule_broken, rule_broken};
+ghost use Rattle.call_script.specs.Rules.{have_version, have_links, have_names, are_there, are_in_range, are_few, are_joined, are_unclosed, are_within_load, pours_are_taken};
 
 use crate::parts::Parts;
 use net_units::OutOfMemory;
 use net_units::limits::{MOST_CALLERS, MOST_LINKS, MOST_REQUESTS, MOST_ROUNDS};
 use std::alloc::Global;
 
+pub(crate) mod groups;
 pub(crate) mod load;
 pub(crate) mod names;
+pub(crate) mod quotas;
 pub(crate) mod ranges;
 pub(crate) mod routes;
 pub(crate) mod scripts;
@@ -19,7 +22,7 @@ pub(crate) mod versions;
 
 impl Parts {
     // The least rule that the parts break, by the number of its cause.
-    #[tactic(auto, unfolding(crate::specs::Rules::rule_broken))]
+    #[tactic(auto, unfolding(crate::specs::Broken::rule_broken))]
     pub(crate) fn broken_rule(&self, alloc: Global) -> Result<Option<u8>, OutOfMemory>
         ensures rule { IfOk result (λ rule. rule ≡ rule_broken (parts_in self.now)) }
         ensures terms { IfOk result (λ rule. rule ≡ None → Each HasTerms self.now.requests.items) }
@@ -27,28 +30,52 @@ impl Parts {
         if !self.have_version() {
             return Ok(Some(1));
         }
+        if !self.groups_have_version() {
+            return Ok(Some(1));
+        }
         if !self.have_links() {
             return Ok(Some(2));
         }
+        self.broken_name_rule(alloc)
+    }
+
+    // The least of the rules on names and on what is there, and of those after them.
+    #[tactic(auto, unfolding(crate::specs::Broken::name_rule_broken))]
+    fn broken_name_rule(&self, alloc: Global) -> Result<Option<u8>, OutOfMemory>
+        ensures rule { IfOk result (λ rule. rule ≡ name_rule_broken (parts_in self.now)) }
+        ensures terms { IfOk result (λ rule. rule ≡ None → Each HasTerms self.now.requests.items) }
+    {
         if !self.have_names(alloc)? {
             return Ok(Some(6));
+        }
+        if !self.groups_have_names(alloc)? {
+            return Ok(Some(6));
+        }
+        if !self.are_there(alloc)? {
+            return Ok(Some(7));
+        }
+        if !self.groups_are_there() {
+            return Ok(Some(7));
         }
         self.broken_range_rule(alloc)
     }
 
-    // The least of the rules on what is there, and in which ranges, and of those after them.
-    #[tactic(auto, unfolding(crate::specs::Rules::range_rule_broken))]
+    // The least of the rules on ranges and on how many there are, and of those after them.
+    #[tactic(auto, unfolding(crate::specs::Broken::range_rule_broken))]
     fn broken_range_rule(&self, alloc: Global) -> Result<Option<u8>, OutOfMemory>
         ensures rule { IfOk result (λ rule. rule ≡ range_rule_broken (parts_in self.now)) }
         ensures terms { IfOk result (λ rule. rule ≡ None → Each HasTerms self.now.requests.items) }
     {
-        if !self.are_there(alloc)? {
-            return Ok(Some(7));
-        }
         if !self.are_in_range() {
             return Ok(Some(8));
         }
+        if !self.quotas_are_in_range() {
+            return Ok(Some(8));
+        }
         if !self.are_few() {
+            return Ok(Some(9));
+        }
+        if !self.groups_are_few() {
             return Ok(Some(9));
         }
         if !self.are_joined() {
@@ -57,8 +84,8 @@ impl Parts {
         self.broken_use_rule(alloc)
     }
 
-    // The least of the rules on how the scripts use the channels and load the links.
-    #[tactic(auto, unfolding(crate::specs::Rules::use_rule_broken))]
+    // The least of the rules on how the scripts use the channels and load the links, and on what the quotas come to.
+    #[tactic(auto, unfolding(crate::specs::Broken::use_rule_broken))]
     fn broken_use_rule(&self, alloc: Global) -> Result<Option<u8>, OutOfMemory>
         requires range { IsTrue (are_in_range (parts_in self.now)) }
         requires few { IsTrue (are_few (parts_in self.now)) }
@@ -72,6 +99,9 @@ impl Parts {
         }
         if !self.pours_are_taken() {
             return Ok(Some(19));
+        }
+        if !self.quotas_are_fit() {
+            return Ok(Some(23));
         }
         Ok(None)
     }

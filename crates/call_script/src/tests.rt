@@ -8,7 +8,7 @@ ghost use Rattle.call_script.specs.Standing.{CallerStands};
 
 use super::*;
 use hop_reservation::{Hop, Route};
-use link_steps::{Ask, LinkShape, Reply, Unexpected};
+use link_steps::{Ask, LinkShape, Quota, Reply, Unexpected};
 use net_units::{ActorNo, Bounds, ChanNo, Kind, Level, LinkNo, Name};
 use setup_protocol::{Control, Request, Verdict};
 use std::alloc::Global;
@@ -32,7 +32,7 @@ fn link_no() -> Result<LinkNo, Fail>
     Ok(LinkNo::new(0).ok_or("link")?)
 }
 
-fn link(test: Test, best: u32) -> Result<LinkEntry, Fail>
+fn link(alloc: Global, test: Test, best: u32) -> Result<LinkEntry, Fail>
     ensures { IfOk result IsThatLink }
 {
     Ok(LinkEntry {
@@ -40,6 +40,7 @@ fn link(test: Test, best: u32) -> Result<LinkEntry, Fail>
         from: name("n1")?,
         to: name("n2")?,
         shape: LinkShape::new(link_no()?, 1, 4, 2, 100, bounds()?, test, best)?,
+        quotas: Quotas::none(alloc),
     })
 }
 
@@ -90,6 +91,7 @@ fn caller(alloc: Global, chan: ChanNo, pours: bool) -> Result<CallerEntry, Fail>
     }
     Ok(CallerEntry {
         name: name("k1")?,
+        group: 0,
         ops: Ops::new(ops),
     })
 }
@@ -104,7 +106,8 @@ fn plan(
     rounds: u64,
 ) -> Result<Result<Plan, BadPlan>, Fail>
     requires { IsThatLink link }
-    ensures { IfOk result (λ made. IfOk made (λ plan. length plan.callers ≡ 1)) }
+    ensures callers { IfOk result (λ made. IfOk made (λ plan. length plan.callers ≡ 1)) }
+    ensures links { IfOk result (λ made. IfOk made (λ plan. length plan.links ≡ 1)) }
 {
     let request = request(found)?;
     let caller = caller(alloc, request.request.chan, pours)?;
@@ -114,7 +117,8 @@ fn plan(
     push_request(&mut requests, request)?;
     let mut callers = Vec::new(alloc);
     callers.push(caller)?;
-    Ok(Plan::new(alloc, version, links, requests, callers, rounds, 0))
+    let groups = Vec::new(alloc);
+    Ok(Plan::new(alloc, version, links, groups, requests, callers, rounds, 0))
 }
 
 #[test]
@@ -131,7 +135,7 @@ fn a_plan_keeps_the_rules_of_its_version(rt: HostRuntime) -> Result<(), Fail> {
         (Version::Three, Test::Least, 1, true, true, 0, Some(1)),
         (Version::Four, Test::Least, 1, true, true, 0, None),
     ] {
-        let link = link(test, best)?;
+        let link = link(rt.alloc(), test, best)?;
         let nodes = if found {
             Some((link.from, link.to))
         } else {
@@ -141,6 +145,35 @@ fn a_plan_keeps_the_rules_of_its_version(rt: HostRuntime) -> Result<(), Fail> {
         let broken = rule.map(|rule| BadPlan::Broken { rule });
         assert_eq!(rt; made.err(), broken, "{version:?}, {test:?}, best {best}");
     }
+    Ok(())
+}
+
+#[test]
+fn a_link_without_quotas_is_not_split(rt: HostRuntime) -> Result<(), Fail> {
+    let alloc = rt.alloc();
+    let link = link(alloc, Test::Whole, 0)?;
+    let plan = plan(alloc, Version::One, link, None, false, 0)??;
+    assert!(rt; plan.split(alloc, link_no()?)?.is_none());
+    assert_eq!(rt; plan.groups().len(), 0);
+    Ok(())
+}
+
+fn quota(group: u8) -> Quota {
+    Quota {
+        group,
+        buffer: 50,
+        levels: [4, 8, 20, 0, 0, 0, 0, 0],
+    }
+}
+
+#[test]
+fn quotas_stand_in_the_order_in_which_they_came(rt: HostRuntime) -> Result<(), Fail> {
+    let mut quotas = Quotas::none(rt.alloc());
+    quotas.push(quota(2))?;
+    quotas.push(quota(1))?;
+    assert_eq!(rt; quotas.as_slice(), [quota(2), quota(1)].as_slice());
+    let again = Quotas::new(quotas.into_vec());
+    assert_eq!(rt; again.as_slice(), [quota(2), quota(1)].as_slice());
     Ok(())
 }
 
@@ -213,7 +246,14 @@ fn a_reply_of_another_ask_changes_nothing(rt: HostRuntime) -> Result<(), Fail> {
     let alloc = rt.alloc();
     let request = asked()?;
     let caller = ActorNo::new(0).ok_or("caller")?;
-    let plan = plan(alloc, Version::One, link(Test::Whole, 0)?, None, false, 0)??;
+    let plan = plan(
+        alloc,
+        Version::One,
+        link(alloc, Test::Whole, 0)?,
+        None,
+        false,
+        0,
+    )??;
     let mut actor = Actor::new(alloc, &plan, caller)?;
     refuses(&rt, &mut actor, &plan, &reserve(&request), Reply::Denied)?;
     asks(&rt, &mut actor, &plan, &reserve(&request), OFFER)
@@ -224,7 +264,14 @@ fn a_caller_opens_its_request(rt: HostRuntime) -> Result<(), Fail> {
     let alloc = rt.alloc();
     let request = asked()?;
     let caller = ActorNo::new(0).ok_or("caller")?;
-    let plan = plan(alloc, Version::One, link(Test::Whole, 0)?, None, false, 0)??;
+    let plan = plan(
+        alloc,
+        Version::One,
+        link(alloc, Test::Whole, 0)?,
+        None,
+        false,
+        0,
+    )??;
     let mut actor = Actor::new(alloc, &plan, caller)?;
     asks(&rt, &mut actor, &plan, &reserve(&request), OFFER)?;
     assert!(rt; actor.verdict(request.chan).is_none());

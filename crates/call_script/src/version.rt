@@ -1,6 +1,6 @@
 //! The versions of the scenario's language.
 ghost use Rattle.std.specs.Prelude.{◌≡◌};
-ghost use Rattle.call_script.specs.Versions.{test_of, has_best_effort, has_found_routes};
+ghost use Rattle.call_script.specs.Versions.{test_of, has_best_effort, has_found_routes, has_groups};
 
 use traffic_contract::Test;
 
@@ -45,6 +45,15 @@ impl Version {
         match self {
             Version::One | Version::Two | Version::Three => false,
             Version::Four => true,
+        }
+    }
+
+    /// Whether its plans may have groups of callers, and links with quotas.
+    pub fn has_groups(&self) -> bool
+        ensures { result ≡ has_groups self.now }
+    {
+        match self {
+            Version::One | Version::Two | Version::Three | Version::Four => false,
         }
     }
 }

@@ -14,7 +14,7 @@ use Rattle.call_script.proofs.FitFacts.{request-fits}
 use Rattle.setup_protocol.specs.Hops.{IsHopOf}
 use Rattle.call_script.specs.Parts.{PlanParts}
 use Rattle.call_script.specs.Plans.{IsPlan}
-use Rattle.call_script.specs.Tasks.{entry_link}
+use Rattle.call_script.specs.Splits.{entry_link, groups_in}
 use Rattle.call_script.specs.declared.entries.RequestEntry.{RequestEntry}
 use Rattle.run_record.specs.Runs.{part_of}
 use Rattle.run_record.specs.declared.done.Done.{Done}
@@ -45,7 +45,7 @@ route-some parts number entry plan found = (request-fits parts number entry plan
 pub first-within : (parts : PlanParts) (number : ℕ) (entry : RequestEntry) → IsPlan parts → slice_get parts.requests number ≡ Some entry → 1 ≤ length entry.request.route → first_link entry.request.route < length parts.links
 first-within parts number entry plan found some =
     let fits = request-fits parts number entry plan found in
-    omega (arith, first-hop (map entry_link parts.links) entry.request.route some fits.hops, length-map parts.links entry_link)
+    omega (arith, first-hop (map (entry_link (groups_in parts)) parts.links) entry.request.route some fits.hops, length-map parts.links (entry_link (groups_in parts)))
 
 -- the ticks offered
 pub offered-is : (parts : PlanParts) (entries : List Done) (findings : Findings) (number : ℕ) (entry : RequestEntry) (tally : ChannelTally) (clock : ℕ) (ticks : List ℕ) → IsPlan parts → AreFound parts entries findings → slice_get parts.requests number ≡ Some entry → slice_get findings.channels.items number ≡ Some tally → 1 ≤ length entry.request.route

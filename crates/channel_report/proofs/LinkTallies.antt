@@ -6,7 +6,8 @@ use Rattle.std.proofs.lemmas.Option.{slice_get_within}
 use Rattle.net_units.specs.Numbers.{link_number}
 use Rattle.link_steps.specs.Scan.{clock_of}
 use Rattle.call_script.specs.Parts.{PlanParts}
-use Rattle.call_script.specs.Tasks.{entry_link, network_of}
+use Rattle.call_script.specs.Splits.{entry_link, groups_in}
+use Rattle.call_script.specs.Tasks.{network_of}
 use Rattle.interleave_core.specs.Runs.{IsNext}
 use Rattle.interleave_core.proofs.RunLegal.{part-on, part-off}
 use Rattle.run_record.specs.Runs.{entry_of, is_on, part_of}
@@ -41,7 +42,7 @@ none-counted count tallies all bare = record { all = all; tells = λ n d within.
 -- the link of an entry is one of the plan's
 pub link-within : (parts : PlanParts) (past : List Done) (done : Done) → IsNext (network_of parts) past done → link_number done.link < length parts.links
 unfolding network_of
-link-within parts past done next = omega (arith, slice_get_within (network_of parts).links (link_number done.link) next.link next.linked, length-map parts.links entry_link)
+link-within parts past done next = omega (arith, slice_get_within (network_of parts).links (link_number done.link) next.link next.linked, length-map parts.links (entry_link (groups_in parts)))
 
 -- one entry more
 pub tallies-more : (count : ℕ) (past : List Done) (done : Done) (old : List LinkTally) (at : ℕ) (new : LinkTally) → AreLinkTallies count past old → link_number done.link ≡ at → at < count → IsTally (entry_of done ∷ part_of at past) new → AreLinkTallies count (done ∷ past) (set old at new)

@@ -75,7 +75,7 @@ shape = record {
 
 abbrev plan : PlanParts
 plan = parts_of One
-    (record { name = codes "A"; from = codes "n1"; to = codes "n2"; shape = shape } ∷ [])
+    (record { name = codes "A"; from = codes "n1"; to = codes "n2"; shape = shape; quotas = [] } ∷ [])
     (record {
       name = codes "r1";
       caller = k1;
@@ -88,7 +88,7 @@ plan = parts_of One
       };
       found = None;
     } ∷ [])
-    (record { name = codes "k1"; ops = Open chan ∷ Send chan 1 10 2 ∷ [] } ∷ [])
+    (record { name = codes "k1"; group = 0; ops = Open chan ∷ Send chan 1 10 2 ∷ [] } ∷ [])
     3 0
 
 -- the report of the run of these actors

@@ -14,7 +14,8 @@ use Rattle.call_script.proofs.OwnerFacts.{all-owned}
 use Rattle.call_script.specs.Parts.{PlanParts}
 use Rattle.call_script.specs.Scripts.{ask_at, expects, script_ask, standing_of}
 use Rattle.call_script.specs.Standing.{CallerStands, HasAskLeft, standing_in}
-use Rattle.call_script.specs.Tasks.{entry_link, network_of}
+use Rattle.call_script.specs.Splits.{entry_link, groups_in}
+use Rattle.call_script.specs.Tasks.{network_of}
 use Rattle.call_script.specs.declared.actor.Actor.{Actor}
 use Rattle.interleave_core.specs.Runs.{plane_no, next_for}
 use Rattle.interleave_core.specs.Standing.{CallersStand, PlaneStands, ActorsStand, IsDueStep}
@@ -66,7 +67,7 @@ all-made parts callers long made = record { same = long; numbers = made.numbers;
 
 pub plane-made : (parts : PlanParts) (plane : KeptPlane) → plane.links ≡ length parts.links → plane.rounds ≡ parts.rounds + parts.tail → plane.at ≡ plane_start → PlaneStands (network_of parts) plane []
 unfolding network_of plane_of replies_to
-plane-made parts plane links rounds at = record { links = links ∙ sym (length-map parts.links entry_link); rounds = rounds; at = at }
+plane-made parts plane links rounds at = record { links = links ∙ sym (length-map parts.links (entry_link (groups_in parts))); rounds = rounds; at = at }
 
 -- ---- what is asked next
 

@@ -39,6 +39,7 @@ pub mod Merge
 pub mod WeaveLaw
 pub mod Lookups
 pub mod LinkFacts
+pub mod SplitLinks
 pub mod ActorFacts
 pub mod StepFacts
 pub mod TurnFacts

@@ -12,7 +12,8 @@ use Rattle.link_steps.specs.Scan.{clock_of}
 use Rattle.link_steps.specs.Split.{Link, whole}
 use Rattle.link_steps.specs.declared.replies.Reply.{Reply}
 use Rattle.call_script.specs.Fits.{NetworkFits}
-use Rattle.call_script.specs.Tasks.{Network, entry_link}
+use Rattle.call_script.specs.Splits.{entry_link}
+use Rattle.call_script.specs.Tasks.{Network}
 use Rattle.call_script.specs.declared.entries.LinkEntry.{LinkEntry}
 use Rattle.interleave_core.specs.Runs.{plane_no, plane_at, IsRun}
 use Rattle.interleave_core.specs.Standing.{LinksStand}
@@ -95,20 +96,20 @@ links-with network old new number run more long others same parts at stand = rec
 -- ---- before any step
 
 -- so many links of these entries are made
-pub record LinksMade (entries : List LinkEntry) (links : List AnyLink) : Type 0 where
-  pub linked : (n : ℕ) (link : AnyLink) → slice_get links n ≡ Some link → slice_get (map entry_link entries) n ≡ Some (any_rules link)
+pub record LinksMade (groups : List ℕ) (entries : List LinkEntry) (links : List AnyLink) : Type 0 where
+  pub linked : (n : ℕ) (link : AnyLink) → slice_get links n ≡ Some link → slice_get (map (entry_link groups) entries) n ≡ Some (any_rules link)
   pub fresh : (n : ℕ) (link : AnyLink) → slice_get links n ≡ Some link → AnyStands link []
 
-pub none-made : (entries : List LinkEntry) → LinksMade entries []
-none-made entries = record { linked = λ n link found. cc; fresh = λ n link found. cc }
+pub none-made : (groups : List ℕ) (entries : List LinkEntry) → LinksMade groups entries []
+none-made groups entries = record { linked = λ n link found. cc; fresh = λ n link found. cc }
 
-pub one-made : (entries : List LinkEntry) (links : List AnyLink) (entry : LinkEntry) (link : AnyLink) → LinksMade entries links → slice_get entries (length links) ≡ Some entry → any_rules link ≡ entry_link entry → AnyStands link [] → LinksMade entries (links ++ link ∷ [])
-one-made entries links entry link made found shape stands = record {
+pub one-made : (groups : List ℕ) (entries : List LinkEntry) (links : List AnyLink) (entry : LinkEntry) (link : AnyLink) → LinksMade groups entries links → slice_get entries (length links) ≡ Some entry → any_rules link ≡ entry_link groups entry → AnyStands link [] → LinksMade groups entries (links ++ link ∷ [])
+one-made groups entries links entry link made found shape stands = record {
   linked = λ n at is.
       elim (get-push links link n at is) [
         | inl before ↦ made.linked n at before
         | inr last ↦
-            slice_get-map entry_link entries n ∙ ap (λ m. option_map entry_link (slice_get entries m)) last.0 ∙ ap (option_map entry_link) found
+            slice_get-map (entry_link groups) entries n ∙ ap (λ m. option_map (entry_link groups) (slice_get entries m)) last.0 ∙ ap (option_map (entry_link groups)) found
             ∙ ap (λ (l : Link). Some l) (sym shape) ∙ ap (λ (l : AnyLink). Some (any_rules l)) (sym last.1)
       ];
   fresh = λ n at is.
@@ -118,6 +119,6 @@ one-made entries links entry link made found shape stands = record {
       ];
 }
 
-pub all-made : (entries : List LinkEntry) (links : List AnyLink) → length links ≡ length entries → LinksMade entries links → LinksStand (map entry_link entries) links []
+pub all-made : (groups : List ℕ) (entries : List LinkEntry) (links : List AnyLink) → length links ≡ length entries → LinksMade groups entries links → LinksStand (map (entry_link groups) entries) links []
 unfolding part_of
-all-made entries links long made = record { same = long ∙ sym (length-map entries entry_link); linked = made.linked; parts = made.fresh }
+all-made groups entries links long made = record { same = long ∙ sym (length-map entries (entry_link groups)); linked = made.linked; parts = made.fresh }

@@ -22,7 +22,8 @@ use Rattle.call_script.proofs.Walks.{before-at}
 use Rattle.call_script.specs.Parts.{PlanParts}
 use Rattle.call_script.specs.Plans.{IsPlan}
 use Rattle.call_script.specs.Rules.{are_few}
-use Rattle.call_script.specs.Tasks.{entry_link, network_of}
+use Rattle.call_script.specs.Splits.{entry_link, groups_in}
+use Rattle.call_script.specs.Tasks.{network_of}
 use Rattle.interleave_core.specs.Linked.{IsLinkThere}
 use Rattle.interleave_core.specs.Runs.{next_for, IsNext, IsRun}
 use Rattle.interleave_core.specs.Standing.{LinksStand, EngineStands, CoreStands, run_in}
@@ -54,7 +55,7 @@ pub has-few : (parts : PlanParts) → IsPlan parts → HasFew parts
 unfolding network_of
 has-few parts plan =
     let fits = plan-fits parts plan in
-    let same = length-map parts.links entry_link in
+    let same = length-map parts.links (entry_link (groups_in parts)) in
     record { some = omega (arith, fits.some, same); few = omega (arith, fits.few, same); rounds = fits.rounds }
 
 -- ---- the link that is asked

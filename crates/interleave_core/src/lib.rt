@@ -16,6 +16,7 @@ pub mod stepping;
 
 pub use actors::{Actors, replay};
 pub use engine::Engine;
+pub use links::new_link;
 pub use playing::{PlayFault, play};
 pub use refusal::CoreRefusal;
 pub use stepping::Core;

@@ -2,17 +2,18 @@
 ghost use Rattle.std.specs.Prelude.{◌≡◌, ◌≢◌, ◌^◌, ◌<◌, ◌∷◌, [], ℕ, List, Some, IfOk, OnErr, length};
 ghost use Rattle.std.specs.List.{slice_get};
 ghost use Rattle.call_script.specs.Plans.{IsPlan};
+ghost use Rattle.net_units.specs.Numbers.{link_number};
+ghost use Rattle.call_script.specs.Splits.{entry_link, groups_in};
 ghost use Rattle.call_script.specs.Tasks.{network_of};
 ghost use Rattle.interleave_core.specs.Standing.{LinksStand};
 ghost use Rattle.link_quota.specs.Any.{any_rules, any_clock, AnyStands};
 ghost use Rattle.link_quota.specs.declared.any_link.AnyLink.{AnyLink as Kept};
 ghost use Rattle.link_steps.specs.Legal.{AskFits};
 ghost use Rattle.link_steps.specs.Replies.{reply_to};
-ghost use Rattle.link_steps.specs.Split.{whole};
 ghost use Rattle.link_steps.specs.declared.replies.Entry.{Entry};
 
-use call_script::Plan;
-use link_quota::AnyLink;
+use call_script::{LinkEntry, Plan};
+use link_quota::{AnyLink, QuotaLink};
 use link_server::LinkState;
 use link_steps::{Ask, LinkStep, Reply};
 use net_units::OutOfMemory;
@@ -26,9 +27,22 @@ pub(crate) fn new_links(alloc: Global, plan: &Plan) -> Result<Vec<AnyLink>, OutO
     let entries = plan.links();
     let mut links = Vec::with_capacity(alloc, entries.len())?;
     for entry in entries {
-        links.push(AnyLink::Plain(LinkState::new(alloc, entry.shape)?))?;
+        links.push(new_link(alloc, plan, entry)?)?;
     }
     Ok(links)
+}
+
+/// A link of a plan, before it has made a step: split where it has quotas, with the group of each channel. An `Err` comes only
+/// for want of memory.
+pub fn new_link(alloc: Global, plan: &Plan, entry: &LinkEntry) -> Result<AnyLink, OutOfMemory>
+    requires { slice_get plan.now.links (link_number entry.now.shape.link) ≡ Some entry.now }
+    ensures rules { IfOk result (λ link. any_rules link ≡ entry_link (groups_in plan.now) entry.now) }
+    ensures stands { IfOk result (λ link. AnyStands link []) }
+{
+    match plan.split(alloc, entry.shape.link)? {
+        Some(split) => Ok(AnyLink::Quota(QuotaLink::new(alloc, entry.shape, split)?)),
+        None => Ok(AnyLink::Plain(LinkState::new(alloc, entry.shape)?)),
+    }
 }
 
 // The link of this number makes a step.

@@ -5,7 +5,8 @@ ghost use Rattle.call_script.specs.OneLink.{IsThatLink, IsThatRequest, IsThatScr
 
 use super::*;
 use call_script::{
-    CallerEntry, Do, Dos, LinkEntry, Op, Ops, Plan, RequestEntry, Schedule, Version, push_request,
+    CallerEntry, Do, Dos, LinkEntry, Op, Ops, Plan, Quotas, RequestEntry, Schedule, Version,
+    push_request,
 };
 use hop_reservation::{Hop, Route};
 use link_steps::{LinkShape, Reply};
@@ -33,7 +34,7 @@ fn link_no() -> Result<LinkNo, Fail>
     Ok(LinkNo::new(0).ok_or("link")?)
 }
 
-fn link() -> Result<LinkEntry, Fail>
+fn link(alloc: Global) -> Result<LinkEntry, Fail>
     ensures { IfOk result IsThatLink }
 {
     Ok(LinkEntry {
@@ -41,6 +42,7 @@ fn link() -> Result<LinkEntry, Fail>
         from: name("n1")?,
         to: name("n2")?,
         shape: LinkShape::new(link_no()?, 1, 4, 2, 100, bounds()?, Test::Whole, 0)?,
+        quotas: Quotas::none(alloc),
     })
 }
 
@@ -77,6 +79,7 @@ fn caller(alloc: Global, chan: ChanNo) -> Result<CallerEntry, Fail>
     ops.push(Op::Open(chan))?;
     Ok(CallerEntry {
         name: name("k1")?,
+        group: 0,
         ops: Ops::new(ops),
     })
 }
@@ -86,12 +89,13 @@ fn plan(alloc: Global) -> Result<Plan, Fail> {
     let request = request(None)?;
     let caller = caller(alloc, request.request.chan)?;
     let mut links = Vec::new(alloc);
-    links.push(link()?)?;
+    links.push(link(alloc)?)?;
     let mut requests = Vec::new(alloc);
     push_request(&mut requests, request)?;
     let mut callers = Vec::new(alloc);
     callers.push(caller)?;
-    Ok(Plan::new(alloc, Version::One, links, requests, callers, 1, 0)?)
+    let groups = Vec::new(alloc);
+    Ok(Plan::new(alloc, Version::One, links, groups, requests, callers, 1, 0)?)
 }
 
 #[test]

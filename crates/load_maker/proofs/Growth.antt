@@ -4,7 +4,7 @@ use Rattle.std.proofs.lemmas.Bool.{cases_Bool, eqb-true, eq-eqb, or_left, or_rig
 use Rattle.std.proofs.lemmas.List.{append-nil, length-append}
 use Rattle.std.proofs.lemmas.List.Folds.{list_any-append}
 use Rattle.std.proofs.lemmas.Option.{same_Some}
-use Rattle.std.specs.List.{list_any, slice_get}
+use Rattle.std.specs.List.{All, list_any, slice_get}
 use Rattle.std.specs.Prelude.{◌%◌}
 use Rattle.net_units.specs.Numbers.{link_number, channel_number, channel_at}
 use Rattle.net_units.specs.declared.numbers.ChanNo.{ChanNo}
@@ -14,7 +14,8 @@ use Rattle.traffic_contract.proofs.AdmissionFacts.{total-append}
 use Rattle.traffic_contract.specs.Admission.{total}
 use Rattle.call_script.proofs.Growing.{caller-keeps, open-keeps, send-keeps, close-keeps, rounds-keep, tail-keeps, grown-is-plan}
 use Rattle.call_script.specs.Growing.{last_ops, with_rounds, MayOpen, MaySend, IsOpenedThere, KeepSoFar}
-use Rattle.call_script.specs.Parts.{PlanParts, parts_of, openings_of}
+use Rattle.call_script.specs.Groups.{KeepGroups}
+use Rattle.call_script.specs.Parts.{PlanParts, parts_of, openings_of, LeavesUnused}
 use Rattle.call_script.specs.Plans.{IsPlan}
 use Rattle.call_script.specs.Rules.{each_after, have_version, have_names, are_there, are_in_range, are_few, are_joined, are_unclosed, pours_are_taken, is_new, caller_names, opens, closes, load_of, load_in}
 use Rattle.call_script.specs.declared.entries.CallerEntry.{CallerEntry}
@@ -29,14 +30,15 @@ use Rattle.load_maker.proofs.ScriptFacts.{channel-is, actor-is, own-length, requ
 use Rattle.load_maker.proofs.ShareFacts.{share-below, first-below}
 use Rattle.load_maker.specs.Draws.{state_after}
 use Rattle.load_maker.specs.Loads.{load_at}
-use Rattle.load_maker.specs.Made.{short_name, made_links, request_entry_of, belongs_to, share, first_channel, close_before, ops_for, own_requests, own_ops, requests_to, callers_to, made_parts}
+use Rattle.load_maker.specs.Made.{short_name, link_entry, made_links, request_entry_of, belongs_to, share, first_channel, close_before, ops_for, own_requests, own_ops, requests_to, callers_to, made_parts}
+use Rattle.call_script.proofs.GroupFacts.{no-groups, none-unused, groups-with-link}
 use Rattle.call_script.proofs.GrowthFacts.{added-last, last-of}
 
 -- ---- the caller at hand
 
 -- a caller of these operations
 abbrev caller_of : List ℕ → List Op → CallerEntry
-caller_of name ops = record { name = name; ops = ops }
+caller_of name ops = record { name = name; group = 0; ops = ops }
 
 -- the parts with these requests and callers, and after them the caller at hand
 abbrev at_hand : List RequestEntry → List CallerEntry → List ℕ → List Op → PlanParts
@@ -209,7 +211,7 @@ caller-more : (number size caller : ℕ) → size ≤ 1024 → caller < 4 → is
 unfolding requests_to callers_to
 caller-more number size caller few caller_few new keep =
     grown-far number size caller size (short_name 107 caller) (omega arith) few caller_few
-    (caller-keeps (parts_to number size caller) (short_name 107 caller) keep (record { new = new; few = let long = callers-length number size caller in omega (arith, long, caller_few) }))
+    (caller-keeps (parts_to number size caller) (short_name 107 caller) 0 keep (record { version = refl; there = refl; new = new; few = let long = callers-length number size caller in omega (arith, long, caller_few) }))
 
 -- ---- the plan
 
@@ -219,6 +221,20 @@ numbered (suc zero) entry found = ap (λ (e : LinkEntry). link_number e.shape.li
 numbered (suc (suc zero)) entry found = ap (λ (e : LinkEntry). link_number e.shape.link) (sym (same_Some _ _ found))
 numbered (suc (suc (suc zero))) entry found = ap (λ (e : LinkEntry). link_number e.shape.link) (sym (same_Some _ _ found))
 numbered (suc (suc (suc (suc n)))) entry found = cc
+
+unused-all : (n : ℕ) (entry : LinkEntry) → slice_get made_links n ≡ Some entry → All (LeavesUnused entry.shape.bounds) entry.quotas
+unused-all zero entry found = none-unused entry (ap (λ (e : LinkEntry). e.quotas) (sym (same_Some _ _ found)))
+unused-all (suc zero) entry found = none-unused entry (ap (λ (e : LinkEntry). e.quotas) (sym (same_Some _ _ found)))
+unused-all (suc (suc zero)) entry found = none-unused entry (ap (λ (e : LinkEntry). e.quotas) (sym (same_Some _ _ found)))
+unused-all (suc (suc (suc zero))) entry found = none-unused entry (ap (λ (e : LinkEntry). e.quotas) (sym (same_Some _ _ found)))
+unused-all (suc (suc (suc (suc n)))) entry found = cc
+
+-- there are no groups
+groups-none : KeepGroups One [] made_links []
+groups-none =
+    groups-with-link One [] (link_entry 0 ∷ link_entry 1 ∷ link_entry 2 ∷ []) (link_entry 3) [] refl
+    (groups-with-link One [] (link_entry 0 ∷ link_entry 1 ∷ []) (link_entry 2) [] refl
+    (groups-with-link One [] (link_entry 0 ∷ []) (link_entry 1) [] refl (groups-with-link One [] [] (link_entry 0) [] refl (no-groups One))))
 
 links-keep : (number size : ℕ) → KeepSoFar (parts_to number size 0)
 unfolding requests_to callers_to have_version have_names are_there are_in_range are_few are_joined are_unclosed pours_are_taken openings_of each_after
@@ -232,7 +248,8 @@ links-keep number size = record {
   unclosed = refl;
   load = omega arith;
   pours = refl;
-  planned = record { links = numbered; requests = λ n entry found. cc; openings = refl; hops = λ n entry found. cc };
+  groups = groups-none;
+  planned = record { links = numbered; requests = λ n entry found. cc; openings = refl; hops = λ n entry found. cc; unused = unused-all };
   terms = tt;
 }
 

@@ -13,7 +13,7 @@ use Rattle.call_script.specs.declared.entries.RequestEntry.{RequestEntry}
 use Rattle.call_script.specs.declared.operations.Op.{Op}
 use Rattle.call_script.specs.Parts.{PlanParts, parts_of}
 use Rattle.call_script.specs.Plans.{IsPlan}
-use Rattle.call_script.specs.Rules.{rule_broken}
+use Rattle.call_script.specs.Broken.{rule_broken}
 use Rattle.call_script.specs.declared.entries.LinkEntry.{LinkEntry}
 use Rattle.call_script.specs.declared.version.Version.TheVariants.{One}
 use Rattle.load_maker.proofs.Growth.{made-is-plan}
@@ -170,12 +170,12 @@ caller-requests number size n old new is more =
     let all : new ≡ requests_to number size (suc n) = more ∙ ap (λ xs. xs ++ own_requests number (length old) n size) is ∙ ap (λ f. requests_to number size n ++ own_requests number f n size) (first-is number size n old is) in
     all ∙ ap (requests_to number size) (next-is n)
 
-pub caller-entries : (number size n : ℕ) (requests : List RequestEntry) (name : List ℕ) (ops : List Op) (old new : List CallerEntry) → requests ≡ requests_to number size n → name ≡ short_name 107 n → ops ≡ own_ops number (length requests) n size → old ≡ callers_to number size n → new ≡ old ++ record { name = name; ops = ops } ∷ [] → new ≡ callers_to number size (n + 1)
+pub caller-entries : (number size n : ℕ) (requests : List RequestEntry) (name : List ℕ) (ops : List Op) (old new : List CallerEntry) → requests ≡ requests_to number size n → name ≡ short_name 107 n → ops ≡ own_ops number (length requests) n size → old ≡ callers_to number size n → new ≡ old ++ record { name = name; group = 0; ops = ops } ∷ [] → new ≡ callers_to number size (n + 1)
 unfolding callers_to
 caller-entries number size n requests name ops old new are name_is ops_are is more =
     let script : ops ≡ own_ops number (first_channel size n) n size = ops_are ∙ ap (λ f. own_ops number f n size) (first-is number size n requests are) in
-    let entry : ◌≡◌ {A = CallerEntry} (record { name = name; ops = ops }) (caller_entry number size n) = λ i. record { name = name_is i; ops = script i } in
-    let all : new ≡ callers_to number size (suc n) = more ∙ ap (λ (xs : List CallerEntry). xs ++ record { name = name; ops = ops } ∷ []) is ∙ ap (λ (e : CallerEntry). callers_to number size n ++ e ∷ []) entry in
+    let entry : ◌≡◌ {A = CallerEntry} (record { name = name; group = 0; ops = ops }) (caller_entry number size n) = λ i. record { name = name_is i; group = 0; ops = script i } in
+    let all : new ≡ callers_to number size (suc n) = more ∙ ap (λ (xs : List CallerEntry). xs ++ record { name = name; group = 0; ops = ops } ∷ []) is ∙ ap (λ (e : CallerEntry). callers_to number size n ++ e ∷ []) entry in
     all ∙ ap (callers_to number size) (next-is n)
 
 pub requests-few : (number size n : ℕ) (old : List RequestEntry) → old ≡ requests_to number size n → n < 4 → size ≤ 1024 → length old ≤ 1024
@@ -191,7 +191,7 @@ parts-are number size n links requests callers links_are requests_are callers_ar
     let four : n ≡ 4 = omega (arith, least, most) in
     let all_requests : requests ≡ requests_to number size 4 = requests_are ∙ ap (requests_to number size) four in
     let all_callers : callers ≡ callers_to number size 4 = callers_are ∙ ap (callers_to number size) four in
-    λ i. record { version = One; links = links_are i; requests = all_requests i; callers = all_callers i; rounds = 4000; tail = 1000 }
+    λ i. record { version = One; links = links_are i; groups = []; requests = all_requests i; callers = all_callers i; rounds = 4000; tail = 1000 }
 
 pub plan-of : (number size : ℕ) (parts : PlanParts) → size ≤ 1024 → parts ≡ made_parts number size → IsPlan parts
 plan-of number size parts few is = subst IsPlan (sym is) (made-is-plan number size few)

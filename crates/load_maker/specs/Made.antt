@@ -61,7 +61,7 @@ load_shape n = record {
 
 -- L1 to L4, from n1 to n2 and so on
 abbrev pub link_entry : ℕ → LinkEntry
-link_entry n = record { name = short_name 76 n; from = short_name 110 n; to = short_name 110 (suc n); shape = load_shape n }
+link_entry n = record { name = short_name 76 n; from = short_name 110 n; to = short_name 110 (suc n); shape = load_shape n; quotas = [] }
 
 abbrev pub made_links : List LinkEntry
 made_links = link_entry 0 ∷ link_entry 1 ∷ link_entry 2 ∷ link_entry 3 ∷ []
@@ -136,7 +136,7 @@ own_ops number first caller (suc n) =
 
 -- k1 to k4
 abbrev pub caller_entry : ℕ → ℕ → ℕ → CallerEntry
-caller_entry number size caller = record { name = short_name 107 caller; ops = own_ops number (first_channel size caller) caller size }
+caller_entry number size caller = record { name = short_name 107 caller; group = 0; ops = own_ops number (first_channel size caller) caller size }
 
 -- the requests of the first callers, and these callers
 unfoldable pub requests_to : ℕ → ℕ → ℕ → List RequestEntry

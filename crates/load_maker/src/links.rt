@@ -4,7 +4,7 @@ ghost use Rattle.net_units.specs.Text.{is_letter};
 ghost use Rattle.net_units.specs.Numbers.{link_at};
 ghost use Rattle.load_maker.specs.Made.{hop_at, level_bounds, link_entry, made_links, route_of, load_shape, short_name};
 
-use call_script::LinkEntry;
+use call_script::{LinkEntry, Quotas};
 use hop_reservation::{Hop, Route};
 use link_steps::LinkShape;
 use net_units::{Bounds, LinkNo, Name, OutOfMemory};
@@ -19,15 +19,15 @@ pub(crate) fn links(alloc: Global) -> Result<Vec<LinkEntry>, OutOfMemory>
     ensures { IfOk result (λ links. links.items ≡ made_links) }
 {
     let mut links = Vec::new(alloc);
-    links.push(link(0))?;
-    links.push(link(1))?;
-    links.push(link(2))?;
-    links.push(link(3))?;
+    links.push(link(alloc, 0))?;
+    links.push(link(alloc, 1))?;
+    links.push(link(alloc, 2))?;
+    links.push(link(alloc, 3))?;
     Ok(links)
 }
 
 // The link of this number.
-fn link(number: u8) -> LinkEntry
+fn link(alloc: Global, number: u8) -> LinkEntry
     requires { number < 4 }
     ensures { result ≡ link_entry number }
 {
@@ -36,6 +36,7 @@ fn link(number: u8) -> LinkEntry
         from: short_name(b'n', number),
         to: short_name(b'n', number + 1),
         shape: shape(number),
+        quotas: Quotas::none(alloc),
     }
 }
 

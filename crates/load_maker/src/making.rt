@@ -36,10 +36,21 @@ pub fn made(alloc: Global, number: u32, size: u32) -> Result<Plan, OutOfMemory>
         let ops = script(alloc, number, size, caller, &mut requests)?;
         callers.push(CallerEntry {
             name: short_name(b'k', caller),
+            group: 0,
             ops: Ops::new(ops),
         })?;
     }
-    match Plan::new(alloc, Version::One, links, requests, callers, ROUNDS, TAIL) {
+    let groups = Vec::new(alloc);
+    match Plan::new(
+        alloc,
+        Version::One,
+        links,
+        groups,
+        requests,
+        callers,
+        ROUNDS,
+        TAIL,
+    ) {
         Ok(plan) => Ok(plan),
         Err(BadPlan::Memory) => Err(OutOfMemory),
         Err(BadPlan::Broken { .. }) => unreachable!(),

@@ -21,7 +21,8 @@ use Rattle.tick_plane.specs.Planes.{plane_start}
 use Rattle.call_script.proofs.FitFacts.{plan-fits}
 use Rattle.call_script.specs.Parts.{PlanParts}
 use Rattle.call_script.specs.Plans.{IsPlan}
-use Rattle.call_script.specs.Tasks.{entry_link, network_of}
+use Rattle.call_script.specs.Splits.{entry_link, groups_in}
+use Rattle.call_script.specs.Tasks.{network_of}
 use Rattle.interleave_core.specs.Runs.{plane_no}
 use Rattle.race_run.specs.Callers.{IsNetworkOf}
 use Rattle.race_run.specs.Pieces.{AreNew, IsAtRound}
@@ -56,7 +57,7 @@ tail-made parts plane pass rounds tail at made is rest =
 pub plane-new : (parts : PlanParts) (plane : KeptPlane) (pass : Token) → plane ≡ record { links = length parts.links; rounds = parts.rounds + parts.tail; at = plane_start; spare = 0 } → pass.own ≡ [] → actor_number pass.actor ≡ plane_no (network_of parts) → IsAtRound parts 0 plane pass
 unfolding network_of
 plane-new parts plane pass new none is = record {
-  at = plane-begins (network_of parts) plane pass (ap (λ (p : KeptPlane). p.links) new ∙ sym (length-map parts.links entry_link)) (ap (λ (p : KeptPlane). p.rounds) new) (ap (λ (p : KeptPlane). p.at) new) none is;
+  at = plane-begins (network_of parts) plane pass (ap (λ (p : KeptPlane). p.links) new ∙ sym (length-map parts.links (entry_link (groups_in parts)))) (ap (λ (p : KeptPlane). p.rounds) new) (ap (λ (p : KeptPlane). p.at) new) none is;
   round_is = ap (λ (p : KeptPlane). p.at.round) new;
 }
 
@@ -65,7 +66,7 @@ plane-new parts plane pass new none is = record {
 module _ (table : TableId) (owners : List ActorNo) (links : List Link) (parts : PlanParts) (plan : IsPlan parts) (network : IsNetworkOf parts links owners) where
   links-many : length links ≡ length parts.links
   unfolding network_of
-  links-many = ap length network.links_are ∙ length-map parts.links entry_link
+  links-many = ap length network.links_are ∙ length-map parts.links (entry_link (groups_in parts))
 
   pub links-few : length links ≤ 32
   links-few = (let fits = (plan-fits parts plan).few in let same = ap length network.links_are in omega (arith, fits, same))

@@ -9,19 +9,21 @@ use Rattle.hop_reservation.specs.declared.route.Hop.{Hop}
 use Rattle.link_steps.specs.Journals.{JournalGoesOn}
 use Rattle.link_steps.specs.Legal.{AskFits}
 use Rattle.link_steps.specs.Lists.{Each}
-use Rattle.link_steps.specs.Split.{Link, whole}
+use Rattle.link_steps.specs.Split.{Link}
 use Rattle.link_steps.specs.declared.replies.Entry.{Entry as Done}
 use Rattle.link_steps.proofs.ListFacts.{Each-if}
 use Rattle.link_ledger.specs.Journals.{done_in}
 use Rattle.link_ledger.specs.Tokens.{Token}
 use Rattle.link_ledger.specs.declared.entries.Entry.{Entry}
 use Rattle.link_ledger.specs.declared.entries.Journal.{Journal}
-use Rattle.call_script.specs.Tasks.{entry_link, network_of}
+use Rattle.call_script.specs.Splits.{entry_link, groups_in}
+use Rattle.call_script.specs.Tasks.{network_of}
 use Rattle.call_script.specs.Parts.{PlanParts, ArePlanned, FollowsLink, opening_of, openings_of, parts_of}
 use Rattle.call_script.specs.declared.entries.LinkEntry.{LinkEntry}
 use Rattle.call_script.specs.declared.entries.RequestEntry.{RequestEntry}
 use Rattle.call_script.specs.declared.entries.CallerEntry.{CallerEntry}
 use Rattle.call_script.specs.declared.version.Version.{Version}
+use Rattle.call_script.proofs.GroupFacts.{none-unused}
 use Rattle.race_run.specs.Whole.{IsWhole}
 use Rattle.race_run.proofs.WholeFacts.{whole-length}
 use Rattle.race_run.specs.Worked.{AreNumbered, IsWorkedCaller, IsWorkedHop, IsWorkedLink, IsWorkedRequest}
@@ -57,6 +59,7 @@ follows links hop all over = record {
 pub worked-planned : (version : Version) (links : List LinkEntry) (requests : List RequestEntry) (callers : List CallerEntry) (rounds tail : ℕ) → AreNumbered IsWorkedLink 0 links → AreNumbered IsWorkedRequest 0 requests → AreNumbered IsWorkedCaller 0 callers → length callers ≡ length requests → ArePlanned (parts_of version links requests callers rounds tail)
 worked-planned version links requests callers rounds tail are asks open_all long = record {
   links = λ n entry found. (first-get IsWorkedLink links n entry are found).number;
+  unused = λ n entry found. none-unused entry (first-get IsWorkedLink links n entry are found).unsplit;
   requests = λ n entry found. (first-get IsWorkedRequest requests n entry asks found).chan;
   openings = openings-told 0 callers requests long open_all asks;
   hops = λ n entry found. Each-if IsWorkedHop (FollowsLink links) entry.request.route (λ hop over. follows links hop are over) (first-get IsWorkedRequest requests n entry asks found).hops;
@@ -72,9 +75,9 @@ goes-fits link past (e ∷ entries) goes = (goes.0.fits, goes-fits link (done_in
 pub journal-fits : (parts : PlanParts) (passes : List Token) (journals : List Journal) (k : ℕ) (journal : Journal) (entry : LinkEntry) → IsWhole (network_of parts) passes journals → slice_get journals k ≡ Some journal → slice_get parts.links k ≡ Some entry → Each (λ (e : Entry). AskFits entry.shape e.ask) journal.entries.items
 unfolding network_of
 journal-fits parts passes journals k journal entry whole_is found linked =
-    goes-fits (whole entry.shape) [] journal.entries.items (whole_is.closed.legal k (whole entry.shape) journal (slice_get-map entry_link parts.links k ∙ ap (option_map entry_link) linked) found)
+    goes-fits (entry_link (groups_in parts) entry) [] journal.entries.items (whole_is.closed.legal k (entry_link (groups_in parts) entry) journal (slice_get-map (entry_link (groups_in parts)) parts.links k ∙ ap (option_map (entry_link (groups_in parts))) linked) found)
 
 -- as many journals as links
 pub journals-many : (parts : PlanParts) (passes : List Token) (journals : List Journal) → IsWhole (network_of parts) passes journals → length journals ≡ length parts.links
 unfolding network_of
-journals-many parts passes journals whole_is = whole-length (network_of parts) passes journals whole_is ∙ length-map parts.links entry_link
+journals-many parts passes journals whole_is = whole-length (network_of parts) passes journals whole_is ∙ length-map parts.links (entry_link (groups_in parts))

@@ -1,4 +1,4 @@
--- Words of the worked plans: their links have the levels 10, 20 and 40 and a propagation of 2, and the request of each number is
+-- Words of the worked plans: their links have the levels 10, 20 and 40 and a propagation of 2 and no quotas, and the request of each number is
 -- opened by the caller of that number, which opens no other.
 use Rattle.std.specs.Prelude.{◌≡◌, ℕ, suc, List, [], ◌∷◌}
 use Rattle.net_units.specs.Numbers.{link_number, actor_number, channel_number}
@@ -22,6 +22,7 @@ pub record IsWorkedLink (n : ℕ) (entry : LinkEntry) : Type 0 where
   pub number : link_number entry.shape.link ≡ n
   pub bounds : entry.shape.bounds ≡ 10 ∷ 20 ∷ 40 ∷ []
   pub prop : entry.shape.prop ≡ 2
+  pub unsplit : entry.quotas ≡ []
 
 pub record IsWorkedRequest (n : ℕ) (entry : RequestEntry) : Type 0 where
   pub caller : actor_number entry.caller ≡ n

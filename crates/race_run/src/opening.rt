@@ -10,8 +10,8 @@ ghost use Rattle.race_run.specs.Callers.{caller_of};
 ghost use Rattle.tick_plane.specs.Planes.{plane_start};
 
 use call_script::Plan;
+use interleave_core::new_link;
 use link_quota::AnyLink;
-use link_server::LinkState;
 use net_units::{ActorNo, OutOfMemory};
 use std::alloc::Global;
 use step_stamp::{LinkSeat, PassSeat, Stamps};
@@ -25,7 +25,7 @@ pub(crate) fn links_of(alloc: Global, plan: &Plan) -> Result<Vec<AnyLink>, OutOf
     let entries = plan.links();
     let mut links = Vec::with_capacity(alloc, entries.len())?;
     for entry in entries {
-        links.push(AnyLink::Plain(LinkState::new(alloc, entry.shape)?))?;
+        links.push(new_link(alloc, plan, entry)?)?;
     }
     Ok(links)
 }

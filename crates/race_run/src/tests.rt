@@ -9,7 +9,9 @@ ghost use Rattle.race_run.specs.Whole.{IsWhole};
 ghost use Rattle.race_run.specs.Worked.{AreNumbered, IsWorkedCaller, IsWorkedHop, IsWorkedLink, IsWorkedRequest};
 
 use super::*;
-use call_script::{CallerEntry, LinkEntry, Op, Ops, Plan, RequestEntry, Version, push_request};
+use call_script::{
+    CallerEntry, LinkEntry, Op, Ops, Plan, Quotas, RequestEntry, Version, push_request,
+};
 use hop_reservation::{Hop, Route};
 use link_ledger::{Entry, OwnEntry};
 use link_server::LinkState;
@@ -46,7 +48,7 @@ fn link_no(number: u8) -> Result<LinkNo, Fail>
 }
 
 // A link of rate 1, from the node of its number to the next.
-fn link(number: u8) -> Result<LinkEntry, Fail>
+fn link(alloc: Global, number: u8) -> Result<LinkEntry, Fail>
     ensures { IfOk result (IsWorkedLink number) }
 {
     Ok(LinkEntry {
@@ -54,6 +56,7 @@ fn link(number: u8) -> Result<LinkEntry, Fail>
         from: name(b'n', number)?,
         to: name(b'n', number.wrapping_add(1))?,
         shape: LinkShape::new(link_no(number)?, 1, 4, 2, 100, bounds()?, Test::Whole, 0)?,
+        quotas: Quotas::none(alloc),
     })
 }
 
@@ -62,7 +65,7 @@ fn links(alloc: Global, count: u8) -> Result<Vec<LinkEntry>, Fail>
 {
     let mut links = Vec::new(alloc);
     for number in 0..count {
-        links.push(link(number)?)?;
+        links.push(link(alloc, number)?)?;
     }
     Ok(links)
 }
@@ -136,6 +139,7 @@ fn caller(alloc: Global, number: u8, closes: bool) -> Result<CallerEntry, Fail>
     }
     Ok(CallerEntry {
         name: name(b'k', number)?,
+        group: 0,
         ops: Ops::new(ops),
     })
 }
@@ -162,10 +166,12 @@ fn plan(
     let links = links(alloc, count)?;
     let requests = requests(alloc, callers_count, whole)?;
     let callers = callers(alloc, callers_count, whole)?;
+    let groups = Vec::new(alloc);
     Ok(Plan::new(
         alloc,
         Version::One,
         links,
+        groups,
         requests,
         callers,
         rounds.0,

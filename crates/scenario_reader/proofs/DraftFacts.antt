@@ -7,7 +7,7 @@ use Rattle.link_steps.proofs.ListFacts.{Each-append}
 use Rattle.call_script.specs.Growing.{KeepSoFar, with_op}
 use Rattle.call_script.specs.Parts.{PlanParts}
 use Rattle.call_script.specs.Plans.{IsPlan}
-use Rattle.call_script.specs.Rules.{rule_broken}
+use Rattle.call_script.specs.Broken.{rule_broken}
 use Rattle.call_script.specs.declared.entries.CallerEntry.{CallerEntry}
 use Rattle.call_script.specs.declared.entries.LinkEntry.{LinkEntry}
 use Rattle.call_script.specs.declared.entries.RequestEntry.{RequestEntry}
@@ -75,7 +75,7 @@ draft_link said entry d may = record {
 
 draft_caller : (said : Said) (name : List ℕ) → IsDraft said → MayPutCaller said name → IsDraft (with_item (item.Caller name) said)
 draft_caller said name d may = record {
-  keeps = caller-keeps (parts_said said) name d.keeps may.caller;
+  keeps = caller-keeps (parts_said said) name 0 d.keeps may.caller;
   unheaded = λ e. absurd (may.before.before.headed e);
   unlinked_callers = λ e. absurd (may.before.linked e);
   unlinked_rounds = d.unlinked_rounds;

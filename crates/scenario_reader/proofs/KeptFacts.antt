@@ -65,7 +65,7 @@ kept_link said links requests callers closed load entry k may = record {
 -- ---- callers
 
 -- the operations of a new caller
-last_new : (callers : List CallerEntry) (name : List ℕ) → last_ops (callers ++ new_caller name ∷ []) ≡ []
+last_new : (callers : List CallerEntry) (name : List ℕ) → last_ops (callers ++ new_caller name 0 ∷ []) ≡ []
 last_new [] name = refl
 last_new (caller ∷ []) name = refl
 last_new (caller ∷ next ∷ callers) name = last_new (next ∷ callers) name
@@ -76,15 +76,15 @@ pub kept_caller : (said : Said) (links requests callers : List (List ℕ)) (clos
 kept_caller said links requests callers closed load name d k may = record {
   same_links = k.same_links;
   same_requests = k.same_requests;
-  same_callers = ap (λ names. names ++ name ∷ []) k.same_callers ∙ sym (map-append (λ (c : CallerEntry). c.name) said.callers (new_caller name ∷ []));
+  same_callers = ap (λ names. names ++ name ∷ []) k.same_callers ∙ sym (map-append (λ (c : CallerEntry). c.name) said.callers (new_caller name 0 ∷ []));
   all_closed = k.all_closed;
   same_closed = λ n entry found by.
       let inside = owner-inside (parts_said said) n entry d.keeps.planned found in
-      absurd (omega (arith, inside, by, length-append said.callers (new_caller name ∷ [])));
-  same_load = (let more = total-push (λ (c : CallerEntry). total (load_of said.requests) c.ops) said.callers (new_caller name) in omega (arith, k.same_load, more));
+      absurd (omega (arith, inside, by, length-append said.callers (new_caller name 0 ∷ [])));
+  same_load = (let more = total-push (λ (c : CallerEntry). total (load_of said.requests) c.ops) said.callers (new_caller name 0) in omega (arith, k.same_load, more));
   few_links = k.few_links;
   few_requests = k.few_requests;
-  few_callers = omega (arith, may.caller.few, length-append said.callers (new_caller name ∷ []));
+  few_callers = omega (arith, may.caller.few, length-append said.callers (new_caller name 0 ∷ []));
   small_load = k.small_load;
   few_rounds = k.few_rounds;
 }
@@ -328,9 +328,9 @@ kept_tail said links requests callers closed load count k = record {
 
 -- the last caller, with one operation more in its place
 pub set_last : (callers : List CallerEntry) (op : Op) (place : ℕ) (entry caller : CallerEntry) → place + 1 ≡ length callers → slice_get callers place ≡ Some entry
-    → caller ≡ record { name = entry.name; ops = entry.ops ++ op ∷ [] } → set callers place caller ≡ add_op op callers
+    → caller ≡ record { name = entry.name; group = entry.group; ops = entry.ops ++ op ∷ [] } → set callers place caller ≡ add_op op callers
 set_last [] op place entry caller last at is = absurd (omega (arith, last))
-set_last (c ∷ []) op zero entry caller last at is = ap (λ (e : CallerEntry). e ∷ []) (is ∙ ap (λ (e : CallerEntry). record { name = e.name; ops = e.ops ++ op ∷ [] }) (sym (same_Some c entry at)))
+set_last (c ∷ []) op zero entry caller last at is = ap (λ (e : CallerEntry). e ∷ []) (is ∙ ap (λ (e : CallerEntry). record { name = e.name; group = e.group; ops = e.ops ++ op ∷ [] }) (sym (same_Some c entry at)))
 set_last (c ∷ []) op (suc place) entry caller last at is = absurd (omega (arith, last))
 set_last (c ∷ next ∷ callers) op zero entry caller last at is = absurd (omega (arith, last))
 set_last (c ∷ next ∷ callers) op (suc place) entry caller last at is = ap (λ es. c ∷ es) (set_last (next ∷ callers) op place entry caller (omega (arith, last)) at is)

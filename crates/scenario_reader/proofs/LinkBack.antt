@@ -12,6 +12,7 @@ use Rattle.traffic_contract.specs.declared.admission.Test.TheVariants.{Whole, Le
 use Rattle.call_script.specs.Rules.{link_has_version, link_names}
 use Rattle.call_script.specs.Versions.{test_of, has_best_effort, is_test}
 use Rattle.call_script.specs.declared.entries.LinkEntry.{LinkEntry}
+use Rattle.link_steps.specs.declared.quota.Quota.{Quota}
 use Rattle.call_script.specs.declared.version.Version.{Version}
 use Rattle.scenario_reader.specs.BothWays.{HasNames}
 use Rattle.scenario_reader.specs.Causes.{unless}
@@ -108,6 +109,7 @@ pub record IsNextLink (version : Version) (links : List LinkEntry) (entry : Link
   pub new : is_among (link_names links) entry.name ≡ false
   pub few : length links < 32
   pub number : link_number entry.shape.link ≡ length links
+  pub unsplit : entry.quotas ≡ []
 
 line_passes : (version : Version) (said : Said) (entry : LinkEntry) (rest : List (List ℕ)) → IsBehind version entry rest → IsNextLink version said.links entry → link_rule version said (front_with entry rest) ≡ None
 line_passes version said entry rest after is =
@@ -131,7 +133,7 @@ line_says : (version : Version) (said : Said) (entry : LinkEntry) (rest : List (
 line_says version said entry rest after is =
     let test = (and_parts (is_test (test_of version) entry.shape.test) _ is.kept).0 in
     let shape = ap (shape_of (link_at (length said.links)) (test_of version)) (numbers_again version entry rest after) ∙ its_shape version (length said.links) entry is.few is.number test in
-    rw shape refl
+    rw shape (ap (λ (quotas : List Quota). Some (record { name = entry.name; from = entry.from; to = entry.to; shape = entry.shape; quotas = quotas })) (sym is.unsplit))
 
 -- ---- both
 

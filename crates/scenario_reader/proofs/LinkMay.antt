@@ -107,6 +107,7 @@ link_may version said fields entry v stands rule says =
         name = (new_name_passes (link_names said.links) (field_at fields 1) q.0).1;
         few = few;
         number = ap link_number has.link_is ∙ omega arith;
+        unsplit = refl;
       });
     }
 
@@ -123,5 +124,7 @@ caller_may version said fields v stands rule =
       caller = record {
         new = (new_name_passes (caller_names said.callers) (field_at fields 1) p.1.0).1;
         few = ltb-true (length said.callers) 64 (unless_passes (nat_lt (length said.callers) 64) cause.Many p.1.1.0);
+        version = refl;
+        there = refl;
       };
     }

@@ -7,6 +7,7 @@ use Rattle.net_units.specs.Numbers.{link_number}
 use Rattle.net_units.specs.Text.{is_name}
 use Rattle.traffic_contract.specs.Admission.{total}
 use Rattle.link_steps.specs.Lists.{Each}
+use Rattle.call_script.specs.Groups.{group_has_version, group_is_there}
 use Rattle.call_script.specs.Growing.{new_caller, with_its_op, KeepSoFar}
 use Rattle.call_script.specs.Parts.{parts_of, Opening, opened_by, openings_in, openings_of, opening_of}
 use Rattle.call_script.specs.Rules.{each_after, is_new, link_names, caller_names, link_has_version, is_opened, is_unclosed, load_of, load_in}
@@ -33,6 +34,7 @@ pub record LinksLeft (version : Version) (links rest : List LinkEntry) : Type 0 
   pub new : each_after is_new (link_names links) (link_names rest) ≡ true
   pub few : length links + length rest ≤ 32
   pub numbers : (k : ℕ) (entry : LinkEntry) → slice_get rest k ≡ Some entry → link_number entry.shape.link ≡ length links + k
+  pub unsplit : Each (λ (entry : LinkEntry). entry.quotas ≡ []) rest
 
 -- they were read
 pub record LinksRead (version : Version) (links rest : List LinkEntry) : Type 0 where
@@ -51,14 +53,15 @@ links_read version links (entry ∷ rest) keeps left =
     let few : length links < 32 = (let all = left.few in omega (arith, all)) in
     let number : link_number entry.shape.link ≡ length links = left.numbers 0 entry refl ∙ omega arith in
     let longer = length-more links entry in
-    let grown = link-keeps (parts_of version links [] [] 0 0) entry keeps (record { first = refl; version = kept.0; name = new.0; few = few; number = number }) in
-    let one = link_read version links entry (record { named = left.named.0; kept = kept.0; new = not-true _ new.0; few = few; number = number }) in
+    let grown = link-keeps (parts_of version links [] [] 0 0) entry keeps (record { first = refl; version = kept.0; name = new.0; few = few; number = number; unsplit = left.unsplit.0 }) in
+    let one = link_read version links entry (record { named = left.named.0; kept = kept.0; new = not-true _ new.0; few = few; number = number; unsplit = left.unsplit.0 }) in
     let others = links_read version (links ++ entry ∷ []) rest grown (record {
       named = left.named.1;
       kept = kept.1;
       new = subst (λ (names : List (List ℕ)). each_after is_new names (link_names rest) ≡ true) (sym (map-append (λ (e : LinkEntry). e.name) links (entry ∷ []))) new.1;
       few = (let all = left.few in omega (arith, all, longer));
       numbers = λ k e found. left.numbers (suc k) e found ∙ omega (arith, longer);
+      unsplit = left.unsplit.1;
     }) in
     record {
       keeps = subst (λ (ls : List LinkEntry). KeepSoFar (parts_of version ls [] [] 0 0)) (append_assoc links (entry ∷ []) rest) others.keeps;
@@ -69,7 +72,7 @@ links_read version links (entry ∷ rest) keeps left =
 -- ---- the operations of a caller
 
 abbrev with_ops : CallerEntry → List Op → CallerEntry
-with_ops caller ops = record { name = caller.name; ops = caller.ops ++ ops }
+with_ops caller ops = record { name = caller.name; group = caller.group; ops = caller.ops ++ ops }
 
 pub record OpsLeft (version : Version) (links : List LinkEntry) (all : List RequestEntry) (callers : List CallerEntry) (caller : CallerEntry) (ops : List Op) (later : ℕ) : Type 0 where
   pub sound : Each (OpSound version links) ops
@@ -85,10 +88,10 @@ pub record OpsRead (version : Version) (links : List LinkEntry) (all requests : 
   pub reads : Reads (flat_map (op_lines links all) ops) (front version links requests (callers ++ caller ∷ [])) (front version links after (callers ++ with_ops caller ops ∷ []))
 
 same_caller : (caller : CallerEntry) → caller ≡ with_ops caller []
-same_caller caller = ap (λ (ops : List Op). record { name = caller.name; ops = ops }) (sym (append-nil caller.ops))
+same_caller caller = ap (λ (ops : List Op). record { name = caller.name; group = caller.group; ops = ops }) (sym (append-nil caller.ops))
 
 step_caller : (caller : CallerEntry) (op : Op) (ops : List Op) → with_ops (with_its_op op caller) ops ≡ with_ops caller (op ∷ ops)
-step_caller caller op ops = ap (λ (all : List Op). record { name = caller.name; ops = all }) (append_assoc caller.ops (op ∷ []) ops)
+step_caller caller op ops = ap (λ (all : List Op). record { name = caller.name; group = caller.group; ops = all }) (append_assoc caller.ops (op ∷ []) ops)
 
 -- the load with an operation more
 load_step : (all : List RequestEntry) (callers : List CallerEntry) (caller : CallerEntry) (op : Op) → load_in all (callers ++ with_its_op op caller ∷ []) ≤ load_in all (callers ++ caller ∷ []) + load_of all op
@@ -130,6 +133,7 @@ pub record CallersLeft (version : Version) (links : List LinkEntry) (all : List 
   pub named : Each (λ (caller : CallerEntry). is_name caller.name ≡ true) left
   pub new : each_after is_new (caller_names callers) (caller_names left) ≡ true
   pub few : length callers + length left ≤ 64
+  pub groupless : Each (λ (caller : CallerEntry). caller.group ≡ 0) left
   pub sound : Each (λ (caller : CallerEntry). Each (OpSound version links) caller.ops) left
   pub opened : list_all (λ (caller : CallerEntry). each_after is_opened [] caller.ops) left ≡ true
   pub unclosed : list_all (λ (caller : CallerEntry). each_after is_unclosed [] caller.ops) left ≡ true
@@ -145,8 +149,8 @@ pub record CallersRead (version : Version) (links : List LinkEntry) (all request
   pub keeps : KeepSoFar (parts_of version links all (callers ++ left) 0 0)
   pub reads : Reads (flat_map (caller_lines links all) left) (front version links requests callers) (front version links all (callers ++ left))
 
-load_new : (all : List RequestEntry) (callers : List CallerEntry) (name : List ℕ) → load_in all (callers ++ new_caller name ∷ []) ≡ load_in all callers
-load_new all callers name = (let both : load_in all (callers ++ new_caller name ∷ []) ≡ load_in all callers + (0 + 0) = total-append (λ (c : CallerEntry). total (load_of all) c.ops) callers (new_caller name ∷ []) in omega (arith, both))
+load_new : (all : List RequestEntry) (callers : List CallerEntry) (name : List ℕ) (group : ℕ) → load_in all (callers ++ new_caller name group ∷ []) ≡ load_in all callers
+load_new all callers name group = (let both : load_in all (callers ++ new_caller name group ∷ []) ≡ load_in all callers + (0 + 0) = total-append (λ (c : CallerEntry). total (load_of all) c.ops) callers (new_caller name group ∷ []) in omega (arith, both))
 
 load_both : (all : List RequestEntry) (callers : List CallerEntry) (caller : CallerEntry) → load_in all (callers ++ caller ∷ []) ≡ load_in all callers + total (load_of all) caller.ops
 load_both all callers caller = (let both : load_in all (callers ++ caller ∷ []) ≡ load_in all callers + (total (load_of all) caller.ops + 0) = total-append (λ (c : CallerEntry). total (load_of all) c.ops) callers (caller ∷ []) in omega (arith, both))
@@ -163,17 +167,24 @@ callers_read version links all requests [] callers [] stand keeps rs cs is =
     }
 callers_read version links all requests (entry ∷ rest) callers [] stand keeps rs cs is = cc
 callers_read version links all requests rest callers (caller ∷ left) stand keeps rs cs is =
-    let begun = new_caller caller.name in
+    let begun = new_caller caller.name caller.group in
+    let none : 0 ≡ caller.group = sym cs.groupless.0 in
     let new = and_parts (is_new (caller_names callers) caller.name) (each_after is_new (caller_names callers ++ caller.name ∷ []) (caller_names left)) cs.new in
     let all_few = cs.few in
     let few : length callers < 64 = omega (arith, all_few) in
     let opened = and_parts (each_after is_opened [] caller.ops) (list_all (λ (c : CallerEntry). each_after is_opened [] c.ops) left) cs.opened in
     let unclosed = and_parts (each_after is_unclosed [] caller.ops) (list_all (λ (c : CallerEntry). each_after is_unclosed [] c.ops) left) cs.unclosed in
     let load = cs.load in
-    let grown = caller-keeps (parts_of version links requests callers 0 0) caller.name keeps (record { new = new.0; few = few }) in
-    let first = caller_read version links requests callers caller.name stand.some cs.named.0 (not-true _ new.0) few in
-    let empty = load_new all callers caller.name in
-    let ops = ops_read version links all requests rest callers (new_caller caller.name) caller.ops (load_in all left) (openings_of (suc (length callers)) left) stand
+    let grown = caller-keeps (parts_of version links requests callers 0 0) caller.name caller.group keeps (record {
+      new = new.0;
+      few = few;
+      version = subst (λ group. group_has_version version group ≡ true) none refl;
+      there = subst (λ group. group_is_there [] group ≡ true) none refl;
+    }) in
+    let first = subst (λ group. Reads (caller_fields caller.name ∷ []) (front version links requests callers) (front version links requests (callers ++ new_caller caller.name group ∷ []))) none
+    (caller_read version links requests callers caller.name stand.some cs.named.0 (not-true _ new.0) few) in
+    let empty = load_new all callers caller.name caller.group in
+    let ops = ops_read version links all requests rest callers begun caller.ops (load_in all left) (openings_of (suc (length callers)) left) stand
     (record { keeps = grown; same = rs.same; stand = rs.stand; named = rs.named; few = few })
     (record { sound = cs.sound.0; opened = opened.0; unclosed = unclosed.0; load = omega (arith, load, empty) }) is in
     let longer = length-more callers caller in
@@ -183,6 +194,7 @@ callers_read version links all requests rest callers (caller ∷ left) stand kee
       named = cs.named.1;
       new = subst (λ (names : List (List ℕ)). each_after is_new names (caller_names left) ≡ true) (sym (map-append (λ (c : CallerEntry). c.name) callers (caller ∷ []))) new.1;
       few = omega (arith, all_few, longer);
+      groupless = cs.groupless.1;
       sound = cs.sound.1;
       opened = opened.1;
       unclosed = unclosed.1;
@@ -193,6 +205,6 @@ callers_read version links all requests rest callers (caller ∷ left) stand kee
       keeps = subst (λ (all_callers : List CallerEntry). KeepSoFar (parts_of version links all all_callers 0 0)) (append_assoc callers (caller ∷ []) left) others.keeps;
       reads = subst (λ (all_callers : List CallerEntry). Reads (flat_map (caller_lines links all) (caller ∷ left)) (front version links requests callers) (front version links all all_callers)) (append_assoc callers (caller ∷ []) left)
           (reads_on (caller_lines links all caller) (flat_map (caller_lines links all) left) (front version links requests callers) (front version links ops.after (callers ++ caller ∷ [])) (front version links all ((callers ++ caller ∷ []) ++ left))
-          (reads_on (caller_fields caller.name ∷ []) (flat_map (op_lines links all) caller.ops) (front version links requests callers) (front version links requests (callers ++ new_caller caller.name ∷ [])) (front version links ops.after (callers ++ caller ∷ [])) first ops.reads)
+          (reads_on (caller_fields caller.name ∷ []) (flat_map (op_lines links all) caller.ops) (front version links requests callers) (front version links requests (callers ++ begun ∷ [])) (front version links ops.after (callers ++ caller ∷ [])) first ops.reads)
           others.reads);
     }

@@ -55,7 +55,7 @@ link_read version links entry is =
     (stated_back (link_rule version said (link_fields entry)) (option_map item.Link (link_said version said (link_fields entry))) (item.Link entry) back.passes (ap (option_map item.Link) back.says)))
 
 pub caller_read : (version : Version) (links : List LinkEntry) (requests : List RequestEntry) (callers : List CallerEntry) (name : List ℕ) → 1 ≤ length links → is_name name ≡ true → is_among (caller_names callers) name ≡ false → length callers < 64
-    → Reads (caller_fields name ∷ []) (front version links requests callers) (front version links requests (callers ++ new_caller name ∷ []))
+    → Reads (caller_fields name ∷ []) (front version links requests callers) (front version links requests (callers ++ new_caller name 0 ∷ []))
 caller_read version links requests callers name some is new few =
     let said = front version links requests callers in
     let are = caller_is_line name is in

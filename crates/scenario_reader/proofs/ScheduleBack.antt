@@ -10,7 +10,7 @@ use Rattle.net_units.specs.Text.{is_name}
 use Rattle.net_units.specs.declared.numbers.ActorNo.{ActorNo}
 use Rattle.link_steps.specs.Lists.{Each}
 use Rattle.call_script.specs.ActorNames.{name_of_actor}
-use Rattle.call_script.specs.Parts.{PlanParts}
+use Rattle.call_script.specs.Parts.{PlanParts, parts_of, parts_with}
 use Rattle.call_script.specs.Rules.{are_distinct, caller_names}
 use Rattle.call_script.specs.declared.entries.CallerEntry.{CallerEntry}
 use Rattle.call_script.specs.declared.schedule.Do.{Do}
@@ -132,6 +132,10 @@ items_read parts done (it ∷ items) count names apart few each =
 
 -- ---- the schedule
 
+-- a plan without groups is that of its other parts
+whole_parts : (parts : PlanParts) → parts.groups ≡ [] → parts_of parts.version parts.links parts.requests parts.callers parts.rounds parts.tail ≡ parts
+whole_parts parts none = ap (λ (groups : List (List ℕ)). parts_with parts.version parts.links groups parts.requests parts.callers parts.rounds parts.tail) (sym none)
+
 -- what was read is this plan with this schedule
 pub record IsWhole (parts : PlanParts) (schedule : Schedule) (after : Said) : Type 0 where
   pub complete : is_complete after ≡ true
@@ -142,11 +146,11 @@ schedule_read : (parts : PlanParts) → Reads (schedule_fields ∷ []) (whole pa
 schedule_read parts = reads_one schedule_fields (whole parts.version parts.links parts.requests parts.callers parts.rounds parts.tail) item.Schedule refl (λ number.
     judged_as parts.version (whole parts.version parts.links parts.requests parts.callers parts.rounds parts.tail) number schedule_fields word.Schedule item.Schedule refl refl refl refl refl refl)
 
-pub schedule_back : (parts : PlanParts) (schedule : Schedule) → Each (λ (caller : CallerEntry). is_name caller.name ≡ true) parts.callers → are_distinct (caller_names parts.callers) ≡ true → length parts.callers ≤ 64 → Each (IsDo parts.callers) schedule.items → (schedule.written ≡ false → schedule.items ≡ [])
+pub schedule_back : (parts : PlanParts) (schedule : Schedule) → Each (λ (caller : CallerEntry). is_name caller.name ≡ true) parts.callers → are_distinct (caller_names parts.callers) ≡ true → length parts.callers ≤ 64 → Each (IsDo parts.callers) schedule.items → (schedule.written ≡ false → schedule.items ≡ []) → parts.groups ≡ []
     → (n : ℕ) → SomeLead (schedule_lines parts.callers schedule) (whole parts.version parts.links parts.requests parts.callers parts.rounds parts.tail) (IsWhole parts schedule) n
-schedule_back parts schedule names apart few each unwritten = by schedule.written schedule.items each unwritten where
+schedule_back parts schedule names apart few each unwritten ungrouped = by schedule.written schedule.items each unwritten where
   done : (items : List Do) (after : Said) → ItemsRead parts [] items after → IsWhole parts (record { written = true; items = items }) after
-  done items after read = subst (IsWhole parts (record { written = true; items = items })) (sym read.is) (record { complete = refl; parts_are = refl; same = record { written = refl; items = read.same } })
+  done items after read = subst (IsWhole parts (record { written = true; items = items })) (sym read.is) (record { complete = refl; parts_are = whole_parts parts ungrouped; same = record { written = refl; items = read.same } })
 
   by : (written : Bool) (items : List Do) → Each (IsDo parts.callers) items → (written ≡ false → items ≡ [])
       → (n : ℕ) → SomeLead (schedule_lines parts.callers (record { written = written; items = items })) (whole parts.version parts.links parts.requests parts.callers parts.rounds parts.tail) (IsWhole parts (record { written = written; items = items })) n
@@ -156,5 +160,5 @@ schedule_back parts schedule names apart few each unwritten = by schedule.writte
     end = n;
     after = whole parts.version parts.links parts.requests parts.callers parts.rounds parts.tail;
     leads = leads_nothing n (whole parts.version parts.links parts.requests parts.callers parts.rounds parts.tail);
-    holds = record { complete = refl; parts_are = refl; same = record { written = refl; items = ap (map unnumbered) (sym (none refl)) } };
+    holds = record { complete = refl; parts_are = whole_parts parts ungrouped; same = record { written = refl; items = ap (map unnumbered) (sym (none refl)) } };
   }

@@ -1,11 +1,14 @@
 -- The text of a plan is read as that plan and its schedule.
-use Rattle.std.proofs.Common.{◌≡◌, ℕ, suc, ◌+◌, ◌*◌, ◌≤◌, true, List, [], ◌∷◌, ◌++◌, length, map, flat_map, refl, sym, ◌∙◌, ap, subst, arith}
-use Rattle.std.specs.Prelude.{nat_le, if◌then◌else◌}
-use Rattle.std.proofs.lemmas.Bool.{and_parts, leb-true}
+use Rattle.std.proofs.Common.{◌≡◌, ℕ, suc, ◌+◌, ◌*◌, ◌≤◌, Bool, true, false, List, [], ◌∷◌, ◌++◌, length, map, flat_map, refl, sym, ◌∙◌, ap, subst, arith}
+use Rattle.std.specs.Prelude.{nat_eq, nat_le, ◌||◌, if◌then◌else◌}
+use Rattle.std.proofs.lemmas.Bool.{and_parts, eqb-true, leb-true}
 use Rattle.std.specs.List.{list_all}
 use Rattle.net_units.specs.Text.{is_name}
 use Rattle.link_steps.specs.Lists.{Each}
+use Rattle.call_script.specs.Groups.{quotas_have_version, group_has_version, KeepGroups}
 use Rattle.call_script.specs.Parts.{PlanParts}
+use Rattle.call_script.specs.Versions.{has_groups}
+use Rattle.call_script.specs.declared.version.Version.TheVariants.{One, Two, Three, Four}
 use Rattle.call_script.specs.Plans.{HasTerms, IsPlan}
 use Rattle.scenario_reader.specs.BothWays.{AreNodesNamed, IsFoundRoute, HaveFoundRoutes}
 use Rattle.call_script.specs.Rules.{each_after, link_has_version, request_has_version, have_version, have_links, route_is_there, pour_is_there, is_unclosed, op_has_version, op_in_range, request_in_range, is_joined, are_joined, are_unclosed, load_in, are_within_load, pour_is_taken, pours_are_taken}
@@ -81,6 +84,48 @@ callers_sound version links (caller ∷ callers) kept there range taken =
     let d = and_parts (list_all (pour_is_taken links) caller.ops) (list_all (λ (c : CallerEntry). list_all (pour_is_taken links) c.ops) callers) taken in
     (ops_sound version links caller.ops a.0 b.0 c.0 d.0, callers_sound version links callers a.1 b.1 c.1 d.1)
 
+-- ---- no groups
+
+-- no version has groups yet
+never_groups : (version : Version) → has_groups version ≡ false
+never_groups One = refl
+never_groups Two = refl
+never_groups Three = refl
+never_groups Four = refl
+
+either_left : (a b : Bool) → (a || b) ≡ true → b ≡ false → a ≡ true
+either_left true b holds none = refl
+either_left false true holds none = cc
+either_left false false holds none = cc
+
+empty_list : {X : Type 0} (xs : List X) → nat_eq (length xs) 0 ≡ true → xs ≡ []
+empty_list [] none = refl
+empty_list (x ∷ xs) some = absurd (let zero : suc (length xs) ≡ 0 = eqb-true (suc (length xs)) 0 some in omega (arith, zero))
+
+-- so a plan has no groups, no quotas, and no caller of a group
+record HasNoGroups (parts : PlanParts) : Type 0 where
+  none : parts.groups ≡ []
+  unsplit : Each (λ (entry : LinkEntry). entry.quotas ≡ []) parts.links
+  groupless : Each (λ (caller : CallerEntry). caller.group ≡ 0) parts.callers
+
+no_groups : (parts : PlanParts) → KeepGroups parts.version parts.groups parts.links parts.callers → HasNoGroups parts
+no_groups parts keep = record {
+  none = empty_list parts.groups (either_left (nat_eq (length parts.groups) 0) (has_groups parts.version) keep.version_groups (never_groups parts.version));
+  unsplit = links parts.links keep.version_links;
+  groupless = callers parts.callers keep.version_callers;
+} where
+  links : (entries : List LinkEntry) → list_all (quotas_have_version parts.version) entries ≡ true → Each (λ (entry : LinkEntry). entry.quotas ≡ []) entries
+  links [] all = tt
+  links (entry ∷ entries) all =
+      let both = and_parts (quotas_have_version parts.version entry) (list_all (quotas_have_version parts.version) entries) all in
+      (empty_list entry.quotas (either_left (nat_eq (length entry.quotas) 0) (has_groups parts.version) both.0 (never_groups parts.version)), links entries both.1)
+
+  callers : (entries : List CallerEntry) → list_all (λ (caller : CallerEntry). group_has_version parts.version caller.group) entries ≡ true → Each (λ (caller : CallerEntry). caller.group ≡ 0) entries
+  callers [] all = tt
+  callers (caller ∷ entries) all =
+      let both = and_parts (group_has_version parts.version caller.group) (list_all (λ (c : CallerEntry). group_has_version parts.version c.group) entries) all in
+      (eqb-true caller.group 0 (either_left (nat_eq caller.group 0) (has_groups parts.version) both.0 (never_groups parts.version)), callers entries both.1)
+
 -- ---- all lines
 
 plan_leads : (parts : PlanParts) (schedule : Schedule) → IsPlan parts → AreNamed parts → HaveFoundRoutes parts → IsScheduleOf parts.callers schedule → SomeLead (plan_lines parts schedule) nothing_said (IsWhole parts schedule) 0
@@ -91,6 +136,7 @@ plan_leads parts schedule plan named routes is =
     let used = used-in parts rules.there in
     let ranges = ranges-in parts rules.range in
     let few = few-in parts rules.few in
+    let none = no_groups parts rules.groups in
     let v = parts.version in
     let l = parts.links in
     let rs = parts.requests in
@@ -104,7 +150,7 @@ plan_leads parts schedule plan named routes is =
     let requests_few = few.requests in
     let callers_few = few.callers in
     let stand : LinksStand l = record { some = says.some; named = named.links; apart = names.links; numbers = plan.planned.links } in
-    let links = links_read v [] l (nothing-keeps v) (record { named = named.links; kept = says.kept; new = names.links; few = omega (arith, links_few); numbers = λ k e found. plan.planned.links k e found ∙ omega arith }) in
+    let links = links_read v [] l (nothing-keeps v) (record { named = named.links; kept = says.kept; new = names.links; few = omega (arith, links_few); numbers = λ k e found. plan.planned.links k e found ∙ omega arith; unsplit = none.unsplit }) in
     let sound : Each (IsSound v l) rs = Each-by_place (IsSound v l) rs (λ n e found. record {
       name = Each-at (λ (x : RequestEntry). is_name x.name ≡ true) rs n e named.requests found;
       there = Each-at (λ (x : RequestEntry). route_is_there l x ≡ true) rs n e (each-of (route_is_there l) rs used.routes) found;
@@ -119,9 +165,9 @@ plan_leads parts schedule plan named routes is =
     let load = says.load in
     let callers = callers_read v l rs [] rs [] cs stand links.keeps
     (record { same = refl; stand = record { sound = sound; new = names.requests; few = omega (arith, requests_few); numbers = λ k e found. plan.planned.requests k e found ∙ omega arith }; named = tt })
-    (record { named = named.callers; new = names.callers; few = omega (arith, callers_few); sound = callers_sound v l cs says.ops_kept used.pours ranges.ops says.taken; opened = used.opened; unclosed = says.unclosed; load = omega (arith, load) })
+    (record { named = named.callers; new = names.callers; few = omega (arith, callers_few); groupless = none.groupless; sound = callers_sound v l cs says.ops_kept used.pours ranges.ops says.taken; opened = used.opened; unclosed = says.unclosed; load = omega (arith, load) })
     plan.planned.openings in
-    let end = schedule_back parts schedule named.callers names.callers few.callers is.items is.unwritten in
+    let end = schedule_back parts schedule named.callers names.callers few.callers is.items is.unwritten none.none in
     let tails = then_some (tail_fields parts.tail ∷ []) (schedule_lines cs schedule) rounded done (IsWhole parts schedule) (tail_read v l rs cs parts.rounds parts.tail ranges.tail says.ticks) end in
     let rounds = then_some (rounds_fields parts.rounds ∷ []) (tail_fields parts.tail ∷ schedule_lines cs schedule) called rounded (IsWhole parts schedule) (rounds_read v l rs cs parts.rounds says.some ranges.rounds) tails in
     let later = rounds_fields parts.rounds ∷ tail_fields parts.tail ∷ schedule_lines cs schedule in

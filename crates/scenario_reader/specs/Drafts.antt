@@ -7,6 +7,7 @@ use Rattle.std.specs.List.{list_any}
 use Rattle.net_units.specs.Numbers.{actor_number, channel_number}
 use Rattle.net_units.specs.declared.numbers.ChanNo.{ChanNo}
 use Rattle.hop_reservation.specs.declared.route.Hop.{Hop}
+use Rattle.link_steps.specs.declared.shape.LinkShape.{LinkShape}
 use Rattle.call_script.specs.Growing.{new_caller, add_op, last_ops}
 use Rattle.call_script.specs.Parts.{PlanParts, parts_of}
 use Rattle.call_script.specs.Rules.{is_named, caller_names, closes}
@@ -46,7 +47,7 @@ abbrev pub with_item : Item → Said → Said
 with_item item.Nothing said = said
 with_item (item.Header version) said = record said { version = Some version }
 with_item (item.Link entry) said = record said { links = said.links ++ entry ∷ [] }
-with_item (item.Caller name) said = record said { callers = said.callers ++ new_caller name ∷ [] }
+with_item (item.Caller name) said = record said { callers = said.callers ++ new_caller name 0 ∷ [] }
 with_item (item.Open entry) said = record said { requests = said.requests ++ entry ∷ []; callers = add_op (Open entry.request.chan) said.callers }
 with_item (item.Op op) said = record said { callers = add_op op said.callers }
 with_item (item.Rounds count) said = record said { rounds = Some count }
@@ -78,6 +79,10 @@ schedule_said said = record { written = said.written; items = said.items }
 -- the link of this name
 abbrev pub link_named : List LinkEntry → List ℕ → Option LinkEntry
 link_named links name = find (λ (entry : LinkEntry). is_named name entry.name) links
+
+-- the shape of a link
+abbrev pub shape_in : LinkEntry → LinkShape
+shape_in entry = entry.shape
 
 -- the request of this name
 abbrev pub request_named : List RequestEntry → List ℕ → Option RequestEntry

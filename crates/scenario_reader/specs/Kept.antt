@@ -77,7 +77,7 @@ pub record MayPutLink (said : Said) (entry : LinkEntry) : Type 0 where
 
 pub record MayPutCaller (said : Said) (name : List ℕ) : Type 0 where
   pub before : HasALink said
-  pub caller : MayAddCaller (parts_said said) name
+  pub caller : MayAddCaller (parts_said said) name 0
 
 pub record MayPutOpen (said : Said) (entry : RequestEntry) : Type 0 where
   pub before : HasALink said

@@ -104,7 +104,7 @@ link_rule version said fields = first_cause (
 
 -- the link with its names and nodes
 abbrev pub link_with : List (List ℕ) → LinkShape → LinkEntry
-link_with fields shape = record { name = field_at fields 1; from = field_at fields 2; to = field_at fields 3; shape = shape }
+link_with fields shape = record { name = field_at fields 1; from = field_at fields 2; to = field_at fields 3; shape = shape; quotas = [] }
 
 -- the link that the line says, whose number is the next one
 abbrev pub link_said : Version → Said → List (List ℕ) → Option LinkEntry

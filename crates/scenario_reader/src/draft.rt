@@ -100,10 +100,12 @@ impl Draft {
             written: self.written,
             items: Dos::new(self.items),
         };
+        let groups = Vec::new(alloc);
         let made = Plan::new(
             alloc,
             version,
             self.links,
+            groups,
             self.requests,
             self.callers,
             rounds,

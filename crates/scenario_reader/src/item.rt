@@ -3,7 +3,7 @@ use call_script::{Do, LinkEntry, Op, RequestEntry, Version};
 use net_units::Name;
 
 /// What a line says, where no rule refuses it.
-#[derive(Clone, Copy)]
+#[derive(Drop)]
 pub enum Item {
     /// Nothing: the line is passed over.
     Nothing,

@@ -81,7 +81,7 @@ impl Draft {
         ensures { AnswersWithRoom result (judge_as word version self.now number (fields_of line.now)) }
     {
         match word {
-            Keyword::Link => Ok(Item::Link(self.judge_link(version, line)?)),
+            Keyword::Link => Ok(Item::Link(self.judge_link(alloc, version, line)?)),
             Keyword::Caller => Ok(Item::Caller(self.judge_caller(line)?)),
             Keyword::Open => Ok(Item::Open(self.judge_open(alloc, version, line)?)),
             Keyword::Send => Ok(Item::Op(self.judge_send(line)?)),

@@ -15,13 +15,14 @@ use crate::draft::Draft;
 use crate::fields::{field, field_count};
 use crate::form::{Keyword, Part, has_form};
 use crate::values::{name, new_name, number, require};
-use call_script::{LinkEntry, Version};
+use call_script::{LinkEntry, Quotas, Version};
 use link_steps::LinkShape;
 use net_units::limits::{
     MOST_BEST, MOST_BOUND, MOST_BUFFER, MOST_LEVELS, MOST_LINKS, MOST_PROPAGATION, MOST_RATE,
     MOST_SIZE,
 };
 use net_units::{Bounds, LinkNo, Name};
+use std::alloc::Global;
 
 const PLAIN_FORM: [Part; 14] = [
     Part::Word(Keyword::Link),
@@ -82,7 +83,12 @@ struct LinkFields {
 
 impl Draft {
     // The link that the line says.
-    pub(crate) fn judge_link(&self, version: Version, line: &[u8]) -> Result<LinkEntry, Cause>
+    pub(crate) fn judge_link(
+        &self,
+        alloc: Global,
+        version: Version,
+        line: &[u8],
+    ) -> Result<LinkEntry, Cause>
         ensures { States result (link_rule version self.now (fields_of line.now)) (link_said version self.now (fields_of line.now)) }
     {
         require(is_link_line(version, line), Cause::Shape)?;
@@ -94,6 +100,7 @@ impl Draft {
             from: link.from,
             to: link.to,
             shape,
+            quotas: Quotas::none(alloc),
         })
     }
 

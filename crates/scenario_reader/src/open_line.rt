@@ -203,8 +203,8 @@ impl Draft {
     fn judge_hop(&self, field: &[u8]) -> Result<Hop, Cause>
         ensures { States result (route_link_rule self.now field.now) (option_map hop_over (link_named self.now.links field.now)) }
     {
-        let entry = self.judge_link_named(field)?;
-        Ok(hop_of(&entry.shape))
+        let shape = self.judge_link_named(field)?;
+        Ok(hop_of(&shape))
     }
 
     // The request, once its fields pass.

@@ -1,10 +1,10 @@
 //! Judging the lines of a caller's operations on channels that it has opened, and its pours.
-ghost use Rattle.std.specs.Prelude.{◌≡◌, ◌≤◌, ℕ, List, IfOk, IfSome, is_some, Some, Ok, length};
+ghost use Rattle.std.specs.Prelude.{◌≡◌, ◌≤◌, ℕ, List, IfOk, IfSome, is_some, option_map, Some, Ok, length};
 ghost use Rattle.net_units.specs.Limits.{most_packets};
 ghost use Rattle.call_script.specs.Rules.{hops_of, load_in};
 ghost use Rattle.scenario_reader.specs.Causes.{Judges, States, unless};
 ghost use Rattle.scenario_reader.specs.Decimal.{value_of};
-ghost use Rattle.scenario_reader.specs.Drafts.{link_named, request_named, own_request, is_closed};
+ghost use Rattle.scenario_reader.specs.Drafts.{link_named, shape_in, request_named, own_request, is_closed};
 ghost use Rattle.scenario_reader.specs.Fields.{fields_of, field_at};
 ghost use Rattle.scenario_reader.specs.Forms.{used_name_rule};
 ghost use Rattle.scenario_reader.specs.Grammar.{packets_rule, load_rule, send_rule, send_said, close_rule, close_said, pour_rule, pour_said};
@@ -14,7 +14,8 @@ use crate::draft::Draft;
 use crate::fields::field;
 use crate::form::{Keyword, Part, has_form};
 use crate::values::{name, number, require};
-use call_script::{LinkEntry, Op, RequestEntry};
+use call_script::{Op, RequestEntry};
+use link_steps::LinkShape;
 use net_units::Name;
 use net_units::limits::{MOST_GAP, MOST_PACKETS, MOST_SIZE};
 
@@ -78,12 +79,12 @@ impl Draft {
         ensures { States result (pour_rule self.now (fields_of line.now)) (pour_said self.now (fields_of line.now)) }
     {
         require(has_form(&POUR_FORM, line), Cause::Shape)?;
-        let entry = self.judge_link_named(field(line, 1))?;
+        let shape = self.judge_link_named(field(line, 1))?;
         let packets = judge_packets(line)?;
         self.judge_load(packets.count)?;
-        require(entry.shape.best >= 1, Cause::Best)?;
+        require(shape.best >= 1, Cause::Best)?;
         Ok(Op::Pour {
-            link: entry.shape.link,
+            link: shape.link,
             count: packets.count,
             gap: packets.gap,
             size: packets.size,
@@ -98,20 +99,20 @@ impl Draft {
         require(self.load + packets <= MOST_PACKETS, Cause::Load)
     }
 
-    // The link that a field names.
-    pub(crate) fn judge_link_named(&self, field: &[u8]) -> Result<LinkEntry, Cause>
-        ensures { States result (used_name_rule (is_some (link_named self.now.links field.now)) field.now) (link_named self.now.links field.now) }
+    // The shape of the link that a field names.
+    pub(crate) fn judge_link_named(&self, field: &[u8]) -> Result<LinkShape, Cause>
+        ensures { States result (used_name_rule (is_some (link_named self.now.links field.now)) field.now) (option_map shape_in (link_named self.now.links field.now)) }
     {
         let name = name(field)?;
         self.link_named(&name).ok_or(Cause::Unknown)
     }
 
-    // The link of this name.
-    fn link_named(&self, name: &Name) -> Option<LinkEntry>
-        ensures { result ≡ link_named self.now.links name.now }
+    // The shape of the link of this name.
+    fn link_named(&self, name: &Name) -> Option<LinkShape>
+        ensures { result ≡ option_map shape_in (link_named self.now.links name.now) }
     {
         let number = self.link_names.number_of(name)?;
-        Some(self.links[number])
+        Some(self.links[number].shape)
     }
 
     // The request that a field names, which the last caller has opened.

@@ -17,22 +17,22 @@ use std::alloc::Global;
 
 impl Draft {
     /// Adds what a line says that was let pass. Want of memory changes nothing.
-    pub fn put(&mut self, alloc: Global, item: &Item) -> Result<(), OutOfMemory>
-        requires { MayAdd self.old item.now }
-        ensures ok { OnOk result (self.new ≡ with_item item.now self.old) }
+    pub fn put(&mut self, alloc: Global, item: Item) -> Result<(), OutOfMemory>
+        requires { MayAdd self.old item }
+        ensures ok { OnOk result (self.new ≡ with_item item self.old) }
         ensures err { OnErr result (self.new ≡ self.old) }
     {
         match item {
             Item::Nothing => {}
-            Item::Header(version) => self.put_header(*version),
+            Item::Header(version) => self.put_header(version),
             Item::Link(entry) => self.put_link(entry)?,
-            Item::Caller(name) => self.put_caller(alloc, name)?,
-            Item::Open(entry) => self.put_open(entry)?,
-            Item::Op(op) => self.put_op(op)?,
-            Item::Rounds(count) => self.put_rounds(*count),
-            Item::Tail(count) => self.put_tail(*count),
+            Item::Caller(name) => self.put_caller(alloc, &name)?,
+            Item::Open(entry) => self.put_open(&entry)?,
+            Item::Op(op) => self.put_op(&op)?,
+            Item::Rounds(count) => self.put_rounds(count),
+            Item::Tail(count) => self.put_tail(count),
             Item::Schedule => self.put_schedule(),
-            Item::Do(what) => self.put_do(what)?,
+            Item::Do(what) => self.put_do(&what)?,
         }
         Ok(())
     }
@@ -44,13 +44,14 @@ impl Draft {
         self.version = Some(version);
     }
 
-    fn put_link(&mut self, entry: &LinkEntry) -> Result<(), OutOfMemory>
-        requires { MayAdd self.old (item.Link entry.now) }
-        ensures ok { OnOk result (self.new ≡ with_item (item.Link entry.now) self.old) }
+    fn put_link(&mut self, entry: LinkEntry) -> Result<(), OutOfMemory>
+        requires { MayAdd self.old (item.Link entry) }
+        ensures ok { OnOk result (self.new ≡ with_item (item.Link entry) self.old) }
         ensures err { OnErr result (self.new ≡ self.old) }
     {
-        self.links.push(*entry)?;
-        self.link_names.add(entry.name);
+        let name = entry.name;
+        self.links.push(entry)?;
+        self.link_names.add(name);
         Ok(())
     }
 
@@ -62,6 +63,7 @@ impl Draft {
         self.callers.reserve(1)?;
         self.callers.push_reserved(CallerEntry {
             name: *name,
+            group: 0,
             ops: Ops::new(Vec::new(alloc)),
         });
         self.caller_names.add(*name);

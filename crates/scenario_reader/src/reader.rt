@@ -123,7 +123,7 @@ fn add_line(alloc: Global, draft: &mut Draft, number: u64, line: &[u8]) -> Resul
     ensures { AddsLine result number line.now draft.old draft.new }
 {
     match draft.judge(alloc, number, line) {
-        Ok(item) => Ok(draft.put(alloc, &item)?),
+        Ok(item) => Ok(draft.put(alloc, item)?),
         Err(LineFault::Memory) => Err(ReadRefusal::Memory),
         Err(LineFault::Refused(cause)) => Err(ReadRefusal::Refused {
             line: number,

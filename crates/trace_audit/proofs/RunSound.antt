@@ -28,7 +28,8 @@ use Rattle.channel_laws.proofs.SizeLaw.{legal-within}
 use Rattle.setup_protocol.specs.Setup.{offers_in}
 use Rattle.call_script.specs.Parts.{PlanParts}
 use Rattle.call_script.specs.Plans.{IsPlan}
-use Rattle.call_script.specs.Tasks.{entry_link, network_of}
+use Rattle.call_script.specs.Splits.{entry_link, groups_in}
+use Rattle.call_script.specs.Tasks.{network_of}
 use Rattle.call_script.proofs.FitFacts.{plan-fits}
 use Rattle.call_script.proofs.OwnerFacts.{all-owned}
 use Rattle.run_record.specs.Rows.{row_of, hop_among, links_of, departures_in}
@@ -140,7 +141,7 @@ same-link plan run levels row own = same_Some own.own.at.link own.link (sym own.
 rate-is : (plan : PlanParts) (n : ℕ) (link : Link) → slice_get (network_of plan).links n ≡ Some link → rate_of (slice_get plan.links n) ≡ link.shape.rate
 unfolding network_of
 rate-is plan n link linked =
-    let from = comes-from entry_link plan.links n link linked in
+    let from = comes-from (entry_link (groups_in plan)) plan.links n link linked in
     ap rate_of from.found ∙ ap (λ (l : Link). l.shape.rate) from.is
 
 pub row-size : (plan : PlanParts) (run : List Done) (levels : List (Option Levels)) (row : HopRow) → IsPlan plan → IsRun (network_of plan) run → (own : RowIs plan run levels row) → row.size ≤ own.own.entry.request.contract.smax

@@ -23,7 +23,7 @@ use Rattle.setup_protocol.specs.Hops.{IsHopOf}
 use Rattle.setup_protocol.specs.Requests.{kind_of, jitter_of}
 use Rattle.call_script.specs.Parts.{PlanParts}
 use Rattle.call_script.specs.Plans.{IsPlan, HasTerms}
-use Rattle.call_script.specs.Tasks.{entry_link}
+use Rattle.call_script.specs.Splits.{entry_link, groups_in}
 use Rattle.call_script.proofs.FitFacts.{request-fits}
 use Rattle.run_record.specs.declared.rows.HopRow.{HopRow}
 use Rattle.trace_audit.specs.Above.{is_at, rows_at, tick_of}
@@ -76,8 +76,8 @@ settled plan levels row is accepted at = record {
 rate-some : (plan : PlanParts) (levels : List (Option Levels)) (row : HopRow) → IsPlan plan → (at : RowHop plan levels row) → 1 ≤ rate_of (slice_get plan.links (link_number at.hop.link))
 rate-some plan levels row is at =
     let fits = request-fits plan (channel_number row.chan) at.entry is at.requested in
-    let hop = Each-at (IsHopOf (map entry_link plan.links)) at.entry.request.route at.index at.hop fits.hops at.stands in
-    let from = comes-from entry_link plan.links (link_number at.hop.link) hop.link hop.linked in
+    let hop = Each-at (IsHopOf (map (entry_link (groups_in plan)) plan.links)) at.entry.request.route at.index at.hop fits.hops at.stands in
+    let from = comes-from (entry_link (groups_in plan)) plan.links (link_number at.hop.link) hop.link hop.linked in
     let rate = from.from.shape.rate_least in
     subst (λ e. 1 ≤ rate_of e) (sym from.found) rate
 
@@ -99,8 +99,8 @@ row-stands plan levels rows row plan_is all among c i is hop stands at =
     let inside = place.1.inside in
     let count = ticks-count c (suc i) rows in
     let fits = request-fits plan c is.given.entry plan_is is.given.requested in
-    let over = Each-at (IsHopOf (map entry_link plan.links)) is.given.entry.request.route i hop fits.hops stands in
-    let from = comes-from entry_link plan.links (link_number hop.link) over.link over.linked in
+    let over = Each-at (IsHopOf (map (entry_link (groups_in plan)) plan.links)) is.given.entry.request.route i hop fits.hops stands in
+    let from = comes-from (entry_link (groups_in plan)) plan.links (link_number hop.link) over.link over.linked in
     let rate : 1 ≤ rate_of (slice_get plan.links (link_number hop.link)) = subst (λ e. 1 ≤ rate_of e) (sym from.found) from.from.shape.rate_least in
     let work = ceil_quotient-some row.size (rate_of (slice_get plan.links (link_number hop.link))) rate row_is.size_least in
     record {

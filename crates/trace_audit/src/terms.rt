@@ -5,7 +5,7 @@ ghost use Rattle.net_units.specs.Allotted.{levels_of};
 ghost use Rattle.net_units.specs.Limits.{most_bound, most_propagation};
 ghost use Rattle.net_units.specs.Numbers.{channel_number};
 ghost use Rattle.call_script.specs.Plans.{IsPlan};
-ghost use Rattle.call_script.specs.Tasks.{entry_link};
+ghost use Rattle.call_script.specs.Splits.{entry_link, groups_in};
 ghost use Rattle.hop_reservation.specs.declared.route.Hop.{Hop as RouteHop};
 ghost use Rattle.setup_protocol.specs.Hops.{RequestFits};
 ghost use Rattle.setup_protocol.specs.State.{HaveLevels};
@@ -58,7 +58,7 @@ pub(crate) fn terms_of(plan: &Plan, levels: &[Option<Levels>], row: &HopRow) -> 
 // Those of a row of a request with these levels, where its route has the row's hop, over the row's link.
 fn terms_over(plan: &Plan, request: &Request, levels: &Levels, row: &HopRow) -> Option<Terms>
     requires have { HaveLevels request.now.route (levels_of levels.now) }
-    requires fits { RequestFits (map entry_link plan.now.links) request.now }
+    requires fits { RequestFits (map (entry_link (groups_in plan.now)) plan.now.links) request.now }
     ensures value { result ≡ terms_in_route plan.now request.now (levels_of levels.now) row.now }
     ensures rate { IfSome result (λ terms. 1 ≤ terms.rate) }
 {
@@ -88,7 +88,7 @@ fn terms_at(plan: &Plan, request: &Request, levels: &Levels, place: u8) -> Terms
     requires first { 1 ≤ place }
     requires last { place ≤ length request.now.route }
     requires have { HaveLevels request.now.route (levels_of levels.now) }
-    requires fits { RequestFits (map entry_link plan.now.links) request.now }
+    requires fits { RequestFits (map (entry_link (groups_in plan.now)) plan.now.links) request.now }
     ensures value { (hop : RouteHop) → slice_get request.now.route (place - 1) ≡ Some hop → result ≡ hop_terms plan.now request.now (levels_of levels.now) (place - 1) hop }
     ensures rate { 1 ≤ result.rate }
 {

@@ -7,7 +7,7 @@ ghost use Rattle.call_script.specs.OneLink.{AsksForOne, HasThatRequest, IsThatLi
 ghost use Rattle.run_record.specs.SmallRows.{IsSmall};
 
 use super::*;
-use call_script::{CallerEntry, LinkEntry, Op, Ops, Plan, RequestEntry, Version, push_request};
+use call_script::{CallerEntry, LinkEntry, Op, Ops, Plan, Quotas, RequestEntry, Version, push_request};
 use hop_reservation::{Hop, Route};
 use link_steps::LinkShape;
 use net_units::{ActorNo, Bounds, ChanNo, Level, Levels, LinkNo, Name};
@@ -33,7 +33,7 @@ fn link_no() -> Result<LinkNo, Fail>
     Ok(LinkNo::new(0).ok_or("link")?)
 }
 
-fn link() -> Result<LinkEntry, Fail>
+fn link(alloc: Global) -> Result<LinkEntry, Fail>
     ensures { IfOk result IsThatLink }
 {
     Ok(LinkEntry {
@@ -41,6 +41,7 @@ fn link() -> Result<LinkEntry, Fail>
         from: name("n1")?,
         to: name("n2")?,
         shape: LinkShape::new(link_no()?, 1, 4, 2, 100, bounds()?, Test::Whole, 0)?,
+        quotas: Quotas::none(alloc),
     })
 }
 
@@ -76,6 +77,7 @@ fn caller(alloc: Global, chan: ChanNo) -> Result<CallerEntry, Fail>
     ops.push(Op::Open(chan))?;
     Ok(CallerEntry {
         name: name("k1")?,
+        group: 0,
         ops: Ops::new(ops),
     })
 }
@@ -87,12 +89,22 @@ fn plan(alloc: Global) -> Result<Plan, Fail>
     let request = request()?;
     let caller = caller(alloc, request.request.chan)?;
     let mut links = Vec::new(alloc);
-    links.push(link()?)?;
+    links.push(link(alloc)?)?;
     let mut requests = Vec::new(alloc);
     push_request(&mut requests, request)?;
     let mut callers = Vec::new(alloc);
     callers.push(caller)?;
-    Ok(Plan::new(alloc, Version::One, links, requests, callers, 30, 0)?)
+    let groups = Vec::new(alloc);
+    Ok(Plan::new(
+        alloc,
+        Version::One,
+        links,
+        groups,
+        requests,
+        callers,
+        30,
+        0,
+    )?)
 }
 
 // Level 1 at the one hop.

@@ -6,8 +6,8 @@ ghost use Rattle.call_script.specs.OneLink.{IsThatLink, IsThatRequest, IsThatScr
 use super::write_plan;
 use byte_ends::MemSink;
 use call_script::{
-    BadPlan, CallerEntry, Do, Dos, LinkEntry, Op, Ops, Plan, RequestEntry, Schedule, Version,
-    push_request,
+    BadPlan, CallerEntry, Do, Dos, LinkEntry, Op, Ops, Plan, Quotas, RequestEntry, Schedule,
+    Version, push_request,
 };
 use hop_reservation::{Hop, Route};
 use link_steps::LinkShape;
@@ -33,7 +33,7 @@ fn link_no() -> Result<LinkNo, Fail>
     Ok(LinkNo::new(0).ok_or("link")?)
 }
 
-fn link(version: Version, best: u32) -> Result<LinkEntry, Fail>
+fn link(alloc: Global, version: Version, best: u32) -> Result<LinkEntry, Fail>
     ensures { IfOk result IsThatLink }
 {
     let test = version.test();
@@ -42,6 +42,7 @@ fn link(version: Version, best: u32) -> Result<LinkEntry, Fail>
         from: name("n1")?,
         to: name("n2")?,
         shape: LinkShape::new(link_no()?, 1, 4, 2, 100, bounds()?, test, best)?,
+        quotas: Quotas::none(alloc),
     })
 }
 
@@ -77,6 +78,7 @@ fn opener(alloc: Global, chan: ChanNo) -> Result<CallerEntry, Fail>
     let ops = vec![in alloc; Op::Open(chan)]?;
     Ok(CallerEntry {
         name: name("k1")?,
+        group: 0,
         ops: Ops::new(ops),
     })
 }
@@ -106,6 +108,7 @@ fn busy_caller(alloc: Global, chan: ChanNo, link: LinkNo) -> Result<CallerEntry,
     ]?;
     Ok(CallerEntry {
         name: name("k1")?,
+        group: 0,
         ops: Ops::new(ops),
     })
 }
@@ -128,7 +131,8 @@ fn plan(
     let mut requests = Vec::new(alloc);
     push_request(&mut requests, request)?;
     let callers = vec![in alloc; caller]?;
-    match Plan::new(alloc, version, links, requests, callers, rounds, 0) {
+    let groups = Vec::new(alloc);
+    match Plan::new(alloc, version, links, groups, requests, callers, rounds, 0) {
         Ok(plan) => Ok(plan),
         Err(BadPlan::Memory) => Err(Fail::from("memory")),
         Err(BadPlan::Broken { .. }) => Err(Fail::from("broken")),
@@ -138,7 +142,7 @@ fn plan(
 #[test]
 fn a_plan_of_one_link_has_six_lines(rt: HostRuntime) -> Result<(), Fail> {
     let alloc = rt.alloc();
-    let link = link(Version::One, 0)?;
+    let link = link(alloc, Version::One, 0)?;
     let request = request(Control::Rate, None)?;
     let caller = opener(alloc, request.request.chan)?;
     let plan = plan(alloc, Version::One, link, request, caller, 0)?;
@@ -162,7 +166,7 @@ tail 0
 #[test]
 fn a_plan_with_every_form_has_each_line(rt: HostRuntime) -> Result<(), Fail> {
     let alloc = rt.alloc();
-    let link = link(Version::Four, 7)?;
+    let link = link(alloc, Version::Four, 7)?;
     let request = request(Control::Jitter(15), Some((link.from, link.to)))?;
     let caller = busy_caller(alloc, request.request.chan, link.shape.link)?;
     let plan = plan(alloc, Version::Four, link, request, caller, 30)?;

@@ -8,6 +8,6 @@ use Rattle.scenario_reader.proofs.draft.Draft.put_link.Goals as goal
 
 pub invariant_of-self-2 : goal.invariant_of-self-2
 invariant_of-self-2 c =
-    let may = subst (λ (s : Said). MayAdd s (item.Link c.args.entry.now)) (sym c.self.view_is) c.requires in
+    let may = subst (λ (s : Said). MayAdd s (item.Link c.args.entry)) (sym c.self.view_is) c.requires in
     rw (c.in_ok-push.ensures.items, c.add.ensures)
-    (draft_more _ (item.Link c.args.entry.now) c.self.invariant.0 may, kept_link _ _ _ _ _ _ c.args.entry.now c.self.invariant.1 may)
+    (draft_more _ (item.Link c.args.entry) c.self.invariant.0 may, kept_link _ _ _ _ _ _ c.args.entry c.self.invariant.1 may)

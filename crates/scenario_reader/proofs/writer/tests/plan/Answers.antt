@@ -4,5 +4,5 @@ use Rattle.scenario_reader.proofs.writer.tests.plan.Goals as goal
 
 pub new-requires : goal.new-requires
 new-requires c =
-    rw (c.in_ok-links.ensures.items, c.in_ok-push_request.ensures.ok, c.new-requests.ensures.items, c.in_ok-callers.ensures.items)
+    rw (c.in_ok-links.ensures.items, c.in_ok-push_request.ensures.ok, c.new-groups.ensures.items, c.new-requests.ensures.items, c.in_ok-callers.ensures.items)
     (one-planned c.args.version c.args.link c.args.request c.args.caller c.args.rounds 0 c.requires.link c.requires.request c.requires.script)
