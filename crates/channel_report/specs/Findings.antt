@@ -4,7 +4,7 @@ use Rattle.std.specs.Prelude.{◌≡◌, ◌^◌, ◌<◌, List, length, reverse
 use Rattle.call_script.specs.Parts.{PlanParts}
 use Rattle.call_script.specs.Tasks.{network_of}
 use Rattle.interleave_core.specs.Runs.{IsRun}
-use Rattle.interleave_core.specs.Standing.{ActorsStand}
+use Rattle.interleave_core.specs.Standing.{CallersStand}
 use Rattle.run_record.specs.Rows.{rows_of}
 use Rattle.run_record.specs.declared.done.Done.{Done}
 use Rattle.channel_report.specs.ChannelTallies.{AreChannelTallies}
@@ -15,7 +15,7 @@ use Rattle.channel_report.specs.declared.findings.Findings.{Findings}
 -- found of a run of the plan with these entries, in the order of time
 pub record AreFound (parts : PlanParts) (entries : List Done) (findings : Findings) : Type 0 where
   pub run : IsRun (network_of parts) (reverse entries)
-  pub actors : ActorsStand parts findings.actors (reverse entries)
+  pub callers : CallersStand parts findings.callers (reverse entries)
   pub links : AreLinkTallies (length parts.links) (reverse entries) findings.links.items
   pub rows : findings.rows ≡ rows_of entries
   pub channels : AreChannelTallies parts.requests (reverse entries) findings.channels.items

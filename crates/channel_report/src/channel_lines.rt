@@ -57,7 +57,7 @@ fn tell_request<K: Sink>(
     ensures { (entries : List Step) (entry : Asked) → AreFound plan.now entries findings.now → slice_get plan.now.requests number ≡ Some entry
         → Tells result (K.written sink.old) (K.written sink.new) gather.old gather.new (K.faults sink.old) (K.faults sink.new) (channel_line (rows_of entries) (reverse entries) entry) }
 {
-    if is_accepted(&findings.actors.verdict(plan, number)) {
+    if is_accepted(&findings.callers.verdict(plan, number)) {
         tell_channel(alloc, plan, findings, number, gather, sink)
     } else {
         Ok(())

@@ -10,7 +10,7 @@ use crate::counts::count_run;
 use crate::delay_tally::{DelayTally, tally_delays};
 use crate::link_tally::LinkTally;
 use call_script::Plan;
-use interleave_core::{Actors, replay};
+use interleave_core::{Callers, replay};
 use net_units::OutOfMemory;
 use run_record::{HopRows, Record};
 use std::alloc::Global;
@@ -18,8 +18,8 @@ use std::alloc::Global;
 // What was found of a run.
 #[derive(Drop)]
 pub(crate) struct Findings {
-    // The actors after it.
-    pub(crate) actors: Actors,
+    // The callers after it.
+    pub(crate) callers: Callers,
     // The counts of the links, by their numbers.
     pub(crate) links: Vec<LinkTally>,
     // What is kept of the sources of the requests' channels, by their numbers.
@@ -42,7 +42,7 @@ impl Findings {
         let rows = rows_of_run(alloc, plan, run)?;
         let delays = tally_delays(alloc, plan, rows.as_slice())?;
         Ok(Findings {
-            actors: replay(alloc, plan, run)?,
+            callers: replay(alloc, plan, run)?,
             links: counts.links,
             channels: counts.channels,
             delays,

@@ -55,7 +55,7 @@ fn tell_report<K: Sink>(
     requires { (entries : List Step) × AreFound plan.now entries findings.now }
     ensures { (entries : List Step) → AreFound plan.now entries findings.now → Tells result (K.written sink.old) (K.written sink.new) gather.old gather.new (K.faults sink.old) (K.faults sink.new) (report_of plan.now entries packets) }
 {
-    tell_requests(alloc, plan, &findings.actors, gather, sink)?;
+    tell_requests(alloc, plan, &findings.callers, gather, sink)?;
     tell_found(alloc, plan, findings, packets, gather, sink)
 }
 

@@ -7,7 +7,7 @@ ghost use Rattle.setup_protocol.specs.State.{outcome_of};
 ghost use Rattle.setup_protocol.specs.declared.verdict.Deny.TheVariants.{Hop, End};
 ghost use Rattle.call_script.specs.Tasks.{network_of};
 ghost use Rattle.interleave_core.specs.Runs.{IsRun};
-ghost use Rattle.interleave_core.specs.Standing.{ActorsStand};
+ghost use Rattle.interleave_core.specs.Standing.{CallersStand};
 ghost use Rattle.run_record.specs.declared.done.Done.{Done as Step};
 ghost use Rattle.channel_report.specs.Report.{request_lines};
 ghost use Rattle.channel_report.specs.Telling.{Tells};
@@ -17,27 +17,27 @@ use crate::fault::ReportFault;
 use crate::telling::tell;
 use byte_ends::{Gather, Sink};
 use call_script::Plan;
-use interleave_core::Actors;
+use interleave_core::Callers;
 use link_steps::Refusal;
 use net_units::{Levels, Name};
 use relaxation::EndDenial;
 use setup_protocol::{Deny, Verdict};
 use std::alloc::{AllocError, Global};
 
-// Tells the lines of all requests, by what the actors know of them.
+// Tells the lines of all requests, by what the callers know of them.
 pub(crate) fn tell_requests<K: Sink>(
     alloc: Global,
     plan: &Plan,
-    actors: &Actors,
+    callers: &Callers,
     gather: &mut Gather,
     sink: &mut K,
 ) -> Result<(), ReportFault>
-    requires { (run : List Step) × (IsRun (network_of plan.now) run × ActorsStand plan.now actors.now run) }
-    ensures { (run : List Step) → IsRun (network_of plan.now) run → ActorsStand plan.now actors.now run
+    requires { (run : List Step) × (IsRun (network_of plan.now) run × CallersStand plan.now callers.now run) }
+    ensures { (run : List Step) → IsRun (network_of plan.now) run → CallersStand plan.now callers.now run
         → Tells result (K.written sink.old) (K.written sink.new) gather.old gather.new (K.faults sink.old) (K.faults sink.new) (request_lines plan.now run) }
 {
     for (number, entry) in plan.requests().iter().enumerate() {
-        let verdict = actors.verdict(plan, number);
+        let verdict = callers.verdict(plan, number);
         tell_verdict(alloc, entry.name, &verdict, gather, sink)?;
     }
     Ok(())

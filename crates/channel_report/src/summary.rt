@@ -92,7 +92,7 @@ fn sum_up(plan: &Plan, findings: &Findings) -> Sums
 {
     let mut sums = Sums::NOTHING;
     for number in 0..plan.requests().len() {
-        let verdict = findings.actors.verdict(plan, number);
+        let verdict = findings.callers.verdict(plan, number);
         sums.add(&verdict, delivered_on(findings, number));
     }
     sums

@@ -18,8 +18,9 @@ use Rattle.call_script.specs.Splits.{entry_link, groups_in}
 use Rattle.call_script.specs.Tasks.{network_of}
 use Rattle.call_script.specs.declared.actor.Actor.{Actor}
 use Rattle.interleave_core.specs.Runs.{plane_no, next_for}
-use Rattle.interleave_core.specs.Standing.{CallersStand, PlaneStands, ActorsStand, IsDueStep}
+use Rattle.interleave_core.specs.Standing.{AreCallers, CallersStand, PlaneStands, ActorsStand, IsDueStep, IsNextStep}
 use Rattle.interleave_core.specs.declared.actors.Actors.{Actors}
+use Rattle.interleave_core.specs.declared.callers.Callers.{Callers}
 use Rattle.interleave_core.proofs.Lookups.{get-push, get-set-same, get-set-other}
 use Rattle.interleave_core.proofs.Punctual.{reply-later}
 use Rattle.interleave_core.proofs.Replying.{replies-expected}
@@ -34,7 +35,7 @@ pub plane-number : (parts : PlanParts) → plane_no (network_of parts) ≡ lengt
 unfolding network_of
 plane-number parts = length-map parts.callers _
 
-plane-place : (parts : PlanParts) (callers : List Actor) (run : List Done) → CallersStand parts callers run → plane_no (network_of parts) ≡ length callers
+plane-place : (parts : PlanParts) (callers : List Actor) (run : List Done) → AreCallers parts callers run → plane_no (network_of parts) ≡ length callers
 plane-place parts callers run stand = plane-number parts ∙ sym stand.same
 
 -- ---- before any step
@@ -61,7 +62,7 @@ one-made parts callers caller made number stands = record {
       ];
 }
 
-pub all-made : (parts : PlanParts) (callers : List Actor) → length callers ≡ length parts.callers → CallersMade parts callers → CallersStand parts callers []
+pub all-made : (parts : PlanParts) (callers : List Actor) → length callers ≡ length parts.callers → CallersMade parts callers → AreCallers parts callers []
 unfolding replies_to
 all-made parts callers long made = record { same = long; numbers = made.numbers; stand = made.fresh }
 
@@ -71,46 +72,46 @@ plane-made parts plane links rounds at = record { links = links ∙ sym (length-
 
 -- ---- what is asked next
 
-pub plane-asks : (parts : PlanParts) (actors : Actors) (actor : ℕ) (run : List Done) → ActorsStand parts actors run → actor ≡ length actors.callers.items → plane_ask actors.plane.rounds actors.plane.at ≡ next_for (network_of parts) actor run
+pub plane-asks : (parts : PlanParts) (actors : Actors) (actor : ℕ) (run : List Done) → ActorsStand parts actors run → actor ≡ length actors.callers.by_number.items → plane_ask actors.plane.rounds actors.plane.at ≡ next_for (network_of parts) actor run
 plane-asks parts actors actor run stand same =
     ap (λ rounds. plane_ask rounds actors.plane.at) stand.plane.rounds ∙ ap (plane_ask (network_of parts).rounds) stand.plane.at
-    ∙ sym (asked-plane (network_of parts) actor run (same ∙ sym (plane-place parts actors.callers.items run stand.callers)))
+    ∙ sym (asked-plane (network_of parts) actor run (same ∙ sym (plane-place parts actors.callers.by_number.items run stand.callers)))
 
-pub caller-asks : (parts : PlanParts) (actors : Actors) (actor : ℕ) (caller : Actor) (run : List Done) → ActorsStand parts actors run → slice_get actors.callers.items actor ≡ Some caller
+pub caller-asks : (parts : PlanParts) (callers : List Actor) (actor : ℕ) (caller : Actor) (run : List Done) → AreCallers parts callers run → slice_get callers actor ≡ Some caller
     → ask_at (standing_in parts (actor_number caller.caller) (replies_to actor run)) ≡ next_for (network_of parts) actor run
-caller-asks parts actors actor caller run stand found =
-    let within = slice_get_within actors.callers.items actor caller found in
-    let place = plane-place parts actors.callers.items run stand.callers in
-    ap (λ n. ask_at (standing_in parts n (replies_to actor run))) (stand.callers.numbers actor caller found)
+caller-asks parts callers actor caller run stand found =
+    let within = slice_get_within callers actor caller found in
+    let place = plane-place parts callers run stand in
+    ap (λ n. ask_at (standing_in parts n (replies_to actor run))) (stand.numbers actor caller found)
     ∙ sym (asked-caller (network_of parts) actor run (λ same. absurd (omega (arith, same, place, within))))
 
-pub none-asks : (parts : PlanParts) (actors : Actors) (actor : ℕ) (run : List Done) → ActorsStand parts actors run → length actors.callers.items < actor → None ≡ next_for (network_of parts) actor run
+pub none-asks : (parts : PlanParts) (callers : List Actor) (actor : ℕ) (run : List Done) → AreCallers parts callers run → length callers < actor → None ≡ next_for (network_of parts) actor run
 unfolding network_of
-none-asks parts actors actor run stand past =
-    let place = plane-place parts actors.callers.items run stand.callers in
+none-asks parts callers actor run stand past =
+    let place = plane-place parts callers run stand in
     sym (asked-caller (network_of parts) actor run (λ same. absurd (omega (arith, same, place, past)))
     ∙ ap (λ found. script_ask found (replies_to actor run)) (slice_get_past (network_of parts).scripts actor (omega (arith, place, past))))
 
 -- ---- the plane's step
 
-pub plane-left : (parts : PlanParts) (actors : Actors) (past : List Done) (done : Done) → IsDueStep parts actors past done → actor_number done.actor ≡ length actors.callers.items → actors.plane.at.round < actors.plane.rounds
+pub plane-left : (parts : PlanParts) (actors : Actors) (past : List Done) (done : Done) → IsDueStep parts actors past done → actor_number done.actor ≡ length actors.callers.by_number.items → actors.plane.at.round < actors.plane.rounds
 plane-left parts actors past done due same =
-    let asks = plane-next (network_of parts) past done due.next (same ∙ sym (plane-place parts actors.callers.items past due.stand.callers)) in
+    let asks = plane-next (network_of parts) past done due.next (same ∙ sym (plane-place parts actors.callers.by_number.items past due.stand.callers)) in
     let at = ap (λ (p : Plane). p.round) due.stand.plane.at in
     omega (arith, asks.early, at, due.stand.plane.rounds)
 
-pub plane-expected : (parts : PlanParts) (actors : Actors) (past : List Done) (done : Done) → IsDueStep parts actors past done → actor_number done.actor ≡ length actors.callers.items → plane_expects (next_due actors.plane.at) done.reply ≡ true
+pub plane-expected : (parts : PlanParts) (actors : Actors) (past : List Done) (done : Done) → IsDueStep parts actors past done → actor_number done.actor ≡ length actors.callers.by_number.items → plane_expects (next_due actors.plane.at) done.reply ≡ true
 plane-expected parts actors past done due same =
     ap (λ (p : Plane). plane_expects (next_due p) done.reply) due.stand.plane.at
-    ∙ replies-expected.plane (network_of parts) past done due.next (same ∙ sym (plane-place parts actors.callers.items past due.stand.callers))
+    ∙ replies-expected.plane (network_of parts) past done due.next (same ∙ sym (plane-place parts actors.callers.by_number.items past due.stand.callers))
 
-pub plane-later : (parts : PlanParts) (actors : Actors) (past : List Done) (done : Done) → IsDueStep parts actors past done → actor_number done.actor ≡ length actors.callers.items → IsDueLater actors.plane.at.round done.reply
+pub plane-later : (parts : PlanParts) (actors : Actors) (past : List Done) (done : Done) → IsDueStep parts actors past done → actor_number done.actor ≡ length actors.callers.by_number.items → IsDueLater actors.plane.at.round done.reply
 plane-later parts actors past done due same =
     subst (λ (p : Plane). IsDueLater p.round done.reply) (sym due.stand.plane.at)
-    (reply-later (network_of parts) past done (plan-fits parts due.plan) due.run due.next (same ∙ sym (plane-place parts actors.callers.items past due.stand.callers)))
+    (reply-later (network_of parts) past done (plan-fits parts due.plan) due.run due.next (same ∙ sym (plane-place parts actors.callers.by_number.items past due.stand.callers)))
 
 -- the callers' replies stay the same
-callers-same : (parts : PlanParts) (callers : List Actor) (past : List Done) (done : Done) → CallersStand parts callers past → actor_number done.actor ≡ length callers → CallersStand parts callers (done ∷ past)
+pub callers-same : (parts : PlanParts) (callers : List Actor) (past : List Done) (done : Done) → AreCallers parts callers past → actor_number done.actor ≡ length callers → AreCallers parts callers (done ∷ past)
 callers-same parts callers past done stand same = record {
   same = stand.same;
   numbers = stand.numbers;
@@ -119,12 +120,12 @@ callers-same parts callers past done stand same = record {
       subst (CallerStands parts caller) (sym (replies-off n done past (λ is. absurd (omega (arith, is, same, within))))) (stand.stand n caller found);
 }
 
-pub plane-taken : (parts : PlanParts) (old new : Actors) (past : List Done) (done : Done) → IsDueStep parts old past done → actor_number done.actor ≡ length old.callers.items → new.callers.items ≡ old.callers.items
+pub plane-taken : (parts : PlanParts) (old new : Actors) (past : List Done) (done : Done) → IsDueStep parts old past done → actor_number done.actor ≡ length old.callers.by_number.items → new.callers.by_number.items ≡ old.callers.by_number.items
     → new.plane.at ≡ plane_after old.plane.links done.reply old.plane.at → new.plane.links ≡ old.plane.links → new.plane.rounds ≡ old.plane.rounds → ActorsStand parts new (done ∷ past)
 plane-taken parts old new past done due same callers at links rounds =
-    let place = plane-place parts old.callers.items past due.stand.callers in
+    let place = plane-place parts old.callers.by_number.items past due.stand.callers in
     record {
-      callers = subst (λ cs. CallersStand parts cs (done ∷ past)) (sym callers) (callers-same parts old.callers.items past done due.stand.callers same);
+      callers = subst (λ cs. AreCallers parts cs (done ∷ past)) (sym callers) (callers-same parts old.callers.by_number.items past done due.stand.callers same);
       plane = record {
         links = links ∙ due.stand.plane.links;
         rounds = rounds ∙ due.stand.plane.rounds;
@@ -136,35 +137,35 @@ plane-taken parts old new past done due same callers at links rounds =
 -- ---- a caller's step
 
 -- the step is of a caller, and its script is there
-caller-of : (parts : PlanParts) (actors : Actors) (past : List Done) (done : Done) → IsDueStep parts actors past done → actor_number done.actor ≢ length actors.callers.items → AsksOf (network_of parts) past (actor_number done.actor) done.link done.ask
-caller-of parts actors past done due other =
-    let place = plane-place parts actors.callers.items past due.stand.callers in
+caller-of : (parts : PlanParts) (callers : Callers) (past : List Done) (done : Done) → IsNextStep parts callers past done → actor_number done.actor ≢ length callers.by_number.items → AsksOf (network_of parts) past (actor_number done.actor) done.link done.ask
+caller-of parts callers past done due other =
+    let place = plane-place parts callers.by_number.items past due.stand in
     caller-next (network_of parts) past done due.next (λ same. other (same ∙ place))
 
-pub caller-within : (parts : PlanParts) (actors : Actors) (past : List Done) (done : Done) → IsDueStep parts actors past done → actor_number done.actor ≢ length actors.callers.items → actor_number done.actor < length actors.callers.items
-caller-within parts actors past done due other =
-    let place = plane-place parts actors.callers.items past due.stand.callers in
-    let asks = caller-of parts actors past done due other in
+pub caller-within : (parts : PlanParts) (callers : Callers) (past : List Done) (done : Done) → IsNextStep parts callers past done → actor_number done.actor ≢ length callers.by_number.items → actor_number done.actor < length callers.by_number.items
+caller-within parts callers past done due other =
+    let place = plane-place parts callers.by_number.items past due.stand in
+    let asks = caller-of parts callers past done due other in
     let within = slice_get_within (network_of parts).scripts (actor_number done.actor) asks.tasks asks.found in
     omega (arith, within, place)
 
-pub caller-left : (parts : PlanParts) (actors : Actors) (past : List Done) (done : Done) (caller : Actor) → IsDueStep parts actors past done → slice_get actors.callers.items (actor_number done.actor) ≡ Some caller → HasAskLeft parts caller (replies_to (actor_number done.actor) past)
-caller-left parts actors past done caller due found =
-    let asks = caller-asks parts actors (actor_number done.actor) caller past due.stand found ∙ due.next.asked in
-    record { stands = due.stand.callers.stand (actor_number done.actor) caller found; left = subst (λ (next : Option (LinkNo × Ask)). IsSome next) (sym asks) refl }
+pub caller-left : (parts : PlanParts) (callers : Callers) (past : List Done) (done : Done) (caller : Actor) → IsNextStep parts callers past done → slice_get callers.by_number.items (actor_number done.actor) ≡ Some caller → HasAskLeft parts caller (replies_to (actor_number done.actor) past)
+caller-left parts callers past done caller due found =
+    let asks = caller-asks parts callers.by_number.items (actor_number done.actor) caller past due.stand found ∙ due.next.asked in
+    record { stands = due.stand.stand (actor_number done.actor) caller found; left = subst (λ (next : Option (LinkNo × Ask)). IsSome next) (sym asks) refl }
 
-pub caller-expected : (parts : PlanParts) (actors : Actors) (past : List Done) (done : Done) (caller : Actor) → IsDueStep parts actors past done → slice_get actors.callers.items (actor_number done.actor) ≡ Some caller
+pub caller-expected : (parts : PlanParts) (callers : Callers) (past : List Done) (done : Done) (caller : Actor) → IsNextStep parts callers past done → slice_get callers.by_number.items (actor_number done.actor) ≡ Some caller
     → expects (standing_in parts (actor_number caller.caller) (replies_to (actor_number done.actor) past)) done.reply ≡ true
-caller-expected parts actors past done caller due found =
-    let within = slice_get_within actors.callers.items (actor_number done.actor) caller found in
-    let place = plane-place parts actors.callers.items past due.stand.callers in
-    let asks = caller-of parts actors past done due (λ same. absurd (omega (arith, same, within))) in
-    ap (λ n. expects (standing_in parts n (replies_to (actor_number done.actor) past)) done.reply) (due.stand.callers.numbers (actor_number done.actor) caller found)
+caller-expected parts callers past done caller due found =
+    let within = slice_get_within callers.by_number.items (actor_number done.actor) caller found in
+    let place = plane-place parts callers.by_number.items past due.stand in
+    let asks = caller-of parts callers past done due (λ same. absurd (omega (arith, same, within))) in
+    ap (λ n. expects (standing_in parts n (replies_to (actor_number done.actor) past)) done.reply) (due.stand.numbers (actor_number done.actor) caller found)
     ∙ ap (λ script. expects (standing_of script (replies_to (actor_number done.actor) past)) done.reply) asks.found
     ∙ replies-expected.callers (network_of parts) past done asks.tasks (plan-fits parts due.plan) (all-owned parts due.plan) due.run due.next (λ same. absurd (omega (arith, same, place, within))) asks.found
 
-callers-with : (parts : PlanParts) (callers : List Actor) (past : List Done) (done : Done) (new : Actor) → CallersStand parts callers past → actor_number new.caller ≡ actor_number done.actor → CallerStands parts new (done.reply ∷ replies_to (actor_number done.actor) past)
-    → CallersStand parts (set callers (actor_number done.actor) new) (done ∷ past)
+callers-with : (parts : PlanParts) (callers : List Actor) (past : List Done) (done : Done) (new : Actor) → AreCallers parts callers past → actor_number new.caller ≡ actor_number done.actor → CallerStands parts new (done.reply ∷ replies_to (actor_number done.actor) past)
+    → AreCallers parts (set callers (actor_number done.actor) new) (done ∷ past)
 callers-with parts callers past done new stand number stands =
     let at = actor_number done.actor in
     record {
@@ -189,19 +190,30 @@ callers-with parts callers past done new stand number stands =
           ];
     }
 
-pub caller-taken : (parts : PlanParts) (old new : Actors) (past : List Done) (done : Done) (caller next : Actor) → IsDueStep parts old past done → slice_get old.callers.items (actor_number done.actor) ≡ Some caller → new.callers.items ≡ set old.callers.items (actor_number done.actor) next
-    → new.plane ≡ old.plane → next.caller ≡ caller.caller → ((replies : List Reply) → CallerStands parts caller replies → CallerStands parts next (done.reply ∷ replies)) → ActorsStand parts new (done ∷ past)
-caller-taken parts old new past done caller next due found callers plane same taken =
-    let within = slice_get_within old.callers.items (actor_number done.actor) caller found in
-    let place = plane-place parts old.callers.items past due.stand.callers in
-    let was = due.stand.callers.stand (actor_number done.actor) caller found in
+pub caller-taken : (parts : PlanParts) (old new : Callers) (past : List Done) (done : Done) (caller next : Actor) → IsNextStep parts old past done → slice_get old.by_number.items (actor_number done.actor) ≡ Some caller
+    → new.by_number.items ≡ set old.by_number.items (actor_number done.actor) next → next.caller ≡ caller.caller → ((replies : List Reply) → CallerStands parts caller replies → CallerStands parts next (done.reply ∷ replies)) → CallersStand parts new (done ∷ past)
+caller-taken parts old new past done caller next due found is same taken =
+    let at = actor_number done.actor in
+    let was = due.stand.stand at caller found in
+    subst (λ cs. AreCallers parts cs (done ∷ past)) (sym is) (callers-with parts old.by_number.items past done next due.stand (ap actor_number same ∙ due.stand.numbers at caller found) (taken (replies_to at past) was))
+
+-- ---- a step of an actor
+
+-- it is the next step of the callers, too
+pub calls-next : (parts : PlanParts) (actors : Actors) (past : List Done) (done : Done) → IsDueStep parts actors past done → IsNextStep parts actors.callers past done
+calls-next parts actors past done due = record { plan = due.plan; run = due.run; next = due.next; stand = due.stand.callers }
+
+-- one of a caller leaves the plane as it is
+pub calls-taken : (parts : PlanParts) (old new : Actors) (past : List Done) (done : Done) → IsDueStep parts old past done → actor_number done.actor ≢ length old.callers.by_number.items → CallersStand parts new.callers (done ∷ past) → new.plane ≡ old.plane
+    → ActorsStand parts new (done ∷ past)
+calls-taken parts old new past done due other callers plane =
+    let place = plane-place parts old.callers.by_number.items past due.stand.callers in
     record {
-      callers = subst (λ cs. CallersStand parts cs (done ∷ past)) (sym callers)
-          (callers-with parts old.callers.items past done next due.stand.callers (ap actor_number same ∙ due.stand.callers.numbers (actor_number done.actor) caller found) (taken (replies_to (actor_number done.actor) past) was));
+      callers = callers;
       plane = subst (λ (p : KeptPlane). PlaneStands (network_of parts) p (done ∷ past)) (sym plane)
           (record {
             links = due.stand.plane.links;
             rounds = due.stand.plane.rounds;
-            at = due.stand.plane.at ∙ sym (plane-off (network_of parts) done past (λ is. absurd (omega (arith, is, place, within))));
+            at = due.stand.plane.at ∙ sym (plane-off (network_of parts) done past (λ is. other (is ∙ place)));
           });
     }

@@ -17,6 +17,7 @@ use Rattle.interleave_core.specs.Guarantee.{Guaranteed}
 use Rattle.interleave_core.specs.Laws.{AfterEachEntry}
 use Rattle.interleave_core.specs.Runs.{plane_at, next_for, IsNext, IsRun, step}
 use Rattle.interleave_core.specs.declared.actors.Actors.{Actors}
+use Rattle.interleave_core.specs.declared.callers.Callers.{Callers}
 use Rattle.interleave_core.specs.declared.engine.Engine.{Engine}
 use Rattle.interleave_core.specs.declared.stepping.Core.{Core}
 use Rattle.net_units.specs.declared.numbers.LinkNo.{LinkNo}
@@ -36,10 +37,13 @@ pub record LinksStand (network : List Link) (links : List AnyLink) (run : List D
   pub parts : (n : ℕ) (link : AnyLink) → slice_get links n ≡ Some link → AnyStands link (part_of n run)
 
 -- each caller has its number, and stands for its replies
-pub record CallersStand (parts : PlanParts) (callers : List Actor) (run : List Done) : Type 0 where
+pub record AreCallers (parts : PlanParts) (callers : List Actor) (run : List Done) : Type 0 where
   pub same : length callers ≡ length parts.callers
   pub numbers : (n : ℕ) (caller : Actor) → slice_get callers n ≡ Some caller → actor_number caller.caller ≡ n
   pub stand : (n : ℕ) (caller : Actor) → slice_get callers n ≡ Some caller → CallerStands parts caller (replies_to n run)
+
+abbrev pub CallersStand : PlanParts → Callers → List Done → Type 0
+CallersStand parts callers run = AreCallers parts callers.by_number.items run
 
 pub record PlaneStands (network : Network) (plane : KeptPlane) (run : List Done) : Type 0 where
   pub links : plane.links ≡ length network.links
@@ -47,7 +51,7 @@ pub record PlaneStands (network : Network) (plane : KeptPlane) (run : List Done)
   pub at : plane.at ≡ plane_at network run
 
 pub record ActorsStand (parts : PlanParts) (actors : Actors) (run : List Done) : Type 0 where
-  pub callers : CallersStand parts actors.callers.items run
+  pub callers : CallersStand parts actors.callers run
   pub plane : PlaneStands (network_of parts) actors.plane run
 
 -- ---- an engine: the links and the actors, without a record
@@ -86,6 +90,13 @@ CoreStands parts core = EngineStands parts core.engine (run_in core)
 pub record IsGuaranteedRun (parts : PlanParts) (run : List Done) : Type 0 where
   pub run_is : IsRun (network_of parts) run
   pub guaranteed : AfterEachEntry (Guaranteed (network_of parts)) run
+
+-- the callers stand for a run, and this is its next step
+pub record IsNextStep (parts : PlanParts) (callers : Callers) (past : List Done) (done : Done) : Type 0 where
+  pub plan : IsPlan parts
+  pub run : IsRun (network_of parts) past
+  pub next : IsNext (network_of parts) past done
+  pub stand : CallersStand parts callers past
 
 -- the actors stand for a run, are ready for its next step, and this is that step
 pub record IsDueStep (parts : PlanParts) (actors : Actors) (past : List Done) (done : Done) : Type 0 where

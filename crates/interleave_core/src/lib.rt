@@ -5,7 +5,8 @@
 //! parts fit. They speak of no calendar, queue or running sum. [`Core`] makes such a run, one step of one actor at a time.
 #![tactic(auto)]
 
-pub mod actors;
+mod actors;
+pub mod callers;
 pub mod engine;
 pub mod laws;
 pub mod linked_laws;
@@ -14,7 +15,7 @@ pub mod playing;
 pub mod refusal;
 pub mod stepping;
 
-pub use actors::{Actors, replay};
+pub use callers::{Callers, replay};
 pub use engine::Engine;
 pub use links::new_link;
 pub use playing::{PlayFault, play};

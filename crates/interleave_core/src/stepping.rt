@@ -113,10 +113,10 @@ impl Core {
 
     // Why there is no step of this actor.
     fn refusal(&self, actor: ActorNo) -> CoreRefusal
-        requires { length self.now.engine.actors.callers.items ≤ 64 }
-        ensures { IsLeft (length self.now.engine.actors.callers.items) (actor_number actor) (run_in self.now) result }
+        requires { length self.now.engine.actors.callers.by_number.items ≤ 64 }
+        ensures { IsLeft (length self.now.engine.actors.callers.by_number.items) (actor_number actor) (run_in self.now) result }
     {
-        let callers = self.engine.actors.callers.len();
+        let callers = self.engine.actors.callers.by_number.len();
         if usize::from(actor.get()) > callers {
             return CoreRefusal::NoSuchActor {
                 actors: callers as u32 + 1,

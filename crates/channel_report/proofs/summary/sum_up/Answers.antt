@@ -22,6 +22,6 @@ loop-number-preserved c =
       delivered = few.delivered;
       told = λ entries found.
           c.add.ensures
-          ∙ sums-more (rows_of entries) (reverse entries) requests number entry.item outcome c.delivered_on.result c.loop-number.sums inside (read-at requests number entry.item entry.found) (c.verdict-verdict.ensures (reverse entries) entry.item found.run found.actors entry.found)
+          ∙ sums-more (rows_of entries) (reverse entries) requests number entry.item outcome c.delivered_on.result c.loop-number.sums inside (read-at requests number entry.item entry.found) (c.verdict-verdict.ensures (reverse entries) entry.item found.run found.callers entry.found)
           (c.delivered_on.ensures.told c.args.plan.now entries entry.item found entry.found) (c.loop-number.invariant.told entries found);
     }

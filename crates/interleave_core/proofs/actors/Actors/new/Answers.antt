@@ -11,20 +11,20 @@ overflow_cast-links c = (let has = has-few c.args.plan.now c.links.ensures.valid
 pub overflow_add-rounds : goal.overflow_add-rounds
 overflow_add-rounds c = (let has = has-few c.args.plan.now c.links.ensures.valid in omega (arith, has.rounds, c.rounds.ensures.value, c.tail.ensures.value))
 
-pub new-requires-clause-links_least : goal.new-requires-clause-links_least
-new-requires-clause-links_least c = (let has = has-few c.args.plan.now c.links.ensures.valid in omega (arith, has.some, ap length c.links.ensures.value))
+pub new-requires-2-clause-links_least : goal.new-requires-2-clause-links_least
+new-requires-2-clause-links_least c = (let has = has-few c.args.plan.now c.links.ensures.valid in omega (arith, has.some, ap length c.links.ensures.value))
 
-pub new-requires-clause-links_most : goal.new-requires-clause-links_most
-new-requires-clause-links_most c = (let has = has-few c.args.plan.now c.links.ensures.valid in omega (arith, has.few, ap length c.links.ensures.value))
+pub new-requires-2-clause-links_most : goal.new-requires-2-clause-links_most
+new-requires-2-clause-links_most c = (let has = has-few c.args.plan.now c.links.ensures.valid in omega (arith, has.few, ap length c.links.ensures.value))
 
-pub new-requires-clause-rounds_most : goal.new-requires-clause-rounds_most
-new-requires-clause-rounds_most c = (let has = has-few c.args.plan.now c.links.ensures.valid in omega (arith, has.rounds, c.rounds.ensures.value, c.tail.ensures.value))
+pub new-requires-2-clause-rounds_most : goal.new-requires-2-clause-rounds_most
+new-requires-2-clause-rounds_most c = (let has = has-few c.args.plan.now c.links.ensures.valid in omega (arith, has.rounds, c.rounds.ensures.value, c.tail.ensures.value))
 
 pub returns-clause-stand : goal.returns-clause-stand
 returns-clause-stand c =
     let is = c.in_ok-plane.ensures in
     record {
-      callers = c.in_ok-callers.ensures;
+      callers = c.in_ok-callers.ensures.stand;
       plane = plane-made c.args.plan.now c.in_ok-plane.plane
           (ap (λ (p : KeptPlane). p.links) is ∙ ap length c.links.ensures.value)
           (ap (λ (p : KeptPlane). p.rounds) is ∙ omega (arith, c.rounds.ensures.value, c.tail.ensures.value))

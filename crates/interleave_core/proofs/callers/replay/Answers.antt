@@ -1,9 +1,9 @@
--- The next entry is the next step of its actor, and the actors stand after it.
+-- The next entry is the next step of its actor, and the callers stand after it.
 use Rattle.std.proofs.Common.{◌≡◌, ◌<◌, length, get_or, reverse, take, sym, subst}
 use Rattle.call_script.specs.Tasks.{network_of}
-use Rattle.interleave_core.specs.Standing.{ActorsStand, IsDueStep}
+use Rattle.interleave_core.specs.Standing.{CallersStand, IsNextStep}
 use Rattle.interleave_core.proofs.RunFronts.{front-run, front-more, front-next}
-use Rattle.interleave_core.proofs.actors.replay.Goals as goal
+use Rattle.interleave_core.proofs.callers.replay.Goals as goal
 
 pub take-requires : goal.take-requires
 take-requires c =
@@ -15,8 +15,7 @@ take-requires c =
         plan = c.loop-done.invariant.plan;
         run = front-run (network_of c.args.plan.now) entries c.loop-done.done-index c.requires;
         next = front-next (network_of c.args.plan.now) entries c.loop-done.done-index c.done-item.result inside at c.requires;
-        stand = c.ready.ensures.stand c.args.plan.now (reverse (take c.loop-done.done-index entries)) c.loop-done.invariant.stand;
-        room = c.in_ok-ready.ensures.room;
+        stand = c.loop-done.invariant.stand;
       },
     )
 
@@ -25,14 +24,13 @@ loop-done-preserved c =
     let entries = c.args.run.now.entries in
     let inside : c.loop-done.done-index < length entries = rw (← c.entries-done-items.ensures) c.loop-done-test.true in
     let at : c.done-item.result ≡ get_or entries c.loop-done.done-index c.done-item.result = rw (← c.entries-done-items.ensures) c.done-item.is in
-    let due : IsDueStep c.args.plan.now c.ready.new.self (reverse (take c.loop-done.done-index entries)) c.done-item.result = record {
+    let due : IsNextStep c.args.plan.now c.loop-done.callers (reverse (take c.loop-done.done-index entries)) c.done-item.result = record {
       plan = c.loop-done.invariant.plan;
       run = front-run (network_of c.args.plan.now) entries c.loop-done.done-index c.requires;
       next = front-next (network_of c.args.plan.now) entries c.loop-done.done-index c.done-item.result inside at c.requires;
-      stand = c.ready.ensures.stand c.args.plan.now (reverse (take c.loop-done.done-index entries)) c.loop-done.invariant.stand;
-      room = c.in_ok-ready.ensures.room;
+      stand = c.loop-done.invariant.stand;
     } in
     record {
       plan = c.loop-done.invariant.plan;
-      stand = subst (ActorsStand c.args.plan.now c.take.new.self) (sym (front-more entries c.loop-done.done-index c.done-item.result inside at)) (c.take.ensures (reverse (take c.loop-done.done-index entries)) due);
+      stand = subst (CallersStand c.args.plan.now c.take.new.self) (sym (front-more entries c.loop-done.done-index c.done-item.result inside at)) (c.take.ensures (reverse (take c.loop-done.done-index entries)) due);
     }

@@ -1,0 +1,84 @@
+//! The callers of a run, as they are kept, and how a record brings them through it.
+ghost use Rattle.std.specs.Prelude.{◌≡◌, ◌<◌, ◌≤◌, ◌∷◌, [], Some, List, IfOk, length, option_map, reverse};
+ghost use Rattle.std.specs.List.{slice_get};
+ghost use Rattle.net_units.specs.Numbers.{actor_number, channel_number};
+ghost use Rattle.setup_protocol.specs.Setup.{verdict_of};
+ghost use Rattle.setup_protocol.specs.State.{outcome_of};
+ghost use Rattle.call_script.specs.Plans.{IsPlan};
+ghost use Rattle.call_script.specs.Tasks.{network_of};
+ghost use Rattle.call_script.specs.declared.entries.RequestEntry.{RequestEntry as Asked};
+ghost use Rattle.interleave_core.specs.Runs.{IsRun};
+ghost use Rattle.interleave_core.specs.Verdicts.{setup_replies};
+ghost use Rattle.interleave_core.specs.Standing.{CallersStand, IsNextStep};
+ghost use Rattle.run_record.specs.declared.done.Done.{Done as Entry};
+
+use call_script::{Actor, Plan};
+use net_units::{ActorNo, OutOfMemory};
+use run_record::{Done, Record};
+use setup_protocol::Verdict;
+use std::alloc::Global;
+
+/// The callers of a plan on their way through a run.
+#[derive(Drop)]
+pub struct Callers {
+    pub(crate) by_number: Vec<Actor>,
+}
+
+impl Callers {
+    // The callers of a plan, before they have asked anything.
+    pub(crate) fn new(alloc: Global, plan: &Plan) -> Result<Callers, OutOfMemory>
+        ensures stand { IfOk result (λ callers. CallersStand plan.now callers []) }
+        ensures valid { IfOk result (λ callers. IsPlan plan.now) }
+    {
+        let count = plan.callers().len();
+        let mut by_number = Vec::with_capacity(alloc, count)?;
+        for number in 0..count {
+            by_number.push(Actor::new(alloc, plan, caller_of(number))?)?;
+        }
+        Ok(Callers { by_number })
+    }
+
+    /// What the request of this number has come to in the run so far: None while its setup has an ask left. The plan is the
+    /// one that the callers were made for.
+    pub fn verdict(&self, plan: &Plan, number: usize) -> Option<Verdict>
+        requires stands { (run : List Entry) × CallersStand plan.now self.now run }
+        requires inside { number < length plan.now.requests }
+        ensures { (run : List Entry) (entry : Asked) → IsRun (network_of plan.now) run → CallersStand plan.now self.now run → slice_get plan.now.requests number ≡ Some entry → option_map outcome_of result ≡ verdict_of entry.request (setup_replies (channel_number entry.request.chan) run) }
+    {
+        let entry = &plan.requests()[number];
+        let owner = usize::from(entry.caller.get());
+        self.by_number[owner].verdict(entry.request.chan)
+    }
+
+    // Hands the reply of the next step to the caller that made it. That of a step of the plane goes to none of them.
+    pub(crate) fn take(&mut self, plan: &Plan, done: &Done)
+        requires { (past : List Entry) × IsNextStep plan.now self.old past done.now }
+        ensures { (past : List Entry) → IsNextStep plan.now self.old past done.now → CallersStand plan.now self.new (done.now ∷ past) }
+    {
+        let number = usize::from(done.actor.get());
+        if number != self.by_number.len() {
+            self.by_number[number].take(plan, done.reply).unwrap();
+        }
+    }
+}
+
+/// The callers of a plan after a run of it. The plane isn't asked, so a packet on its way costs nothing. An `Err` comes only for
+/// want of memory.
+pub fn replay(alloc: Global, plan: &Plan, run: &Record) -> Result<Callers, OutOfMemory>
+    requires { IsRun (network_of plan.now) (reverse run.now.entries) }
+    ensures { IfOk result (λ callers. CallersStand plan.now callers (reverse run.now.entries)) }
+{
+    let mut callers = Callers::new(alloc, plan)?;
+    for done in run.entries() {
+        callers.take(plan, done);
+    }
+    Ok(callers)
+}
+
+// The caller of this number.
+fn caller_of(number: usize) -> ActorNo
+    requires { number < 65 }
+    ensures { actor_number result ≡ number }
+{
+    ActorNo::new(number as u8).unwrap()
+}
