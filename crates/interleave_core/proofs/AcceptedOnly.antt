@@ -35,8 +35,8 @@ use Rattle.interleave_core.proofs.RunLegal.{plane-next, caller-next, run-stands,
 use Rattle.channel_laws.specs.Asks.{IsMild}
 use Rattle.link_steps.specs.Lists.{Each}
 use Rattle.interleave_core.proofs.SetupOnce.{IsOther}
-use Rattle.interleave_core.specs.Paths.{HopAt}
-use Rattle.interleave_core.specs.Guarantee.{count_at, AcceptedIn}
+use Rattle.interleave_core.specs.Paths.{HopAt, count_at}
+use Rattle.interleave_core.specs.Guarantee.{AcceptedIn}
 
 continued-kept : (request : Request) (outcomes : List Opened) (task : Task) (tasks : List Task) (replies : List Reply) (next : Option (LinkNo × Ask)) → IsOther (channel_number request.chan) task → outcome_in request.chan (continued outcomes task tasks replies next).outcomes ≡ outcome_in request.chan outcomes
 continued-kept request outcomes task tasks replies (Some to) other = refl

@@ -48,8 +48,7 @@ use Rattle.channel_laws.specs.Asks.{IsOff, IsMild}
 use Rattle.channel_laws.specs.Reservations.{held_by}
 use Rattle.channel_laws.proofs.TermsAfter.{held-submitted}
 use Rattle.interleave_core.proofs.FarHolds.{hop-tells, hop-fate, first-same, hop-comes, committed-comes, Frozen, frozen-later, NoRelease, OwnKind, OwnOff, OwnSetup, OwnSend, OwnClose, own-kind}
-use Rattle.interleave_core.specs.Paths.{HopAt}
-use Rattle.interleave_core.specs.Guarantee.{count_at}
+use Rattle.interleave_core.specs.Paths.{HopAt, count_at}
 
 pub record Chain (network : Network) (request : Request) (owner : ℕ) (first : HopAt network request 0) (run : List Done) : Type 0 where
   pub fates : 1 ≤ count_at network request 0 first run → (i : ℕ) (at : HopAt network request i) → Fate (count_at network request 0 first run) (count_at network request i at run) (held_at network request i at run)

@@ -42,11 +42,10 @@ use Rattle.call_script.specs.Owners.{OwnedFully}
 use Rattle.interleave_core.proofs.RunCloses.{owned-once}
 use Rattle.interleave_core.proofs.RunGoes.{owned-asked}
 use Rattle.interleave_core.proofs.RunLegal.{run-stands, part-admissible}
-use Rattle.interleave_core.specs.Paths.{HopAt, packets_at, hop_ticks, delay_before}
+use Rattle.interleave_core.specs.Paths.{HopAt, packets_at, hop_ticks, delay_before, count_at}
 use Rattle.channel_laws.specs.Departing.{gone_of}
 use Rattle.channel_laws.proofs.DepartedCount.{channel-few}
 use Rattle.channel_laws.proofs.NumberedPackets.{HasNumber, packets-have_numbers}
-use Rattle.interleave_core.specs.Guarantee.{count_at}
 use Rattle.interleave_core.proofs.ChainLaw.{same-count}
 use Rattle.link_steps.proofs.ListParts.{Among-at}
 use Rattle.std.proofs.lemmas.List.Sums.{length-filter, count_by-le-length}

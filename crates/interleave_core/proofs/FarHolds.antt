@@ -52,8 +52,7 @@ use Rattle.interleave_core.proofs.RunLegal.{part-on, part-off, part-admissible}
 use Rattle.channel_laws.specs.Asks.{IsOff, IsMild}
 use Rattle.channel_laws.specs.Reservations.{held_by, ComesOf, Stays, Closed}
 use Rattle.channel_laws.proofs.TermsAfter.{comes-mild}
-use Rattle.interleave_core.specs.Paths.{HopAt, packets_at}
-use Rattle.interleave_core.specs.Guarantee.{count_at}
+use Rattle.interleave_core.specs.Paths.{HopAt, packets_at, count_at}
 use Rattle.setup_protocol.proofs.HopAsks.{asked-at, of-setup}
 
 -- ---- one hop

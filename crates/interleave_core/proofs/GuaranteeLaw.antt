@@ -1,6 +1,7 @@
 -- Every run of a network whose parts fit, and whose channels each have one owner, is guaranteed after each of its entries.
-use Rattle.std.proofs.Common.{◌≡◌, ℕ, ◌+◌, ◌<◌, ◌≤◌, true, List, [], ◌∷◌, length, map, get_or, Some, None, refl, sym, ap, ◌∙◌, subst, inl, inr, arith}
+use Rattle.std.proofs.Common.{◌≡◌, ℕ, suc, ◌+◌, ◌-◌, ◌<◌, ◌≤◌, true, List, [], ◌∷◌, length, map, get_or, Some, None, refl, sym, ap, ◌∙◌, subst, inl, inr, arith}
 use Rattle.std.proofs.lemmas.Bool.{cases_Bool, eqb-true, eqb-false, eq-eqb, ne_eqb, and_from, lt-ltb}
+use Rattle.std.proofs.lemmas.List.{take_all}
 use Rattle.std.proofs.lemmas.Option.{same_Some, slice_get_within}
 use Rattle.std.specs.List.{slice_get}
 use Rattle.std.specs.Prelude.{nat_eq, nat_lt}
@@ -11,14 +12,20 @@ use Rattle.net_units.proofs.BoundFacts.{bound_least}
 use Rattle.link_steps.specs.declared.asks.Ask.{Ask}
 use Rattle.link_steps.specs.declared.asks.Ask.TheVariants.{Reserve, Relax, Deny, Submit, Release, Arrive, Tick, Pour}
 use Rattle.link_steps.specs.declared.asks.Packet.{Packet}
+use Rattle.link_steps.specs.declared.replies.Entry.{Entry}
 use Rattle.link_steps.specs.declared.replies.Reply.{Reply}
 use Rattle.link_steps.specs.declared.replies.Reply.TheVariants as Is
+use Rattle.link_steps.specs.declared.shape.LinkShape.{LinkShape}
+use Rattle.link_steps.specs.Admissible.{IsAdmissible}
+use Rattle.link_steps.specs.HopGuarantee.{LeavesInTime, HasLeftInTime, deadline_of}
+use Rattle.link_steps.specs.Scan.{clock_of, scan_of, starts_of}
 use Rattle.link_steps.specs.Split.{Link}
 use Rattle.link_steps.specs.Lists.{Each}
-use Rattle.link_steps.specs.Service.{Arrival, leaves_at}
+use Rattle.link_steps.specs.Service.{Arrival, Start, leaves_at}
 use Rattle.link_steps.specs.SourceGuarantee.{arrival_of}
 use Rattle.link_steps.proofs.HopHolds.{guaranteed}
-use Rattle.link_steps.proofs.ListFacts.{Among}
+use Rattle.link_steps.proofs.LegalOrder.{IsCarried, legal-order}
+use Rattle.link_steps.proofs.ListFacts.{Among, Each-among}
 use Rattle.link_steps.proofs.SourceHistory.{source-guarantee}
 use Rattle.setup_protocol.specs.Hops.{RequestFits}
 use Rattle.setup_protocol.specs.Laws.{KeepsRequest}
@@ -36,6 +43,8 @@ use Rattle.interleave_core.specs.Runs.{plane_no, plane_at, IsNext, IsRun}
 use Rattle.call_script.specs.Scripts.{standing, outcome_in}
 use Rattle.interleave_core.proofs.AcceptedPath.{accepted-path}
 use Rattle.channel_laws.proofs.ChannelRows.{legal-free}
+use Rattle.channel_laws.proofs.DepartedCount.{channel-few}
+use Rattle.channel_laws.proofs.NumberedPackets.{HasNumber, packets-have_numbers}
 use Rattle.interleave_core.proofs.DepartLaw.{HaveTicks, path-departed}
 use Rattle.channel_laws.proofs.FirstSource.{source-served}
 use Rattle.interleave_core.proofs.HopLaw.{arrive-comes}
@@ -49,13 +58,15 @@ use Rattle.interleave_core.proofs.RunGoes.{owned-asked, accepted-levels, tasks-o
 use Rattle.interleave_core.proofs.RunLegal.{plane-next, caller-next, part-on, part-off, part-admissible}
 use Rattle.channel_laws.specs.Asks.{IsOff}
 use Rattle.interleave_core.proofs.KeptRequest.{verdict-kept}
-use Rattle.interleave_core.specs.Paths.{HopAt, packets_at, hop_ticks}
-use Rattle.interleave_core.specs.Guarantee.{TakesArrive, IsOfAccepted, arrival_ticks, SourceKept, ChannelGuaranteed, Guaranteed}
+use Rattle.interleave_core.specs.Paths.{HopAt, reaches_at, bound_of, packets_at, hop_ticks, arrival_ticks, eligible_at, arrived_at, delay_before, Passed}
+use Rattle.interleave_core.specs.Guarantee.{LeavesWithinBound, TakesArrive, IsOfAccepted, LinkGuaranteed, SourceKept, HasLeft, ChannelGuaranteed, Guaranteed}
+use Rattle.interleave_core.specs.Kept.{VerdictSums}
 use Rattle.interleave_core.specs.Laws.{EveryRunIsGuaranteed}
-use Rattle.interleave_core.proofs.HopsAt.{hop-at}
+use Rattle.interleave_core.proofs.HopsAt.{hop-at, HaveLevelsAt}
 use Rattle.interleave_core.proofs.ReadyRun.{counts-first}
 use Rattle.interleave_core.proofs.ChannelsAt.{packet-offered}
 use Rattle.link_steps.proofs.ChangeFacts.{Each-from_among}
+use Rattle.hop_reservation.specs.Offers.{delay_over}
 use Rattle.hop_reservation.proofs.OfferFacts.{AreLevels-at}
 
 -- ---- an accepted channel
@@ -78,33 +89,65 @@ first-at-once network request first run fits is asked kept =
     ticks-same (packets_at network request 0 first run)
     (source-served first.link.shape (terms_at request 0) (channel_number request.chan) (part_of (link_number first.hop.link) run) (part-admissible network run (link_number first.hop.link) first.link fits is first.linked) (asked.names 0 first.hop first.stands) (asked.once (link_number first.hop.link)) kept).at_once
 
-pub channel-guaranteed : (network : Network) (request : Request) (owner : ℕ) (tasks : List Task) (levels : List ℕ) (delay : ℕ) (first : HopAt network request 0) (run : List Done) → NetworkFits network → RequestFits network.links request → OwnedFully network request owner → IsRun network run → slice_get network.scripts owner ≡ Some tasks → outcome_in request.chan (standing tasks (replies_to owner run)).outcomes ≡ Some (Accepts levels delay) → ChannelGuaranteed network request levels delay first run
-channel-guaranteed network request owner tasks levels delay first run fits sound full is found accepted =
-    let once = owned-once network request owner full in
-    let asked = owned-asked network request owner fits sound once in
-    let have = (accepted-levels network request owner run tasks levels delay fits sound once is found accepted).0 in
-    let sums = (verdict-kept network request owner run fits sound full is).kept tasks found levels delay accepted in
-    record {
-      path = accepted-path network request owner run tasks levels delay fits sound full is found accepted;
-      keeps = sums.keeps;
-      sum = sums.sum;
-      departs = λ i at k taken due. (let gone = path-departed network request owner levels run first i at k fits sound full is have (have-ticks network request levels delay sums.keeps) taken due in record { there = gone.0; departed = gone.1 });
-      at_once = first-at-once network request first run fits is (asked run is);
-      close = λ jitter kept i at one other left left-other.
-          (let p = passed network request levels run fits sound asked is have first i at one left.among left.left left.own in
-          let q = passed network request levels run fits sound asked is have first i at other left-other.among left-other.left left-other.own in
-          let same = first-at-once network request first run fits is (asked run is) kept in
-          let inside : i < length levels = (let n = have.count in let w = slice_get_within request.route i at.hop at.stands in omega (arith, n, w)) in
-          record {
-            index = p.index;
-            place = q.index;
-            number = p.number;
-            number_other = q.number;
-            within = subst (λ ticks. p.index < length ticks) same p.within;
-            within_other = subst (λ ticks. q.index < length ticks) same q.within;
-            close = subst (λ ticks. leaves_at at.link.shape.rate one + at.link.shape.prop + get_or ticks q.index 0 < leaves_at at.link.shape.rate other + at.link.shape.prop + get_or ticks p.index 0 + bound_at at.link.shape.bounds (get_or levels i 0)) same (close-delays network request levels run first i at one other inside jitter p q);
-          });
-    }
+-- the delay over the whole route
+delay-whole : (request : Request) (levels : List ℕ) (n : ℕ) → length levels ≡ n → delay_before request levels n ≡ delay_over request.route levels
+delay-whole request levels n whole = ap (delay_over request.route) (take_all n levels (omega (arith, whole)))
+
+-- its index by its number
+same-index : (j k : ℕ) (start : Start) → start.packet.number ≡ suc j → start.packet.number ≡ suc k → j ≡ k
+same-index j k start one other = omega (arith, one, other)
+
+-- differences of delays
+closer : (x y a b d : ℕ) → 1 ≤ d → x + b < y + a + d → x - a < (y - b) + d
+closer x y a b d some close = omega (arith, some, close)
+
+pub channel-guaranteed : (network : Network) (request : Request) (owner : ℕ) (tasks : List Task) (levels : List ℕ) (delay : ℕ) (first : HopAt network request 0) (run : List Done)
+    → NetworkFits network → RequestFits network.links request → OwnedFully network request owner → IsRun network run → slice_get network.scripts owner ≡ Some tasks
+    → outcome_in request.chan (standing tasks (replies_to owner run)).outcomes ≡ Some (Accepts levels delay) → ChannelGuaranteed network request levels delay first run
+channel-guaranteed network request owner tasks levels delay first run fits sound full is found accepted = record {
+  sum = sums.sum;
+  keeps = sums.keeps;
+  has_levels = have.at;
+  path = accepted-path network request owner run tasks levels delay fits sound full is found accepted;
+  departs = λ i at k taken due. (let gone = path-departed network request owner levels run first i at k fits sound full is have ticks taken due in record { there = gone.0; departed = gone.1 });
+  arrives = arrives;
+  at_once = at-once;
+  in_time = λ kept i at k start last left. (let by = arrives i at k start last left in let same = at-once kept k in omega (arith, by, same));
+  close = λ jitter kept i at j k one other left left-other.
+      (let p = left-at i at j one left in
+      let q = left-at i at k other left-other in
+      let inside : i < length levels = (let n = have.count in let w = slice_get_within request.route i at.hop at.stands in omega (arith, n, w)) in
+      let near = close-delays network request levels run first i at one other inside jitter p q in
+      let a : eligible_at first run p.index ≡ arrived_at first run j = ap (eligible_at first run) (same-index p.index j one p.number left.number) ∙ at-once kept j in
+      let b : eligible_at first run q.index ≡ arrived_at first run k = ap (eligible_at first run) (same-index q.index k other q.number left-other.number) ∙ at-once kept k in
+      closer (reaches_at at one) (reaches_at at other) (arrived_at first run j) (arrived_at first run k) (bound_of at levels) (ticks i at) (omega (arith, near, a, b)));
+} where
+  asked : (past : List Done) → IsRun network past → ChannelAsked request past
+  asked = owned-asked network request owner fits sound (owned-once network request owner full)
+
+  have : HaveLevelsAt network request levels run
+  have = (accepted-levels network request owner run tasks levels delay fits sound (owned-once network request owner full) is found accepted).0
+
+  sums : VerdictSums request levels delay
+  sums = (verdict-kept network request owner run fits sound full is).kept tasks found levels delay accepted
+
+  ticks : HaveTicks network request levels
+  ticks = have-ticks network request levels delay sums.keeps
+
+  at-once : SourceKept network request first run → (k : ℕ) → eligible_at first run k ≡ arrived_at first run k
+  at-once kept k = ap (λ times. get_or times k 0) (first-at-once network request first run fits is (asked run is) kept)
+
+  left-at : (i : ℕ) (at : HopAt network request i) (k : ℕ) (start : Start) → HasLeft network request i at run k start → Passed network request levels run first i at start
+  left-at i at k start left = passed network request levels run fits sound asked is have first i at start left.among left.left left.own
+
+  arrives : (i : ℕ) (at : HopAt network request i) (k : ℕ) (start : Start) → suc i ≡ length request.route → HasLeft network request i at run k start → reaches_at at start ≤ eligible_at first run k + delay
+  arrives i at k start last left =
+      let p = left-at i at k start left in
+      let same : eligible_at first run p.index ≡ eligible_at first run k = ap (eligible_at first run) (same-index p.index k start p.number left.number) in
+      let all = delay-whole request levels (suc i) (sums.keeps.have_levels.whole ∙ sym last) in
+      let by = p.in_time in
+      let sum = sums.sum in
+      omega (arith, by, same, all, sum)
 
 -- ---- a channel that no script names
 
@@ -210,12 +253,39 @@ unfolding IsRun
 all-arrives network [] fits owned is = tt
 all-arrives network (done ∷ past) fits owned is = (arrive-taken network done past done.ask fits owned is.0 is.1 refl, all-arrives network past fits owned is.0)
 
+-- ---- a link
+
+leaves-within : (shape : LinkShape) (h : List Entry) (p : Arrival) → IsAdmissible shape h → Among p (scan_of shape h).packets → 1 ≤ p.number → LeavesWithinBound shape h p
+leaves-within shape h p legal among numbered = record {
+  level_least = (Each-among (IsCarried shape) p _ (legal-order shape h legal).carried among).level_least;
+  level_most = few;
+  after = λ start there same by. subst (λ q. q.eligible < leaves_at shape.rate start) same ((leaves start there).after by);
+  within = λ start there same by. subst (λ q. leaves_at shape.rate start ≤ deadline_of shape q) same
+      ((leaves start there).within (subst (λ q. q.level ≤ length shape.bounds) (sym same) few) by);
+  gone = (Each-among (HasLeftInTime shape (clock_of h) (starts_of shape h)) p _ (guaranteed shape h legal).in_time among).gone few;
+} where
+  few : p.level ≤ length shape.bounds
+  few = channel-few shape (channel_number p.chan) p (Each-among (HasNumber shape.bounds) p _ (packets-have_numbers shape h legal) among) (own-channel p numbered)
+
+  leaves : (start : Start) → Among start (starts_of shape h) → LeavesInTime shape (clock_of h) start
+  leaves start there = Each-among (LeavesInTime shape (clock_of h)) start _ (guaranteed shape h legal).departed there
+
+link-guaranteed : (network : Network) (run : List Done) (n : ℕ) (link : Link) → NetworkFits network → AllOwned network → IsRun network run → slice_get network.links n ≡ Some link → LinkGuaranteed network run n link
+link-guaranteed network run n link fits owned is linked =
+    let legal = part-admissible network run n link fits is linked in
+    record {
+      rows_pass = (guaranteed link.shape (part_of n run) legal).rows;
+      leaves_in_time = Each-from_among (λ p. 1 ≤ p.number → LeavesWithinBound link.shape (part_of n run) p) (packets_on link n run)
+          (λ p among numbered. leaves-within link.shape (part_of n run) p legal among numbered);
+      finds_buffer = source-guarantee link.shape (part_of n run) legal;
+      accepted = Each-from_among (λ p. 1 ≤ p.number → IsOfAccepted network run n p) (packets_on link n run)
+          (λ p among numbered. packet-accepted network run n link p fits owned is linked among numbered);
+    }
+
 pub run-guaranteed : (network : Network) (run : List Done) → NetworkFits network → AllOwned network → IsRun network run → Guaranteed network run
 run-guaranteed network run fits owned is = record {
-  hops = λ n link linked. guaranteed link.shape (part_of n run) (part-admissible network run n link fits is linked);
-  sources = λ n link linked. source-guarantee link.shape (part_of n run) (part-admissible network run n link fits is linked);
+  links = λ n link linked. link-guaranteed network run n link fits owned is linked;
   arrives = all-arrives network run fits owned is;
-  packets = λ n link linked. Each-from_among (λ p. 1 ≤ p.number → IsOfAccepted network run n p) (packets_on link n run) (λ p among numbered. packet-accepted network run n link p fits owned is linked among numbered);
   channels = λ request owner tasks levels delay first sound full found accepted. channel-guaranteed network request owner tasks levels delay first run fits sound full is found accepted;
 }
 

@@ -35,8 +35,7 @@ use Rattle.call_script.specs.Owners.{OwnedFully}
 use Rattle.interleave_core.proofs.RunGoes.{HopLevels, levels-settled, levels-later, after-later, GoesAt, run-goes, owned-asked, tasks-off, plane-off-ask, off-standing, off-mild, is-run}
 use Rattle.interleave_core.proofs.RunLegal.{plane-next, caller-next, run-stands}
 use Rattle.channel_laws.specs.Asks.{IsOff, IsMild}
-use Rattle.interleave_core.specs.Paths.{HopAt}
-use Rattle.interleave_core.specs.Guarantee.{count_at}
+use Rattle.interleave_core.specs.Paths.{HopAt, count_at}
 
 -- an entry of a setup leaves the rows that its replies say; the others neither reserve, relax nor deny the channel
 pub data EntryIs (network : Network) (request : Request) (done : Done) (past : List Done) : Type 0 where

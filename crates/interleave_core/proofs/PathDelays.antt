@@ -82,7 +82,7 @@ passed network request levels run fits sound asked is have first i at start amon
     record {
       index = place.index;
       number = (let e = place.number in omega (arith, e));
-      within = (let fewer = path.fewer in omega (arith, fewer, inside));
+      within = (let fewer = path.fewer in let all = length-map (packets_at network request 0 first run) tick_of_packet in omega (arith, fewer, inside, all));
       in_time = omega (arith, rest, tick, bound, most, more);
       later = λ jitter. (let exact = path-exact network request levels run fits sound asked is have jitter first i at place.index inside in omega (arith, exact, tick, least));
     }

@@ -55,8 +55,7 @@ use Rattle.interleave_core.proofs.RunCloses.{owned-once}
 use Rattle.interleave_core.proofs.RunGoes.{owned-asked}
 use Rattle.interleave_core.proofs.RunLegal.{part-admissible}
 use Rattle.channel_laws.specs.Reservations.{held_by}
-use Rattle.interleave_core.specs.Paths.{HopAt, packets_at}
-use Rattle.interleave_core.specs.Guarantee.{count_at}
+use Rattle.interleave_core.specs.Paths.{HopAt, packets_at, count_at}
 
 abbrev pub two_of : (network : Network) (request : Request) (i : ℕ) → HopAt network request i → HopAt network request (suc i) → TwoHops network request i
 two_of network request i near far = record { hop = near.hop; after = far.hop; stands = near.stands; follows = far.stands; near = near.link; far = far.link; linked = near.linked; far_linked = far.linked }
