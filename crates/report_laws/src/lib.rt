@@ -1,0 +1,7 @@
+//! Laws of a run's report, each as the contract of a function that does nothing: the numbers that it tells are those that the whole
+//! guarantee speaks of.
+#![tactic(auto)]
+
+pub mod laws;
+
+pub use laws::{reports_keep_their_bounds, reports_tell_what_sources_offer, rows_tell_departures};
