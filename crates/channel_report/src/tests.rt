@@ -21,7 +21,7 @@ use setup_protocol::{Control, Request};
 use std::alloc::Global;
 use std::process::Abort;
 use std::test::Fail;
-use traffic_contract::{Contract, Test};
+use traffic_contract::Contract;
 
 mod summaries;
 
@@ -41,14 +41,15 @@ fn link_no() -> Result<LinkNo, Fail>
     Ok(LinkNo::new(0).ok_or("link")?)
 }
 
-fn link(alloc: Global) -> Result<LinkEntry, Fail>
+fn link(alloc: Global, version: Version) -> Result<LinkEntry, Fail>
     ensures { IfOk result IsThatLink }
 {
+    let test = version.test();
     Ok(LinkEntry {
         name: name("A")?,
         from: name("n1")?,
         to: name("n2")?,
-        shape: LinkShape::new(link_no()?, 1, 4, 2, 100, bounds()?, Test::Whole, 0)?,
+        shape: LinkShape::new(link_no()?, 1, 4, 2, 100, bounds()?, test, 0)?,
         quotas: Quotas::none(alloc),
     })
 }
@@ -98,17 +99,17 @@ fn caller(alloc: Global, chan: ChanNo) -> Result<CallerEntry, Fail>
 }
 
 // A plan of that link, that request and that caller, with 30 rounds.
-fn plan(alloc: Global) -> Result<Plan, Fail> {
-    let request = request(None)?;
+fn plan(alloc: Global, version: Version, found: Option<(Name, Name)>) -> Result<Plan, Fail> {
+    let request = request(found)?;
     let caller = caller(alloc, request.request.chan)?;
     let mut links = Vec::new(alloc);
-    links.push(link(alloc)?)?;
+    links.push(link(alloc, version)?)?;
     let mut requests = Vec::new(alloc);
     push_request(&mut requests, request)?;
     let mut callers = Vec::new(alloc);
     callers.push(caller)?;
     let groups = Vec::new(alloc);
-    Ok(Plan::new(alloc, Version::One, links, groups, requests, callers, 30, 0)?)
+    Ok(Plan::new(alloc, version, links, groups, requests, callers, 30, 0)?)
 }
 
 // So many steps of one actor.
@@ -136,7 +137,7 @@ fn run(alloc: Global, plan: &Plan, caller: u64, plane: u64) -> Result<Record, Fa
 #[test]
 fn a_channel_that_carries_three_packets(rt: HostRuntime) -> Result<(), Fail> {
     let alloc = rt.alloc();
-    let plan = plan(alloc)?;
+    let plan = plan(alloc, Version::One, None)?;
     let run = run(alloc, &plan, 3, 30)?;
     let mut sink = MemSink::new(alloc, 65_536, 65_536, Vec::new(alloc))?;
     assert_eq!(rt; write_report(alloc, &plan, &run, true, &mut sink), Ok(()));
@@ -155,7 +156,7 @@ fn a_channel_that_carries_three_packets(rt: HostRuntime) -> Result<(), Fail> {
 #[test]
 fn a_setup_that_has_not_ended(rt: HostRuntime) -> Result<(), Fail> {
     let alloc = rt.alloc();
-    let plan = plan(alloc)?;
+    let plan = plan(alloc, Version::One, None)?;
     let run = run(alloc, &plan, 1, 0)?;
     let mut sink = MemSink::new(alloc, 65_536, 4, Vec::new(alloc))?;
     assert_eq!(rt; write_report(alloc, &plan, &run, false, &mut sink), Ok(()));
@@ -165,9 +166,22 @@ fn a_setup_that_has_not_ended(rt: HostRuntime) -> Result<(), Fail> {
 }
 
 #[test]
+fn a_route_that_was_found_has_a_line(rt: HostRuntime) -> Result<(), Fail> {
+    let alloc = rt.alloc();
+    let nodes = (name("n1")?, name("n2")?);
+    let plan = plan(alloc, Version::Four, Some(nodes))?;
+    let run = run(alloc, &plan, 1, 0)?;
+    let mut sink = MemSink::new(alloc, 65_536, 4, Vec::new(alloc))?;
+    assert_eq!(rt; write_report(alloc, &plan, &run, false, &mut sink), Ok(()));
+    let text = "pending r1\nroute r1 A prop 2\nlink A clock 0 sent 0 full 0\nend steps 1\n";
+    assert_eq!(rt; sink.bytes(), text.as_bytes());
+    Ok(())
+}
+
+#[test]
 fn the_text_of_a_schedule(rt: HostRuntime) -> Result<(), Fail> {
     let alloc = rt.alloc();
-    let plan = plan(alloc)?;
+    let plan = plan(alloc, Version::One, None)?;
     let caller = ActorNo::new(0).ok_or("caller")?;
     let plane = ActorNo::new(1).ok_or("plane")?;
     assert!(rt; usize::from(caller.get()) <= plan.callers().len());

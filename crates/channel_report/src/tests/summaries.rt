@@ -2,6 +2,7 @@
 use super::{plan, run};
 use crate::write_summary;
 use byte_ends::MemSink;
+use call_script::Version;
 use std::alloc::Global;
 use std::process::Abort;
 use std::test::Fail;
@@ -14,7 +15,7 @@ fn sums_up<R: Abort>(
     plane: u64,
     text: &str,
 ) -> Result<(), Fail> {
-    let plan = plan(alloc)?;
+    let plan = plan(alloc, Version::One, None)?;
     let run = run(alloc, &plan, caller, plane)?;
     let mut sink = MemSink::new(alloc, 65_536, 65_536, Vec::new(alloc))?;
     assert_eq!(rt;
