@@ -104,6 +104,7 @@ fn a_caller_makes_its_steps(rt: HostRuntime) -> Result<(), Fail> {
     let plan = plan(alloc)?;
     let mut core = Core::new(alloc, &plan)?;
     let caller = ActorNo::new(0).ok_or("caller")?;
+    let plane = ActorNo::new(1).ok_or("plane")?;
     let nobody = ActorNo::new(9).ok_or("actor")?;
     let offer = Reply::Offer {
         level: Level::LEAST,
@@ -117,11 +118,13 @@ fn a_caller_makes_its_steps(rt: HostRuntime) -> Result<(), Fail> {
     assert_eq!(rt; core.step(&plan, caller), Ok(offer));
     assert_eq!(rt; core.step(&plan, caller), Ok(Reply::Relaxed { clock: 0 }));
     assert!(rt; !core.has_step(&plan, caller));
+    // the plane's steps aren't the caller's
+    assert!(rt; core.step(&plan, plane).is_ok());
     assert_eq!(rt;
         core.step(&plan, caller),
         Err(CoreRefusal::NoStepLeft { made: 2 })
     );
-    assert_eq!(rt; core.finish().entries().len(), 2);
+    assert_eq!(rt; core.finish().entries().len(), 3);
     Ok(())
 }
 
