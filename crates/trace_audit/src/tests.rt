@@ -7,7 +7,9 @@ ghost use Rattle.call_script.specs.OneLink.{AsksForOne, HasThatRequest, IsThatLi
 ghost use Rattle.run_record.specs.SmallRows.{IsSmall};
 
 use super::*;
-use call_script::{CallerEntry, LinkEntry, Op, Ops, Plan, Quotas, RequestEntry, Version, push_request};
+use call_script::{
+    CallerEntry, LinkEntry, Op, Ops, Plan, Quotas, RequestEntry, Version, push_request,
+};
 use hop_reservation::{Hop, Route};
 use link_steps::LinkShape;
 use net_units::{ActorNo, Bounds, ChanNo, Level, Levels, LinkNo, Name};
@@ -95,16 +97,7 @@ fn plan(alloc: Global) -> Result<Plan, Fail>
     let mut callers = Vec::new(alloc);
     callers.push(caller)?;
     let groups = Vec::new(alloc);
-    Ok(Plan::new(
-        alloc,
-        Version::One,
-        links,
-        groups,
-        requests,
-        callers,
-        30,
-        0,
-    )?)
+    Ok(Plan::new(alloc, Version::One, links, groups, requests, callers, 30, 0)?)
 }
 
 // Level 1 at the one hop.
