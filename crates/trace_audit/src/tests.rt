@@ -47,7 +47,8 @@ fn link(alloc: Global) -> Result<LinkEntry, Fail>
     })
 }
 
-fn request() -> Result<RequestEntry, Fail>
+// A request whose route is given, or was found between these nodes.
+fn request(found: Option<(Name, Name)>) -> Result<RequestEntry, Fail>
     ensures is { IfOk result IsThatRequest }
     ensures asks { IfOk result (λ made. AsksForOne made.request) }
 {
@@ -66,7 +67,7 @@ fn request() -> Result<RequestEntry, Fail>
             control: Control::Rate,
             delay: 12,
         },
-        found: None,
+        found,
     })
 }
 
@@ -88,7 +89,7 @@ fn caller(alloc: Global, chan: ChanNo) -> Result<CallerEntry, Fail>
 fn plan(alloc: Global) -> Result<Plan, Fail>
     ensures { IfOk result HasThatRequest }
 {
-    let request = request()?;
+    let request = request(None)?;
     let caller = caller(alloc, request.request.chan)?;
     let mut links = Vec::new(alloc);
     links.push(link(alloc)?)?;
