@@ -13,8 +13,8 @@ pub returns : goal.returns
 returns c =
     rw (c.in_ok-new.ensures.value, c.in_ok-push_request.ensures.ok, c.new-requests.ensures.items)
     (record {
-        entry = c.in_ok-request.request;
-        only = refl;
-        is = c.in_ok-request.ensures.is;
-        asks = c.in_ok-request.ensures.asks;
+      entry = c.in_ok-request.request;
+      only = refl;
+      is = c.in_ok-request.ensures.is;
+      asks = c.in_ok-request.ensures.asks;
     })
