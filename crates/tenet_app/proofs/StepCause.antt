@@ -3,7 +3,7 @@ use Rattle.std.proofs.Common.{◌≡◌, inl, inr, ℕ, suc, ◌+◌, ◌*◌, B
 use Rattle.std.specs.Prelude.{is_some}
 use Rattle.std.proofs.lemmas.Bool.{cases_Bool}
 use Rattle.byte_ends.specs.WholeLines.{Ending, all_given, cut_short, too_long, outlook}
-use Rattle.call_script.specs.Rules.{caller_names, link_names, request_names, hops_of, load_in, takes_best_effort}
+use Rattle.call_script.specs.Rules.{caller_names, link_names, request_names, hops_of, is_named, load_in, takes_best_effort}
 use Rattle.call_script.specs.declared.version.Version.{Version}
 use Rattle.net_units.specs.Limits.{most_best, most_bound, most_buffer, most_callers, most_delay, most_gap, most_interval, most_links, most_packets, most_propagation, most_rate, most_requests, most_rounds, most_size, most_steps}
 use Rattle.net_units.specs.Text.{is_name}
@@ -15,7 +15,8 @@ use Rattle.scenario_reader.specs.Fields.{fields_of, are_fields, field_at}
 use Rattle.scenario_reader.specs.Forms.{has_form, is_among, name_rule, new_name_rule, used_name_rule, number_rule}
 use Rattle.scenario_reader.specs.Grammar.{caller_form, caller_rule, packets_rule, is_closed_request, load_rule, send_form, send_rule, close_form, close_rule, pour_form, pour_rule, rounds_form, rounds_rule, are_few_ticks, tail_form, tail_rule, schedule_form, schedule_rule, is_plane, actor_rule, do_form, do_rule, header_said, header_version, line_word, may_stand, judge_as, judge_word, judge_after, judge_fields, is_passed_over, judge}
 use Rattle.scenario_reader.specs.LinkLine.{is_link_line, has_best, bound_fields, link_numbers, link_numbers_rule, best_rule, link_fields_rule, link_rule}
-use Rattle.scenario_reader.specs.OpenLine.{is_open_line, has_jitter, hops_in, route_fields, after_route, contract_told, contract_of, is_way, route_link_rule, terms_rule, jitter_rule, open_fields_rule, open_limits_rule, open_rule}
+use Rattle.scenario_reader.specs.Nodes.{is_node, route_between}
+use Rattle.scenario_reader.specs.OpenLine.{is_open_line, is_found, has_jitter, hops_in, route_fields, after_route, contract_told, contract_of, is_way, route_link_rule, route_names_rule, nodes_rule, way_fields_rule, terms_rule, jitter_rule, open_fields_rule, between_rule, way_rule, open_limits_rule, open_rule}
 use Rattle.scenario_reader.specs.Reading.{Reading, PlanRead, BadLine, TooManyBytes, at_end, on_judged, reading_of, reading}
 use Rattle.scenario_reader.specs.declared.cause.Cause.{Cause}
 use Rattle.scenario_reader.specs.declared.cause.Cause.TheVariants as cause
@@ -117,23 +118,41 @@ other-jitter fields = other-if (has_jitter fields) (number_rule 1 most_delay (af
 other-route-link : (said : Said) (field : List ℕ) → IsOther (route_link_rule said field)
 other-route-link said field = other-used (is_some (link_named said.links field)) field
 
+other-nodes : (said : Said) (fields : List (List ℕ)) → IsOther (nodes_rule said fields)
+other-nodes said fields = other-else _ _ (other-used (is_node said.links (field_at fields 3)) (field_at fields 3)) (other-used (is_node said.links (field_at fields 5)) (field_at fields 5))
+
+other-route-names : (said : Said) (route : List (List ℕ)) → IsOther (route_names_rule said route)
+other-route-names said route = other-all (route_link_rule said) route (other-route-link said)
+
+other-way-fields : (said : Said) (fields : List (List ℕ)) → IsOther (way_fields_rule said fields)
+other-way-fields said fields = other-if (is_found fields) (nodes_rule said fields) (route_names_rule said (route_fields fields)) (other-nodes said fields) (other-route-names said (route_fields fields))
+
 other-open-fields : (said : Said) (fields : List (List ℕ)) → IsOther (open_fields_rule said fields)
 other-open-fields said fields =
     other-else _ _ (other-new (request_names said.requests) (field_at fields 1))
-    (other-else _ _ (other-all (route_link_rule said) (route_fields fields) (other-route-link said))
+    (other-else _ _ (other-way-fields said fields)
     (other-else _ _ (other-terms fields)
     (other-else _ _ (other-number 1 most_delay (after_route fields 6))
     (other-else _ _ (other-jitter fields) other-none))))
+
+other-between : (said : Said) (from to : List ℕ) → IsOther (between_rule said from to)
+other-between said from to = other-else _ _ (other-unless (not (is_named to from)) cause.Route refl) (other-unless (is_some (route_between said.links from to)) cause.Reach refl)
+
+other-way : (said : Said) (fields : List (List ℕ)) → IsOther (way_rule said fields)
+other-way said fields =
+    other-if (is_found fields) (between_rule said (field_at fields 3) (field_at fields 5)) (unless (is_way said (hops_in said fields)) cause.Route)
+    (other-between said (field_at fields 3) (field_at fields 5))
+    (other-unless (is_way said (hops_in said fields)) cause.Route refl)
 
 other-open-limits : (said : Said) (fields : List (List ℕ)) → IsOther (open_limits_rule said fields)
 other-open-limits said fields =
     other-else _ _ (other-unless (nat_lt (length said.requests) most_requests) cause.Many refl)
     (other-else _ _ (other-unless (is_some (contract_of (contract_told fields))) cause.Contract refl)
-    (other-else _ _ (other-unless (is_way said (hops_in said fields)) cause.Route refl) other-none))
+    (other-else _ _ (other-way said fields) other-none))
 
-other-open : (said : Said) (fields : List (List ℕ)) → IsOther (open_rule said fields)
-other-open said fields =
-    other-else _ _ (other-unless (is_open_line fields) cause.Shape refl)
+other-open : (version : Version) (said : Said) (fields : List (List ℕ)) → IsOther (open_rule version said fields)
+other-open version said fields =
+    other-else _ _ (other-unless (is_open_line version fields) cause.Shape refl)
     (other-else _ _ (other-open-fields said fields)
     (other-else _ _ (other-open-limits said fields) other-none))
 
@@ -209,7 +228,7 @@ stated-goes (Some why) said is = is.other
 goes-as : (keyword : Keyword) (version : Version) (said : Said) (number : ℕ) (fields : List (List ℕ)) → stops (judge_as keyword version said number fields) ≡ false
 goes-as word.Link version said number fields = stated-goes (link_rule version said fields) _ (other-link version said fields)
 goes-as word.Caller version said number fields = judged-goes (caller_rule said fields) _ (other-caller said fields)
-goes-as word.Open version said number fields = judged-goes (open_rule said fields) _ (other-open said fields)
+goes-as word.Open version said number fields = judged-goes (open_rule version said fields) _ (other-open version said fields)
 goes-as word.Send version said number fields = stated-goes (send_rule said fields) _ (other-send said fields)
 goes-as word.Close version said number fields = stated-goes (close_rule said fields) _ (other-close said fields)
 goes-as word.Pour version said number fields = stated-goes (pour_rule said fields) _ (other-pour said fields)
