@@ -1,12 +1,15 @@
 -- One step under the lock: the pass meets the link, draws a mark, the link replies and enters the mark, and the pass meets it
 -- again. The link is in order then, and the pass is told all that `Acted` says.
-use Rattle.std.proofs.Common.{◌≡◌, ℕ, ◌+◌, ◌<◌, ◌≤◌, List, [], ◌∷◌, ◌++◌, length, sym, ap, ◌∙◌, subst, arith}
+use Rattle.std.proofs.Common.{◌≡◌, ℕ, ◌+◌, ◌<◌, ◌≤◌, List, [], ◌∷◌, ◌++◌, length, sym, ap, ◌∙◌, subst, ⊎_elim, arith}
+use Rattle.std.proofs.lemmas.Bool.{cases_eq}
 use Rattle.std.proofs.Math.Nat.{le-max_left, le-max_right, max-eq_right}
 use mathlib.Core.List.{IsPrefix}
 use Rattle.net_units.specs.Numbers.{link_number}
 use Rattle.net_units.specs.declared.numbers.ActorNo.{ActorNo}
 use Rattle.link_steps.specs.Legal.{IsLegal, AskFits}
+use Rattle.link_steps.specs.Lists.{Each}
 use Rattle.link_steps.specs.Replies.{reply_to}
+use Rattle.link_steps.proofs.ListFacts.{Each-if}
 use Rattle.link_steps.specs.declared.asks.Ask.{Ask}
 use Rattle.link_steps.specs.declared.replies.Entry.{Entry as Done}
 use Rattle.link_steps.specs.declared.replies.Reply.{Reply}
@@ -14,8 +17,10 @@ use Rattle.step_stamp.specs.Lists.{Has}
 use Rattle.step_stamp.specs.Marks.{StampsRise, drawn_for}
 use Rattle.step_stamp.specs.Seats.{Meets, DrawsMark, EntersMark}
 use Rattle.step_stamp.specs.Views.{known_of}
+use Rattle.step_stamp.specs.declared.marks.Drawn.{Drawn}
 use Rattle.step_stamp.specs.declared.marks.Mark.{Mark}
 use Rattle.step_stamp.specs.declared.views.View.{View}
+use Rattle.step_stamp.proofs.ListFacts.{each_has, has_each, has_prefix}
 use Rattle.link_ledger.specs.Journals.{marks_in, history_in, journal_entry_of}
 use Rattle.link_ledger.specs.Order.{HeldLink, IsInOrder}
 use Rattle.link_ledger.specs.Own.{own_mark, own_entry, Acted}
@@ -66,6 +71,18 @@ module _ (stands stands' : List Done → Type 0) (owners : List ActorNo) (links 
       let saw = entered.saw in
       in_order-more stands stands' owners links held held' (journal_entry_of m reply) o may_enter rules entries (list ∙ list_now) (omega (arith, saw, le))
 
+  -- and above all marks that the pass knew before it met the link
+  known_below : (j stamp : ℕ) → stamp ≡ m.stamp → Each (λ (x : Mark). x.stamp < stamp) (known_of j v)
+  known_below j stamp is =
+      subst (λ top. Each (λ (x : Mark). x.stamp < top) (known_of j v)) (sym is)
+      (⊎_elim
+      (λ (e : j ≡ l).
+      let now : Each (λ (x : Mark). x.stamp < m.stamp) (known_of l k) = subst (Each (λ (x : Mark). x.stamp < m.stamp)) met.knows (drew.above_known l) in
+      subst (λ i. Each (λ (x : Mark). x.stamp < m.stamp) (known_of i v)) (sym e)
+      (has_each (λ (x : Mark). x.stamp < m.stamp) (known_of l v) (λ x has. each_has (λ (y : Mark). y.stamp < m.stamp) x (known_of l k) now (has_prefix x (known_of l v) (known_of l k) met.begins has))))
+      (λ other. subst (Each (λ (x : Mark). x.stamp < m.stamp)) (met.others j other) (drew.above_known j))
+      (cases_eq j l))
+
   -- the pass has met it again: what it knows then is the journal's marks with this one
   pub step-acted : (v3 k3 : View) (e : OwnEntry) → Meets l v2 k2 v3 k3 → link_number e.link ≡ l → e.place ≡ length held.entries + 1 → e.stamp ≡ m.stamp → e.ask ≡ ask → e.reply ≡ reply → Acted held.rules l actor ask v v3 held.entries e
   unfolding IsLegal
@@ -93,6 +110,8 @@ module _ (stands stands' : List Done → Type 0) (owners : List ActorNo) (links 
         actors = again.actors ∙ drew.actors ∙ met.actors;
         among = again.among ∙ drew.among ∙ met.among;
         above = omega (arith, above, stamp);
+        above_known = λ j. known_below j e.stamp stamp;
+        above_drawn = Each-if (λ (d : Drawn). d.mark.stamp < m.stamp) (λ (d : Drawn). d.mark.stamp < e.stamp) v.drawn (λ d lt. omega (arith, lt, stamp)) (subst (Each (λ (d : Drawn). d.mark.stamp < m.stamp)) met.drawn drew.above_drawn);
         saw = pass_saw ∙ sym stamp;
         link_is = link;
         ask_is = ask_is;

@@ -59,7 +59,8 @@ abbrev pub AreAnswered : Link → ℕ → ActorNo → View → List OwnEntry →
 AreAnswered link l actor v own = Each (IsAnswered link (known_of l v) actor) (own_at l own)
 
 -- one step under the lock, as the seat of the pass tells it: the journal before it, which the pass knew a beginning of, and the
--- entry made, which is the journal's next one
+-- entry made, which is the journal's next one. Its stamp is above all that the pass had seen, and so above those of all marks
+-- that it knew of this link or of any other
 pub record Acted (link : Link) (l : ℕ) (actor : ActorNo) (ask : Ask) (pass pass' : View) (entries : List Entry) (e : OwnEntry) : Type 0 where
   pub legal : IsLegal link (history_in (entries ++ own_entry actor e ∷ []))
   pub begins : IsPrefix (known_of l pass) (marks_in entries)
@@ -71,6 +72,8 @@ pub record Acted (link : Link) (l : ℕ) (actor : ActorNo) (ask : Ask) (pass pas
   pub actors : pass'.actors ≡ pass.actors
   pub among : pass'.among ≡ pass.among
   pub above : pass.seen < e.stamp
+  pub above_known : (k : ℕ) → Each (λ (m : Mark). m.stamp < e.stamp) (known_of k pass)
+  pub above_drawn : Each (λ (d : Drawn). d.mark.stamp < e.stamp) pass.drawn
   pub saw : pass'.seen ≡ e.stamp
   pub link_is : link_number e.link ≡ l
   pub ask_is : e.ask ≡ ask

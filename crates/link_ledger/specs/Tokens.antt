@@ -1,6 +1,6 @@
 -- A pass as callers see it: its actor, whether it has its seat and what that knows, its own entries, and whether a step has
 -- met want of memory. And what a step of it at a link makes of it.
-use Rattle.std.specs.Prelude.{◌≡◌, ℕ, Bool, true, false, Option, Some, None, option_map, List, [], ◌∷◌, ◌++◌, map, slice_get}
+use Rattle.std.specs.Prelude.{◌≡◌, ℕ, Bool, true, false, Option, Some, None, option_map, List, [], ◌∷◌, ◌++◌, length, map, slice_get}
 use Rattle.net_units.specs.Numbers.{actor_number}
 use Rattle.net_units.specs.declared.numbers.ActorNo.{ActorNo}
 use Rattle.atomic_table.specs.Seated.{TableId}
@@ -25,6 +25,16 @@ pub record Token : Type 0 where
   pub view : View
   pub own : List OwnEntry
   pub spent : Bool
+
+-- its numbers: how many stamps it has drawn, the largest that it has seen, and how many actors its opening has
+abbrev pub stamps_drawn : Token → ℕ
+stamps_drawn pass = length pass.view.drawn
+
+abbrev pub last_seen : Token → ℕ
+last_seen pass = pass.view.seen
+
+abbrev pub actors_opened : Token → ℕ
+actors_opened pass = pass.view.among
 
 -- of its parts; a pass that gave its seat up knows nothing
 abbrev pub token_of : ActorNo → Option PassSeat → List OwnEntry → Bool → Token

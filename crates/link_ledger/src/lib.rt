@@ -12,10 +12,8 @@ mod held;
 pub mod home;
 pub mod locked;
 pub mod pass;
-pub mod unlocked;
 
 pub use entries::{Entry, Journal, OwnEntry};
 pub use home::Home;
 pub use locked::{LockedLink, StepFault};
 pub use pass::Pass;
-pub use unlocked::Unlocked;

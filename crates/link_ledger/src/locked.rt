@@ -1,5 +1,6 @@
 //! A link behind a lock.
 ghost use Rattle.std.specs.Prelude.{◌≡◌, ℕ, ◌^◌, ◌<◌, [], length, map, IfOk, OnErr, Some, List, true, false};
+ghost use Rattle.std.specs.Sync.Mutex.{mutex_guard_value};
 ghost use Rattle.net_units.specs.Numbers.{link_number};
 ghost use Rattle.link_steps.specs.Legal.{AskFits};
 ghost use Rattle.link_steps.specs.Split.{Link};
@@ -13,11 +14,10 @@ use crate::entries::{Journal, OwnEntry};
 use crate::held::Held;
 use crate::home::Home;
 use crate::pass::Pass;
-use crate::unlocked::Unlocked;
 use link_steps::{Ask, LinkShape, LinkStep, Reply};
 use net_units::{ActorNo, Gate, LinkNo, OutOfMemory};
 use std::alloc::Global;
-use std::sync::{Mutex, Wait};
+use std::sync::{Mutex, MutexGuard, Wait};
 use step_stamp::{LinkSeat, PassSeat, Stamps};
 
 /// Why a step wasn't answered.
@@ -80,33 +80,17 @@ impl<L: LinkStep + Send, H: Home> LockedLink<L, H> {
         ensures marks { marks_in result.0.entries.items ≡ list_of result.1 }
         ensures journal { (rules : Link) × IsLink H.links (seat_link result.1) rules × IsLegalJournal rules (map done_in result.0.entries.items) × IsOrdered H.owners (length H.links) (record { number = seat_link result.1; rules = rules; entries = result.0.entries.items; list = list_of result.1; seen = (link_view result.1).seen; table = link_table result.1 }) }
     {
-        self.unlock().into_journal()
-    }
-
-    /// The link out of its lock, once no thread shares it.
-    pub fn unlock(self) -> Unlocked<L, H>
-        ensures link { result.link ≡ self.link }
-        ensures shape { result.shape ≡ self.shape }
-    {
-        let LockedLink { held, link, shape } = self;
-        Unlocked {
-            held: held.into_inner(),
-            link,
-            shape,
-        }
-    }
-
-    // The link behind a lock again.
-    pub(crate) fn of(unlocked: Unlocked<L, H>) -> LockedLink<L, H>
-        ensures link { result.link ≡ unlocked.link }
-        ensures shape { result.shape ≡ unlocked.shape }
-    {
-        let Unlocked { held, link, shape } = unlocked;
-        LockedLink {
-            held: Mutex::new(held),
-            link,
-            shape,
-        }
+        let LockedLink {
+            held,
+            link: _,
+            shape: _,
+        } = self;
+        let (entries, seat) = held.into_inner().into_parts();
+        let journal = Journal {
+            link: seat.link(),
+            entries,
+        };
+        (journal, seat)
     }
 
     /// The link's shape. It takes no lock.
@@ -118,9 +102,9 @@ impl<L: LinkStep + Send, H: Home> LockedLink<L, H> {
 
     /// Makes one step of this pass under the lock, which it may wait for: the link's reply is that of the rules after the
     /// journal so far, and the entry is the journal's next one and the pass's last. All that the pass had seen of the link
-    /// begins that journal, and the stamp is above every stamp that the pass had seen (`made`). What it then knows of the
-    /// link has rising stamps, each ask in it was asked by right, and each reserve's next link is one of the network's
-    /// (`order`).
+    /// begins that journal. The stamp is above every stamp that the pass had seen, and above those of all marks that it knew
+    /// of any link (`made`). What it then knows of the link has rising stamps, each ask in it was asked by right, and each
+    /// reserve's next link is one of the network's (`order`).
     ///
     /// The pass has its seat (`seat`) and isn't spent, it owns its entries at this link (`own`), as a new pass and one
     /// that has made its steps so does, and it has drawn fewer than 2^40 stamps. Its actor owns the channel that is asked
@@ -196,8 +180,7 @@ impl<L: LinkStep + Send, H: Home> LockedLink<L, H> {
         made
     }
 
-    // The step itself. The number beside the lock and the one under it are never compared but here, since no type ties
-    // them; where they differ the step is given up.
+    // The step itself.
     fn acted<W: Wait, G: Gate>(
         &self,
         rt: &W,
@@ -217,11 +200,23 @@ impl<L: LinkStep + Send, H: Home> LockedLink<L, H> {
         ensures same { (pass_table seat.new ≡ pass_table seat.old) × (seat.new.actor ≡ seat.old.actor) }
         ensures memory { OnErr result (DrewOneAtMost (pass_view seat.old) (pass_view seat.new)) }
     {
-        let mut held = self.held.lock(rt);
+        let mut held = self.taken(rt);
         gate.within(self.link, seat.actor());
-        if held.number().get() != self.link.get() {
-            return Err(OutOfMemory);
-        }
         held.act(stamps, seat, ask)
+    }
+
+    // The lock, taken with the link under it that has the number beside it. That one lies there the first time, since no call
+    // moves a link from its lock; but of what lies under a lock only its type is known, so it is taken until it does.
+    fn taken<W: Wait>(&self, rt: &W) -> MutexGuard<'_, Held<L, H>>
+        ensures number { (mutex_guard_value result).number ≡ link_number self.now.link }
+        ensures rules { IsLink H.links (link_number self.now.link) (mutex_guard_value result).rules }
+    {
+        for _ in rt.forever() {
+            let held = self.held.lock(rt);
+            if held.number().get() == self.link.get() {
+                return held;
+            }
+        }
+        unreachable!()
     }
 }

@@ -29,18 +29,15 @@ impl Model for Pass {
 }
 
 impl Pass {
-    ghost use Rattle.net_units.specs.Numbers.{actor_number};
-    ghost use Rattle.step_stamp.specs.Marks.{marks_of};
-    ghost use Rattle.step_stamp.specs.Seats.{stamps_table, pass_table, pass_view, knows_of, seat_actor};
+    ghost use Rattle.step_stamp.specs.Seats.{stamps_table, pass_table, pass_view};
     ghost use Rattle.step_stamp.specs.Views.{saw};
     ghost use Rattle.link_steps.specs.Split.{Link};
     ghost use Rattle.link_ledger.specs.Tokens.{OwnsAt, AnsweredAt};
 
-    /// A pass with this seat, which has drawn nothing (`drawn`) and so knows no mark of its actor (`known`). It owns its
-    /// entries, of which there are none, at every link (`owns`).
+    /// A pass with this seat, which has drawn nothing (`drawn`), and so knows no mark of its actor. It owns its entries, of
+    /// which there are none, at every link (`owns`).
     pub fn new(alloc: Global, seat: PassSeat) -> Pass
         requires drawn { (pass_view seat).drawn ≡ [] }
-        requires known { (l : ℕ) → marks_of (seat_actor seat) (knows_of seat l) ≡ [] }
         ensures actor { result.actor ≡ seat.actor }
         ensures seat { (result.has_seat ≡ true) × (result.table ≡ pass_table seat) × (result.view ≡ pass_view seat) }
         ensures own { result.own ≡ [] }

@@ -4,15 +4,11 @@ use Rattle.std.specs.Prelude.{option_to_list}
 use Rattle.atomic_table.specs.Seated.{TableId}
 use Rattle.link_steps.specs.Lists.{Each}
 use Rattle.link_steps.proofs.ListFacts.{Each-if}
-use Rattle.step_stamp.specs.Marks.{marks_of}
 use Rattle.step_stamp.specs.Opening.{IsNewPass}
-use Rattle.step_stamp.specs.Seats.{seat_actor}
-use Rattle.step_stamp.specs.Views.{known_of}
 use Rattle.step_stamp.specs.declared.seats.PassSeat.{PassSeat}
 use Rattle.step_stamp.specs.declared.views.View.{View}
 use Rattle.step_stamp.proofs.ListFacts.{each_has, has_right}
 use Rattle.lock_bench.specs.Ready.{IsUnused}
-use Rattle.step_stamp.proofs.ShelfFacts.{no_known}
 
 -- what holds of each element holds of the one that was taken from the end
 pub popped : {X : Type 0} (P : X → Type 0) (old new : List X) (taken : Option X) (x : X) → taken ≡ Some x → old ≡ new ++ option_to_list taken → Each P old → P x
@@ -26,11 +22,7 @@ each_at P (y ∷ xs) zero x below is each = subst P (sym is) each.0
 each_at P (y ∷ xs) (suc i) x below is each = each_at P xs i x (omega (arith, below)) is each.1
 
 new-unused : (table : TableId) (n : ℕ) (seat : PassSeat) → IsNewPass table n seat → IsUnused table seat
-new-unused table n seat new = record {
-  table_is = new.from_table;
-  drawn = ap (λ (v : View). v.drawn) new.view_is;
-  known = λ l. ap (λ (v : View). marks_of (seat_actor seat) (known_of l v)) new.view_is ∙ ap (marks_of (seat_actor seat)) (no_known l);
-}
+new-unused table n seat new = record { table_is = new.from_table; drawn = ap (λ (v : View). v.drawn) new.view_is }
 
 pub all-unused : (table : TableId) (n : ℕ) (seats : List PassSeat) → Each (IsNewPass table n) seats → Each (IsUnused table) seats
 all-unused table n seats new = Each-if (IsNewPass table n) (IsUnused table) seats (new-unused table n) new

@@ -3,8 +3,7 @@
 use Rattle.std.specs.Prelude.{◌≡◌, ℕ, true, false, List, []}
 use Rattle.atomic_table.specs.Seated.{TableId}
 use Rattle.link_steps.specs.Split.{Link}
-use Rattle.step_stamp.specs.Marks.{marks_of}
-use Rattle.step_stamp.specs.Seats.{pass_table, pass_view, seat_actor, knows_of}
+use Rattle.step_stamp.specs.Seats.{pass_table, pass_view}
 use Rattle.step_stamp.specs.declared.seats.PassSeat.{PassSeat}
 use Rattle.link_ledger.specs.Tokens.{Token, OwnsAt}
 
@@ -14,8 +13,7 @@ pub record MayTick (table : TableId) (links : List Link) (l : ℕ) (pass : Token
   pub unspent : pass.spent ≡ false
   pub owns : OwnsAt links l pass
 
--- a seat that has drawn nothing and knows no mark of its actor
+-- a seat that has drawn nothing
 pub record IsUnused (table : TableId) (seat : PassSeat) : Type 0 where
   pub table_is : pass_table seat ≡ table
   pub drawn : (pass_view seat).drawn ≡ []
-  pub known : (l : ℕ) → marks_of (seat_actor seat) (knows_of seat l) ≡ []

@@ -1,13 +1,19 @@
--- The numbers from 0 on, and what an iterator over a vector has left.
-use Rattle.std.proofs.Common.{◌≡◌, ℕ, zero, suc, eqb, true, ◌<◌, Some, List, [], ◌∷◌, ◌++◌, length, map, refl, sym, ap, ◌∙◌, inl, inr, arith}
-use Rattle.std.proofs.lemmas.Bool.{cases_lt, and_parts, eqb-true}
-use Rattle.std.proofs.lemmas.List.{length-append}
+-- The numbers from 0 on, what an iterator over a vector has left, and how many stamps a pass has drawn.
+use Rattle.std.proofs.Common.{◌≡◌, ℕ, zero, suc, ◌<◌, Some, List, [], ◌∷◌, ◌++◌, length, refl, sym, ap, ◌∙◌, inl, inr, arith}
+use Rattle.std.proofs.lemmas.Bool.{cases_lt}
+use Rattle.std.proofs.lemmas.List.{length-append, length-map}
 use Rattle.std.proofs.lemmas.Option.{same_Some}
-use Rattle.std.specs.List.{slice_get, list_all}
+use Rattle.std.specs.List.{slice_get}
 use Rattle.std.specs.Vec.Iter.{into_iter_items, into_iter_len}
 use Rattle.std.specs.declared.vec.IntoIter.{IntoIter}
+use Rattle.atomic_table.specs.Seated.{TableId}
+use Rattle.net_units.specs.declared.numbers.ActorNo.{ActorNo}
+use Rattle.link_steps.specs.Split.{Link}
 use Rattle.step_stamp.specs.Lists.{up_to}
+use Rattle.link_ledger.specs.Own.{own_drawn}
+use Rattle.link_ledger.specs.Tokens.{Token, stamps_drawn}
 use Rattle.link_ledger.proofs.OwnFacts.{get-left, get-last}
+use Rattle.shared_network.specs.Ready.{MayStep}
 
 pub up_to-length : (n : ℕ) → length (up_to n) ≡ n
 unfolding up_to
@@ -44,7 +50,6 @@ empty (x ∷ xs) none = absurd (omega (arith, none))
 pub none-left : {X Z : Type 0} (it : IntoIter X Z) → into_iter_len it ≡ 0 → into_iter_items it ≡ []
 none-left it none = let rest = it.rest in empty (into_iter_items it) (omega (arith, none, rest))
 
--- where a test finds two numbers of each element the same
-pub all-same : {X : Type 0} (f g : X → ℕ) (xs : List X) → list_all (λ x. eqb (f x) (g x)) xs ≡ true → map f xs ≡ map g xs
-all-same f g [] on = refl
-all-same f g (x ∷ xs) on = (let both = and_parts (eqb (f x) (g x)) (list_all (λ y. eqb (f y) (g y)) xs) on in (λ i. eqb-true (f x) (g x) both.0 i ∷ all-same f g xs both.1 i))
+-- a pass that may step has drawn a stamp for each of its own entries, and no other
+pub drawn-count : (table : TableId) (owners : List ActorNo) (links : List Link) (pass : Token) → MayStep table owners links pass → stamps_drawn pass ≡ length pass.own
+drawn-count table owners links pass may = ap length may.exact.drawn ∙ length-map pass.own (own_drawn pass.actor)

@@ -102,31 +102,33 @@ after P all done rest x is each = each_has P x all each (subst (Has x) is (has_r
 
 -- ---- the links
 
--- what was joined stays, but for what is known of the first links
-pub record StaysGathered (count : ℕ) (v v' : View) : Type 0 where
+-- what was joined stays, but for what is known of the links whose lists are there now
+pub record StaysGathered (v v' : View) : Type 0 where
   pub drawn : v'.drawn ≡ v.drawn
   pub actors : v'.actors ≡ v.actors
   pub among : v'.among ≡ v.among
-  pub knows : (l : ℕ) → count ≤ l → known_of l v' ≡ known_of l v
+  pub knows : (l : ℕ) → (Has l v'.links → ⊥) → known_of l v' ≡ known_of l v
 
-pub stays-first : (v : View) → StaysGathered 0 v v
-stays-first v = record { drawn = refl; actors = refl; among = refl; knows = λ l from. refl }
+pub stays-first : (v : View) → StaysGathered v v
+stays-first v = record { drawn = refl; actors = refl; among = refl; knows = λ l _. refl }
 
 -- a link's seat is joined, and its journal told
-pub settled-next : (links : List Link) (v0 v v' k : View) (l count : ℕ) (journal : Journal) (rules : Link) → StaysGathered count v0 v → ((a : ℕ) → a < v0.among → Has a v0.actors) → l ≡ count → number_of journal ≡ l → Settled l v k v' → marks_in journal.entries.items ≡ known_of l k → IsLink links l rules → IsLegalJournal rules (map done_in journal.entries.items)
-    → IsSettled links v0 journal × StaysGathered (suc count) v0 v'
-settled-next links v0 v v' k l count journal rules stays acts is number joined marks is_link legal = (
+pub settled-next : (links : List Link) (v0 v v' k : View) (l : ℕ) (journal : Journal) (rules : Link) → StaysGathered v0 v → ((a : ℕ) → a < v0.among → Has a v0.actors) → number_of journal ≡ l → Settled l v k v' → marks_in journal.entries.items ≡ known_of l k → IsLink links l rules → IsLegalJournal rules (map done_in journal.entries.items)
+    → IsSettled links v0 journal × StaysGathered v0 v'
+settled-next links v0 v v' k l journal rules stays acts number joined marks is_link legal = (
   record {
     legal = λ link found. subst (λ (x : Link). IsLegalJournal x (map done_in journal.entries.items)) (same_Some rules link (sym is_link ∙ ap (λ j. slice_get links j) (sym number) ∙ found)) legal;
     rises = subst StampsRise (sym marks) joined.rises;
-    begins = subst (λ j. IsPrefix (known_of j v0) (marks_in journal.entries.items)) (sym number) (subst (IsPrefix (known_of l v0)) (sym marks) (subst (λ ms. IsPrefix ms (known_of l k)) (stays.knows l (omega (arith, is))) joined.begins));
+    begins = subst (λ j. IsPrefix (known_of j v0) (marks_in journal.entries.items)) (sym number) (subst (IsPrefix (known_of l v0)) (sym marks) (subst (λ ms. IsPrefix ms (known_of l k)) (stays.knows l joined.new) joined.begins));
     drawn = λ m has. subst (λ j. Has (drawn_for j m) v0.drawn) (sym number) (subst (Has (drawn_for l m)) stays.drawn (joined.all all m (subst (Has m) marks has)));
   },
   record {
     drawn = joined.drawn ∙ stays.drawn;
     actors = joined.actors ∙ stays.actors;
     among = joined.among ∙ stays.among;
-    knows = λ j from. joined.others j (λ same. omega (arith, same, from, is)) ∙ stays.knows j (omega (arith, from));
+    knows = λ j none.
+        joined.others j (λ same. none (subst (Has j) (sym joined.links) (has_right j v.links (l ∷ []) (inl (sym same)))))
+        ∙ stays.knows j (λ has. none (subst (Has j) (sym joined.links) (has_left j v.links (l ∷ []) has)));
   },
 ) where
   all : (a : ℕ) → a < v.among → Has a v.actors

@@ -4,6 +4,8 @@ pub mod LinkNumbers
 mod StepFacts
 mod GatherFacts
 mod ClosingFacts
+pub mod PermutedFacts
+mod NumberOrder
 mod HoldFacts
 mod HoldSteps
 mod SetupGoes

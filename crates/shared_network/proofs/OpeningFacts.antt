@@ -11,9 +11,7 @@ use Rattle.link_steps.specs.Split.{Link, SplitFits}
 use Rattle.link_steps.proofs.ListFacts.{Each-if}
 use Rattle.step_stamp.specs.Lists.{up_to}
 use Rattle.step_stamp.specs.Opening.{IsNewLink, IsNewPass}
-use Rattle.step_stamp.specs.Marks.{marks_of}
-use Rattle.step_stamp.specs.Seats.{seat_actor, knows_of}
-use Rattle.step_stamp.specs.Views.{shelf_of, known_of, first_view, new_pass}
+use Rattle.step_stamp.specs.Views.{shelf_of, first_view, new_pass}
 use Rattle.step_stamp.specs.declared.seats.LinkSeat.{LinkSeat}
 use Rattle.step_stamp.specs.declared.seats.PassSeat.{PassSeat}
 use Rattle.step_stamp.specs.declared.views.View.{View}
@@ -24,7 +22,6 @@ use Rattle.shared_network.specs.Holds.{hold_from}
 use Rattle.shared_network.specs.Ready.{KnowsLink, MayStep, IsNew}
 use Rattle.shared_network.specs.Sight.{IsUnusedLink}
 use Rattle.shared_network.proofs.CountFacts.{up_to-length, up_to-next, get-after}
-use Rattle.step_stamp.proofs.ShelfFacts.{no_known}
 
 -- ---- locking the links
 
@@ -116,10 +113,6 @@ module _ (table : TableId) (owners : List ActorNo) (links : List Link) (n : ℕ)
         drawn = ap (λ (v : View). v.drawn) view_is;
         among = ap (λ (v : View). v.among) view_is;
       }
-
--- its seat knows nothing
-pub new-knows : (table : TableId) (n : ℕ) (seat : PassSeat) → IsNewPass table n seat → (l : ℕ) → marks_of (seat_actor seat) (knows_of seat l) ≡ []
-new-knows table n seat new l = ap (λ (v : View). marks_of (seat_actor seat) (known_of l v)) new.view_is ∙ ap (marks_of (seat_actor seat)) (no_known l)
 
 -- links that stand for the empty history have splits that fit them
 pub links-fit : {X : Type 0} (rules : X → Link) (stands : X → Type 0) (xs : List X) → ((x : X) → stands x → SplitFits (rules x)) → Each stands xs → Each SplitFits (map rules xs)

@@ -11,7 +11,6 @@ use Rattle.hop_reservation.specs.declared.route.Hop.{Hop}
 use Rattle.hop_reservation.proofs.OfferFacts.{AreLevels-push}
 use Rattle.link_steps.specs.Admissible.{MayAnswer}
 use Rattle.link_steps.specs.Levels.{level_of}
-use Rattle.link_steps.specs.Lists.{Each}
 use Rattle.link_steps.specs.Replies.{deny_reply, relax_reply, reply_at}
 use Rattle.link_steps.specs.Reservation.{committed}
 use Rattle.link_steps.specs.Split.{Link}

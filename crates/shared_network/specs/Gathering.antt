@@ -1,7 +1,7 @@
 -- How a network is closed: the seats of all passes are joined into one, which then has all actors and all that was drawn, and
 -- knows of each link what any pass knew. Then each link's seat is joined into that one, which tells that each mark of the
--- link's list was drawn.
-use Rattle.std.specs.Prelude.{◌≡◌, ℕ, ◌≤◌, List, [], ◌∷◌, ◌++◌, length, map}
+-- link's list was drawn, and that no two seats are of one link.
+use Rattle.std.specs.Prelude.{◌≡◌, ℕ, ◌<◌, ◌≤◌, List, [], ◌∷◌, ◌++◌, length, map}
 use mathlib.Core.List.{IsPrefix}
 use Rattle.atomic_table.specs.Seated.{TableId}
 use Rattle.net_units.specs.Numbers.{actor_number}
@@ -54,6 +54,10 @@ pub record IsSettled (links : List Link) (v : View) (journal : Journal) : Type 0
   pub rises : StampsRise (marks_in journal.entries.items)
   pub begins : IsPrefix (known_of (number_of journal) v) (marks_in journal.entries.items)
   pub drawn : (m : Mark) → Has m (marks_in journal.entries.items) → Has (drawn_for (number_of journal) m) v.drawn
+
+-- its link is one of so many
+abbrev pub IsBelow : ℕ → Journal → Type 0
+IsBelow links journal = number_of journal < links
 
 -- all of them, in the order of their numbers
 pub record AreSettled (links : List Link) (v : View) (journals : List Journal) : Type 0 where

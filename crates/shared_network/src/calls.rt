@@ -8,6 +8,7 @@ ghost use Rattle.setup_protocol.specs.State.{outcome_of};
 ghost use Rattle.setup_protocol.specs.Setup.{next_ask};
 ghost use Rattle.setup_protocol.specs.Teardown.{next_release, told_count};
 ghost use Rattle.link_ledger.specs.Owners.{IsOwner};
+ghost use Rattle.link_ledger.specs.Tokens.{stamps_drawn};
 ghost use Rattle.shared_network.specs.Added.{IsSamePass, IsLost};
 ghost use Rattle.shared_network.specs.Calls.{HasNone, IsEstablished, OthersStay, SetsUp, StepsStand, TearsDown};
 ghost use Rattle.shared_network.specs.Ready.{MayStep, PassGoesOn};
@@ -36,14 +37,14 @@ impl<L: LinkStep + Send, H: Home> Network<L, H> {
         request: &Request,
     ) -> Result<Verdict, StepFault>
         requires pass { MayStep H.table H.owners H.links pass.old }
-        requires few { length pass.old.view.drawn < 2 ^ 40 - 64 }
+        requires few { stamps_drawn pass.old < 2 ^ 40 - 64 }
         requires owned { IsOwner H.owners pass.old.actor request.now.chan }
         requires new { HasNone request.now.chan pass.old.own }
         requires hops { Each (IsHopOf H.links) request.now.route }
         ensures made { IfOk result (λ verdict. SetsUp request.now pass.old pass.new (outcome_of verdict)) }
         ensures established { IfOk result (λ verdict. is_accepted (outcome_of verdict) ≡ true → IsEstablished request.now pass.new.own) }
         ensures others { OnOk result (OthersStay request.now.chan pass.old.own pass.new.own) }
-        ensures drew { OnOk result (length pass.new.view.drawn ≤ length pass.old.view.drawn + 32) }
+        ensures drew { OnOk result (stamps_drawn pass.new ≤ stamps_drawn pass.old + 32) }
         ensures ready { OnOk result (PassGoesOn H.table H.owners H.links pass.old pass.new) }
         ensures lost { OnErr result (IsLost pass.new) }
         ensures stand { OnErr result (StepsStand (next_ask request.now) pass.old pass.new) }
@@ -79,13 +80,13 @@ impl<L: LinkStep + Send, H: Home> Network<L, H> {
         request: &Request,
     ) -> Result<u64, StepFault>
         requires pass { MayStep H.table H.owners H.links pass.old }
-        requires few { length pass.old.view.drawn < 2 ^ 40 - 64 }
+        requires few { stamps_drawn pass.old < 2 ^ 40 - 64 }
         requires owned { IsOwner H.owners pass.old.actor request.now.chan }
         requires hops { Each (IsHopOf H.links) request.now.route }
         requires established { IsEstablished request.now pass.old.own }
         ensures torn { IfOk result (λ count. TearsDown request.now pass.old pass.new count) }
         ensures others { OnOk result (OthersStay request.now.chan pass.old.own pass.new.own) }
-        ensures drew { OnOk result (length pass.new.view.drawn ≤ length pass.old.view.drawn + 16) }
+        ensures drew { OnOk result (stamps_drawn pass.new ≤ stamps_drawn pass.old + 16) }
         ensures ready { OnOk result (PassGoesOn H.table H.owners H.links pass.old pass.new) }
         ensures lost { OnErr result (IsLost pass.new) }
         ensures stand { OnErr result (StepsStand (next_release request.now.chan request.now.route) pass.old pass.new) }

@@ -12,7 +12,7 @@ ghost use Rattle.setup_protocol.specs.declared.request.Request.{Request};
 ghost use Rattle.channel_laws.specs.Asks.{IsOff};
 ghost use Rattle.shared_network.specs.Calls.{HasNone, IsEstablished};
 ghost use Rattle.link_ledger.specs.Owners.{OwnsAsk, NextBelow};
-ghost use Rattle.link_ledger.specs.Tokens.{Steps};
+ghost use Rattle.link_ledger.specs.Tokens.{Steps, last_seen, stamps_drawn};
 ghost use Rattle.shared_network.specs.Added.{Adds, IsSamePass, IsLost};
 ghost use Rattle.shared_network.specs.Ready.{MayStep, PassGoesOn, IsNew};
 ghost use Rattle.shared_network.specs.Sight.{FitsAt, IsSend, IsUnusedLink};
@@ -85,13 +85,13 @@ impl<L: LinkStep + Send, H: Home> Network<L, H> {
         ask: &Ask,
     ) -> Result<Reply, StepFault>
         requires pass { MayStep H.table H.owners H.links pass.old }
-        requires few { length pass.old.view.drawn < 2 ^ 40 }
+        requires few { stamps_drawn pass.old < 2 ^ 40 }
         requires link { link_number link < length H.links }
         requires fits { FitsAt H.links (link_number link) ask.now }
         requires owned { OwnsAsk H.owners pass.old.actor ask.now }
         requires next { NextBelow (length H.links) ask.now }
         ensures made { IfOk result (λ reply. Steps H.links (link_number link) ask.now pass.old pass.new reply) }
-        ensures drew { OnOk result (length pass.new.view.drawn ≡ length pass.old.view.drawn + 1) }
+        ensures drew { OnOk result (stamps_drawn pass.new ≡ stamps_drawn pass.old + 1) }
         ensures ready { OnOk result (PassGoesOn H.table H.owners H.links pass.old pass.new) }
         ensures lost { OnErr result (IsLost pass.new) }
         ensures kept { OnErr result (pass.new.own ≡ pass.old.own) }
@@ -117,7 +117,7 @@ impl<L: LinkStep + Send, H: Home> Network<L, H> {
         ask: &Ask,
     ) -> Result<Reply, StepFault>
         requires pass { MayStep H.table H.owners H.links pass.old }
-        requires few { length pass.old.view.drawn < 2 ^ 40 - 64 }
+        requires few { stamps_drawn pass.old < 2 ^ 40 - 64 }
         requires link { link_number link < length H.links }
         requires send { IsSend ask.now }
         requires fits { FitsAt H.links (link_number link) ask.now }
@@ -125,7 +125,7 @@ impl<L: LinkStep + Send, H: Home> Network<L, H> {
         ensures made { IfOk result (λ reply. Adds pass.old pass.new (record { link = link; ask = ask.now; reply = reply } ∷ [])) }
         ensures established { OnOk result ((request : Request) → IsEstablished request pass.old.own → IsEstablished request pass.new.own) }
         ensures unopened { OnOk result ((chan : ChanNo) → IsOff (channel_number chan) ask.now → HasNone chan pass.old.own → HasNone chan pass.new.own) }
-        ensures drew { OnOk result (length pass.new.view.drawn ≡ length pass.old.view.drawn + 1) }
+        ensures drew { OnOk result (stamps_drawn pass.new ≡ stamps_drawn pass.old + 1) }
         ensures ready { OnOk result (PassGoesOn H.table H.owners H.links pass.old pass.new) }
         ensures lost { OnErr result (IsLost pass.new) }
         ensures kept { OnErr result (pass.new.own ≡ pass.old.own) }
@@ -138,7 +138,8 @@ impl<L: LinkStep + Send, H: Home> Network<L, H> {
     /// the pass, of which nothing else changes. It takes no lock and no memory.
     pub fn steps_seen(&self, pass: &mut Pass) -> u64
         requires pass { (pass.old.has_seat ≡ true) × (pass.old.table ≡ H.table) }
-        ensures least { pass.old.view.seen ≤ result }
+        ensures least { last_seen pass.old ≤ result }
+        ensures counts { last_seen pass.new ≡ result }
         ensures saw { pass.new ≡ record pass.old { view = saw result pass.old.view } }
         ensures ready { MayStep H.table H.owners H.links pass.old → PassGoesOn H.table H.owners H.links pass.old pass.new }
     {

@@ -2,7 +2,8 @@
 ghost use Rattle.std.specs.Prelude.{◌≡◌, ℕ, ◌^◌, ◌+◌, ◌<◌, ◌≤◌, ◌-◌, length, IfOk, OnOk, OnErr};
 ghost use Rattle.net_units.specs.declared.numbers.ChanNo.{ChanNo};
 ghost use Rattle.setup_protocol.specs.declared.request.Request.{Request};
-ghost use Rattle.shared_network.specs.Added.{IsSamePass, IsLost};
+ghost use Rattle.link_ledger.specs.Tokens.{last_seen, stamps_drawn};
+ghost use Rattle.shared_network.specs.Added.{AddsAbove, IsSamePass, IsLost};
 ghost use Rattle.shared_network.specs.Calls.{HasNone, IsEstablished};
 ghost use Rattle.shared_network.specs.Planes.{IsPlanes, MakesRound};
 ghost use Rattle.shared_network.specs.Ready.{MayStep, PassGoesOn};
@@ -16,7 +17,7 @@ use tick_plane::Plane;
 
 impl<L: LinkStep + Send, H: Home> Network<L, H> {
     /// Makes the plane's next ask with its pass: a packet arrives at a link, or a link ticks. The answer is the link's reply,
-    /// which the plane has then taken (`made`). The arrives and ticks among the pass's entries are those of this plane, of as
+    /// which the plane has then taken (`made`), with a stamp above all that the pass had seen (`later`). The arrives and ticks among the pass's entries are those of this plane, of as
     /// many links as the network has (`planes`), and remain so. Channels of the pass stay as they were. It may wait for the
     /// link.
     ///
@@ -31,17 +32,18 @@ impl<L: LinkStep + Send, H: Home> Network<L, H> {
         plane: &mut Plane,
     ) -> Result<Reply, StepFault>
         requires pass { MayStep H.table H.owners H.links pass.old }
-        requires few { length pass.old.view.drawn < 2 ^ 40 - 64 }
+        requires few { stamps_drawn pass.old < 2 ^ 40 - 64 }
         requires links { plane.old.links ≡ length H.links }
         requires left { plane.old.at.round < plane.old.rounds }
         requires room { plane.old.links - plane.old.at.ticked ≤ plane.old.spare }
         requires planes { IsPlanes (length H.links) plane.old pass.old.own }
         ensures made { IfOk result (λ reply. MakesRound plane.old plane.new pass.old pass.new reply) }
+        ensures later { OnOk result (AddsAbove (last_seen pass.old) pass.old pass.new) }
         ensures planes { OnOk result (IsPlanes (length H.links) plane.new pass.new.own) }
         ensures room { OnOk result (1 ≤ plane.new.at.ticked → plane.new.links - plane.new.at.ticked ≤ plane.new.spare) }
         ensures established { OnOk result ((request : Request) → IsEstablished request pass.old.own → IsEstablished request pass.new.own) }
         ensures unopened { OnOk result ((chan : ChanNo) → HasNone chan pass.old.own → HasNone chan pass.new.own) }
-        ensures drew { OnOk result (length pass.new.view.drawn ≡ length pass.old.view.drawn + 1) }
+        ensures drew { OnOk result (stamps_drawn pass.new ≡ stamps_drawn pass.old + 1) }
         ensures ready { OnOk result (PassGoesOn H.table H.owners H.links pass.old pass.new) }
         ensures lost { OnErr result (IsLost pass.new) }
         ensures kept { OnErr result ((pass.new.own ≡ pass.old.own) × (plane.new ≡ plane.old)) }

@@ -1,10 +1,10 @@
 -- Closing: the seat of a link joins a pass, which then has the link's list, and a pass joins a pass, which then has all
 -- that the other had.
-use Rattle.std.proofs.Common.{◌≡◌, ◌⊎◌, ℕ, ◌≤◌, max, List, [], ◌∷◌, ◌++◌, refl, sym, ap, ◌∙◌, subst, inl, ⊎_elim, arith}
+use Rattle.std.proofs.Common.{◌≡◌, ◌⊎◌, ℕ, ◌≤◌, max, List, [], ◌∷◌, ◌++◌, refl, sym, ap, ◌∙◌, subst, inl, ⊎_elim}
 use Rattle.std.proofs.lemmas.Bool.{eqb-true}
 use Rattle.std.proofs.lemmas.List.{append-nil}
 use Rattle.std.proofs.lemmas.List.Elements.{filter-append}
-use Rattle.std.proofs.Math.Nat.{le-max_right, max-le}
+use Rattle.std.proofs.Math.Nat.{max-le}
 use mathlib.Core.List.{IsPrefix}
 use Rattle.atomic_table.specs.Table.{Joins}
 use Rattle.net_units.specs.Numbers.{actor_number}
@@ -12,22 +12,19 @@ use Rattle.link_steps.specs.Lists.{Each}
 use Rattle.link_steps.proofs.ListFacts.{Each-if, Each-append}
 use Rattle.step_stamp.specs.declared.marks.Drawn.{Drawn}
 use Rattle.step_stamp.specs.declared.marks.Mark.{Mark}
+use Rattle.step_stamp.specs.declared.views.Opening.{Opening}
 use Rattle.step_stamp.specs.declared.views.Shelf.{Shelf}
 use Rattle.step_stamp.specs.declared.views.View.{View}
-use Rattle.step_stamp.specs.Lists.{Has}
-use Rattle.step_stamp.specs.Marks.{StampsRise, by_actor, of_actor, longer}
+use Rattle.step_stamp.specs.Lists.{Has, Differ}
+use Rattle.step_stamp.specs.Marks.{StampsRise, NoTwice, by_actor, of_actor, longer}
 use Rattle.step_stamp.specs.Rule.{Tally, Begins, Fits, Learnt}
 use Rattle.step_stamp.specs.Seats.{Settled, Gathered}
 use Rattle.step_stamp.specs.Views.{shelf, shelf_of, known_of, first_of, settled, merged, gathered, nobody}
-use Rattle.step_stamp.proofs.ListFacts.{has_left, has_right, has_split, each_has, filter_none, begins_nothing}
+use Rattle.step_stamp.proofs.ListFacts.{has_left, has_right, has_split, each_has, filter_none, differ_both, differ_last, begins_nothing}
 use Rattle.step_stamp.proofs.MarkFacts.{longer_both, longer_whole, longer_other}
-use Rattle.step_stamp.proofs.Meeting.{most_left}
+use Rattle.step_stamp.proofs.Meeting.{most_left, most_right, drawn_left, drawn_right}
 use Rattle.step_stamp.proofs.ShelfFacts.{shelf_cases, shelf_here, shelf_else, shelf_made, shelf_none, no_known, no_shelf}
-use Rattle.step_stamp.proofs.ViewFacts.{Law, stays, moves, joins_all, acts_live, acts_some}
-
--- stamps that the other had seen are at most what is seen after a join
-most_right : (v w : View) (ms : List Mark) → Each (λ (m : Mark). m.stamp ≤ w.seen) ms → Each (λ (m : Mark). m.stamp ≤ max v.seen w.seen) ms
-most_right v w ms most = Each-if (λ (m : Mark). m.stamp ≤ w.seen) (λ (m : Mark). m.stamp ≤ max v.seen w.seen) ms (λ m le. omega (arith, le, le-max_right v.seen w.seen)) most
+use Rattle.step_stamp.proofs.ViewFacts.{Law, no_shelf_seen, stays, moves, joins_all, acts_live, acts_some}
 
 -- a view has drawn nothing of an actor that another view has
 none_of : (t : Tally) (a j other : ℕ) (u : View) → Fits t j u → t.owner a ≡ other → (other ≡ j → ⊥) → of_actor a u.drawn ≡ []
@@ -38,8 +35,9 @@ none_of t a j other u g owns apart =
     apart (sym owns ∙ (g.acts a (subst (λ k. Has k u.actors) (eqb-true (actor_number d.mark.actor) a on) acts)).here))
 
 module _ {S : Type 0} where
-  pub settles : (id l a : ℕ) (v : View) (other : ℕ) (w : View) → Has a v.actors → w.hand ≡ [] → w.links ≡ l ∷ [] → Joins {S = S} Law id v other w (settled l v w) nobody
-  settles id l a v other w acts empty links = joins_all id v other w (settled l v w) refl empty
+  pub settles : (about : Opening) (id l a : ℕ) (v : View) (other : ℕ) (w : View) → Has a v.actors → w.hand ≡ [] → w.links ≡ l ∷ [] → w.actors ≡ [] → Joins {S = S} (Law about) id v other w (settled l v w) nobody
+  settles about id l a v other w acts empty links no_actors = joins_all about id v other w (settled l v w) refl empty
+      (λ k has. has_left k v.links w.links has) (λ k has. has_right k v.links w.links has) (λ b has. has) (λ b has. absurd (subst (Has b) no_actors has))
       (λ t apart f g.
       let own = g.has l (subst (Has l) (sym links) (inl refl)) in
       let sh = shelf l (known_of l w) (known_of l v) (known_of l w) in
@@ -47,6 +45,10 @@ module _ {S : Type 0} where
       λ k else. shelf_cases (λ s. s.known ≡ t.log k) k sh v.shelves (λ (e : l ≡ k). own.whole ∙ ap t.log e) else in
       record {
         seen = max-le f.seen g.seen;
+        saw = record {
+          known = λ k. shelf_cases (λ s. Each (λ (m : Mark). m.stamp ≤ max v.seen w.seen) s.known) k sh v.shelves (λ _. most_right v w (known_of l w) (g.saw.known l)) (λ _. most_left v w (known_of k v) (f.saw.known k));
+          drawn = drawn_left v w v.drawn f.saw.drawn;
+        };
         among = f.among;
         knows = λ k. shelf_cases (λ s. Begins (t.log k) s) k sh v.shelves
             (λ (e : l ≡ k). subst (λ n. Begins (t.log n) sh) e (record { known = (g.knows l).known; first = (f.knows l).known; second = (g.knows l).known }))
@@ -54,28 +56,38 @@ module _ {S : Type 0} where
         has = λ k has. ⊎_elim
             (λ mine.
             let old = f.has k mine in
-            record { here = stays other id (t.seat k) id old.here (λ e. absurd (apart (sym e))); whole = known k (λ _. old.whole); most = most_left v w (t.log k) old.most })
+            record { here = stays other id (t.seat k) id old.here (λ e. absurd (apart (sym e))); whole = known k (λ _. old.whole); small = old.small })
             (λ theirs.
             let k_is : l ≡ k = ⊎_elim (λ (e : l ≡ k). e) (λ no. absurd no) (subst (Has k) links theirs) in
             let old = g.has k theirs in
-            record { here = moves other id (t.seat k) old.here; whole = known k (λ no. absurd (no k_is)); most = most_right v w (t.log k) old.most })
+            record { here = moves other id (t.seat k) old.here; whole = known k (λ no. absurd (no k_is)); small = old.small })
             (has_split k v.links w.links has);
+        apart = differ_both v.links w.links f.apart g.apart (λ k mine theirs. apart (sym (g.has k theirs).here ∙ (f.has k mine).here));
         acts = λ a has. (let old = f.acts a has in record { here = stays other id (t.owner a) id old.here (λ e. absurd (apart (sym e))); whole = old.whole; small = old.small });
         drew = f.drew;
         holds = f.holds;
+        once = f.once;
         spent = λ none. absurd (acts_live a v acts (f.spent none));
         lone = acts_some a v.actors acts;
       })
 
-  pub gathers : (id a : ℕ) (v : View) (other : ℕ) (w : View) → Has a v.actors → w.hand ≡ [] → Joins {S = S} Law id v other w (gathered v w) nobody
-  gathers id a v other w acts empty = joins_all id v other w (gathered v w) (ap (λ ds. v.hand ++ ds) empty ∙ append-nil v.hand) empty
+  pub gathers : (about : Opening) (id a : ℕ) (v : View) (other : ℕ) (w : View) → Has a v.actors → w.hand ≡ [] → Joins {S = S} (Law about) id v other w (gathered v w) nobody
+  gathers about id a v other w acts empty = joins_all about id v other w (gathered v w) (ap (λ ds. v.hand ++ ds) empty ∙ append-nil v.hand) empty
+      (λ k has. has_left k v.links w.links has) (λ k has. has_right k v.links w.links has) (λ b has. has_left b v.actors w.actors has) (λ b has. has_right b v.actors w.actors has)
       (λ t apart f g.
       let at_link : ℕ → Shelf = λ l. shelf l (longer (known_of l v) (known_of l w)) (known_of l v) (known_of l w) in
       let ss = v.shelves ++ w.shelves in
       let made : (l : ℕ) (P : Shelf → Type 0) → P (at_link l) → (((s : Shelf) → Has s ss → s.link ≡ l → ⊥) → P (shelf_of l [])) → P (shelf_of l (gathered v w).shelves) =
       λ l P here none. shelf_made P (merged v w) at_link (λ s. refl) (λ k. refl) l ss here none in
+      let seen : List Mark → Type 0 = Each (λ (m : Mark). m.stamp ≤ max v.seen w.seen) in
       record {
         seen = max-le f.seen g.seen;
+        saw = record {
+          known = λ l. made l (λ s. seen s.known)
+              (longer_both seen (known_of l v) (known_of l w) (most_left v w (known_of l v) (f.saw.known l)) (most_right v w (known_of l w) (g.saw.known l)))
+              (λ _. no_shelf_seen (max v.seen w.seen) l);
+          drawn = Each-append (λ (d : Drawn). d.mark.stamp ≤ max v.seen w.seen) v.drawn w.drawn (drawn_left v w v.drawn f.saw.drawn) (drawn_right v w w.drawn g.saw.drawn);
+        };
         among = f.among;
         knows = λ l. made l (λ s. Begins (t.log l) s)
             (record { known = longer_both (λ ms. IsPrefix ms (t.log l)) (known_of l v) (known_of l w) (f.knows l).known (g.knows l).known; first = (f.knows l).known; second = (g.knows l).known })
@@ -87,7 +99,7 @@ module _ {S : Type 0} where
               here = stays other id (t.seat k) id old.here (λ e. absurd (apart (sym e)));
               whole = made k (λ s. s.known ≡ t.log k) (longer_whole (t.log k) (known_of k v) (known_of k w) old.whole (g.knows k).known)
                   (λ no. sym (ap (λ (s : Shelf). s.known) (shelf_none k v.shelves (λ s has'. no s (has_left s v.shelves w.shelves has')))) ∙ old.whole);
-              most = most_left v w (t.log k) old.most;
+              small = old.small;
             })
             (λ theirs.
             let old = g.has k theirs in
@@ -95,9 +107,10 @@ module _ {S : Type 0} where
               here = moves other id (t.seat k) old.here;
               whole = made k (λ s. s.known ≡ t.log k) (longer_other (t.log k) (known_of k v) (known_of k w) old.whole (f.knows k).known)
                   (λ no. sym (ap (λ (s : Shelf). s.known) (shelf_none k w.shelves (λ s has'. no s (has_right s v.shelves w.shelves has')))) ∙ old.whole);
-              most = most_right v w (t.log k) old.most;
+              small = old.small;
             })
             (has_split k v.links w.links has);
+        apart = differ_both v.links w.links f.apart g.apart (λ k mine theirs. apart (sym (g.has k theirs).here ∙ (f.has k mine).here));
         acts = λ a has. ⊎_elim
             (λ mine.
             let old = f.acts a mine in
@@ -118,6 +131,7 @@ module _ {S : Type 0} where
             (Each-if (λ (d : Drawn). Has (actor_number d.mark.actor) v.actors) (λ (d : Drawn). Has (actor_number d.mark.actor) (v.actors ++ w.actors)) v.drawn (λ d has. has_left (actor_number d.mark.actor) v.actors w.actors has) f.drew)
             (Each-if (λ (d : Drawn). Has (actor_number d.mark.actor) w.actors) (λ (d : Drawn). Has (actor_number d.mark.actor) (v.actors ++ w.actors)) w.drawn (λ d has. has_right (actor_number d.mark.actor) v.actors w.actors has) g.drew);
         holds = Each-append (λ (d : Drawn). Has d t.draws) v.hand w.hand f.holds g.holds;
+        once = subst NoTwice (sym (ap (λ ds. v.hand ++ ds) empty ∙ append-nil v.hand)) f.once;
         spent = λ none. absurd (acts_live a v acts (f.spent none));
         lone = acts_some a (v.actors ++ w.actors) (has_left a v.actors w.actors acts);
       })
@@ -136,6 +150,8 @@ settled_facts l v w links some told =
       rises = subst StampsRise knows (told.rises l here);
       own = λ m has acts. told.own l m (subst (Has m) (sym knows) has) acts;
       all = λ every m has. told.all some every l m (subst (Has m) (sym knows) has);
+      new = differ_last l v.links (subst (λ ls. Differ (v.links ++ ls)) links told.apart);
+      links = ap (λ ls. v.links ++ ls) links;
       knows = knows;
       others = λ k other. ap (λ (s : Shelf). s.known) (shelf_else l k (shelf l (known_of l w) (known_of l v) (known_of l w)) v.shelves refl other);
       drawn = refl;

@@ -9,18 +9,21 @@ use mathlib.Core.Option.{some}
 use lib.ListN.{get_elem?}
 use Rattle.atomic_table.specs.Table.{Me, Act, Valid, carried_after, keeps, Allows}
 use Rattle.net_units.specs.Numbers.{actor_number}
+use Rattle.link_steps.specs.Lists.{Each}
 use Rattle.link_steps.proofs.ListFacts.{Each-if, Each-append}
 use Rattle.step_stamp.specs.declared.marks.Drawn.{Drawn}
 use Rattle.step_stamp.specs.declared.marks.Mark.{Mark}
+use Rattle.step_stamp.specs.declared.views.Opening.{Opening}
 use Rattle.step_stamp.specs.declared.views.View.{View}
 use Rattle.step_stamp.specs.Lists.{Has}
 use Rattle.step_stamp.specs.Marks.{by_actor, of_actor, drawn_for}
 use Rattle.step_stamp.specs.Placing.{hand_at}
-use Rattle.step_stamp.specs.Rule.{Tally, Fits, KeepsRule}
-use Rattle.step_stamp.specs.Views.{drew}
+use Rattle.step_stamp.specs.Rule.{Tally, HasSeen, Fits, HoldsList, HoldsActor, KeepsRule}
+use Rattle.step_stamp.specs.Views.{known_of, drew}
 use Rattle.step_stamp.proofs.ListFacts.{has_left, has_right, each_has, length-passed}
-use Rattle.step_stamp.proofs.MarkFacts.{numbered-append, most_drawn}
+use Rattle.step_stamp.proofs.MarkFacts.{numbered-append, no_twice_more, most_drawn}
 use Rattle.step_stamp.proofs.PlacingFacts.{hand_here, hand_was, hand_else, placed_drawn, numbered_most}
+use Rattle.step_stamp.proofs.StandFacts.{stands_set}
 use Rattle.step_stamp.proofs.ViewFacts.{Law, views_set, acts_live, acts_some}
 
 -- ---- what each actor has drawn after a draw by one
@@ -39,31 +42,40 @@ apart_fits t a j d u is apart g =
     let long : length (t.draws ++ d ∷ []) ≡ length t.draws + 1 = length-append t.draws (d ∷ []) in
     record {
       seen = omega (arith, g.seen, long);
+      saw = g.saw;
       among = g.among;
       knows = g.knows;
-      has = λ l has. let was = g.has l has in record { here = was.here; whole = was.whole; most = was.most };
+      has = λ l has. let was = g.has l has in record { here = was.here; whole = was.whole; small = was.small };
+      apart = g.apart;
       acts = λ b has.
           let was = g.acts b has in
           record { here = was.here; whole = was.whole ∙ sym (others_same a b t.draws d is (λ e. absurd (apart (sym (ap t.owner e) ∙ was.here)))); small = was.small };
       drew = g.drew;
       holds = Each-if (λ (x : Drawn). Has x t.draws) (λ (x : Drawn). Has x (t.draws ++ d ∷ [])) u.hand (λ x has. has_left x t.draws (d ∷ []) has) g.holds;
+      once = g.once;
       spent = g.spent;
       lone = g.lone;
     }
 
 -- the view that draws
-drew_fits : (t : Tally) (id a : ℕ) (v : View) (d : Drawn) → Fits t id v → Has a v.actors → actor_number d.mark.actor ≡ a → Fits (record t { draws = t.draws ++ d ∷ [] }) id (drew (d ∷ []) (length t.draws + 1) v)
-drew_fits t id a v d f acts is =
+drew_fits : (t : Tally) (id a : ℕ) (v : View) (d : Drawn) → Fits t id v → Has a v.actors → actor_number d.mark.actor ≡ a → d.mark.stamp ≡ length t.draws + 1 → Each (λ (e : Drawn). e.mark.stamp ≡ d.mark.stamp → ⊥) v.hand
+    → Fits (record t { draws = t.draws ++ d ∷ [] }) id (drew (d ∷ []) (length t.draws + 1) v)
+drew_fits t id a v d f acts is stamp new =
     let now = t.draws ++ d ∷ [] in
     let long : length now ≡ length t.draws + 1 = length-append t.draws (d ∷ []) in
     let mine = f.acts a acts in
     record {
       seen = omega (arith, long);
+      saw = record {
+        known = λ l. Each-if (λ (m : Mark). m.stamp ≤ v.seen) (λ (m : Mark). m.stamp ≤ length t.draws + 1) (known_of l v) (λ m le. omega (arith, le, f.seen)) (f.saw.known l);
+        drawn = Each-append (λ (x : Drawn). x.mark.stamp ≤ length t.draws + 1) v.drawn (d ∷ [])
+            (Each-if (λ (x : Drawn). x.mark.stamp ≤ v.seen) (λ (x : Drawn). x.mark.stamp ≤ length t.draws + 1) v.drawn (λ x le. omega (arith, le, f.seen)) f.saw.drawn)
+            (omega (arith, stamp), tt);
+      };
       among = f.among;
       knows = f.knows;
-      has = λ l has.
-          let was = f.has l has in
-          record { here = was.here; whole = was.whole; most = Each-if (λ (m : Mark). m.stamp ≤ v.seen) (λ (m : Mark). m.stamp ≤ length t.draws + 1) (t.log l) (λ m le. omega (arith, le, f.seen)) was.most };
+      has = λ l has. let was = f.has l has in record { here = was.here; whole = was.whole; small = was.small };
+      apart = f.apart;
       acts = λ b has.
           let was = f.acts b has in
           record {
@@ -76,15 +88,16 @@ drew_fits t id a v d f acts is =
           };
       drew = Each-append (λ (x : Drawn). Has (actor_number x.mark.actor) v.actors) v.drawn (d ∷ []) f.drew (subst (λ k. Has k v.actors) (sym is) acts, tt);
       holds = Each-append (λ (x : Drawn). Has x now) v.hand (d ∷ []) (Each-if (λ (x : Drawn). Has x t.draws) (λ (x : Drawn). Has x now) v.hand (λ x has. has_left x t.draws (d ∷ []) has) f.holds) (has_right d t.draws (d ∷ []) (inl refl), tt);
+      once = no_twice_more v.hand d f.once new;
       spent = λ none. absurd (acts_live a v acts (f.spent none));
       lone = acts_some a v.actors acts;
     }
 
 -- ---- the rule after a draw
 
-draw_kept : (words : List ℕ) (views : List View) (id a : ℕ) (v : View) (d : Drawn) (h : KeepsRule words views) → get_elem? views id ≡ some v → Has a v.actors → length v.drawn < 2 ^ 40
-    → actor_number d.mark.actor ≡ a → d.mark.stamp ≡ length h.tally.draws + 1 → KeepsRule ((length h.tally.draws + 1) ∷ []) (set views id (drew (d ∷ []) (length h.tally.draws + 1) v))
-draw_kept words views id a v d h at acts few is stamp =
+draw_kept : (about : Opening) (words : List ℕ) (views : List View) (id a : ℕ) (v : View) (d : Drawn) (h : KeepsRule about words views) → get_elem? views id ≡ some v → Has a v.actors → length v.drawn < 2 ^ 40
+    → actor_number d.mark.actor ≡ a → d.mark.stamp ≡ length h.tally.draws + 1 → KeepsRule about ((length h.tally.draws + 1) ∷ []) (set views id (drew (d ∷ []) (length h.tally.draws + 1) v))
+draw_kept about words views id a v d h at acts few is stamp =
     let t = h.tally in
     let f = h.fits id v at in
     let mine = f.acts a acts in
@@ -93,6 +106,7 @@ draw_kept words views id a v d h at acts few is stamp =
     let long : length now ≡ length t.draws + 1 = length-append t.draws (d ∷ []) in
     record {
       tally = after;
+      opening = record { links = h.opening.links; actors = h.opening.actors; most = h.opening.most };
       word = ap (λ n. n ∷ []) (sym long);
       numbered = numbered-append 0 t.draws d h.numbered (omega (arith, stamp));
       room = λ b. ⊎_elim
@@ -112,27 +126,29 @@ draw_kept words views id a v d h at acts few is stamp =
           (hand_here views id v (drew (d ∷ []) (length t.draws + 1) v) at ∙ ap (λ ds. ds ++ d ∷ []) (sym (hand_was views id v at)))
           (λ k other. hand_else views id (drew (d ∷ []) (length t.draws + 1) v) k other)
           h.placed;
+      seated = λ l lt. stands_set (HoldsList l) views id (t.seat l) v (drew (d ∷ []) (length t.draws + 1) v) at (λ has. has) (h.seated l lt);
+      owned = λ b lt. stands_set (HoldsActor b) views id (t.owner b) v (drew (d ∷ []) (length t.draws + 1) v) at (λ has. has) (h.owned b lt);
       fits = views_set (Fits after) views id (drew (d ∷ []) (length t.draws + 1) v)
           (λ j u apart e. apart_fits t a j d u is (λ owns. apart (sym owns ∙ mine.here)) (h.fits j u e))
-          (drew_fits t id a v d f acts is);
+          (drew_fits t id a v d f acts is stamp (Each-if (λ (e : Drawn). Has e t.draws) (λ (e : Drawn). e.mark.stamp ≡ d.mark.stamp → ⊥) v.hand (λ e has same. let most = numbered_most 0 t.draws e h.numbered has in omega (arith, same, most, stamp)) f.holds));
     }
 
 module _ {S : Type 0} where
-  pub draws : (slots id l a : ℕ) (me : Me S View) (marks : ℕ → List Drawn) (mark : ℕ → Mark) → ((n : ℕ) → marks n ≡ drawn_for l (mark n) ∷ []) → ((n : ℕ) → (mark n).stamp ≡ n) → ((n : ℕ) → actor_number (mark n).actor ≡ a)
+  pub draws : (about : Opening) (slots id l a : ℕ) (me : Me S View) (marks : ℕ → List Drawn) (mark : ℕ → Mark) → ((n : ℕ) → marks n ≡ drawn_for l (mark n) ∷ []) → ((n : ℕ) → (mark n).stamp ≡ n) → ((n : ℕ) → actor_number (mark n).actor ≡ a)
       → Has a me.0.actors → length me.0.drawn < 2 ^ 40
-      → Allows Law slots id me 0 (λ n. (n + 1) % 2 ^ 64) (λ found after. (after ≡ (drew (marks (found + 1)) (found + 1) me.0, me.1)) × (me.0.seen ≤ found) × (found + 1 ≤ 65 * 2 ^ 40))
-  draws slots id l a me marks mark marks_are stamps by acts few s h many at lt =
+      → Allows (Law about) slots id me 0 (λ n. (n + 1) % 2 ^ 64) (λ found after. (after ≡ (drew (marks (found + 1)) (found + 1) me.0, me.1)) × (me.0.seen ≤ found) × (found + 1 ≤ 65 * 2 ^ 40) × HasSeen me.0)
+  draws about slots id l a me marks mark marks_are stamps by acts few s h many at lt =
       let n = length h.tally.draws in
       let d = drawn_for l (mark (n + 1)) in
-      let kept = draw_kept s.words s.views id a me.0 d h at acts few (by (n + 1)) (stamps (n + 1)) in
+      let kept = draw_kept about s.words s.views id a me.0 d h at acts few (by (n + 1)) (stamps (n + 1)) in
       let top : n + 1 ≤ 65 * 2 ^ 40 = subst (λ k. k ≤ 65 * 2 ^ 40) (sym (ap (λ ws. slice_index ws 0) kept.word)) (most_drawn (2 ^ 40) kept.tally.draws kept.room) in
       let f = h.fits id me.0 at in
-      let T : ℕ → Me S View → Type 0 = λ found after. (after ≡ (drew (marks (found + 1)) (found + 1) me.0, me.1)) × (me.0.seen ≤ found) × (found + 1 ≤ 65 * 2 ^ 40) in
-      let P : List ℕ → Type 0 = λ ws. (w : View) × (act : Act S) × Valid s.homes me.1 act × KeepsRule (slice_set ws 0 ((slice_index ws 0 + 1) % 2 ^ 64)) (set s.views id w)
+      let T : ℕ → Me S View → Type 0 = λ found after. (after ≡ (drew (marks (found + 1)) (found + 1) me.0, me.1)) × (me.0.seen ≤ found) × (found + 1 ≤ 65 * 2 ^ 40) × HasSeen me.0 in
+      let P : List ℕ → Type 0 = λ ws. (w : View) × (act : Act S) × Valid s.homes me.1 act × KeepsRule about (slice_set ws 0 ((slice_index ws 0 + 1) % 2 ^ 64)) (set s.views id w)
       × T (slice_index ws 0) (w, carried_after me.1 act) in
       let small : (n + 1) % 2 ^ 64 ≡ n + 1 = omega (arith, top) in
       let one : d ∷ [] ≡ marks (n + 1) = sym (marks_are (n + 1)) in
-      let K : KeepsRule (((n + 1) % 2 ^ 64) ∷ []) (set s.views id (drew (marks (n + 1)) (n + 1) me.0)) =
-      subst (λ (x : ℕ × List Drawn). KeepsRule (x.0 ∷ []) (set s.views id (drew x.1 (n + 1) me.0))) (λ i. (sym small i, one i)) kept in
-      let built : P (n ∷ []) = (drew (marks (n + 1)) (n + 1) me.0, keeps, tt, K, (refl, f.seen, top)) in
+      let K : KeepsRule about (((n + 1) % 2 ^ 64) ∷ []) (set s.views id (drew (marks (n + 1)) (n + 1) me.0)) =
+      subst (λ (x : ℕ × List Drawn). KeepsRule about (x.0 ∷ []) (set s.views id (drew x.1 (n + 1) me.0))) (λ i. (sym small i, one i)) kept in
+      let built : P (n ∷ []) = (drew (marks (n + 1)) (n + 1) me.0, keeps, tt, K, (refl, f.seen, top, f.saw)) in
       subst P (sym h.word) built

@@ -9,20 +9,22 @@ use Rattle.link_steps.specs.Lists.{Each}
 use Rattle.link_steps.proofs.ListFacts.{Each-append}
 use Rattle.step_stamp.specs.declared.marks.Drawn.{Drawn}
 use Rattle.step_stamp.specs.declared.marks.Mark.{Mark}
+use Rattle.step_stamp.specs.declared.views.Opening.{Opening}
 use Rattle.step_stamp.specs.declared.views.Shelf.{Shelf}
 use Rattle.step_stamp.specs.declared.views.View.{View}
 use Rattle.step_stamp.specs.Lists.{Has}
 use Rattle.step_stamp.specs.Marks.{StampsRise, drawn_for, drawn_marks}
 use Rattle.step_stamp.specs.Placing.{hand_at}
-use Rattle.step_stamp.specs.Rule.{Tally, Begins, HasList, Fits}
+use Rattle.step_stamp.specs.Rule.{Tally, Begins, HasList, Fits, HoldsList, HoldsActor}
 use Rattle.step_stamp.specs.Seats.{EntersMark}
 use Rattle.step_stamp.specs.Views.{shelf, shelf_of, known_of, emptied, handed, entered, nobody}
 use Rattle.step_stamp.proofs.ListFacts.{begins_nothing, begins_itself, begins_longer}
 use Rattle.step_stamp.proofs.MarkFacts.{rises-append}
-use Rattle.step_stamp.proofs.Meeting.{most_left, still_lone}
+use Rattle.step_stamp.proofs.Meeting.{most_left, drawn_left, still_lone}
 use Rattle.step_stamp.proofs.ShelfFacts.{shelf_cases, shelf_here}
 use Rattle.step_stamp.proofs.PlacingFacts.{hand_was, hand_here, hand_else, hand_set, hand_before, hand_end, hand_beyond, at_short, placed_moved, placed_entered}
-use Rattle.step_stamp.proofs.ViewFacts.{Law, length-set, splits, copy_fits, nobody_fits, views_set, other_view, acts_live, acts_some, lists_live}
+use Rattle.step_stamp.proofs.StandFacts.{length-set, stands_joined}
+use Rattle.step_stamp.proofs.ViewFacts.{Law, splits, copy_fits, nobody_fits, views_set, other_view, acts_live, acts_some, lists_live}
 
 -- the lists with one mark more at link l
 with_mark : ℕ → Mark → (ℕ → List Mark) → ℕ → List Mark
@@ -49,15 +51,18 @@ begins_still l m log k sh = log_cases l m log (λ j ms. Begins (log j) sh → Be
 apart_fits : (t : Tally) (l j : ℕ) (m : Mark) (u : View) → (t.seat l ≡ j → ⊥) → Fits t j u → Fits (record t { log = with_mark l m t.log }) j u
 apart_fits t l j m u apart g = record {
   seen = g.seen;
+  saw = g.saw;
   among = g.among;
   knows = λ k. begins_still l m t.log k (shelf_of k u.shelves) (g.knows k);
   has = λ k has.
       let was = g.has k has in
       let same : with_mark l m t.log k ≡ t.log k = log_cases l m t.log (λ j' ms. (k ≡ j') → ms ≡ t.log j') (λ (e : k ≡ l). absurd (apart (ap t.seat (sym e) ∙ was.here))) (λ j' _ _. refl) k refl in
-      record { here = was.here; whole = was.whole ∙ sym same; most = subst (Each (λ (x : Mark). x.stamp ≤ u.seen)) (sym same) was.most };
+      record { here = was.here; whole = was.whole ∙ sym same; small = was.small };
+  apart = g.apart;
   acts = λ a h. let was = g.acts a h in record { here = was.here; whole = was.whole; small = was.small };
   drew = g.drew;
   holds = g.holds;
+  once = g.once;
   spent = g.spent;
   lone = g.lone;
 }
@@ -67,11 +72,19 @@ entered_fits : (t : Tally) (id other l : ℕ) (v w : View) (m : Mark) → Fits t
 entered_fits t id other l v w m f g links hand most =
     let own = f.has l (subst (Has l) (sym links) (inl refl)) in
     let now_here = with_mark-here l m t.log in
-    let marks : known_of l v ++ drawn_marks w.hand ≡ t.log l ++ m ∷ [] = ap (λ ds. known_of l v ++ drawn_marks ds) hand ∙ ap (λ ms. ms ++ m ∷ []) own.whole in
+    let more : known_of l v ++ drawn_marks w.hand ≡ known_of l v ++ m ∷ [] = ap (λ ds. known_of l v ++ drawn_marks ds) hand in
+    let marks : known_of l v ++ drawn_marks w.hand ≡ t.log l ++ m ∷ [] = more ∙ ap (λ ms. ms ++ m ∷ []) own.whole in
     let sh = shelf l (known_of l v ++ drawn_marks w.hand) (known_of l v) (known_of l w) in
     let after : Tally = record t { log = with_mark l m t.log } in
     record {
       seen = max-le f.seen g.seen;
+      saw = record {
+        known = λ k. shelf_cases (λ s. Each (λ (x : Mark). x.stamp ≤ max v.seen w.seen) s.known) k sh v.shelves
+            (λ _. subst (Each (λ (x : Mark). x.stamp ≤ max v.seen w.seen)) (sym more)
+            (Each-append (λ (x : Mark). x.stamp ≤ max v.seen w.seen) (known_of l v) (m ∷ []) (most_left v w (known_of l v) (f.saw.known l)) (omega (arith, most, le-max_right v.seen w.seen), tt)))
+            (λ _. most_left v w (known_of k v) (f.saw.known k));
+        drawn = drawn_left v w v.drawn f.saw.drawn;
+      };
       among = f.among;
       knows = λ k. shelf_cases (λ s. Begins (after.log k) s) k sh v.shelves
           (λ (e : l ≡ k). subst (λ q. Begins (after.log q) sh) e
@@ -83,20 +96,21 @@ entered_fits t id other l v w m f g links hand most =
           record {
             here = own.here;
             whole = ap (λ (s : Shelf). s.known) (shelf_here l (known_of l v ++ drawn_marks w.hand) (known_of l v) (known_of l w) v.shelves) ∙ marks ∙ sym now_here;
-            most = subst (Each (λ (x : Mark). x.stamp ≤ max v.seen w.seen)) (sym now_here)
-                (Each-append (λ (x : Mark). x.stamp ≤ max v.seen w.seen) (t.log l) (m ∷ []) (most_left v w (t.log l) own.most) (omega (arith, most, le-max_right v.seen w.seen), tt));
+            small = own.small;
           } in
           subst (λ q. HasList after id q (entered l v w)) k_is here;
+      apart = f.apart;
       acts = λ a h. let was = f.acts a h in record { here = was.here; whole = was.whole; small = was.small };
       drew = f.drew;
       holds = f.holds;
+      once = f.once;
       spent = λ none. absurd (lists_live l v (subst (Has l) (sym links) (inl refl)) (f.spent none));
       lone = still_lone l v w links f.lone;
     }
 
 module _ {S : Type 0} where
-  pub hands_over : (id l a : ℕ) (v : View) → Has a v.actors → Splits {S = S} Law id v (emptied v) (handed l v)
-  hands_over id l a v own = splits id v (emptied v) (handed l v)
+  pub hands_over : (about : Opening) (id l a : ℕ) (v : View) → Has a v.actors → Splits {S = S} (Law about) id v (emptied v) (handed l v)
+  hands_over about id l a v own = splits about id v (emptied v) (handed l v) refl refl
       (λ s at draws log p.
       let cut = set s.views id (emptied v) in
       let short = at_short s.views id v at in
@@ -107,13 +121,13 @@ module _ {S : Type 0} where
       (λ k not_a not_b. hand_before cut (handed l v) k (λ e. absurd (not_b (e ∙ long))) ∙ hand_else s.views id (emptied v) k not_a)
       p)
       (λ t f. (
-        record { seen = f.seen; among = f.among; knows = f.knows; has = λ k h. (let was = f.has k h in record { here = was.here; whole = was.whole; most = was.most }); acts = f.acts; drew = f.drew; holds = tt; spent = λ none. absurd (acts_live a v own (f.spent none)); lone = acts_some a v.actors own },
-        λ j. copy_fits t id j v v.hand l [] (acts_live a v own) f f.holds (begins_nothing (t.log l)),
+        record { seen = f.seen; saw = record { known = f.saw.known; drawn = f.saw.drawn }; among = f.among; knows = f.knows; has = λ k h. (let was = f.has k h in record { here = was.here; whole = was.whole; small = was.small }); apart = f.apart; acts = f.acts; drew = f.drew; holds = tt; once = tt; spent = λ none. absurd (acts_live a v own (f.spent none)); lone = acts_some a v.actors own },
+        λ j. copy_fits t id j v v.hand l [] (acts_live a v own) f f.holds f.once (begins_nothing (t.log l)) tt,
       ))
 
   -- a link's list takes the mark that a copy has in hand
-  pub enters : (id l : ℕ) (v : View) (other : ℕ) (w : View) (m : Mark) → v.links ≡ l ∷ [] → w.hand ≡ drawn_for l m ∷ [] → v.seen < m.stamp → m.stamp ≤ w.seen → Joins {S = S} Law id v other w (entered l v w) nobody
-  enters id l v other w m links hand above most s h at apart there =
+  pub enters : (about : Opening) (id l : ℕ) (v : View) (other : ℕ) (w : View) (m : Mark) → v.links ≡ l ∷ [] → w.hand ≡ drawn_for l m ∷ [] → w.links ≡ [] → w.actors ≡ [] → v.seen < m.stamp → m.stamp ≤ w.seen → Joins {S = S} (Law about) id v other w (entered l v w) nobody
+  enters about id l v other w m links hand no_links no_actors above most s h at apart there =
       let t = h.tally in
       let f = h.fits id v at in
       let both = entered l v w in
@@ -123,11 +137,12 @@ module _ {S : Type 0} where
       let in_draws : Has (drawn_for l m) t.draws = (subst (Each (λ (d : Drawn). Has d t.draws)) hand g.holds).0 in
       record {
         tally = after;
+        opening = record { links = h.opening.links; actors = h.opening.actors; most = h.opening.most };
         word = h.word;
         numbered = h.numbered;
         room = h.room;
         acting = h.acting;
-        rises = log_cases l m t.log (λ k ms. StampsRise ms) (rises-append 0 v.seen (t.log l) m (h.rises l) own.most (omega arith) above) (λ k _. h.rises k);
+        rises = log_cases l m t.log (λ k ms. StampsRise ms) (rises-append 0 v.seen (t.log l) m (h.rises l) (subst (Each (λ (x : Mark). x.stamp ≤ v.seen)) own.whole (f.saw.known l)) (omega arith) above) (λ k _. h.rises k);
         drawn = log_cases l m t.log (λ k ms. Each (λ (x : Mark). Has (drawn_for k x) t.draws) ms) (Each-append (λ (x : Mark). Has (drawn_for l x) t.draws) (t.log l) (m ∷ []) (h.drawn l) (in_draws, tt)) (λ k _. h.drawn k);
         placed = placed_entered t.draws t.log after.log (hand_at s.views) (hand_at (set (set s.views id both) other nobody)) other l m
             (sym (hand_set s.views id v both at refl other) ∙ hand_was (set s.views id both) other w there ∙ hand)
@@ -136,6 +151,8 @@ module _ {S : Type 0} where
             (hand_here (set s.views id both) other w nobody there)
             (λ k elsewhere. hand_else (set s.views id both) other nobody k elsewhere ∙ hand_set s.views id v both at refl k)
             h.placed;
+        seated = λ k lt. stands_joined (HoldsList k) s.views id other (t.seat k) v w both at there (λ has. has) (λ has. subst (Has k) no_links has) (h.seated k lt);
+        owned = λ a lt. stands_joined (HoldsActor a) s.views id other (t.owner a) v w both at there (λ has. has) (λ has. subst (Has a) no_actors has) (h.owned a lt);
         fits = views_set (Fits after) (set s.views id both) other nobody
             (λ j u _ e. views_set (Fits after) s.views id both
             (λ i x elsewhere e'. apart_fits t l i m x (λ has. elsewhere (sym has ∙ own.here)) (h.fits i x e'))

@@ -2,6 +2,7 @@ pub mod ListFacts
 pub mod MarkFacts
 pub mod ShelfFacts
 mod PlacingFacts
+mod StandFacts
 mod ViewFacts
 mod Learning
 mod Drawing
@@ -9,3 +10,4 @@ mod Meeting
 mod Entering
 mod OpeningSteps
 mod Closing
+mod OnceFacts

@@ -1,5 +1,5 @@
--- Facts on lists: what stands in a list, in two put together and in what a filter passes, at which place,
--- and beginnings of a list.
+-- Facts on lists: what stands in a list, in two put together and in what a filter passes, at which place, numbers that all
+-- differ, and beginnings of a list.
 use Rattle.std.proofs.Common.{◌≡◌, ◌⊎◌, ℕ, zero, suc, ◌≤◌, Bool, true, List, [], ◌∷◌, ◌++◌, length, Some, None, refl, sym, ap, ◌∙◌, subst, inl, inr, ⊎_elim, arith, append_assoc, length-append}
 use Rattle.std.specs.Prelude.{take}
 use Rattle.std.proofs.lemmas.Bool.{cond_both}
@@ -8,7 +8,7 @@ use Rattle.std.proofs.lemmas.Option.{same_Some}
 use Rattle.std.specs.List.{filter, slice_get}
 use mathlib.Core.List.{IsPrefix}
 use Rattle.link_steps.specs.Lists.{Each}
-use Rattle.step_stamp.specs.Lists.{Has}
+use Rattle.step_stamp.specs.Lists.{Has, Differ}
 
 module _ {X : Type 0} where
   pub has_left : (x : X) (xs ys : List X) → Has x xs → Has x (xs ++ ys)
@@ -89,6 +89,23 @@ filter_none p (x ∷ xs) none =
 pub has_first : (a : ℕ) (xs : List ℕ) → take 1 xs ≡ a ∷ [] → Has a xs
 has_first a [] e = absurd (cc e)
 has_first a (x ∷ xs) e = inl (cc e)
+
+-- ---- numbers that all differ: in what a filter passes, in two lists without a number in common, and the last one
+pub differ_kept : (p : ℕ → Bool) (ns : List ℕ) → Differ ns → Differ (filter p ns)
+differ_kept p [] differ = tt
+differ_kept p (n ∷ ns) differ =
+    cond_both (p n) (n ∷ filter p ns) (filter p ns) Differ (λ _. ((λ has. differ.0 (has_kept p n ns has)), differ_kept p ns differ.1)) (λ _. differ_kept p ns differ.1)
+
+pub differ_both : (ms ns : List ℕ) → Differ ms → Differ ns → ((n : ℕ) → Has n ms → Has n ns → ⊥) → Differ (ms ++ ns)
+differ_both [] ns one other apart = other
+differ_both (m ∷ ms) ns one other apart = (
+  (λ has. ⊎_elim (λ before. one.0 before) (λ after. apart m (inl refl) after) (has_split m ms ns has)),
+  differ_both ms ns one.1 other (λ n before after. apart n (inr before) after),
+)
+
+pub differ_last : (n : ℕ) (ns : List ℕ) → Differ (ns ++ n ∷ []) → Has n ns → ⊥
+differ_last n [] differ has = has
+differ_last n (m ∷ ns) differ has = ⊎_elim (λ (e : m ≡ n). differ.0 (subst (λ k. Has k (ns ++ n ∷ [])) (sym e) (has_right n ns (n ∷ []) (inl refl)))) (λ rest. differ_last n ns differ.1 rest) has
 
 pub prefix_length : {X : Type 0} (xs ys : List X) → IsPrefix xs ys → length xs ≤ length ys
 prefix_length xs ys p = omega (arith, sym (ap length p.1) ∙ length-append xs p.0)

@@ -7,6 +7,7 @@ use Rattle.std.specs.List.{filter}
 use mathlib.Core.List.{IsPrefix}
 use Rattle.net_units.specs.Numbers.{actor_number}
 use Rattle.link_steps.specs.Lists.{Each}
+use Rattle.link_steps.proofs.ListFacts.{Each-append}
 use Rattle.step_stamp.specs.declared.marks.Drawn.{Drawn}
 use Rattle.step_stamp.specs.declared.marks.Mark.{Mark}
 use Rattle.step_stamp.specs.Lists.{Has, AppearIn}
@@ -159,6 +160,11 @@ no_twice (d ∷ ds) rise one =
           (λ b. cond_both (by_actor b d) (d ∷ of_actor b ds) (of_actor b ds) (λ l. StampsRise (drawn_marks l) → StampsRise (drawn_marks (of_actor b ds))) (λ _ r. rises_lower 0 d.mark.stamp (drawn_marks (of_actor b ds)) (omega arith) r.1) (λ _ r. r) (rise b))
           (λ x y hx hy. one x y (inr hx) (inr hy)),
     )
+
+-- one draw more, with another stamp than all before
+pub no_twice_more : (ds : List Drawn) (d : Drawn) → NoTwice ds → Each (λ (e : Drawn). e.mark.stamp ≡ d.mark.stamp → ⊥) ds → NoTwice (ds ++ d ∷ [])
+no_twice_more [] d once new = (tt, tt)
+no_twice_more (x ∷ ds) d once new = (Each-append (λ (e : Drawn). e.mark.stamp ≡ x.mark.stamp → ⊥) ds (d ∷ []) once.0 ((λ is. new.0 (sym is)), tt), no_twice_more ds d once.1 new.1)
 
 -- the marks of an actor in a link's list are those that it has drawn for the link, in their order
 pub in_their_order : (a l : ℕ) (list : List Mark) (ds : List Drawn) → StampsRise list → StampsRise (drawn_marks (of_actor a ds)) → ((m : Mark) → Has m list → actor_number m.actor ≡ a → Has (drawn_for l m) ds)

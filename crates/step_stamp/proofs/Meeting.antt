@@ -2,12 +2,14 @@
 -- joins the pass. Both keep the rule, and from what the rule then tells follow the clauses of a meeting.
 use Rattle.std.proofs.Common.{◌≡◌, ℕ, ◌≤◌, max, List, [], ◌∷◌, ◌++◌, set, refl, sym, ap, ◌∙◌, subst, inl, ⊎_elim, arith}
 use Rattle.std.proofs.lemmas.List.{append-nil}
-use Rattle.std.proofs.Math.Nat.{le-max_left, max-le}
+use Rattle.std.proofs.Math.Nat.{le-max_left, le-max_right, max-le}
 use mathlib.Core.List.{IsPrefix}
 use Rattle.atomic_table.specs.Table.{Splits, Joins}
 use Rattle.link_steps.specs.Lists.{Each}
 use Rattle.link_steps.proofs.ListFacts.{Each-if}
+use Rattle.step_stamp.specs.declared.marks.Drawn.{Drawn}
 use Rattle.step_stamp.specs.declared.marks.Mark.{Mark}
+use Rattle.step_stamp.specs.declared.views.Opening.{Opening}
 use Rattle.step_stamp.specs.declared.views.Shelf.{Shelf}
 use Rattle.step_stamp.specs.declared.views.View.{View}
 use Rattle.step_stamp.specs.Lists.{Has}
@@ -21,9 +23,18 @@ use Rattle.step_stamp.proofs.ShelfFacts.{shelf_cases, shelf_here, shelf_else, kn
 use Rattle.step_stamp.proofs.PlacingFacts.{placed_same}
 use Rattle.step_stamp.proofs.ViewFacts.{Law, hands_cut, splits, joins, copy_fits, acts_live, acts_some, lists_live}
 
--- stamps that were seen are at most what is seen after a join
+-- stamps that the one or the other had seen are at most what is seen after a join, those of drawn marks too
 pub most_left : (v w : View) (ms : List Mark) → Each (λ (m : Mark). m.stamp ≤ v.seen) ms → Each (λ (m : Mark). m.stamp ≤ max v.seen w.seen) ms
 most_left v w ms most = Each-if (λ (m : Mark). m.stamp ≤ v.seen) (λ (m : Mark). m.stamp ≤ max v.seen w.seen) ms (λ m le. omega (arith, le, le-max_left v.seen w.seen)) most
+
+pub most_right : (v w : View) (ms : List Mark) → Each (λ (m : Mark). m.stamp ≤ w.seen) ms → Each (λ (m : Mark). m.stamp ≤ max v.seen w.seen) ms
+most_right v w ms most = Each-if (λ (m : Mark). m.stamp ≤ w.seen) (λ (m : Mark). m.stamp ≤ max v.seen w.seen) ms (λ m le. omega (arith, le, le-max_right v.seen w.seen)) most
+
+pub drawn_left : (v w : View) (ds : List Drawn) → Each (λ (d : Drawn). d.mark.stamp ≤ v.seen) ds → Each (λ (d : Drawn). d.mark.stamp ≤ max v.seen w.seen) ds
+drawn_left v w ds most = Each-if (λ (d : Drawn). d.mark.stamp ≤ v.seen) (λ (d : Drawn). d.mark.stamp ≤ max v.seen w.seen) ds (λ d le. omega (arith, le, le-max_left v.seen w.seen)) most
+
+pub drawn_right : (v w : View) (ds : List Drawn) → Each (λ (d : Drawn). d.mark.stamp ≤ w.seen) ds → Each (λ (d : Drawn). d.mark.stamp ≤ max v.seen w.seen) ds
+drawn_right v w ds most = Each-if (λ (d : Drawn). d.mark.stamp ≤ w.seen) (λ (d : Drawn). d.mark.stamp ≤ max v.seen w.seen) ds (λ d le. omega (arith, le, le-max_right v.seen w.seen)) most
 
 -- a link's seat speaks of that link alone once a copy for it has joined
 pub still_lone : (l : ℕ) (v w : View) → v.links ≡ l ∷ [] → (v.actors ≡ [] → OfOneLink v) → v.actors ≡ [] → OfOneLink (entered l v w)
@@ -43,17 +54,23 @@ still_lone l v w links lone none =
     }
 
 module _ {S : Type 0} where
-  pub shows : (id l : ℕ) (v : View) → (v ≡ nobody → ⊥) → Splits {S = S} Law id v v (shown l v)
-  shows id l v live = splits id v v (shown l v) (λ s at draws log p. placed_same draws log (hand_at s.views) (hand_at (set s.views id v ++ shown l v ∷ [])) (hands_cut s.views id v v (shown l v) at refl refl) p) (λ t f. (f, λ j. copy_fits t id j v [] l (known_of l v) live f tt (f.knows l).known))
+  pub shows : (about : Opening) (id l : ℕ) (v : View) → (v ≡ nobody → ⊥) → Splits {S = S} (Law about) id v v (shown l v)
+  shows about id l v live = splits about id v v (shown l v) refl refl (λ s at draws log p. placed_same draws log (hand_at s.views) (hand_at (set s.views id v ++ shown l v ∷ [])) (hands_cut s.views id v v (shown l v) at refl refl) p) (λ t f. (f, λ j. copy_fits t id j v [] l (known_of l v) live f tt tt (f.knows l).known (f.saw.known l)))
 
   -- a copy of a link's seat joins a pass
-  pub takes : (id l a : ℕ) (v : View) (other : ℕ) (w : View) → Has a v.actors → w.hand ≡ [] → Joins {S = S} Law id v other w (taken l v w) nobody
-  takes id l a v other w acts empty = joins id v other w (taken l v w) refl empty
+  pub takes : (about : Opening) (id l a : ℕ) (v : View) (other : ℕ) (w : View) → Has a v.actors → w.hand ≡ [] → w.links ≡ [] → w.actors ≡ [] → Joins {S = S} (Law about) id v other w (taken l v w) nobody
+  takes about id l a v other w acts empty no_links no_actors = joins about id v other w (taken l v w) refl empty refl refl no_links no_actors
       (λ t f g.
       let list = longer (known_of l v) (known_of l w) in
       let sh = shelf l list (known_of l v) (known_of l w) in
       record {
         seen = max-le f.seen g.seen;
+        saw = record {
+          known = λ k. shelf_cases (λ s. Each (λ (m : Mark). m.stamp ≤ max v.seen w.seen) s.known) k sh v.shelves
+              (λ _. longer_both (Each (λ (m : Mark). m.stamp ≤ max v.seen w.seen)) (known_of l v) (known_of l w) (most_left v w (known_of l v) (f.saw.known l)) (most_right v w (known_of l w) (g.saw.known l)))
+              (λ _. most_left v w (known_of k v) (f.saw.known k));
+          drawn = drawn_left v w v.drawn f.saw.drawn;
+        };
         among = f.among;
         knows = λ k. shelf_cases (λ s. Begins (t.log k) s) k sh v.shelves
             (λ (e : l ≡ k). subst (λ n. Begins (t.log n) sh) e
@@ -66,23 +83,31 @@ module _ {S : Type 0} where
               whole = shelf_cases (λ s. s.known ≡ t.log k) k sh v.shelves
                   (λ (e : l ≡ k). longer_whole (t.log k) (known_of l v) (known_of l w) (subst (λ n. known_of n v ≡ t.log k) (sym e) was.whole) (subst (λ n. IsPrefix (known_of l w) (t.log n)) e (g.knows l).known))
                   (λ _. was.whole);
-              most = most_left v w (t.log k) was.most;
+              small = was.small;
             };
+        apart = f.apart;
         acts = f.acts;
         drew = f.drew;
         holds = f.holds;
+        once = f.once;
         spent = λ none. absurd (acts_live a v acts (f.spent none));
         lone = acts_some a v.actors acts;
       })
 
   -- a copy with no mark in hand joins a link's seat
-  pub meets : (id l : ℕ) (v : View) (other : ℕ) (w : View) → v.links ≡ l ∷ [] → w.hand ≡ [] → Joins {S = S} Law id v other w (entered l v w) nobody
-  meets id l v other w links empty = joins id v other w (entered l v w) refl empty
+  pub meets : (about : Opening) (id l : ℕ) (v : View) (other : ℕ) (w : View) → v.links ≡ l ∷ [] → w.hand ≡ [] → w.links ≡ [] → w.actors ≡ [] → Joins {S = S} (Law about) id v other w (entered l v w) nobody
+  meets about id l v other w links empty no_links no_actors = joins about id v other w (entered l v w) refl empty refl refl no_links no_actors
       (λ t f g.
       let same : known_of l v ++ drawn_marks w.hand ≡ known_of l v = ap (λ ds. known_of l v ++ drawn_marks ds) empty ∙ append-nil (known_of l v) in
       let sh = shelf l (known_of l v ++ drawn_marks w.hand) (known_of l v) (known_of l w) in
       record {
         seen = max-le f.seen g.seen;
+        saw = record {
+          known = λ k. shelf_cases (λ s. Each (λ (m : Mark). m.stamp ≤ max v.seen w.seen) s.known) k sh v.shelves
+              (λ _. subst (Each (λ (m : Mark). m.stamp ≤ max v.seen w.seen)) (sym same) (most_left v w (known_of l v) (f.saw.known l)))
+              (λ _. most_left v w (known_of k v) (f.saw.known k));
+          drawn = drawn_left v w v.drawn f.saw.drawn;
+        };
         among = f.among;
         knows = λ k. shelf_cases (λ s. Begins (t.log k) s) k sh v.shelves
             (λ (e : l ≡ k). subst (λ n. Begins (t.log n) sh) e
@@ -95,11 +120,13 @@ module _ {S : Type 0} where
               whole = shelf_cases (λ s. s.known ≡ t.log k) k sh v.shelves
                   (λ (e : l ≡ k). same ∙ ap (λ n. known_of n v) e ∙ was.whole)
                   (λ _. was.whole);
-              most = most_left v w (t.log k) was.most;
+              small = was.small;
             };
+        apart = f.apart;
         acts = f.acts;
         drew = f.drew;
         holds = f.holds;
+        once = f.once;
         spent = λ none. absurd (lists_live l v (subst (Has l) (sym links) (inl refl)) (f.spent none));
         lone = still_lone l v w links f.lone;
       })

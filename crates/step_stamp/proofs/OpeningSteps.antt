@@ -1,6 +1,6 @@
 -- Opening: the rule at the first word and the first seat, the seats of links and passes cut from it one by one, and what
 -- stands of the seats made so far.
-use Rattle.std.proofs.Common.{◌≡◌, ℕ, zero, suc, eqb, ◌+◌, ◌<◌, ◌≤◌, not, cond, List, [], ◌∷◌, ◌++◌, refl, sym, ap, ◌∙◌, subst, inl, inr, ⊎_elim, arith, ne_eqb}
+use Rattle.std.proofs.Common.{◌≡◌, ℕ, zero, suc, eqb, ◌+◌, ◌<◌, ◌≤◌, not, cond, List, length, set, [], ◌∷◌, ◌++◌, refl, sym, ap, ◌∙◌, subst, inl, inr, ⊎_elim, arith, ne_eqb}
 use Rattle.std.proofs.lemmas.Bool.{cond_both, eq-eqb, eqb-true, cases_eq}
 use Rattle.std.proofs.lemmas.List.{map-append}
 use mathlib.Core.Option.{some-ne-none}
@@ -12,18 +12,21 @@ use Rattle.link_steps.proofs.ListFacts.{Each-append}
 use Rattle.step_stamp.specs.declared.marks.Drawn.{Drawn}
 use Rattle.step_stamp.specs.declared.seats.LinkSeat.{LinkSeat}
 use Rattle.step_stamp.specs.declared.seats.PassSeat.{PassSeat}
+use Rattle.step_stamp.specs.declared.views.Opening.{Opening}
 use Rattle.step_stamp.specs.declared.views.Shelf.{Shelf}
 use Rattle.step_stamp.specs.declared.views.View.{View}
-use Rattle.step_stamp.specs.Lists.{Has, below, up_to, without_number}
+use Rattle.step_stamp.specs.Lists.{Has, Differ, below, up_to, without_number}
 use Rattle.step_stamp.specs.Marks.{of_actor}
+use Rattle.step_stamp.specs.declared.marks.Mark.{Mark}
 use Rattle.step_stamp.specs.Opening.{IsNewLink, IsNewPass, AreLinks, ArePasses, IsFirst}
-use Rattle.step_stamp.specs.Rule.{Tally, Begins, HasList, HasActor, Fits, KeepsRule}
+use Rattle.step_stamp.specs.Rule.{Tally, Begins, HasList, HasActor, Fits, Stands, HoldsList, HoldsActor, KeepsRule}
 use Rattle.step_stamp.specs.Seats.{link_table, pass_table, link_view, pass_view, seat_link, seat_actor, list_of}
 use Rattle.step_stamp.specs.Views.{shelf, shelf_of, known_of, first_view, new_link, less_link, new_pass, less_actor}
-use Rattle.step_stamp.proofs.ListFacts.{has_kept, has_passed, begins_nothing}
+use Rattle.step_stamp.proofs.ListFacts.{has_kept, has_passed, differ_kept, begins_nothing}
 use Rattle.step_stamp.proofs.ShelfFacts.{shelf_cases, shelf_here, no_known, no_shelf}
 use Rattle.step_stamp.proofs.PlacingFacts.{hand_more, no_hand}
-use Rattle.step_stamp.proofs.ViewFacts.{Law, views_end, hands_on, acts_live, acts_some, lists_live}
+use Rattle.step_stamp.proofs.StandFacts.{length-set, stands_cut, stands_end}
+use Rattle.step_stamp.proofs.ViewFacts.{Law, views_end, no_shelf_seen, hands_on, acts_live, acts_some, lists_live}
 
 -- ---- numbers below n, and without one
 
@@ -36,6 +39,11 @@ below_small : (k n : ℕ) → Has k (below n) → k < n
 unfolding below
 below_small k zero has = absurd has
 below_small k (suc n) has = ⊎_elim (λ (e : n ≡ k). omega (arith, e)) (λ t. let rest = below_small k n t in omega (arith, rest)) has
+
+below_differ : (n : ℕ) → Differ (below n)
+unfolding below
+below_differ zero = tt
+below_differ (suc n) = ((λ has. let small = below_small n n has in omega (arith, small)), below_differ n)
 
 apart_from : (n k : ℕ) (ns : List ℕ) → Has k (without_number n ns) → k ≡ n → ⊥
 apart_from n k [] has e = has
@@ -56,11 +64,14 @@ moved_else k l new was other = cond_both (eqb k l) new was (λ n. n ≡ was) (λ
 
 -- ---- the rule at the opening
 
-pub begins : (links actors : ℕ) → 1 ≤ actors → KeepsRule (0 ∷ []) (first_view links actors ∷ [])
-begins links actors some =
-    let t : Tally = record { draws = []; log = λ l. []; seat = λ l. 0; owner = λ a. 0; actors = actors } in
+pub begins : (about : Opening) → 1 ≤ about.actors → about.actors ≤ 65 → KeepsRule about (0 ∷ []) (first_view about.links about.actors ∷ [])
+begins about some most =
+    let links : ℕ = about.links in
+    let actors : ℕ = about.actors in
+    let t : Tally = record { draws = []; log = λ l. []; seat = λ l. 0; owner = λ a. 0; links = links; actors = actors } in
     record {
       tally = t;
+      opening = record { links = refl; actors = refl; most = most };
       word = refl;
       numbered = tt;
       room = λ a. omega arith;
@@ -73,37 +84,49 @@ begins links actors some =
         entered = λ l. tt;
         stands = λ d has. absurd has;
       };
+      seated = λ l lt. record { view = first_view links actors; found = refl; fact = below_has l links lt };
+      owned = λ a lt. record { view = first_view links actors; found = refl; fact = below_has a actors lt };
       fits = views_end (Fits t) [] (first_view links actors) 0 refl (λ j u e. absurd (some-ne-none u (sym e)))
           (record {
             seen = omega arith;
+            saw = record { known = λ l. no_shelf_seen 0 l; drawn = tt };
             among = inr refl;
             knows = λ l. no_shelf [] l;
-            has = λ l has. record { here = refl; whole = no_known l; most = tt };
+            has = λ l has. record { here = refl; whole = no_known l; small = below_small l links has };
+            apart = below_differ links;
             acts = λ a has. record { here = refl; whole = refl; small = below_small a actors has };
             drew = tt;
             holds = tt;
+            once = tt;
             spent = λ none. absurd (omega (arith, some, none));
             lone = λ _. record { link = 0; lists = λ k _. inr refl; drawn = refl; alone = tt };
           });
     }
 
 module _ {S : Type 0} where
-  pub opens_link : (id l : ℕ) (v : View) → Has l v.links → Splits {S = S} Law id v (less_link l v) (new_link l v)
-  opens_link id l v mine = hands_on id v (less_link l v) (new_link l v) refl refl (λ seat new k. cond (eqb k l) new (seat k)) (λ owner new. owner)
+  pub opens_link : (about : Opening) (id l : ℕ) (v : View) → Has l v.links → Splits {S = S} (Law about) id v (less_link l v) (new_link l v)
+  opens_link about id l v mine = hands_on about id v (less_link l v) (new_link l v) refl refl (λ seat new k. cond (eqb k l) new (seat k)) (λ owner new. owner)
+      (λ views at seat k stands. cond_both (eqb k l) (length views) (seat k) (λ by. Stands (set views id (less_link l v) ++ new_link l v ∷ []) by (HoldsList k))
+      (λ on. stands_end (HoldsList k) (set views id (less_link l v)) (length views) (new_link l v) (length-set views id (less_link l v)) (inl (sym (eqb-true k l on))))
+      (λ off. stands_cut (HoldsList k) views id (seat k) v (less_link l v) (new_link l v) at (λ has. has_others l k v.links (λ e. absurd (cc (off, eq-eqb k l e))) has) stands))
+      (λ views at owner a stands. stands_cut (HoldsActor a) views id (owner a) v (less_link l v) (new_link l v) at (λ has. has) stands)
       (λ t new f.
       let was = f.has l mine in
       let now : Tally = record t { seat = λ k. cond (eqb k l) new (t.seat k) } in
-      let taken_over : HasList now new l (new_link l v) = record { here = moved_here l new (t.seat l); whole = ap (λ (s : Shelf). s.known) (shelf_here l (known_of l v) [] [] []) ∙ was.whole; most = was.most } in (
+      let taken_over : HasList now new l (new_link l v) = record { here = moved_here l new (t.seat l); whole = ap (λ (s : Shelf). s.known) (shelf_here l (known_of l v) [] [] []) ∙ was.whole; small = was.small } in (
         record {
           seen = f.seen;
+          saw = record { known = f.saw.known; drawn = f.saw.drawn };
           among = f.among;
           knows = f.knows;
           has = λ k has.
               let old = f.has k (has_kept (λ x. not (eqb x l)) k v.links has) in
-              record { here = moved_else k l new (t.seat k) (λ e. apart_from l k v.links has e) ∙ old.here; whole = old.whole; most = old.most };
+              record { here = moved_else k l new (t.seat k) (λ e. apart_from l k v.links has e) ∙ old.here; whole = old.whole; small = old.small };
+          apart = differ_kept (λ x. not (eqb x l)) v.links f.apart;
           acts = λ a has. (let old = f.acts a has in record { here = old.here; whole = old.whole; small = old.small });
           drew = f.drew;
           holds = f.holds;
+          once = f.once;
           spent = λ none. absurd (lists_live l v mine (f.spent none));
           lone = λ none.
               let o = f.lone none in
@@ -111,72 +134,94 @@ module _ {S : Type 0} where
         },
         record {
           seen = f.seen;
+          saw = record {
+            known = λ k. shelf_cases (λ s. Each (λ (m : Mark). m.stamp ≤ v.seen) s.known) k (shelf l (known_of l v) [] []) [] (λ _. f.saw.known l) (λ _. no_shelf_seen v.seen k);
+            drawn = tt;
+          };
           among = f.among;
           knows = λ k. shelf_cases (λ s. Begins (t.log k) s) k (shelf l (known_of l v) [] []) []
               (λ (e : l ≡ k). subst (λ n. Begins (t.log n) (shelf l (known_of l v) [] [])) e (record { known = (f.knows l).known; first = begins_nothing (t.log l); second = begins_nothing (t.log l) }))
               (λ _. no_shelf (t.log k) k);
           has = λ k has. ⊎_elim (λ (e : l ≡ k). subst (λ n. HasList now new n (new_link l v)) e taken_over) (λ no. absurd no) has;
+          apart = ((λ none. none), tt);
           acts = λ a h. absurd h;
           drew = tt;
           holds = tt;
+          once = tt;
           spent = λ none. absurd (lists_live l v mine (f.spent none));
           lone = λ _. record { link = l; lists = λ k has. ⊎_elim (λ (e : l ≡ k). inl (sym e)) (λ no. absurd no) has; drawn = refl; alone = (refl, tt) };
         },
         λ j u apart g. record {
           seen = g.seen;
+          saw = g.saw;
           among = g.among;
           knows = g.knows;
           has = λ k has.
               let old = g.has k has in
-              record { here = moved_else k l new (t.seat k) (λ e. absurd (apart (sym old.here ∙ ap t.seat e ∙ was.here))) ∙ old.here; whole = old.whole; most = old.most };
+              record { here = moved_else k l new (t.seat k) (λ e. absurd (apart (sym old.here ∙ ap t.seat e ∙ was.here))) ∙ old.here; whole = old.whole; small = old.small };
+          apart = g.apart;
           acts = λ a has. (let old = g.acts a has in record { here = old.here; whole = old.whole; small = old.small });
           drew = g.drew;
           holds = g.holds;
+          once = g.once;
           spent = g.spent;
           lone = g.lone;
         },
       ))
 
-  pub opens_pass : (id a : ℕ) (v : View) → Has a v.actors → v.drawn ≡ [] → v.shelves ≡ [] → Splits {S = S} Law id v (less_actor a v) (new_pass a v)
-  opens_pass id a v mine nothing bare = hands_on id v (less_actor a v) (new_pass a v) refl refl (λ seat new. seat) (λ owner new k. cond (eqb k a) new (owner k))
+  pub opens_pass : (about : Opening) (id a : ℕ) (v : View) → Has a v.actors → v.drawn ≡ [] → v.shelves ≡ [] → Splits {S = S} (Law about) id v (less_actor a v) (new_pass a v)
+  opens_pass about id a v mine nothing bare = hands_on about id v (less_actor a v) (new_pass a v) refl refl (λ seat new. seat) (λ owner new k. cond (eqb k a) new (owner k))
+      (λ views at seat l stands. stands_cut (HoldsList l) views id (seat l) v (less_actor a v) (new_pass a v) at (λ has. has) stands)
+      (λ views at owner k stands. cond_both (eqb k a) (length views) (owner k) (λ by. Stands (set views id (less_actor a v) ++ new_pass a v ∷ []) by (HoldsActor k))
+      (λ on. stands_end (HoldsActor k) (set views id (less_actor a v)) (length views) (new_pass a v) (length-set views id (less_actor a v)) (inl (sym (eqb-true k a on))))
+      (λ off. stands_cut (HoldsActor k) views id (owner k) v (less_actor a v) (new_pass a v) at (λ has. has_others a k v.actors (λ e. absurd (cc (off, eq-eqb k a e))) has) stands))
       (λ t new f.
       let was = f.acts a mine in
       let now : Tally = record t { owner = λ k. cond (eqb k a) new (t.owner k) } in
       let taken_over : HasActor now new a [] = record { here = moved_here a new (t.owner a); whole = sym (ap (of_actor a) nothing) ∙ was.whole; small = was.small } in (
         record {
           seen = f.seen;
+          saw = record { known = f.saw.known; drawn = f.saw.drawn };
           among = f.among;
           knows = f.knows;
-          has = λ l has. (let old = f.has l has in record { here = old.here; whole = old.whole; most = old.most });
+          has = λ l has. (let old = f.has l has in record { here = old.here; whole = old.whole; small = old.small });
+          apart = f.apart;
           acts = λ k has.
               let old = f.acts k (has_kept (λ x. not (eqb x a)) k v.actors has) in
               record { here = moved_else k a new (t.owner k) (λ e. apart_from a k v.actors has e) ∙ old.here; whole = old.whole; small = old.small };
           drew = subst (Each (λ (d : Drawn). Has (actor_number d.mark.actor) (less_actor a v).actors)) (sym nothing) tt;
           holds = f.holds;
+          once = f.once;
           spent = λ none. absurd (acts_live a v mine (f.spent none));
           lone = λ _. record { link = 0; lists = λ k _. inr bare; drawn = nothing; alone = subst (Each (λ (s : Shelf). s.link ≡ 0)) (sym bare) tt };
         },
         record {
           seen = f.seen;
+          saw = record { known = λ k. no_shelf_seen v.seen k; drawn = tt };
           among = f.among;
           knows = λ k. no_shelf (t.log k) k;
           has = λ k h. absurd h;
+          apart = tt;
           acts = λ k has. ⊎_elim (λ (e : a ≡ k). subst (λ n. HasActor now new n []) e taken_over) (λ no. absurd no) has;
           drew = tt;
           holds = tt;
+          once = tt;
           spent = λ none. absurd (acts_live a v mine (f.spent none));
           lone = acts_some a (a ∷ []) (inl refl);
         },
         λ j u apart g. record {
           seen = g.seen;
+          saw = g.saw;
           among = g.among;
           knows = g.knows;
-          has = λ l has. (let old = g.has l has in record { here = old.here; whole = old.whole; most = old.most });
+          has = λ l has. (let old = g.has l has in record { here = old.here; whole = old.whole; small = old.small });
+          apart = g.apart;
           acts = λ k has.
               let old = g.acts k has in
               record { here = moved_else k a new (t.owner k) (λ e. absurd (apart (sym old.here ∙ ap t.owner e ∙ was.here))) ∙ old.here; whole = old.whole; small = old.small };
           drew = g.drew;
           holds = g.holds;
+          once = g.once;
           spent = g.spent;
           lone = g.lone;
         },

@@ -1,7 +1,7 @@
 -- The rule through a change of views. What is owed is that the views changed fit as the ones before them did: where a view
 -- is cut in two or two are put together and all lists stay; where one link or one actor goes to a new view; and where all
 -- that a view has goes to another for good.
-use Rattle.std.proofs.Common.{◌≡◌, ◌≢◌, ℕ, zero, suc, eqb, cond, List, [], ◌∷◌, ◌++◌, length, set, refl, sym, ap, ◌∙◌, subst, inl, ⊎_elim, arith}
+use Rattle.std.proofs.Common.{◌≡◌, ◌≢◌, ℕ, zero, suc, eqb, ◌≤◌, cond, List, [], ◌∷◌, ◌++◌, length, set, refl, sym, ap, ◌∙◌, subst, inl, ⊎_elim, arith}
 use Rattle.std.proofs.lemmas.Bool.{cond_both, eq-eqb, eqb-true}
 use mathlib.Core.Option.{some, some-ne-none, some-injective}
 use mathlib.Core.List.{IsPrefix}
@@ -11,14 +11,17 @@ use Rattle.atomic_table.proofs.Lists.{at_set, at_snoc}
 use Rattle.link_steps.specs.Lists.{Each}
 use Rattle.step_stamp.specs.declared.marks.Drawn.{Drawn}
 use Rattle.step_stamp.specs.declared.marks.Mark.{Mark}
+use Rattle.step_stamp.specs.declared.views.Opening.{Opening}
 use Rattle.step_stamp.specs.declared.views.View.{View}
 use Rattle.step_stamp.specs.Lists.{Has}
 use Rattle.step_stamp.specs.Placing.{hand_at, Placed}
-use Rattle.step_stamp.specs.Rule.{Tally, Begins, OfOneLink, Fits, KeepsRule}
-use Rattle.step_stamp.specs.Views.{shelf, nobody, copy}
+use Rattle.step_stamp.specs.Rule.{Tally, Begins, OfOneLink, Fits, Stands, HoldsList, HoldsActor, KeepsRule}
+use Rattle.step_stamp.specs.Marks.{NoTwice}
+use Rattle.step_stamp.specs.Views.{shelf, known_of, nobody, copy}
 use Rattle.step_stamp.proofs.ListFacts.{begins_nothing}
 use Rattle.step_stamp.proofs.PlacingFacts.{hand_set, hand_more, placed_same}
-use Rattle.step_stamp.proofs.ShelfFacts.{shelf_cases, no_shelf}
+use Rattle.step_stamp.proofs.ShelfFacts.{shelf_cases, no_known, no_shelf}
+use Rattle.step_stamp.proofs.StandFacts.{length-set, stands_cut, stands_joined, stands_moved}
 
 -- ---- a fact of each view
 
@@ -43,11 +46,6 @@ views_end F [] w n long others mine (suc j) u e = absurd (some-ne-none u (sym e)
 views_end F (x ∷ views) w n long others mine zero u e = others zero u e
 views_end F (x ∷ views) w n long others mine (suc j) u e =
     views_end (λ k. F (suc k)) views w (length views) refl (λ k y at. others (suc k) y at) (subst (λ k. F k w) (sym long) mine) j u e
-
-pub length-set : (views : List View) (id : ℕ) (w : View) → length (set views id w) ≡ length views
-length-set [] id w = refl
-length-set (x ∷ views) zero w = refl
-length-set (x ∷ views) (suc id) w = ap suc (length-set views id w)
 
 -- of two views apart, what the second one has once the first has changed
 pub other_view : (F : ℕ → View → Type 0) (views : List View) (id other : ℕ) (both w : View) → (other ≡ id → ⊥) → ((j : ℕ) (u : View) → get_elem? views j ≡ some u → F j u) → get_elem? (set views id both) other ≡ some w → F other w
@@ -80,23 +78,33 @@ lists_live l v has is = subst (λ (x : View). Has l x.links) is has
 pub acts_some : {X : Type 0} (a : ℕ) (actors : List ℕ) → Has a actors → actors ≡ [] → X
 acts_some a actors has none = absurd (subst (Has a) none has)
 
+-- one without a shelf knows nothing, so it has seen all that
+pub no_shelf_seen : (top l : ℕ) → Each (λ (m : Mark). m.stamp ≤ top) (known_of l nobody)
+no_shelf_seen top l = subst (Each (λ (m : Mark). m.stamp ≤ top)) (sym (no_known l)) tt
+
 -- one that knows nothing
 pub nobody_fits : (t : Tally) (j : ℕ) → Fits t j nobody
-nobody_fits t j = record { seen = omega arith; among = inl refl; knows = λ l. no_shelf (t.log l) l; has = λ l h. absurd h; acts = λ a h. absurd h; drew = tt; holds = tt; spent = λ _. refl; lone = λ _. no_link }
+nobody_fits t j = record { seen = omega arith; saw = record { known = λ l. no_shelf_seen 0 l; drawn = tt }; among = inl refl; apart = tt; once = tt; knows = λ l. no_shelf (t.log l) l; has = λ l h. absurd h; acts = λ a h. absurd h; drew = tt; holds = tt; spent = λ _. refl; lone = λ _. no_link }
 
 -- a copy with a part of what a view knows
-pub copy_fits : (t : Tally) (id j : ℕ) (v : View) (hand : List Drawn) (l : ℕ) (known : List Mark) → (v ≡ nobody → ⊥) → Fits t id v → Each (λ (d : Drawn). Has d t.draws) hand → IsPrefix known (t.log l)
-    → Fits t j (copy v hand (shelf l known [] []))
-copy_fits t id j v hand l known live f holds begins = record {
+pub copy_fits : (t : Tally) (id j : ℕ) (v : View) (hand : List Drawn) (l : ℕ) (known : List Mark) → (v ≡ nobody → ⊥) → Fits t id v → Each (λ (d : Drawn). Has d t.draws) hand → NoTwice hand → IsPrefix known (t.log l)
+    → Each (λ (m : Mark). m.stamp ≤ v.seen) known → Fits t j (copy v hand (shelf l known [] []))
+copy_fits t id j v hand l known live f holds once begins seen = record {
   seen = f.seen;
+  saw = record {
+    known = λ k. shelf_cases (λ s. Each (λ (m : Mark). m.stamp ≤ v.seen) s.known) k (shelf l known [] []) [] (λ _. seen) (λ _. no_shelf_seen v.seen k);
+    drawn = tt;
+  };
   among = f.among;
   knows = λ k. shelf_cases (λ s. Begins (t.log k) s) k (shelf l known [] []) []
       (λ (e : l ≡ k). record { known = subst (λ n. IsPrefix known (t.log n)) e begins; first = begins_nothing (t.log k); second = begins_nothing (t.log k) })
       (λ _. no_shelf (t.log k) k);
   has = λ k h. absurd h;
+  apart = tt;
   acts = λ a h. absurd h;
   drew = tt;
   holds = holds;
+  once = once;
   spent = λ none. absurd (live (f.spent none));
   lone = λ _. record { link = l; lists = λ k h. absurd h; drawn = refl; alone = (refl, tt) };
 }
@@ -110,17 +118,19 @@ pub moves : (other id at : ℕ) → at ≡ other → cond (eqb at other) id at �
 moves other id at is = ap (λ b. cond b id at) (eq-eqb at other is)
 
 module _ {S : Type 0} where
-  abbrev pub Law : State S View → Type 0
-  Law s = KeepsRule s.words s.views
+  abbrev pub Law : Opening → State S View → Type 0
+  Law about s = KeepsRule about s.words s.views
 
   -- a view is cut in two, and all lists stay
-  pub splits : (id : ℕ) (v left right : View) → ((s : State S View) → get_elem? s.views id ≡ some v → (draws : List Drawn) (log : ℕ → List Mark) → Placed draws log (hand_at s.views) → Placed draws log (hand_at (set s.views id left ++ right ∷ [])))
-      → ((t : Tally) → Fits t id v → Fits t id left × ((j : ℕ) → Fits t j right)) → Splits Law id v left right
-  splits id v left right hands how s h at =
+  pub splits : (about : Opening) (id : ℕ) (v left right : View) → left.links ≡ v.links → left.actors ≡ v.actors
+      → ((s : State S View) → get_elem? s.views id ≡ some v → (draws : List Drawn) (log : ℕ → List Mark) → Placed draws log (hand_at s.views) → Placed draws log (hand_at (set s.views id left ++ right ∷ [])))
+      → ((t : Tally) → Fits t id v → Fits t id left × ((j : ℕ) → Fits t j right)) → Splits (Law about) id v left right
+  splits about id v left right links actors hands how s h at =
       let t = h.tally in
       let parts = how t (h.fits id v at) in
       record {
         tally = t;
+        opening = h.opening;
         word = h.word;
         numbered = h.numbered;
         room = h.room;
@@ -128,16 +138,20 @@ module _ {S : Type 0} where
         rises = h.rises;
         drawn = h.drawn;
         placed = hands s at h.tally.draws h.tally.log h.placed;
+        seated = λ l lt. stands_cut (HoldsList l) s.views id (t.seat l) v left right at (λ has. subst (Has l) (sym links) has) (h.seated l lt);
+        owned = λ a lt. stands_cut (HoldsActor a) s.views id (t.owner a) v left right at (λ has. subst (Has a) (sym actors) has) (h.owned a lt);
         fits = views_more (Fits t) (set s.views id left) right (views_set (Fits t) s.views id left (λ j u _ e. h.fits j u e) parts.0) parts.1;
       }
 
-  -- two views are put together, and all lists stay
-  pub joins : (id : ℕ) (v : View) (other : ℕ) (w both : View) → both.hand ≡ v.hand → w.hand ≡ [] → ((t : Tally) → Fits t id v → Fits t other w → Fits t id both) → Joins Law id v other w both nobody
-  joins id v other w both same none how s h at apart there =
+  -- a view is put together with a copy, and all lists stay
+  pub joins : (about : Opening) (id : ℕ) (v : View) (other : ℕ) (w both : View) → both.hand ≡ v.hand → w.hand ≡ [] → both.links ≡ v.links → both.actors ≡ v.actors → w.links ≡ [] → w.actors ≡ []
+      → ((t : Tally) → Fits t id v → Fits t other w → Fits t id both) → Joins (Law about) id v other w both nobody
+  joins about id v other w both same none links actors no_links no_actors how s h at apart there =
       let t = h.tally in
       let theirs = other_view (Fits t) s.views id other both w apart h.fits there in
       record {
         tally = t;
+        opening = h.opening;
         word = h.word;
         numbered = h.numbered;
         room = h.room;
@@ -145,25 +159,30 @@ module _ {S : Type 0} where
         rises = h.rises;
         drawn = h.drawn;
         placed = placed_same h.tally.draws h.tally.log (hand_at s.views) (hand_at (set (set s.views id both) other nobody)) (hands_joined s.views id v other w both at there same none) h.placed;
+        seated = λ l lt. stands_joined (HoldsList l) s.views id other (t.seat l) v w both at there (λ has. subst (Has l) (sym links) has) (λ has. subst (Has l) no_links has) (h.seated l lt);
+        owned = λ a lt. stands_joined (HoldsActor a) s.views id other (t.owner a) v w both at there (λ has. subst (Has a) (sym actors) has) (λ has. subst (Has a) no_actors has) (h.owned a lt);
         fits = views_set (Fits t) (set s.views id both) other nobody
             (λ j u _ e. views_set (Fits t) s.views id both (λ i x _ e'. h.fits i x e') (how t (h.fits id v at) theirs) j u e)
             (nobody_fits t other);
       }
 
   -- a view is cut in two, and what it had of one link or one actor goes to the new one
-  pub hands_on : (id : ℕ) (v left right : View) → left.hand ≡ v.hand → right.hand ≡ [] → (seat_now owner_now : (ℕ → ℕ) → ℕ → ℕ → ℕ)
+  pub hands_on : (about : Opening) (id : ℕ) (v left right : View) → left.hand ≡ v.hand → right.hand ≡ [] → (seat_now owner_now : (ℕ → ℕ) → ℕ → ℕ → ℕ)
+      → ((views : List View) → get_elem? views id ≡ some v → (seat : ℕ → ℕ) (l : ℕ) → Stands views (seat l) (HoldsList l) → Stands (set views id left ++ right ∷ []) (seat_now seat (length views) l) (HoldsList l))
+      → ((views : List View) → get_elem? views id ≡ some v → (owner : ℕ → ℕ) (a : ℕ) → Stands views (owner a) (HoldsActor a) → Stands (set views id left ++ right ∷ []) (owner_now owner (length views) a) (HoldsActor a))
       → ((t : Tally) (new : ℕ) → Fits t id v
       → Fits (record t { seat = seat_now t.seat new; owner = owner_now t.owner new }) id left
       × Fits (record t { seat = seat_now t.seat new; owner = owner_now t.owner new }) new right
       × ((j : ℕ) (u : View) → (j ≡ id → ⊥) → Fits t j u → Fits (record t { seat = seat_now t.seat new; owner = owner_now t.owner new }) j u))
-      → Splits Law id v left right
-  hands_on id v left right same none seat_now owner_now how s h at =
+      → Splits (Law about) id v left right
+  hands_on about id v left right same none seat_now owner_now lists actors how s h at =
       let t = h.tally in
       let new = length s.views in
       let now : Tally = record t { seat = seat_now t.seat new; owner = owner_now t.owner new } in
       let parts = how t new (h.fits id v at) in
       record {
         tally = now;
+        opening = record { links = h.opening.links; actors = h.opening.actors; most = h.opening.most };
         word = h.word;
         numbered = h.numbered;
         room = h.room;
@@ -171,20 +190,24 @@ module _ {S : Type 0} where
         rises = h.rises;
         drawn = h.drawn;
         placed = placed_same h.tally.draws h.tally.log (hand_at s.views) (hand_at (set s.views id left ++ right ∷ [])) (hands_cut s.views id v left right at same none) h.placed;
+        seated = λ l lt. lists s.views at t.seat l (h.seated l lt);
+        owned = λ a lt. actors s.views at t.owner a (h.owned a lt);
         fits = views_end (Fits now) (set s.views id left) right new (length-set s.views id left) (views_set (Fits now) s.views id left (λ j u apart e. parts.2 j u apart (h.fits j u e)) parts.0) parts.1;
       }
 
   -- two views are put together for good: what the other had is this one's
-  pub joins_all : (id : ℕ) (v : View) (other : ℕ) (w both : View) → both.hand ≡ v.hand → w.hand ≡ []
+  pub joins_all : (about : Opening) (id : ℕ) (v : View) (other : ℕ) (w both : View) → both.hand ≡ v.hand → w.hand ≡ []
+      → ((l : ℕ) → Has l v.links → Has l both.links) → ((l : ℕ) → Has l w.links → Has l both.links) → ((a : ℕ) → Has a v.actors → Has a both.actors) → ((a : ℕ) → Has a w.actors → Has a both.actors)
       → ((t : Tally) → (other ≡ id → ⊥) → Fits t id v → Fits t other w
       → Fits (record t { seat = λ k. cond (eqb (t.seat k) other) id (t.seat k); owner = λ k. cond (eqb (t.owner k) other) id (t.owner k) }) id both)
-      → Joins Law id v other w both nobody
-  joins_all id v other w both same none how s h at apart there =
+      → Joins (Law about) id v other w both nobody
+  joins_all about id v other w both same none links their_links actors their_actors how s h at apart there =
       let t = h.tally in
       let theirs = other_view (Fits t) s.views id other both w apart h.fits there in
       let now : Tally = record t { seat = λ k. cond (eqb (t.seat k) other) id (t.seat k); owner = λ k. cond (eqb (t.owner k) other) id (t.owner k) } in
       record {
         tally = now;
+        opening = record { links = h.opening.links; actors = h.opening.actors; most = h.opening.most };
         word = h.word;
         numbered = h.numbered;
         room = h.room;
@@ -192,6 +215,8 @@ module _ {S : Type 0} where
         rises = h.rises;
         drawn = h.drawn;
         placed = placed_same h.tally.draws h.tally.log (hand_at s.views) (hand_at (set (set s.views id both) other nobody)) (hands_joined s.views id v other w both at there same none) h.placed;
+        seated = λ l lt. stands_moved (HoldsList l) s.views id other (t.seat l) v w both at apart there (links l) (their_links l) (h.seated l lt);
+        owned = λ a lt. stands_moved (HoldsActor a) s.views id other (t.owner a) v w both at apart there (actors a) (their_actors a) (h.owned a lt);
         fits = λ j u e. ⊎_elim
             (λ (x : (j ≡ other) × (nobody ≡ u)). subst (Fits now j) x.1 (nobody_fits now j))
             (λ (x : (j ≢ other) × (get_elem? (set s.views id both) j ≡ some u)).
@@ -200,12 +225,15 @@ module _ {S : Type 0} where
             let g = h.fits k y e' in
             record {
               seen = g.seen;
+              saw = g.saw;
               among = g.among;
               knows = g.knows;
-              has = λ l has. let old = g.has l has in record { here = stays other id (t.seat l) k old.here elsewhere; whole = old.whole; most = old.most };
+              has = λ l has. let old = g.has l has in record { here = stays other id (t.seat l) k old.here elsewhere; whole = old.whole; small = old.small };
+              apart = g.apart;
               acts = λ a has. let old = g.acts a has in record { here = stays other id (t.owner a) k old.here elsewhere; whole = old.whole; small = old.small };
               drew = g.drew;
               holds = g.holds;
+              once = g.once;
               spent = g.spent;
               lone = g.lone;
             })

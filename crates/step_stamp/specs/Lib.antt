@@ -3,5 +3,6 @@ pub mod Marks
 pub mod Views
 pub mod Placing
 pub mod Rule
+pub mod Laws
 pub mod Seats
 pub mod Opening

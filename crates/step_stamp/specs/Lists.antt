@@ -1,4 +1,5 @@
--- Words on lists: what stands in one, which elements appear in another in their order, and numbers counted up and down.
+-- Words on lists: what stands in one, which elements appear in another in their order, numbers that all differ, and numbers
+-- counted up and down.
 use Rattle.std.specs.Prelude.{◌≡◌, ℕ, zero, suc, ◌⊎◌, ◌==◌, not, List, [], ◌∷◌, ◌++◌, filter}
 
 -- it stands in the list
@@ -11,6 +12,11 @@ abbrev pub AppearIn : {X : Type 0} → List X → List X → Type 0
 AppearIn [] ys = Unit {0}
 AppearIn (x ∷ xs) [] = ⊥
 AppearIn (x ∷ xs) (y ∷ ys) = ((y ≡ x) × AppearIn xs ys) ⊎ AppearIn (x ∷ xs) ys
+
+-- no number stands twice
+abbrev pub Differ : List ℕ → Type 0
+Differ [] = Unit {0}
+Differ (n ∷ ns) = (Has n ns → ⊥) × Differ ns
 
 -- the numbers below n: falling, and rising
 unfoldable pub below : ℕ → List ℕ

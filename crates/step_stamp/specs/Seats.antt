@@ -1,11 +1,13 @@
 -- What a call of a seat changes, told of the views before and after it. A meeting tells a pass the whole list of a link.
 -- What it knew before begins that list, and its own marks there are those that it has drawn for the link, in that order.
--- A draw gives a mark whose stamp is above all that the pass has seen.
+-- A draw gives a mark whose stamp is above all that the pass has seen, and so above the stamps of all marks that it knows of any
+-- link and of all that it has drawn.
 use Rattle.std.specs.Prelude.{◌≡◌, ℕ, ◌*◌, ◌^◌, ◌<◌, ◌≤◌, ◌⊎◌, max, List, [], ◌∷◌, ◌++◌, length}
 use mathlib.Core.List.{IsPrefix}
 use Rattle.atomic_table.specs.Seated.{TableId}
 use Rattle.net_units.specs.Numbers.{actor_number, link_number}
 use Rattle.net_units.specs.declared.numbers.ActorNo.{ActorNo}
+use Rattle.link_steps.specs.Lists.{Each}
 use Rattle.link_steps.specs.declared.asks.Ask.{Ask}
 use Rattle.step_stamp.specs.declared.marks.Drawn.{Drawn}
 use Rattle.step_stamp.specs.declared.marks.Mark.{Mark}
@@ -73,6 +75,8 @@ pub record DrawsMark (actor : ActorNo) (l : ℕ) (ask : Ask) (pass pass' : View)
   pub actor_is : mark.actor ≡ actor
   pub ask_is : mark.ask ≡ ask
   pub above : pass.seen < mark.stamp
+  pub above_known : (k : ℕ) → Each (λ (m : Mark). m.stamp < mark.stamp) (known_of k pass)
+  pub above_drawn : Each (λ (d : Drawn). d.mark.stamp < mark.stamp) pass.drawn
   pub most : mark.stamp ≤ 65 * 2 ^ 40
   pub drawn : pass'.drawn ≡ pass.drawn ++ drawn_for l mark ∷ []
   pub saw : pass'.seen ≡ mark.stamp
@@ -106,12 +110,14 @@ pub record Gathered (this that now : View) : Type 0 where
   pub saw : now.seen ≡ max this.seen that.seen
   pub among : now.among ≡ this.among
 
--- a link's seat joins a pass
+-- a link's seat joins a pass, which had no list of that link, since no two seats are of one link
 pub record Settled (l : ℕ) (pass link now : View) : Type 0 where
   pub begins : IsPrefix (known_of l pass) (known_of l link)
   pub rises : StampsRise (known_of l link)
   pub own : (m : Mark) → Has m (known_of l link) → Has (actor_number m.actor) pass.actors → Has (drawn_for l m) pass.drawn
   pub all : ((a : ℕ) → a < pass.among → Has a pass.actors) → (m : Mark) → Has m (known_of l link) → Has (drawn_for l m) pass.drawn
+  pub new : Has l pass.links → ⊥
+  pub links : now.links ≡ pass.links ++ l ∷ []
   pub knows : known_of l now ≡ known_of l link
   pub others : (k : ℕ) → (k ≡ l → ⊥) → known_of k now ≡ known_of k pass
   pub drawn : now.drawn ≡ pass.drawn

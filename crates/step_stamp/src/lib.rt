@@ -7,6 +7,7 @@
 //! one [`Stamps::open`].
 #![tactic(auto)]
 
+pub mod laws;
 pub mod marks;
 pub mod rule;
 pub mod seats;

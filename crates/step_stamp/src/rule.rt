@@ -15,7 +15,7 @@ impl TableRule<(), View, Opening> for StampRule {
     ghost use Rattle.step_stamp.specs.Rule.{KeepsRule};
     ghost use Rattle.step_stamp.specs.Views.{first_view};
 
-    ghost holds = { λ about s. KeepsRule s.words s.views };
+    ghost holds = { λ about s. KeepsRule about s.words s.views };
 
     ghost first = { λ about. first_view about.links about.actors };
 }
@@ -90,16 +90,18 @@ impl<C: Chosen> Join<View> for Takes<C> {
     ghost spent = { nobody };
 }
 
-/// A draw. It tells that the pass has seen nothing above what the word was, and that the stamp is in its range.
+/// A draw. It tells that the pass has seen nothing above what the word was, and the stamps of all its marks; and that the
+/// stamp is in its range.
 pub struct Draws<C: Chosen> {
     of: PhantomData<C>,
 }
 
 impl<C: Chosen> Play<(), View> for Draws<C> {
     ghost use Rattle.std.specs.Prelude.{◌≡◌, ◌+◌, ◌*◌, ◌^◌, ◌≤◌};
+    ghost use Rattle.step_stamp.specs.Rule.{HasSeen};
     ghost use Rattle.step_stamp.specs.Views.{drew};
 
-    ghost then = { λ step me found after. (after ≡ (drew (C.draws (found + 1)) (found + 1) me.0, me.1)) × (me.0.seen ≤ found) × (found + 1 ≤ 65 * 2 ^ 40) };
+    ghost then = { λ step me found after. (after ≡ (drew (C.draws (found + 1)) (found + 1) me.0, me.1)) × (me.0.seen ≤ found) × (found + 1 ≤ 65 * 2 ^ 40) × HasSeen me.0 };
 }
 
 /// A load that tells what the rule says of the view.

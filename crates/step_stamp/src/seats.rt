@@ -1,7 +1,8 @@
 //! The seats of links and passes, and the tickets between them.
 ghost use Rattle.std.specs.Prelude.{◌≡◌, ◌≤◌, ◌<◌, ◌+◌, ◌^◌, ℕ, [], ◌∷◌, length, take, IfOk, OnErr};
 ghost use Rattle.net_units.specs.Numbers.{link_number, actor_number};
-ghost use Rattle.step_stamp.specs.Marks.{drawn_for};
+ghost use Rattle.step_stamp.specs.Marks.{drawn_for, marks_of};
+ghost use Rattle.step_stamp.specs.Views.{known_of};
 
 use crate::marks::Mark;
 use crate::rule::{Chosen, Draws, Enters, Gathers, HandsOver, Learns, Sees, Settles, Shows, Takes};
@@ -24,7 +25,7 @@ pub struct LinkSeat {
 }
 
 /// The seat of an actor. It has the marks that it has drawn, what it knows of each link's list, and the largest stamp
-/// that it has seen.
+/// that it has seen. While it has drawn nothing it knows no mark of its actor.
 #[derive(Drop)]
 pub struct PassSeat {
     pub(crate) seat: Seat<(), View>,
@@ -35,6 +36,7 @@ pub struct PassSeat {
     ghost among: { 1 ≤ seat.me.0.among },
     ghost hand: { seat.me.0.hand ≡ [] },
     ghost count: { drawn ≡ length seat.me.0.drawn },
+    ghost fresh: { drawn ≡ 0 → (l : ℕ) → marks_of (actor_number actor) (known_of l seat.me.0) ≡ [] },
 }
 
 /// A mark on its way into a link's list.
@@ -46,6 +48,7 @@ pub struct Ticket {
     ghost free: { seat.me.1 ≡ [] },
     ghost hand: { seat.me.0.hand ≡ drawn_for (link_number link) mark ∷ [] },
     ghost saw: { seat.me.0.seen ≡ mark.stamp },
+    ghost links: { seat.me.0.links ≡ [] },
     ghost actors: { seat.me.0.actors ≡ [] },
 }
 
@@ -99,8 +102,9 @@ impl PassSeat {
     }
 
     /// Draws a stamp for this ask at this link. The pass has to have met the link (`knows`, `saw`) and drawn fewer than
-    /// 2^40 marks (`few`). The stamp is above every stamp that the pass had seen, and at most 65 * 2^40. After want of
-    /// memory one mark more at most is drawn.
+    /// 2^40 marks (`few`). The stamp is above every stamp that the pass had seen, and so above those of all marks that it
+    /// knew of any link and of all that it had drawn; and it is at most 65 * 2^40. After want of memory one mark more at
+    /// most is drawn.
     pub fn draw(
         &mut self,
         stamps: &Stamps,
@@ -180,7 +184,7 @@ impl PassSeat {
 
     /// Joins a link's seat into this one at closing. What this seat knew of the link begins the link's list, and the marks
     /// of its actors there are drawn for the link; where it has all actors of the opening, each mark there is one of these.
-    /// It then knows the whole list.
+    /// It then knows the whole list, and has it: it had no list of this link before, since no two seats are of one link.
     pub fn settle(&mut self, stamps: &Stamps, link: LinkSeat)
         requires this { pass_table self.old ≡ stamps_table stamps.now }
         requires that { link_table link ≡ stamps_table stamps.now }

@@ -1,38 +1,36 @@
-use Rattle.std.proofs.Common.{◌≡◌, ℕ, ◌+◌, List, [], ◌∷◌, ◌++◌, length, map, sym, ap, ◌∙◌, subst, arith}
-use Rattle.std.proofs.lemmas.List.{append_assoc, length-append, length-map, map-append}
-use Rattle.std.specs.Vec.Iter.{into_iter_items}
-use Rattle.net_units.specs.Numbers.{link_number}
+use Rattle.std.proofs.Common.{◌≡◌, List, ◌++◌, length, take, drop, sym, ap, ◌∙◌, subst, arith}
+use Rattle.std.proofs.lemmas.List.{append-nil, drop_all, take_all}
+use Rattle.std.proofs.lemmas.List.Sorted.{length_permutation}
 use Rattle.link_steps.specs.Lists.{Each}
-use Rattle.link_steps.proofs.ListFacts.{Each-append}
 use Rattle.step_stamp.specs.Lists.{up_to}
-use Rattle.step_stamp.specs.Seats.{pass_view, link_view, seat_link}
+use Rattle.step_stamp.specs.Seats.{pass_view}
 use Rattle.link_ledger.specs.declared.entries.Journal.{Journal}
-use Rattle.shared_network.specs.Closing.{number_of}
-use Rattle.shared_network.specs.Gathering.{IsSettled}
-use Rattle.shared_network.proofs.CountFacts.{up_to-next}
-use Rattle.shared_network.proofs.GatherFacts.{StaysGathered, settled-next}
+use Rattle.shared_network.specs.Gathering.{IsBelow, IsSettled, AreSettled}
+use Rattle.shared_network.proofs.PermutedFacts.{each-permuted}
 use Rattle.shared_network.proofs.closing.settle.Goals as goal
 
-pub loop-link-preserved : goal.loop-link-preserved
-loop-link-preserved g c =
-    let so = c.loop-link.invariant in
-    let n : ℕ = length g.H.Home.links in
-    let journals : List Journal = c.loop-link.journals.items in
-    let journal : Journal = c.into_journal-journal.result.0 in
-    let told = c.into_journal-journal.ensures in
-    let rest : List ℕ = map (λ u. u.held.number) (into_iter_items c.next.new.self) in
-    let before : map number_of journals ++ c.in-Some.link.held.number ∷ rest ≡ up_to n = ap (λ us. map number_of journals ++ map (λ u. u.held.number) us) (sym c.in-Some.ensures.steps.0) ∙ so.numbers in
-    let number : c.in-Some.link.held.number ≡ length journals = up_to-next n (map number_of journals) rest c.in-Some.link.held.number before ∙ length-map journals number_of in
-    let pushed = c.push_reserved.ensures.items in
-    let capacity = c.push_reserved.ensures.capacity in
-    let more : length c.push_reserved.new.self.items ≡ length journals + 1 = ap length pushed ∙ length-append journals (journal ∷ []) in
-    let same : number_of journal ≡ seat_link c.into_journal-journal.result.1 = ap link_number told.link in
-    let next =
-    settled-next g.H.Home.links (pass_view c.args.seat) (pass_view c.loop-link.seat) (pass_view c.settle.new.self) (link_view c.into_journal-journal.result.1) (seat_link c.into_journal-journal.result.1) (length journals) journal told.journal.0 so.stays c.requires.acts (sym same ∙ told.number ∙ number) same c.settle.ensures.joined told.marks told.journal.1 told.journal.2 in
-    record {
-      numbers = ap (λ js. map number_of js ++ rest) pushed ∙ ap (λ ns. ns ++ rest) (map-append number_of journals (journal ∷ [])) ∙ append_assoc (map number_of journals) (number_of journal ∷ []) rest ∙ ap (λ k. map number_of journals ++ k ∷ rest) told.number ∙ before;
-      settled = subst (Each (IsSettled g.H.Home.links (pass_view c.args.seat))) (sym pushed) (Each-append (IsSettled g.H.Home.links (pass_view c.args.seat)) journals (journal ∷ []) so.settled (next.0, tt));
-      stays = subst (λ k. StaysGathered k (pass_view c.args.seat) (pass_view c.settle.new.self)) (let m = more in omega (arith, m)) next.1;
-      table = c.settle.ensures.same.0 ∙ so.table;
-      room = (let long = ap length c.in-Some.ensures.steps.0 in let room = so.room in omega (arith, long, more, room, capacity));
-    }
+pub put_in_order-requires-clause-below : goal.put_in_order-requires-clause-below
+put_in_order-requires-clause-below g c =
+    let told = c.take_journals-journals.ensures in
+    let taken : List Journal = c.take_journals-journals.result.items in
+    subst (λ (js : List Journal). Each (IsBelow (length js)) js) (sym c.deref_mut.ensures.value) (subst (λ n. Each (IsBelow n) taken) (sym (told.all ∙ c.requires.all)) told.below)
+
+pub returns : goal.returns
+returns g c =
+    let told = c.take_journals-journals.ensures in
+    let taken : List Journal = c.take_journals-journals.result.items in
+    let before : List Journal = c.deref_mut.result.now in
+    let after : List Journal = c.put_in_order.new.journals in
+    let value : before ≡ taken = c.deref_mut.ensures.value in
+    let long : length after ≡ length before = length_permutation before after c.put_in_order.ensures.same in
+    let same : length before ≡ length taken = ap length value in
+    let ok = c.take_journals-journals.result.ok in
+    let whole : take c.take_journals-journals.result.len (after ++ drop (length after) taken) ≡ after =
+    ap (λ ys. take c.take_journals-journals.result.len (after ++ ys)) (drop_all (length after) taken (omega (arith, long, same)))
+    ∙ ap (take c.take_journals-journals.result.len) (append-nil after)
+    ∙ take_all c.take_journals-journals.result.len after (omega (arith, long, same, ok)) in
+    subst (AreSettled g.H.Home.links (pass_view c.args.seat)) (sym whole)
+    (record {
+      numbers = c.put_in_order.ensures.order ∙ ap up_to (same ∙ told.all ∙ c.requires.all);
+      settled = each-permuted (IsSettled g.H.Home.links (pass_view c.args.seat)) before after c.put_in_order.ensures.same (subst (Each (IsSettled g.H.Home.links (pass_view c.args.seat))) (sym value) told.settled);
+    })

@@ -4,9 +4,8 @@ use Rattle.std.proofs.lemmas.List.Elements.{same_from_all_zip}
 use Rattle.std.specs.Vec.Iter.{into_iter_items}
 use Rattle.net_units.specs.Numbers.{link_number}
 use Rattle.link_steps.specs.Lists.{Each}
-use Rattle.link_steps.specs.Split.{Link, SplitFits}
+use Rattle.link_steps.specs.Split.{Link}
 use Rattle.step_stamp.specs.Seats.{seat_link}
-use Rattle.link_steps.proofs.ListParts.{Each-at}
 use Rattle.shared_network.specs.Sight.{IsUnusedLink}
 use Rattle.shared_network.proofs.CountFacts.{none-left}
 use Rattle.shared_network.proofs.OpeningFacts.{Locking, locking-start, locking-left, locking-link, locking-next, locking-end}

@@ -7,13 +7,8 @@ use Rattle.link_steps.proofs.ListFacts.{Each-append}
 use Rattle.step_stamp.specs.Opening.{IsNewPass}
 use Rattle.step_stamp.specs.Seats.{seat_actor}
 use Rattle.shared_network.specs.Ready.{IsNew}
-use Rattle.shared_network.proofs.OpeningFacts.{pass-new, new-knows}
+use Rattle.shared_network.proofs.OpeningFacts.{pass-new}
 use Rattle.shared_network.proofs.network.passes_of.Goals as goal
-
-pub new-requires-clause-known : goal.new-requires-clause-known
-new-requires-clause-known g c =
-    let left = subst (Each (IsNewPass g.H.Home.table (length c.args.seats.items))) c.in-Some.ensures.steps.0 c.loop-seat.invariant.left in
-    new-knows g.H.Home.table (length c.args.seats.items) c.in-Some.seat left.0
 
 pub loop-seat-preserved : goal.loop-seat-preserved
 loop-seat-preserved g c =

@@ -1,5 +1,6 @@
 use Rattle.std.proofs.Common.{◌≡◌, length, sym, ap, ◌∙◌, subst, IfOk}
 use Rattle.std.specs.Prelude.{Result, Ok, Err}
+use Rattle.std.specs.Sync.Mutex.{mutex_guard_value}
 use Rattle.net_units.specs.Numbers.{link_number}
 use Rattle.step_stamp.specs.Seats.{pass_view}
 use Rattle.step_stamp.specs.Views.{known_of}
@@ -15,14 +16,13 @@ if_ok P Q (Err e) follows holds = holds
 pub returns-clause-acted : goal.returns-clause-acted
 returns-clause-acted g c =
     let held : HeldLink = c.deref_mut.result.now in
-    let same : held ≡ c.deref.result.now = c.deref_mut.ensures.value ∙ sym c.deref.ensures in
-    let number : held.number ≡ link_number c.args.self.now.link =
-    ap (λ (h : HeldLink). h.number) same ∙ sym c.number.ensures.number ∙ sym c.get.ensures.value ∙ c.if-get.false ∙ c.get-2.ensures.value in
-    let rules : IsLink g.H.Home.links held.number held.rules = subst (λ (h : HeldLink). IsLink g.H.Home.links h.number h.rules) (sym same) c.number.ensures.rules in
+    let took = c.taken-held.ensures in
+    let same : held ≡ mutex_guard_value c.taken-held.result = c.deref_mut.ensures.value in
+    let number : held.number ≡ link_number c.args.self.now.link = ap (λ (h : HeldLink). h.number) same ∙ took.number in
     if_ok _ _ c.act.result
     (λ e acted. record {
       link = held.rules;
-      is_link = subst (λ n. IsLink g.H.Home.links n held.rules) number rules;
+      is_link = subst (λ (h : HeldLink). IsLink g.H.Home.links (link_number c.args.self.now.link) h.rules) (sym same) took.rules;
       entries = held.entries;
       acted = subst (λ n. Acted held.rules n c.args.seat.now.actor c.args.ask.now (pass_view c.args.seat.now) (pass_view c.act.new.pass) held.entries e) number acted;
     })
@@ -31,7 +31,6 @@ returns-clause-acted g c =
 pub returns-clause-order : goal.returns-clause-order
 returns-clause-order g c =
     let held : HeldLink = c.deref_mut.result.now in
-    let same : held ≡ c.deref.result.now = c.deref_mut.ensures.value ∙ sym c.deref.ensures in
-    let number : held.number ≡ link_number c.args.self.now.link =
-    ap (λ (h : HeldLink). h.number) same ∙ sym c.number.ensures.number ∙ sym c.get.ensures.value ∙ c.if-get.false ∙ c.get-2.ensures.value in
+    let same : held ≡ mutex_guard_value c.taken-held.result = c.deref_mut.ensures.value in
+    let number : held.number ≡ link_number c.args.self.now.link = ap (λ (h : HeldLink). h.number) same ∙ c.taken-held.ensures.number in
     if_ok _ _ c.act.result (λ e order. subst (λ n. AreInOrder g.H.Home.owners (length g.H.Home.links) (known_of n (pass_view c.act.new.pass))) number order) c.act.ensures.order

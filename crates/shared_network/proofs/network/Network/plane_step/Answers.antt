@@ -1,4 +1,4 @@
-use Rattle.std.proofs.Common.{[], ◌∷◌, sym, subst}
+use Rattle.std.proofs.Common.{[], ◌∷◌, sym, subst, arith}
 use Rattle.net_units.specs.Numbers.{channel_number}
 use Rattle.channel_laws.specs.Asks.{IsOff}
 use Rattle.shared_network.proofs.CallFacts.{ok-no-err, on-ok}
@@ -40,3 +40,10 @@ returns-clause-established g c =
     let may = may-ask g.H.Home.table g.H.Home.owners g.H.Home.links c.args.pass.now c.args.plane.now c.in_ok-reply.ensures.splits c.requires.pass c.requires.links c.in-Some.ensures.in_links c.in-Some.ensures.few c.requires.planes c.in-Some.link c.in-Some.ask (sym c.in-Some.ensures.asked) in
     let steps = c.in_ok-reply.ensures.made in
     λ request was. established-stays request c.args.pass.now.own c.step_at.new.pass.own (steps.entry ∷ []) steps.own (subst (IsOff (channel_number request.chan)) (sym steps.acted.ask_is) (may.off (channel_number request.chan)), tt) was
+
+pub returns-clause-later : goal.returns-clause-later
+returns-clause-later g c =
+    let steps = c.in_ok-reply.ensures.made in
+    let above = steps.acted.above in
+    let saw = steps.acted.saw in
+    record { entries = steps.entry ∷ []; own = steps.own; above = (above, tt); seen = omega (arith, above, saw) }

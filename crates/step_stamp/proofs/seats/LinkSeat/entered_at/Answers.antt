@@ -12,7 +12,7 @@ join_seat-requires g c =
     let me = c.args.self.now in
     let t = c.args.ticket in
     let same : link_number t.link ≡ g.C.Chosen.number = c.requires.link_is ∙ c.requires.chosen in
-    (c.requires.link, c.requires.ticket, t.free, omega (arith, c.args.stamps.now.words), enters _ g.C.Chosen.number _ _ _ t.mark (me.links ∙ ap (λ l. l ∷ []) c.requires.chosen) (t.hand ∙ ap (λ l. drawn_for l t.mark ∷ []) same) c.requires.above (omega (arith, t.saw)))
+    (c.requires.link, c.requires.ticket, t.free, omega (arith, c.args.stamps.now.words), enters _ _ g.C.Chosen.number _ _ _ t.mark (me.links ∙ ap (λ l. l ∷ []) c.requires.chosen) (t.hand ∙ ap (λ l. drawn_for l t.mark ∷ []) same) t.links t.actors c.requires.above (omega (arith, t.saw)))
 
 pub returns-clause-entered : goal.returns-clause-entered
 returns-clause-entered g c =

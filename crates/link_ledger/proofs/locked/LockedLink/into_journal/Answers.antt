@@ -5,11 +5,11 @@ use Rattle.step_stamp.specs.Seats.{seat_link, list_of, link_view, link_table}
 use Rattle.link_ledger.specs.Journals.{done_in}
 use Rattle.link_ledger.specs.Order.{HeldLink, IsOrdered}
 use Rattle.link_ledger.specs.Tokens.{IsLink}
-use Rattle.link_ledger.proofs.unlocked.Unlocked.into_journal.Goals as goal
+use Rattle.link_ledger.proofs.locked.LockedLink.into_journal.Goals as goal
 
 pub returns-clause-journal : goal.returns-clause-journal
 returns-clause-journal g c =
-    let held : HeldLink = c.args.self.held in
+    let held : HeldLink = c.into_inner.result in
     let parts = c.into_parts-entries.ensures in
     let order = parts.order in
     let same : held ≡ record { number = seat_link c.into_parts-entries.result.1; rules = held.rules; entries = c.into_parts-entries.result.0.items; list = list_of c.into_parts-entries.result.1; seen = (link_view c.into_parts-entries.result.1).seen; table = link_table c.into_parts-entries.result.1 } =

@@ -1,0 +1,21 @@
+use Rattle.std.proofs.Common.{◌<◌, length, sym, ap, ◌∙◌, subst, rules}
+use Rattle.std.specs.Prelude.{◌≡◌, List}
+use Rattle.std.proofs.lemmas.List.Sorted.{IsNonDecreasingBy-from_sort_by_key, length_permutation}
+use Rattle.link_steps.specs.Lists.{Each}
+use Rattle.step_stamp.specs.Lists.{up_to}
+use Rattle.link_ledger.specs.declared.entries.Journal.{Journal}
+use Rattle.shared_network.specs.Closing.{number_of}
+use Rattle.shared_network.specs.Gathering.{IsBelow}
+use Rattle.shared_network.proofs.NumberOrder.{ordered-numbers}
+use Rattle.shared_network.proofs.PermutedFacts.{each-permuted, differ-permuted}
+use Rattle.shared_network.proofs.closing.put_in_order.Goals as goal
+
+pub returns-clause-order : goal.returns-clause-order
+returns-clause-order c =
+    let before : List Journal = c.args.journals.now in
+    let after : List Journal = c.sort_unstable_by_key.new.self in
+    let moved = c.sort_unstable_by_key.ensures.permutation in
+    let long : length after ≡ length before = length_permutation before after moved in
+    let below : Each (λ (j : Journal). number_of j < length after) after = subst (λ n. Each (IsBelow n) after) (sym long) (each-permuted (IsBelow (length before)) before after moved c.requires.below) in
+    ordered-numbers number_of after (IsNonDecreasingBy-from_sort_by_key number_of after c.sort_unstable_by_key.ensures.sorted (λ a r q k. search rules)) (differ-permuted number_of before after moved c.requires.apart) below
+    ∙ ap up_to long
