@@ -93,6 +93,13 @@ impl Calendar {
         self.next = self.next.min(tick);
     }
 
+    /// The entries, a tick and a key each, in the order in which they were put. An `Err` comes only for want of memory.
+    pub fn entries(&self, alloc: Global) -> Result<Vec<(u64, u32)>, OutOfMemory>
+        ensures { IfOk result (λ all. all.items ≡ self.now.entries) }
+    {
+        self.wheel.entries(alloc)
+    }
+
     /// A tick before which no key falls due.
     pub fn rests_until(&self) -> u64
         ensures { All (λ entry. result ≤ entry.0) self.now.entries }

@@ -11,6 +11,8 @@ fn takes_the_least_tick_and_then_the_earliest_put(rt: HostRuntime) -> Result<(),
     calendar.put(5, 1);
     calendar.put(3, 2);
     calendar.put(5, 3);
+    let entries = calendar.entries(rt.alloc())?;
+    assert_eq!(rt; entries.as_slice(), [(5, 1), (3, 2), (5, 3)].as_slice());
     assert_eq!(rt; calendar.take_due(2), None);
     assert_eq!(rt; calendar.look_due(2), None);
     assert_eq!(rt; calendar.look_due(5), Some(2));

@@ -37,6 +37,19 @@ impl Wheel {
         })
     }
 
+    // The entries, in the order in which they were put.
+    pub(crate) fn entries(&self, alloc: Global) -> Result<Vec<(u64, u32)>, OutOfMemory>
+        ensures { IfOk result (λ all. all.items ≡ entries_in self.now.places.items) }
+    {
+        let mut entries = Vec::new(alloc);
+        for place in &self.places {
+            if place.waits {
+                entries.push((place.tick, place.key))?;
+            }
+        }
+        Ok(entries)
+    }
+
     // Takes memory for two places an entry, and for a turn's slots, so that few turns are made to clear places.
     pub(crate) fn reserve(&mut self, room: usize) -> Result<(), OutOfMemory>
         ensures room { OnOk result (room ≤ vec_capacity self.new.places) }

@@ -1,11 +1,13 @@
 -- Each key has its flight, as one is put and as one lands.
-use Rattle.std.proofs.Common.{◌≡◌, ℕ, if◌then◌else◌, ◌+◌, ◌<◌, ◌≤◌, Bool, true, false, nat_eq, List, [], ◌∷◌, ◌++◌, Option, Some, None, is_some, count_by, map, get_or, length, refl, sym, ap, ◌∙◌, subst, arith, inl, inr}
+use Rattle.std.proofs.Common.{◌≡◌, ℕ, zero, suc, if◌then◌else◌, ◌+◌, ◌<◌, ◌≤◌, Bool, true, false, nat_eq, List, [], ◌∷◌, ◌++◌, Option, Some, None, is_some, count_by, map, get_or, take, length, refl, sym, ap, ◌∙◌, subst, arith, inl, inr}
 use Rattle.std.proofs.lemmas.Bool.{cases_Bool, eq-eqb, eqb-false, eqb-true, ne_eqb}
-use Rattle.std.proofs.lemmas.List.{map-append, length-append}
+use Rattle.std.proofs.lemmas.List.{append_assoc, map-append, length-append}
+use Rattle.std.proofs.Math.Seq.{take-suc}
 use Rattle.slab.specs.Slab.{Slab, Updates, get}
+use Rattle.link_steps.specs.Lists.{Each}
 use Rattle.tick_calendar.specs.Calendar.{Entry}
 use Rattle.tick_plane.specs.declared.flight.Flight.{Flight}
-use Rattle.tick_plane.specs.Carried.{flight_told, in_round, flight_at, flights_at, times, held_at, AreKeyed}
+use Rattle.tick_plane.specs.Carried.{flight_told, in_round, flight_at, flights_at, times, held_at, IsCarried, AreKeyed}
 
 -- ---- how many entries have a key
 
@@ -123,3 +125,33 @@ module _ (old new : Slab Flight) (before after : List Entry) (round key : ℕ) (
 
   pub flights-landed : flights_at new.slots (before ++ after) ≡ flights_at old.slots (before ++ after)
   flights-landed = same-flights old new key None updates (before ++ after) (counts old.slots before after round key keyed).0
+
+-- ---- all flights
+
+-- each key that is put has its flight
+pub each-carried : (slots : List (Option Flight)) (before after : List Entry) → AreKeyed slots (before ++ after) → Each (IsCarried slots) after
+each-carried slots before [] keyed = tt
+each-carried slots before (entry ∷ after) keyed = (
+  is-held slots before after entry.0 entry.1 keyed,
+  each-carried slots (before ++ entry ∷ []) after (subst (AreKeyed slots) (sym (append_assoc before (entry ∷ []) after)) keyed),
+)
+
+pub carried-at : (slots : List (Option Flight)) (entries : List Entry) (i : ℕ) (d : Entry) → i < length entries → Each (IsCarried slots) entries
+    → IsCarried slots (get_or entries i d)
+carried-at slots [] i d within each = absurd (omega (arith, within))
+carried-at slots (first ∷ entries) zero d within each = each.0
+carried-at slots (first ∷ entries) (suc i) d within each = carried-at slots entries i d (omega (arith, within)) each.1
+
+-- one more
+module _ (slots : List (Option Flight)) (entries : List Entry) (i : ℕ) (d : Entry) (within : i < length entries) (flight : Flight) (now new : List Flight) where
+  abbrev entry : Entry
+  entry = get_or entries i d
+
+  pub listed-more : get_or slots entry.1 None ≡ Some flight → now ≡ flights_at slots (take i entries) → new ≡ now ++ in_round entry.0 flight ∷ []
+      → new ≡ flights_at slots (take (i + 1) entries)
+  listed-more held was pushed =
+      let next : i + 1 ≡ suc i = omega arith in
+      let front : take (i + 1) entries ≡ take i entries ++ entry ∷ [] = ap (λ n. take n entries) next ∙ take-suc entries i d within in
+      pushed ∙ ap (λ fs. fs ++ in_round entry.0 flight ∷ []) was
+      ∙ ap (λ (slot : Option Flight). flights_at slots (take i entries) ++ in_round entry.0 (flight_told slot) ∷ []) (sym held)
+      ∙ sym (ap (flights_at slots) front ∙ map-append (flight_at slots) (take i entries) (entry ∷ []))

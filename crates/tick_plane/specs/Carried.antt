@@ -1,7 +1,7 @@
 -- Flights are kept in a slab, each under a key. The keys stand in a calendar, each for the round in which its flight is due and
 -- in the order in which the flights departed. No flight is due before the round at hand. The key of the first flight that is due
 -- in this round is kept beside them.
-use Rattle.std.specs.Prelude.{◌≡◌, ℕ, ◌+◌, ◌^◌, ◌<◌, ◌≤◌, if◌then◌else◌, nat_eq, List, [], ◌∷◌, ◌++◌, Option, Some, None, is_some, count_by, map, length, slice_index_or}
+use Rattle.std.specs.Prelude.{◌≡◌, ℕ, ◌+◌, ◌^◌, ◌<◌, ◌≤◌, if◌then◌else◌, nat_eq, List, [], ◌∷◌, ◌++◌, Option, Some, None, is_some, IsSome, count_by, map, length, slice_index_or}
 use Rattle.slab.specs.Slab.{Slab, slab_len}
 use Rattle.net_units.specs.Numbers.{link_at, channel_at}
 use Rattle.link_steps.specs.Lists.{Each}
@@ -40,6 +40,10 @@ times key (entry ∷ entries) = (if nat_eq entry.1 key then 1 else 0) + times ke
 -- whether a key has a flight, as a number
 abbrev pub held_at : List (Option Flight) → ℕ → ℕ
 held_at slots key = if is_some (slice_index_or slots key None) then 1 else 0
+
+-- the key of an entry has a flight
+abbrev pub IsCarried : List (Option Flight) → Entry → Type 0
+IsCarried slots entry = IsSome (slice_index_or slots entry.1 None)
 
 -- each key that has a flight is among these once
 pub record AreKeyed (slots : List (Option Flight)) (entries : List Entry) : Type 0 where

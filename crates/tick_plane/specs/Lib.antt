@@ -1,3 +1,6 @@
 pub mod Planes
 pub mod Kept
 pub mod Carried
+pub mod Rounds
+pub mod Windows
+pub mod Coming

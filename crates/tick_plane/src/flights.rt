@@ -1,7 +1,8 @@
 //! The packets on their way, in the order of their departures, found by the round in which they are due.
 ghost use Rattle.std.specs.Prelude.{◌≡◌, ◌+◌, ◌-◌, ◌^◌, ◌≤◌, ◌<◌, ◌++◌, ◌∷◌, [], suc, None, IsOk, IsSome, OnOk, OnErr, IfOk, length, find};
 ghost use Rattle.tick_plane.specs.Planes.{is_due};
-ghost use Rattle.link_steps.specs.Lists.{without_first};
+ghost use Rattle.tick_plane.specs.Carried.{IsCarried, flights_at};
+ghost use Rattle.link_steps.specs.Lists.{Each, without_first};
 
 use crate::flight::Flight;
 use net_units::OutOfMemory;
@@ -117,12 +118,40 @@ impl Flights {
         self.due = self.rounds.look_due(self.round);
     }
 
+    // All of them, in their order.
+    pub(crate) fn list(&self, alloc: Global) -> Result<Vec<Flight>, OutOfMemory>
+        ensures { IfOk result (λ all. all.items ≡ self.now.list) }
+    {
+        let entries = self.rounds.entries(alloc)?;
+        listed(alloc, &self.carried, &entries)
+    }
+
     // How many there are.
     pub(crate) fn len(&self) -> usize
         ensures { result ≡ length self.now.list }
     {
         self.carried.len()
     }
+}
+
+// The flights of these entries of the calendar, each of whose keys has one.
+fn listed(
+    alloc: Global,
+    carried: &Slab<Flight>,
+    entries: &[(u64, u32)],
+) -> Result<Vec<Flight>, OutOfMemory>
+    requires { Each (IsCarried carried.now.slots) entries.now }
+    ensures { IfOk result (λ all. all.items ≡ flights_at carried.now.slots entries.now) }
+{
+    let mut all = Vec::with_capacity(alloc, entries.len())?;
+    for entry in entries {
+        let flight = carried[entry.1 as usize];
+        all.push(Flight {
+            round: entry.0,
+            ..flight
+        })?;
+    }
+    Ok(all)
 }
 
 // A copy of a slab, with room for so many flights, each of whose keys fits in a u32.

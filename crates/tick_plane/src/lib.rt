@@ -7,7 +7,11 @@
 
 pub mod flight;
 mod flights;
+pub mod laws;
 pub mod plane;
+mod rest;
+pub mod window;
 
 pub use flight::Flight;
 pub use plane::Plane;
+pub use window::Window;

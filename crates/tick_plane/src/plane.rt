@@ -2,10 +2,13 @@
 ghost use Rattle.std.specs.Prelude.{◌≡◌, ◌+◌, ◌-◌, ◌^◌, ◌<◌, ◌≤◌, ◌↔◌, ◌++◌, None, Some, IsTrue, IsOk, IsNone, OnOk, OnErr, IfOk, IfErr, IfNone, IfSome, length, option_map};
 ghost use Rattle.net_units.specs.Numbers.{link_at};
 ghost use Rattle.link_steps.specs.Lists.{Each};
+ghost use Rattle.tick_plane.specs.Rounds.{rest_of};
 ghost use Rattle.tick_plane.specs.Planes.{flight_of, next_due, tick_made, plane_ask, plane_after, plane_expects, plane_start, IsDueLater};
 
 use crate::flight::Flight;
 use crate::flights::Flights;
+use crate::rest::{add_arrivals, add_ticks};
+use crate::window::Window;
 use link_steps::{Ask, Refusal, Reply, Sent, Unexpected};
 use net_units::{LinkNo, OutOfMemory};
 use std::alloc::Global;
@@ -131,6 +134,36 @@ impl Plane {
         }
     }
 
+    /// The asks that are left in this round, in order: the packets that reach their next links in it arrive, in the order in
+    /// which they departed, and then the links that haven't made its tick make it. No reply of this round changes them
+    /// ([`rounds_are_asked_in_turn`](crate::laws::rounds_are_asked_in_turn)). There is none where all rounds are made. An `Err`
+    /// comes only for want of memory.
+    pub fn rest(&self, alloc: Global) -> Result<Vec<(LinkNo, Ask)>, OutOfMemory>
+        ensures { IfOk result (λ asks. asks.items ≡ rest_of self.now.links self.now.rounds self.now.at) }
+    {
+        let mut asks = Vec::new(alloc);
+        if self.round >= self.rounds {
+            return Ok(asks);
+        }
+        let flights = self.flights.list(alloc)?;
+        add_arrivals(&flights, self.round, &mut asks)?;
+        add_ticks(self.ticked, self.links, &mut asks)?;
+        Ok(asks)
+    }
+
+    /// The window from here until round `until` begins. An `Err` comes only for want of memory.
+    pub fn window(&self, alloc: Global, until: u64) -> Result<Window, OutOfMemory>
+        ensures { IfOk result (λ made. made ≡ record { at = self.now.at; until = until }) }
+    {
+        let flights = self.flights.list(alloc)?;
+        Ok(Window {
+            round: self.round,
+            ticked: self.ticked,
+            until,
+            flights,
+        })
+    }
+
     /// The number of the round, which is how many are made.
     pub fn round(&self) -> u64
         ensures { result ≡ self.now.at.round }
@@ -194,7 +227,7 @@ impl Plane {
 }
 
 // The link of this number.
-fn link_of(number: u32) -> LinkNo
+pub(crate) fn link_of(number: u32) -> LinkNo
     requires { number < 32 }
     ensures { result ≡ link_at number }
 {
@@ -279,22 +312,27 @@ mod tests {
         asks(&rt, &mut plane, 0, Ask::Tick, ticked(0, None))
     }
 
-    // a packet leaves link 0 in the first of three rounds and reaches link 1 in the third
-    #[test]
-    fn a_packet_arrives_before_the_ticks_of_its_round(rt: HostRuntime) -> Result<(), Fail> {
+    // a packet that leaves link 0 in the first round and reaches link 1 in the third
+    fn crossing() -> Result<Sent, Fail> {
         let packet = Packet {
             chan: ChanNo::new(7).ok_or("a channel")?,
             number: 1,
             size: 2,
             due: 12,
         };
-        let sent = Sent {
+        Ok(Sent {
             packet,
             at: 0,
             eligible: 0,
             arrives: 2,
             next: LinkNo::new(1),
-        };
+        })
+    }
+
+    #[test]
+    fn a_packet_arrives_before_the_ticks_of_its_round(rt: HostRuntime) -> Result<(), Fail> {
+        let sent = crossing()?;
+        let packet = sent.packet;
         let mut plane = Plane::new(rt.alloc(), 2, 3)?;
         asks(&rt, &mut plane, 0, Ask::Tick, ticked(0, Some(sent)))?;
         asks(&rt, &mut plane, 1, Ask::Tick, ticked(0, None))?;
@@ -309,5 +347,47 @@ mod tests {
         asks(&rt, &mut plane, 1, Ask::Tick, ticked(2, None))?;
         assert_eq!(rt; plane.next_ask(), None);
         Ok(())
+    }
+
+    // the ask at this place goes to this link, and is this one
+    fn is_left(
+        rt: &impl Abort,
+        rest: &[(LinkNo, Ask)],
+        place: usize,
+        link: u8,
+        ask: Ask,
+    ) -> Result<(), Fail> {
+        match rest.get(place) {
+            Some((to, next)) => {
+                assert_eq!(rt; (to.get(), *next), (link, ask));
+                Ok(())
+            }
+            None => Err(Fail::from("no ask is left")),
+        }
+    }
+
+    // what is left for link 1 as the second round begins, and what is left in the third
+    #[test]
+    fn what_is_left_is_known_before_it_is_asked(rt: HostRuntime) -> Result<(), Fail> {
+        let sent = crossing()?;
+        let packet = sent.packet;
+        let to = LinkNo::new(1).ok_or("a link")?;
+        let mut plane = Plane::new(rt.alloc(), 2, 3)?;
+        asks(&rt, &mut plane, 0, Ask::Tick, ticked(0, Some(sent)))?;
+        asks(&rt, &mut plane, 1, Ask::Tick, ticked(0, None))?;
+        let mut left = Vec::new(rt.alloc());
+        let window = plane.window(rt.alloc(), 3)?;
+        window.asks(rt.alloc(), to, &mut left)?;
+        assert_eq!(rt;
+            left.as_slice(),
+            [Ask::Tick, Ask::Arrive { packet }, Ask::Tick].as_slice()
+        );
+        asks(&rt, &mut plane, 0, Ask::Tick, ticked(1, None))?;
+        asks(&rt, &mut plane, 1, Ask::Tick, ticked(1, None))?;
+        let rest = plane.rest(rt.alloc())?;
+        assert_eq!(rt; rest.len(), 3);
+        is_left(&rt, &rest, 0, 1, Ask::Arrive { packet })?;
+        is_left(&rt, &rest, 1, 0, Ask::Tick)?;
+        is_left(&rt, &rest, 2, 1, Ask::Tick)
     }
 }

@@ -1,0 +1,5 @@
+pub mod Answered
+pub mod Windows
+pub mod Gaps
+pub mod Batches
+pub mod Desks

@@ -1,0 +1,82 @@
+//! The steps of a window, put into the record in the order in which the plane asks.
+ghost use Rattle.std.specs.Prelude.{◌≡◌, ◌≢◌, ℕ, ◌+◌, ◌<◌, ◌≤◌, ◌∷◌, length, drop, reverse, Some, OnOk};
+ghost use Rattle.std.specs.List.{slice_get};
+ghost use Rattle.net_units.specs.Numbers.{actor_number};
+ghost use Rattle.call_script.specs.Tasks.{network_of};
+ghost use Rattle.interleave_core.specs.Turns.{plane_most};
+ghost use Rattle.plane_workers.specs.Desks.{rules_at, stands_at, left_at};
+ghost use Rattle.plane_workers.specs.Windows.{GoesOnBy, IsWithin};
+
+use crate::desk::Desk;
+use call_script::Plan;
+use link_steps::{LinkStep, Reply};
+use net_units::{ActorNo, OutOfMemory};
+use run_record::{Done, Record};
+use tick_plane::Plane;
+
+/// The plane's steps from where it stands until round `until` begins. Each link has answered what it is asked until then.
+pub(crate) fn tell_all<L: LinkStep>(
+    plan: &Plan,
+    plane: &mut Plane,
+    desks: &mut [Desk<L>],
+    steps: &mut Record,
+    actor: ActorNo,
+    from: u64,
+    until: u64,
+) -> Result<(), OutOfMemory>
+    requires actor { actor_number actor ≡ length plan.now.callers }
+    requires within { IsWithin (rules_at L.link_of) (stands_at L.stands_for) left_at plan.now from until desks.old plane.old (reverse steps.old.entries) }
+    ensures within { OnOk result (IsWithin (rules_at L.link_of) (stands_at L.stands_for) left_at plan.now from until desks.new plane.new (reverse steps.new.entries)) }
+    ensures over { OnOk result (until ≤ plane.new.at.round) }
+    ensures goes { OnOk result (GoesOnBy (network_of plan.now) actor (reverse steps.old.entries) (reverse steps.new.entries)) }
+{
+    while plane.round() < until {
+        tell_one(plan, plane, desks, steps, actor, from, until)?;
+    }
+    Ok(())
+}
+
+// The plane's next step, whose reply its link has given already.
+fn tell_one<L: LinkStep>(
+    plan: &Plan,
+    plane: &mut Plane,
+    desks: &mut [Desk<L>],
+    steps: &mut Record,
+    actor: ActorNo,
+    from: u64,
+    until: u64,
+) -> Result<(), OutOfMemory>
+    requires actor { actor_number actor ≡ length plan.now.callers }
+    requires within { IsWithin (rules_at L.link_of) (stands_at L.stands_for) left_at plan.now from until desks.old plane.old (reverse steps.old.entries) }
+    requires early { plane.old.at.round < until }
+    ensures within { OnOk result (IsWithin (rules_at L.link_of) (stands_at L.stands_for) left_at plan.now from until desks.new plane.new (reverse steps.new.entries)) }
+    ensures goes { OnOk result (GoesOnBy (network_of plan.now) actor (reverse steps.old.entries) (reverse steps.new.entries)) }
+    ensures fewer { OnOk result (plane_most plane.new.links plane.new.rounds plane.new.at < plane_most plane.old.links plane.old.rounds plane.old.at) }
+{
+    steps.reserve(1)?;
+    plane.ready()?;
+    let Some((link, ask)) = plane.next_ask() else {
+        unreachable!()
+    };
+    let reply = next_reply(desks, usize::from(link.get()));
+    plane.take(reply).unwrap();
+    steps.push(Done {
+        actor,
+        link,
+        ask,
+        reply,
+    });
+    Ok(())
+}
+
+// The next reply of the link of this number that isn't told yet.
+pub(crate) fn next_reply<L: LinkStep>(desks: &mut [Desk<L>], number: usize) -> Reply
+    requires inside { number < length desks.old }
+    requires left { (desk : _) → slice_get desks.old number ≡ Some desk → desk.told < length desk.replies.items }
+    ensures long { length desks.new ≡ length desks.old }
+    ensures others { (n : ℕ) → n ≢ number → slice_get desks.new n ≡ slice_get desks.old n }
+    ensures link { (x y : _) → slice_get desks.old number ≡ Some x → slice_get desks.new number ≡ Some y → y.link ≡ x.link }
+    ensures told { (x y : _) → slice_get desks.old number ≡ Some x → slice_get desks.new number ≡ Some y → drop x.told x.replies.items ≡ result ∷ drop y.told y.replies.items }
+{
+    desks[number].next_reply()
+}

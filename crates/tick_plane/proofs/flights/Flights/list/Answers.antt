@@ -1,0 +1,12 @@
+-- The key of each entry has a flight.
+use Rattle.std.proofs.Common.{[], List, sym, subst, ◌∙◌}
+use Rattle.link_steps.specs.Lists.{Each}
+use Rattle.tick_calendar.specs.Calendar.{Entry}
+use Rattle.tick_plane.specs.Carried.{IsCarried}
+use Rattle.tick_plane.proofs.CarriedFacts.{each-carried}
+use Rattle.tick_plane.proofs.flights.Flights.list.Goals as goal
+
+pub listed-requires : goal.listed-requires
+listed-requires c =
+    subst (Each (IsCarried c.self.inside.carried.slots)) (sym (c.deref.ensures.value ∙ c.in_ok-entries.ensures))
+    (each-carried c.self.inside.carried.slots [] c.self.inside.rounds.entries c.self.invariant.keyed)

@@ -1,0 +1,44 @@
+-- The packets that are on their way to one link, in the order of the rounds in which they reach it. Those of one round stand in the
+-- order of their departures. So they are found by going once from front to end, round by round.
+use Rattle.std.specs.Prelude.{◌≡◌, ℕ, zero, suc, ◌<◌, ◌≤◌, Bool, ◌&&◌, nat_eq, nat_le, nat_lt, List, [], ◌∷◌, ◌++◌, map, filter}
+use Rattle.net_units.specs.Numbers.{link_number}
+use Rattle.link_steps.specs.Lists.{Each}
+use Rattle.link_steps.specs.declared.asks.Ask.{Ask}
+use Rattle.link_steps.specs.declared.asks.Ask.TheVariants.{Tick}
+use Rattle.tick_plane.specs.declared.flight.Flight.{Flight}
+use Rattle.tick_plane.specs.Planes.{is_due}
+use Rattle.tick_plane.specs.Windows.{arrive_of, is_bound}
+
+abbrev pub IsDueFrom : ℕ → Flight → Type 0
+IsDueFrom round flight = round ≤ flight.round
+
+-- none is due before one that stands ahead of it
+abbrev pub Rise : List Flight → Type 0
+Rise [] = Unit {0}
+Rise (flight ∷ flights) = Each (IsDueFrom flight.round) flights × Rise flights
+
+-- whether a flight reaches link n in the rounds of a window
+abbrev pub is_coming : ℕ → ℕ → ℕ → Flight → Bool
+is_coming n from until flight = nat_eq (link_number flight.to) n && (nat_le from flight.round && nat_lt flight.round until)
+
+-- those that do
+pub record AreComing (n from until : ℕ) (flights coming : List Flight) : Type 0 where
+  pub rise : Rise coming
+  pub ahead : Each (IsDueFrom from) coming
+  pub all : (round : ℕ) → from ≤ round → round < until → filter (is_due round) coming ≡ filter (is_bound n round) flights
+
+-- ---- round by round
+
+abbrev pub arrivals_in : ℕ → List Flight → List Ask
+arrivals_in round coming = map arrive_of (filter (is_due round) coming)
+
+-- in each round the arrivals, and then the tick
+unfoldable pub rounds_in : ℕ → ℕ → List Flight → List Ask
+rounds_in round zero coming = []
+rounds_in round (suc count) coming = arrivals_in round coming ++ Tick ∷ rounds_in (suc round) count coming
+
+-- those that are left when a round has begun
+pub record AreLeft (round : ℕ) (coming left : List Flight) : Type 0 where
+  pub rise : Rise left
+  pub ahead : Each (IsDueFrom round) left
+  pub all : (later : ℕ) → round ≤ later → filter (is_due later) left ≡ filter (is_due later) coming
