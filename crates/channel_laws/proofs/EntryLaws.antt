@@ -3,9 +3,14 @@
 use Rattle.link_steps.specs.Replies.{reply_at, reply_to}
 use Rattle.link_steps.specs.Scan.{clock_of, scan_of}
 use Rattle.link_steps.proofs.LegalChannels.{legal-channels}
-use Rattle.channel_laws.specs.Laws.{EntriesChangeTheirReservation, AsksAreAnswered}
+use Rattle.std.proofs.Common.{refl}
+use Rattle.link_steps.specs.declared.asks.Ask.TheVariants.{Release}
+use Rattle.channel_laws.specs.Laws.{EntriesChangeTheirReservation, AsksAreAnswered, PlannedPacketsMayMove}
 use Rattle.channel_laws.proofs.ArriveReplies.{arrive-answered}
 use Rattle.channel_laws.proofs.SendReplies.{submit-committed, release-committed, pour-answered}
+use Rattle.channel_laws.proofs.UnsentPlans.{unsent-left}
+use Rattle.channel_laws.proofs.UnsentSubmits.{unplanned-submit}
+use Rattle.channel_laws.proofs.FewLeft.{few-cancelled}
 use Rattle.channel_laws.proofs.TermsAfter.{held-off, comes-mild, held-offered, held-relaxed, held-denied}
 
 pub entries-change : EntriesChangeTheirReservation
@@ -25,4 +30,11 @@ asks-answered = record {
   releases = λ link h chan terms upstream held first phase. release-committed (clock_of h) upstream chan (scan_of link.shape h).rows terms held first phase;
   pours = λ link h count gap size. pour-answered (clock_of h) link.shape.cap size _;
   arrives = λ link h packet. arrive-answered link.shape (clock_of h) (scan_of link.shape h).packets packet _;
+}
+
+pub packets-may-move : PlannedPacketsMayMove
+unfolding reply_to reply_at
+packets-may-move = record {
+  joins = λ link h chan terms count gap size held first phase none small. unplanned-submit (clock_of h) size chan (scan_of link.shape h).rows terms held first phase (λ row found. unsent-left link.shape chan h row none found) small;
+  leaves = λ shape h chan upstream reply legal may. few-cancelled shape h (Release chan upstream) reply chan upstream legal refl may;
 }

@@ -17,3 +17,7 @@ pub mod SizeLaw
 pub mod FirstSource
 pub mod HoldFates
 pub mod NextLinks
+pub mod PlanLaw
+pub mod UnsentPlans
+pub mod FewLeft
+pub mod UnsentSubmits

@@ -25,6 +25,7 @@ use Rattle.channel_laws.specs.Asks.{MayReplyTo, OfferTells, IsOff, IsMild}
 use Rattle.channel_laws.specs.Channels.{HopTerms, AllOfferTerms, offers_to, channel_packets, SizeWithin, ChannelStands}
 use Rattle.channel_laws.specs.Departing.{IsSent, TickSends}
 use Rattle.channel_laws.specs.Sources.{SourceIsKept, SourceIsServed}
+use Rattle.channel_laws.specs.Unsent.{NoneSent, IsPlanned, FewCancelled}
 use Rattle.channel_laws.specs.Reservations.{held_by, IsOpen, ComesOf, IsSendReply, IsReleased, IsArriveReply}
 
 -- the reservation of a channel that is held after a history
@@ -76,3 +77,10 @@ pub record AsksAreAnswered : Type 0 where
   pub releases : (link : Link) (h : List Entry) (chan : ChanNo) (terms : Reservation) (upstream : Option ℕ) → held_after link.shape chan h ≡ Some terms → terms.first ≡ names_first_hop upstream → terms.phase ≡ Committed → IsReleased (reply_to link h (Release chan upstream))
   pub pours : (link : Link) (h : List Entry) (count gap size : ℕ) → IsSendReply (reply_to link h (Pour count gap size))
   pub arrives : (link : Link) (h : List Entry) (packet : Packet) → IsArriveReply (reply_to link h (Arrive packet))
+
+-- what moves the planned packets of one channel to another counts on
+pub record PlannedPacketsMayMove : Type 0 where
+  -- where nothing was submitted on a committed channel, packets within its contract are planned
+  pub joins : (link : Link) (h : List Entry) (chan : ChanNo) (terms : Reservation) (count gap size : ℕ) → held_after link.shape chan h ≡ Some terms → terms.first ≡ true → terms.phase ≡ Committed → NoneSent (channel_number chan) h → size ≤ terms.contract.smax → IsPlanned (reply_to link h (Submit chan count gap size))
+  -- a release in an admissible history cancels no more than one submit may plan
+  pub leaves : (shape : LinkShape) (h : List Entry) (chan : ChanNo) (upstream : Option ℕ) (reply : Reply) → IsAdmissible shape h → MayReplyTo shape h (Release chan upstream) reply → FewCancelled reply

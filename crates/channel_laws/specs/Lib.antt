@@ -3,4 +3,5 @@ pub mod Channels
 pub mod Departing
 pub mod Sources
 pub mod Reservations
+pub mod Unsent
 pub mod Laws

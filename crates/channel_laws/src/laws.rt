@@ -1,5 +1,5 @@
 //! Laws of one link's channels, each as the contract of a function that does nothing.
-ghost use Rattle.channel_laws.specs.Laws.{OffersAnswerReserves, WhatLeavesIsInTime, AChannelHasOneRow, PacketsLeaveInOrder, SizesKeepTheContract, KeepingSourcesAreServed, EntriesChangeTheirReservation, AsksAreAnswered};
+ghost use Rattle.channel_laws.specs.Laws.{OffersAnswerReserves, WhatLeavesIsInTime, AChannelHasOneRow, PacketsLeaveInOrder, SizesKeepTheContract, KeepingSourcesAreServed, EntriesChangeTheirReservation, AsksAreAnswered, PlannedPacketsMayMove};
 
 /// In an admissible history an offer is the reply to a reserve alone, and its level is one of the link's.
 pub fn offers_answer_reserves()
@@ -48,4 +48,11 @@ pub fn entries_change_their_reservation()
 /// that arrives is taken, or refused as full or stray.
 pub fn asks_are_answered()
     ensures { AsksAreAnswered }
+{}
+
+/// Where a channel's reservation is committed and nothing was submitted on it, a submit of packets within its contract is
+/// planned. A release cancels no more packets than one submit may plan. So the planned packets of one channel can move to
+/// another one.
+pub fn planned_packets_may_move()
+    ensures { PlannedPacketsMayMove }
 {}
