@@ -7,6 +7,7 @@ use Rattle.std.specs.List.{list_all, slice_get}
 use Rattle.std.specs.Prelude.{nat_le, ◌&&◌}
 use Rattle.net_units.specs.LevelBounds.{are_bounds}
 use Rattle.net_units.specs.Numbers.{link_number, channel_number}
+use Rattle.net_units.specs.declared.numbers.ChanNo.{ChanNo}
 use Rattle.net_units.specs.declared.numbers.LinkNo.{LinkNo}
 use Rattle.hop_reservation.specs.declared.route.Hop.{Hop}
 use Rattle.link_steps.specs.Lists.{Each}
@@ -20,13 +21,14 @@ use Rattle.call_script.specs.Parts.{PlanParts, FollowsLink}
 use Rattle.call_script.specs.Plans.{HasTerms, IsPlan}
 use Rattle.call_script.specs.Rules.{have_links, has_link, route_is_there, pour_is_there, are_opened, are_there, request_in_range, op_in_range, rounds_in_range, are_in_range, are_few, takes_best_effort, pour_is_taken, pours_are_taken}
 use Rattle.call_script.specs.Splits.{entry_link, groups_in}
-use Rattle.call_script.specs.Tasks.{request_of, task_of, with_task, tasks_of, script_of, network_of}
+use Rattle.call_script.specs.Tasks.{request_of, send_on, task_for, task_of, with_task, tasks_of, script_of, network_of}
 use Rattle.call_script.specs.declared.entries.CallerEntry.{CallerEntry}
 use Rattle.call_script.specs.declared.entries.LinkEntry.{LinkEntry}
 use Rattle.call_script.specs.declared.entries.RequestEntry.{RequestEntry}
 use Rattle.call_script.specs.declared.operations.Op.{Op}
 use Rattle.call_script.specs.declared.operations.Op.TheVariants.{Open, Send, Close, Pour}
 use Rattle.call_script.specs.declared.tasks.Task.{Task}
+use Rattle.call_script.specs.declared.tasks.Task.TheVariants.{Sends}
 use Rattle.call_script.proofs.RuleFacts.{both, each-of, packets-fit, keeps-rules}
 use Rattle.call_script.proofs.SplitFits.{entry-fits}
 use Rattle.link_steps.proofs.ListParts.{Each-at, comes-from}
@@ -94,17 +96,32 @@ of-request parts own n plan fits (Some request) is =
     let at = comes-from request_of parts.requests n request is in
     fits request (subst (RequestFits (map (entry_link (groups_in parts)) parts.links)) at.is (request-fits parts n at.from plan at.found))
 
+-- packets of a request's channel are asked for at a link of the plan
+send-fits : (links : List Link) (request : Request) (count gap size : ℕ) → RequestFits links request → op_in_range (Send request.chan count gap size) ≡ true → TaskFitsIf links (send_on count gap size request)
+unfolding TaskFitsIf
+send-fits links request count gap size fits range = by (slice_get request.route 0) refl where
+  by : (found : Option Hop) → slice_get request.route 0 ≡ found → TaskFitsIf links (option_map (λ (hop : Hop). Sends hop.link (Some request.chan) count gap size) found)
+  by None is = tt
+  by (Some hop) is = (let at = Each-at (IsHopOf links) request.route 0 hop fits.hops is in record { link = at.link; linked = at.linked; packets = packets-fit count gap size range })
+
+sends-fit : (parts : PlanParts) (n count gap size : ℕ) (chan : ChanNo) → IsPlan parts → op_in_range (Send chan count gap size) ≡ true → (found : Option Request) → slice_get (map request_of parts.requests) n ≡ found
+    → TaskFitsIf (map (entry_link (groups_in parts)) parts.links) (task_for (send_on count gap size) found)
+unfolding TaskFitsIf
+sends-fit parts n count gap size chan plan range None is = tt
+sends-fit parts n count gap size chan plan range (Some request) is =
+    let at = comes-from request_of parts.requests n request is in
+    send-fits (map (entry_link (groups_in parts)) parts.links) request count gap size (subst (RequestFits (map (entry_link (groups_in parts)) parts.links)) at.is (request-fits parts n at.from plan at.found)) range
+
 pour-fits : (groups : List ℕ) (links : List LinkEntry) (link : LinkNo) (count gap size : ℕ) → takes_best_effort (slice_get links (link_number link)) ≡ true → op_in_range (Pour link count gap size) ≡ true → TaskFitsIf (map (entry_link groups) links) (task_of [] (Pour link count gap size))
 unfolding TaskFitsIf
 pour-fits groups links link count gap size taken range = by (slice_get links (link_number link)) refl taken where
   by : (found : Option LinkEntry) → slice_get links (link_number link) ≡ found → takes_best_effort found ≡ true → TaskFitsIf (map (entry_link groups) links) (task_of [] (Pour link count gap size))
   by None is none = cc
-  by (Some entry) is some = record { link = entry_link groups entry; linked = slice_get-map (entry_link groups) links (link_number link) ∙ ap (option_map (entry_link groups)) is; best = leb-true 1 entry.shape.best some; pour = packets-fit count gap size range }
+  by (Some entry) is some = record { link = entry_link groups entry; linked = slice_get-map (entry_link groups) links (link_number link) ∙ ap (option_map (entry_link groups)) is; packets = (leb-true 1 entry.shape.best some, packets-fit count gap size range) }
 
 op-fits : (parts : PlanParts) (op : Op) → IsPlan parts → op_in_range op ≡ true → pour_is_taken parts.links op ≡ true → TaskFitsIf (map (entry_link (groups_in parts)) parts.links) (task_of (map request_of parts.requests) op)
 op-fits parts (Open chan) plan range taken = of-request parts _ (channel_number chan) plan (λ request fits. fits) (slice_get (map request_of parts.requests) (channel_number chan)) refl
-op-fits parts (Send chan count gap size) plan range taken =
-    of-request parts _ (channel_number chan) plan (λ request fits. record { of_request = fits; send = packets-fit count gap size range }) (slice_get (map request_of parts.requests) (channel_number chan)) refl
+op-fits parts (Send chan count gap size) plan range taken = sends-fit parts (channel_number chan) count gap size chan plan range (slice_get (map request_of parts.requests) (channel_number chan)) refl
 op-fits parts (Close chan) plan range taken = of-request parts _ (channel_number chan) plan (λ request fits. fits) (slice_get (map request_of parts.requests) (channel_number chan)) refl
 op-fits parts (Pour link count gap size) plan range taken = pour-fits (groups_in parts) parts.links link count gap size taken range
 

@@ -45,7 +45,7 @@ names-in parts names =
     let second = and_parts (are_distinct (link_names parts.links)) (are_distinct (caller_names parts.callers)) first.0 in
     record { links = second.0; callers = second.1; requests = first.1 }
 
-names-from : (parts : PlanParts) → HasNames parts → have_names parts ≡ true
+pub names-from : (parts : PlanParts) → HasNames parts → have_names parts ≡ true
 unfolding have_names
 names-from parts has =
     and_from (are_distinct (link_names parts.links) && are_distinct (caller_names parts.callers)) (are_distinct (request_names parts.requests))
@@ -64,7 +64,7 @@ version-in parts version =
     let second = and_parts (list_all (link_has_version parts.version) parts.links) (list_all (request_has_version parts.version) parts.requests) first.0 in
     record { links = second.0; requests = second.1; ops = first.1 }
 
-version-from : (parts : PlanParts) → HasVersion parts → have_version parts ≡ true
+pub version-from : (parts : PlanParts) → HasVersion parts → have_version parts ≡ true
 unfolding have_version
 version-from parts has =
     and_from (list_all (link_has_version parts.version) parts.links && list_all (request_has_version parts.version) parts.requests) (list_all (λ (c : CallerEntry). list_all (op_has_version parts.version) c.ops) parts.callers)
@@ -124,7 +124,7 @@ few-in parts few =
     let second = and_parts (nat_le (length parts.links) 32) (nat_le (length parts.callers) 64) first.0 in
     record { links = leb-true (length parts.links) 32 second.0; callers = leb-true (length parts.callers) 64 second.1; requests = leb-true (length parts.requests) 1024 first.1 }
 
-few-from : (parts : PlanParts) → AreFew parts → are_few parts ≡ true
+pub few-from : (parts : PlanParts) → AreFew parts → are_few parts ≡ true
 unfolding are_few
 few-from parts are =
     and_from (nat_le (length parts.links) 32 && nat_le (length parts.callers) 64) (nat_le (length parts.requests) 1024)
@@ -135,7 +135,7 @@ few-from parts are =
 pub length-more : {X : Type 0} (xs : List X) (x : X) → length (xs ++ x ∷ []) ≡ suc (length xs)
 length-more xs x = (let both : length (xs ++ x ∷ []) ≡ length xs + 1 = length-append xs (x ∷ []) in omega arith)
 
-names-more : (names : List (List ℕ)) (name : List ℕ) → are_distinct names ≡ true → is_new names name ≡ true → are_distinct (names ++ name ∷ []) ≡ true
+pub names-more : (names : List (List ℕ)) (name : List ℕ) → are_distinct names ≡ true → is_new names name ≡ true → are_distinct (names ++ name ∷ []) ≡ true
 names-more names name apart new = after-more is_new [] names name apart new
 
 -- ---- nothing
@@ -159,7 +159,7 @@ nothing-keeps version = record {
 
 -- ---- a link
 
-no-request : (parts : PlanParts) → ArePlanned parts → parts.callers ≡ [] → [] ≡ parts.requests
+pub no-request : (parts : PlanParts) → ArePlanned parts → parts.callers ≡ [] → [] ≡ parts.requests
 unfolding openings_of
 no-request parts planned none = by parts.requests (sym (ap (openings_of 0) none) ∙ planned.openings) where
   by : (requests : List RequestEntry) → [] ≡ map opening_of requests → [] ≡ requests

@@ -11,3 +11,4 @@ pub mod OpeningFacts
 pub mod OwnerFacts
 pub mod OneLinkFacts
 pub mod Growing
+pub mod QuotaGrowth

@@ -1,5 +1,5 @@
 -- The parts of one link, one request and one caller may be planned; and the request may be accepted at the first level.
-use Rattle.std.proofs.Common.{◌≡◌, ℕ, zero, suc, ◌+◌, ◌≤◌, Option, Some, None, List, [], ◌∷◌, ◌++◌, length, map, refl, sym, ap, ◌∙◌, subst, arith}
+use Rattle.std.proofs.Common.{◌≡◌, ℕ, zero, suc, ◌+◌, ◌≤◌, Option, Some, None, List, [], ◌∷◌, ◌++◌, length, map, slice_index, refl, sym, ap, ◌∙◌, subst, arith}
 use Rattle.std.proofs.lemmas.Option.{same_Some}
 use Rattle.std.specs.List.{All, slice_get}
 use Rattle.net_units.specs.Allotted.{levels_of}
@@ -13,21 +13,21 @@ use Rattle.setup_protocol.specs.State.{HaveLevels}
 use Rattle.setup_protocol.specs.declared.request.Request.{Request}
 use Rattle.link_steps.proofs.ListFacts.{Each-if}
 use Rattle.link_steps.specs.Lists.{Each}
+use Rattle.link_steps.specs.declared.quota.Quota.{Quota}
 use Rattle.call_script.specs.Accepted.{AreAccepted}
-use Rattle.call_script.specs.OneLink.{IsThatLink, IsOverIt, IsThatRequest, IsThatScript, AsksForOne, HasThatRequest}
-use Rattle.call_script.specs.Parts.{PlanParts, Opening, parts_of, openings_in, openings_of, opening_of, FollowsLink, LeavesUnused, ArePlanned}
+use Rattle.call_script.specs.OneLink.{IsThatLink, IsPerhapsSplit, IsOverIt, IsThatRequest, IsThatScript, AsksForOne, HasThatRequest}
+use Rattle.call_script.specs.Parts.{PlanParts, Opening, parts_of, parts_with, openings_in, openings_of, opening_of, FollowsLink, LeavesUnused, ArePlanned}
 use Rattle.call_script.specs.declared.entries.LinkEntry.{LinkEntry}
 use Rattle.call_script.specs.declared.entries.RequestEntry.{RequestEntry}
 use Rattle.call_script.specs.declared.entries.CallerEntry.{CallerEntry}
 use Rattle.call_script.specs.declared.version.Version.{Version}
-use Rattle.call_script.proofs.GroupFacts.{none-unused}
 
 -- what the only element has, the one at an index has
 only : {X : Type 0} (P : ℕ → X → Type 0) (x : X) → P 0 x → (n : ℕ) (y : X) → slice_get (x ∷ []) n ≡ Some y → P n y
 only P x own zero y found = subst (P 0) (same_Some x y found) own
 only P x own (suc n) y found = cc
 
-follows : (link : LinkEntry) (hop : Hop) → IsThatLink link → IsOverIt hop → FollowsLink (link ∷ []) hop
+follows : (link : LinkEntry) (hop : Hop) → IsPerhapsSplit link → IsOverIt hop → FollowsLink (link ∷ []) hop
 follows link hop is over = record {
   bounds = λ entry found. over.bounds ∙ sym is.bounds ∙ ap (λ (e : LinkEntry). e.shape.bounds) (same entry found);
   prop = λ entry found. over.prop ∙ sym is.prop ∙ ap (λ (e : LinkEntry). e.shape.prop) (same entry found);
@@ -35,18 +35,49 @@ follows link hop is over = record {
   same : (entry : LinkEntry) → slice_get (link ∷ []) (link_number hop.link) ≡ Some entry → link ≡ entry
   same entry found = same_Some link entry (sym (ap (slice_get (link ∷ [])) over.link) ∙ found)
 
-pub one-planned : (version : Version) (link : LinkEntry) (request : RequestEntry) (caller : CallerEntry) (rounds tail : ℕ) → IsThatLink link → IsThatRequest request → IsThatScript caller
-    → ArePlanned (parts_of version (link ∷ []) (request ∷ []) (caller ∷ []) rounds tail)
+pub split-planned : (version : Version) (link : LinkEntry) (groups : List (List ℕ)) (request : RequestEntry) (caller : CallerEntry) (rounds tail : ℕ) → IsPerhapsSplit link → IsThatRequest request → IsThatScript caller
+    → ArePlanned (parts_with version (link ∷ []) groups (request ∷ []) (caller ∷ []) rounds tail)
 unfolding openings_of
-one-planned version link request caller rounds tail is asks opens = record {
+split-planned version link groups request caller rounds tail is asks opens = record {
   links = only (λ n (entry : LinkEntry). link_number entry.shape.link ≡ n) link is.number;
-  unused = only (λ n (entry : LinkEntry). All (LeavesUnused entry.shape.bounds) entry.quotas) link (none-unused link is.unsplit);
+  unused = only (λ n (entry : LinkEntry). All (LeavesUnused entry.shape.bounds) entry.quotas) link (subst (λ (bounds : List ℕ). All (LeavesUnused bounds) link.quotas) (sym is.bounds) is.unused);
   requests = only (λ n (entry : RequestEntry). channel_number entry.request.chan ≡ n) request asks.chan;
   openings = ap (λ os. os ++ []) opens ∙ ap (λ (o : Opening). o ∷ []) (sym opening);
   hops = only (λ n (entry : RequestEntry). Each (FollowsLink (link ∷ [])) entry.request.route) request (Each-if IsOverIt (FollowsLink (link ∷ [])) request.request.route (λ hop over. follows link hop is over) asks.hops);
 } where
   opening : opening_of request ≡ record { caller = 0; chan = 0 }
   opening = ap (λ (n : ℕ). record { caller = n; chan = channel_number request.request.chan }) asks.caller ∙ ap (λ (n : ℕ). record { caller = 0; chan = n }) asks.chan
+
+-- no quotas leave all unused
+pub none-leaves : (quotas : List Quota) → quotas ≡ [] → All (LeavesUnused (10 ∷ 20 ∷ 40 ∷ [])) quotas
+none-leaves quotas none = subst (All (LeavesUnused (10 ∷ 20 ∷ 40 ∷ []))) (sym none) (λ k d inside. absurd (omega (arith, inside)))
+
+pub one-planned : (version : Version) (link : LinkEntry) (request : RequestEntry) (caller : CallerEntry) (rounds tail : ℕ) → IsThatLink link → IsThatRequest request → IsThatScript caller
+    → ArePlanned (parts_of version (link ∷ []) (request ∷ []) (caller ∷ []) rounds tail)
+one-planned version link request caller rounds tail is =
+    split-planned version link [] request caller rounds tail (record { number = is.number; bounds = is.bounds; prop = is.prop; unused = none-leaves link.quotas is.unsplit })
+
+-- a quota with the loads of three levels
+three-unused : (quota : Quota) → quota.levels ≡ 4 ∷ 8 ∷ 20 ∷ 0 ∷ 0 ∷ 0 ∷ 0 ∷ 0 ∷ [] → LeavesUnused (10 ∷ 20 ∷ 40 ∷ []) quota
+three-unused quota levels k past = ap (λ ls. slice_index ls k) levels ∙ by k past where
+  by : (k : ℕ) → 3 ≤ k → slice_index (4 ∷ 8 ∷ 20 ∷ 0 ∷ 0 ∷ 0 ∷ 0 ∷ 0 ∷ []) k ≡ 0
+  by zero above = absurd (omega (arith, above))
+  by (suc zero) above = absurd (omega (arith, above))
+  by (suc (suc zero)) above = absurd (omega (arith, above))
+  by (suc (suc (suc zero))) above = refl
+  by (suc (suc (suc (suc zero)))) above = refl
+  by (suc (suc (suc (suc (suc zero))))) above = refl
+  by (suc (suc (suc (suc (suc (suc zero)))))) above = refl
+  by (suc (suc (suc (suc (suc (suc (suc k))))))) above = after k where
+    after : (k : ℕ) → slice_index (0 ∷ []) k ≡ 0
+    after zero = refl
+    after (suc k) = refl
+
+pub one-leaves : (quotas : List Quota) (quota : Quota) → quotas ≡ quota ∷ [] → quota.levels ≡ 4 ∷ 8 ∷ 20 ∷ 0 ∷ 0 ∷ 0 ∷ 0 ∷ 0 ∷ [] → All (LeavesUnused (10 ∷ 20 ∷ 40 ∷ [])) quotas
+one-leaves quotas quota is levels = subst (All (LeavesUnused (10 ∷ 20 ∷ 40 ∷ []))) (sym is) by where
+  by : All (LeavesUnused (10 ∷ 20 ∷ 40 ∷ [])) (quota ∷ [])
+  by zero d inside = three-unused quota levels
+  by (suc k) d inside = absurd (omega (arith, inside))
 
 -- ---- accepted at the first level
 

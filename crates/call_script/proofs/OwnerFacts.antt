@@ -8,13 +8,14 @@ use Rattle.std.proofs.lemmas.Option.{slice_get-map, same_Some}
 use Rattle.std.specs.List.{list_all, list_any, slice_get}
 use Rattle.std.specs.Prelude.{◌||◌, ◌&&◌}
 use Rattle.net_units.specs.Numbers.{actor_number, channel_number}
+use Rattle.hop_reservation.specs.declared.route.Hop.{Hop}
 use Rattle.link_steps.specs.Lists.{Each}
 use Rattle.setup_protocol.specs.declared.request.Request.{Request}
 use Rattle.call_script.specs.Owners.{TaskOff, SendsOnce, FullScript, OwnedFully, IsOwned, IsUnnamed, AllOwned}
 use Rattle.call_script.specs.Parts.{PlanParts, openings_in, ArePlanned}
 use Rattle.call_script.specs.Plans.{IsPlan}
 use Rattle.call_script.specs.Rules.{each_after, opens, is_opened, closes, is_unclosed, are_opened, are_there, are_unclosed, route_is_there, pour_is_there}
-use Rattle.call_script.specs.Tasks.{request_of, task_of, with_task, tasks_of, script_of, network_of}
+use Rattle.call_script.specs.Tasks.{request_of, send_on, task_for, task_of, with_task, tasks_of, script_of, network_of}
 use Rattle.call_script.specs.declared.entries.CallerEntry.{CallerEntry}
 use Rattle.call_script.specs.declared.entries.RequestEntry.{RequestEntry}
 use Rattle.call_script.specs.declared.operations.Op.{Op}
@@ -50,10 +51,20 @@ unfolding OffIf
 found-off c n requests own ordered off other None is = tt
 found-off c n requests own ordered off other (Some request) is = off request (λ same. other (sym (ordered n request is) ∙ same))
 
+send-off : (c : ℕ) (request : Request) (count gap size : ℕ) (hop : Option Hop) → channel_number request.chan ≢ c → OffIf c (option_map (λ (h : Hop). Sends h.link (Some request.chan) count gap size) hop)
+unfolding OffIf
+send-off c request count gap size None other = tt
+send-off c request count gap size (Some hop) other = other
+
+sends-off : (c n : ℕ) (requests : List Request) (count gap size : ℕ) → AreInOrder requests → n ≢ c → (found : Option Request) → slice_get requests n ≡ found → OffIf c (task_for (send_on count gap size) found)
+unfolding OffIf
+sends-off c n requests count gap size ordered other None is = tt
+sends-off c n requests count gap size ordered other (Some request) is = send-off c request count gap size (slice_get request.route 0) (λ same. other (sym (ordered n request is) ∙ same))
+
 task-off : (c : ℕ) (requests : List Request) (op : Op) → AreInOrder requests → OpOff c op → OffIf c (task_of requests op)
 unfolding OpOff OffIf
 task-off c requests (Open chan) ordered off = found-off c (channel_number chan) requests _ ordered (λ request other. other) off (slice_get requests (channel_number chan)) refl
-task-off c requests (Send chan count gap size) ordered off = found-off c (channel_number chan) requests _ ordered (λ request other. other) off (slice_get requests (channel_number chan)) refl
+task-off c requests (Send chan count gap size) ordered off = sends-off c (channel_number chan) requests count gap size ordered off (slice_get requests (channel_number chan)) refl
 task-off c requests (Close chan) ordered off = found-off c (channel_number chan) requests _ ordered (λ request other. other) off (slice_get requests (channel_number chan)) refl
 task-off c requests (Pour link count gap size) ordered off = tt
 
@@ -115,6 +126,14 @@ record IsAt (requests : List Request) (request : Request) : Type 0 where
 own-task : (requests : List Request) (request : Request) (own : Request → Task) (n : ℕ) → IsAt requests request → n ≡ channel_number request.chan → option_map own (slice_get requests n) ≡ Some (own request)
 own-task requests request own n at same = ap (λ k. option_map own (slice_get requests k)) same ∙ ap (option_map own) at.found
 
+-- a send on that request is one at the first hop of its route, if that is there
+own-send : (requests : List Request) (request : Request) (count gap size n : ℕ) (tasks : List Task) → IsAt requests request → n ≡ channel_number request.chan → SendsOnce request tasks → SendsOnce request (with_task (task_for (send_on count gap size) (slice_get requests n)) tasks)
+own-send requests request count gap size n tasks at same rest =
+    subst (λ found. SendsOnce request (with_task (task_for (send_on count gap size) found) tasks)) (sym (ap (slice_get requests) same ∙ at.found)) (by (slice_get request.route 0) refl) where
+      by : (hop : Option Hop) → slice_get request.route 0 ≡ hop → SendsOnce request (with_task (option_map (λ (h : Hop). Sends h.link (Some request.chan) count gap size) hop) tasks)
+      by None is = rest
+      by (Some hop) is = inr (inl (record { hop = hop; count = count; gap = gap; size = size; stands = is; is = refl }, rest))
+
 -- one operation more closes the channel as those above do, where it doesn't close it
 same-closed : (c : ℕ) (above : List Op) (op : Op) (told : Bool) → closes c op ≡ false → list_any (closes c) above ≡ told → list_any (closes c) (above ++ op ∷ []) ≡ told
 same-closed c above op told other was = any-end (closes c) above op ∙ ap (λ b. list_any (closes c) above || (b || false)) other ∙ by (list_any (closes c) above) ∙ was where
@@ -163,9 +182,7 @@ opened-sends n m requests request above (Send chan count gap size ∷ ops) at be
     let split = both (is_unclosed above (Send chan count gap size)) (each_after is_unclosed (above ++ Send chan count gap size ∷ []) ops) kept in
     let rest = opened-sends n m requests request (above ++ Send chan count gap size ∷ []) ops at below are split.1 in
     elim (cases_Bool (nat_eq (channel_number chan) (channel_number request.chan))) [
-      | inl same ↦
-          (let own = own-task requests request (λ r. Sends r count gap size) (channel_number chan) at (eqb-true (channel_number chan) (channel_number request.chan) same) in
-          subst (λ t. SendsOnce request (with_task t (tasks_of requests ops))) (sym own) (inr (inl (record { count = count; gap = gap; size = size; is = refl }, rest))))
+      | inl same ↦ own-send requests request count gap size (channel_number chan) (tasks_of requests ops) at (eqb-true (channel_number chan) (channel_number request.chan) same) rest
       | inr other ↦ sends-with request (task_of requests (Send chan count gap size)) (tasks_of requests ops) (task-off (channel_number request.chan) requests (Send chan count gap size) at.ordered (eqb-false (channel_number chan) (channel_number request.chan) other)) rest
     ]
 opened-sends n m requests request above (Close chan ∷ ops) at below are kept =

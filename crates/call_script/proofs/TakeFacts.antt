@@ -20,7 +20,7 @@ use Rattle.call_script.specs.declared.entries.CallerEntry.{CallerEntry}
 use Rattle.call_script.specs.declared.entries.RequestEntry.{RequestEntry}
 use Rattle.call_script.specs.declared.operations.Op.{Op}
 use Rattle.call_script.specs.declared.tasks.Task.{Task}
-use Rattle.call_script.specs.declared.tasks.Task.TheVariants.{Opens, Sends, Closes, Pours}
+use Rattle.call_script.specs.declared.tasks.Task.TheVariants.{Opens, Sends, Closes}
 use Rattle.call_script.specs.declared.work.Known.{Known}
 use Rattle.call_script.specs.declared.work.Turn.{Turn}
 use Rattle.call_script.specs.declared.work.Turn.TheVariants as turn
@@ -32,24 +32,20 @@ use Rattle.call_script.proofs.ActorFacts.{opened-more}
 
 owed_task : Task → ℕ
 owed_task (Opens request) = 1
-owed_task (Sends request count gap size) = 0
+owed_task (Sends link chan count gap size) = 0
 owed_task (Closes request) = 0
-owed_task (Pours link count gap size) = 0
 
 owed-by : (w : Work) (task : Task) (tasks : List Task) (replies : List Reply) → WorkStands w (task ∷ tasks) replies → owed_by w ≡ owed_task task
 unfolding owed_task
 owed-by (work.Opening chan setup) (Opens request) tasks replies stands = refl
-owed-by (work.Opening chan setup) (Sends request count gap size) tasks replies stands = absurd stands
+owed-by (work.Opening chan setup) (Sends link of count gap size) tasks replies stands = absurd stands
 owed-by (work.Opening chan setup) (Closes request) tasks replies stands = absurd stands
-owed-by (work.Opening chan setup) (Pours link count gap size) tasks replies stands = absurd stands
 owed-by (work.Once to ask) (Opens request) tasks replies stands = absurd stands
-owed-by (work.Once to ask) (Sends request count gap size) tasks replies stands = refl
+owed-by (work.Once to ask) (Sends link of count gap size) tasks replies stands = refl
 owed-by (work.Once to ask) (Closes request) tasks replies stands = absurd stands
-owed-by (work.Once to ask) (Pours link count gap size) tasks replies stands = refl
 owed-by (work.Closing teardown) (Opens request) tasks replies stands = absurd stands
-owed-by (work.Closing teardown) (Sends request count gap size) tasks replies stands = absurd stands
+owed-by (work.Closing teardown) (Sends link of count gap size) tasks replies stands = absurd stands
 owed-by (work.Closing teardown) (Closes request) tasks replies stands = refl
-owed-by (work.Closing teardown) (Pours link count gap size) tasks replies stands = absurd stands
 owed-by work.Idle task tasks replies stands = absurd stands
 
 -- ---- where a caller stands with one reply more

@@ -1,34 +1,31 @@
 -- A network whose parts fit: it has 1 to 32 links, whose splits fit them; its requests go over its links, each hop with the
--- bounds and the propagation of its link; the numbers of its sends and pours are within their limits, and its pours are
--- at links that take best-effort packets.
-use Rattle.std.specs.Prelude.{◌≡◌, ℕ, ◌≤◌, Some, List, length}
+-- bounds and the propagation of its link; it sends packets at its links, their numbers within their limits, and best-effort
+-- ones at links that take them.
+use Rattle.std.specs.Prelude.{◌≡◌, ℕ, ◌≤◌, Option, Some, List, length}
 use Rattle.std.specs.List.{slice_get}
 use Rattle.net_units.specs.Numbers.{link_number}
+use Rattle.net_units.specs.declared.numbers.ChanNo.{ChanNo}
 use Rattle.net_units.specs.declared.numbers.LinkNo.{LinkNo}
-use Rattle.link_steps.specs.Legal.{SubmitFits}
+use Rattle.link_steps.specs.Legal.{AskFits}
 use Rattle.link_steps.specs.Lists.{Each}
 use Rattle.link_steps.specs.Split.{Link, SplitFits}
 use Rattle.setup_protocol.specs.Hops.{RequestFits}
 use Rattle.setup_protocol.specs.declared.request.Request.{Request}
+use Rattle.call_script.specs.Scripts.{packets_ask}
 use Rattle.call_script.specs.Tasks.{Network}
 use Rattle.call_script.specs.declared.tasks.Task.{Task}
-use Rattle.call_script.specs.declared.tasks.Task.TheVariants.{Opens, Sends, Closes, Pours}
+use Rattle.call_script.specs.declared.tasks.Task.TheVariants.{Opens, Sends, Closes}
 
-pub record SendFits (links : List Link) (request : Request) (count gap size : ℕ) : Type 0 where
-  pub of_request : RequestFits links request
-  pub send : SubmitFits count gap size
-
-pub record PourFits (links : List Link) (at : LinkNo) (count gap size : ℕ) : Type 0 where
+-- the link is there, and the ask for packets meets its conditions
+pub record SendFits (links : List Link) (at : LinkNo) (chan : Option ChanNo) (count gap size : ℕ) : Type 0 where
   pub link : Link
   pub linked : slice_get links (link_number at) ≡ Some link
-  pub best : 1 ≤ link.shape.best
-  pub pour : SubmitFits count gap size
+  pub packets : AskFits link.shape (packets_ask chan count gap size)
 
 abbrev pub TaskFits : List Link → Task → Type 0
 TaskFits links (Opens request) = RequestFits links request
-TaskFits links (Sends request count gap size) = SendFits links request count gap size
+TaskFits links (Sends link chan count gap size) = SendFits links link chan count gap size
 TaskFits links (Closes request) = RequestFits links request
-TaskFits links (Pours link count gap size) = PourFits links link count gap size
 
 pub record NetworkFits (network : Network) : Type 0 where
   pub some : 1 ≤ length network.links

@@ -1,8 +1,8 @@
--- How the parts of a plan grow, a line at a time. A link without quotas is added while there is no caller; then callers, each first without
--- operations; after the operations of the last caller an open, with its request, or a send, a close or a pour; and at last
+-- How the parts of a plan grow, a line at a time. Links without quotas, groups, and quotas of the links that are there are added
+-- while there is no caller; then callers, each first without operations; after the operations of the last caller an open, with its request, or a send, a close or a pour; and at last
 -- the numbers of rounds. Each addition has what a reader judges of its line. Parts that grew so keep all rules but two, that
 -- there is a link and that the ticks of all links are within the limit; with these they are those of a plan.
-use Rattle.std.specs.Prelude.{◌≡◌, ℕ, suc, ◌+◌, ◌*◌, ◌<◌, ◌≤◌, true, false, List, [], ◌∷◌, ◌++◌, length}
+use Rattle.std.specs.Prelude.{◌≡◌, ℕ, zero, suc, Some, ◌+◌, ◌*◌, ◌<◌, ◌≤◌, true, false, List, [], ◌∷◌, ◌++◌, length}
 use Rattle.std.specs.List.{list_any}
 use Rattle.net_units.specs.Numbers.{link_number, actor_number, channel_number}
 use Rattle.net_units.specs.declared.numbers.ChanNo.{ChanNo}
@@ -10,11 +10,12 @@ use Rattle.net_units.specs.declared.numbers.LinkNo.{LinkNo}
 use Rattle.std.specs.List.{slice_get}
 use Rattle.net_units.specs.Limits.{most_links, most_callers, most_requests, most_packets, most_rounds}
 use Rattle.link_steps.specs.Lists.{Each}
-use Rattle.call_script.specs.Groups.{group_has_version, group_is_there, KeepGroups}
-use Rattle.call_script.specs.Parts.{PlanParts, parts_of, FollowsLink, ArePlanned}
+use Rattle.link_steps.specs.declared.quota.Quota.{Quota}
+use Rattle.call_script.specs.Groups.{most_groups, group_has_version, group_is_there, is_of_new_group, quota_is_there, quota_in_range, quotas_fit, KeepGroups}
+use Rattle.call_script.specs.Parts.{PlanParts, parts_of, FollowsLink, LeavesUnused, ArePlanned}
 use Rattle.call_script.specs.Plans.{HasTerms, IsPlan}
 use Rattle.call_script.specs.Rules.{have_version, have_names, are_there, are_in_range, are_few, are_joined, are_unclosed, pours_are_taken, link_names, caller_names, request_names, is_new, link_has_version, request_has_version, has_link, route_is_there, opens, request_in_range, packets_in_range, is_joined, closes, load_of, load_in, takes_best_effort}
-use Rattle.call_script.specs.Versions.{has_best_effort}
+use Rattle.call_script.specs.Versions.{has_best_effort, has_groups}
 use Rattle.call_script.specs.declared.entries.CallerEntry.{CallerEntry}
 use Rattle.call_script.specs.declared.entries.LinkEntry.{LinkEntry}
 use Rattle.call_script.specs.declared.entries.RequestEntry.{RequestEntry}
@@ -27,6 +28,16 @@ use Rattle.call_script.specs.declared.version.Version.{Version}
 -- no part yet
 abbrev pub nothing_of : Version → PlanParts
 nothing_of version = parts_of version [] [] [] 0 0
+
+-- a link with one quota more
+abbrev pub with_its_quota : Quota → LinkEntry → LinkEntry
+with_its_quota quota entry = record { name = entry.name; from = entry.from; to = entry.to; shape = entry.shape; quotas = entry.quotas ++ quota ∷ [] }
+
+-- the link at this place with one quota more
+abbrev pub add_quota : ℕ → Quota → List LinkEntry → List LinkEntry
+add_quota place quota [] = []
+add_quota zero quota (entry ∷ links) = with_its_quota quota entry ∷ links
+add_quota (suc place) quota (entry ∷ links) = entry ∷ add_quota place quota links
 
 -- a caller of this name and group that does nothing yet
 abbrev pub new_caller : List ℕ → ℕ → CallerEntry
@@ -50,6 +61,12 @@ last_ops (caller ∷ next ∷ callers) = last_ops (next ∷ callers)
 
 abbrev pub with_link : LinkEntry → PlanParts → PlanParts
 with_link entry parts = record parts { links = parts.links ++ entry ∷ [] }
+
+abbrev pub with_group : List ℕ → PlanParts → PlanParts
+with_group name parts = record parts { groups = parts.groups ++ name ∷ [] }
+
+abbrev pub with_quota : ℕ → Quota → PlanParts → PlanParts
+with_quota place quota parts = record parts { links = add_quota place quota parts.links }
 
 abbrev pub with_caller : List ℕ → ℕ → PlanParts → PlanParts
 with_caller name group parts = record parts { callers = parts.callers ++ new_caller name group ∷ [] }
@@ -77,6 +94,24 @@ pub record MayAddLink (parts : PlanParts) (entry : LinkEntry) : Type 0 where
   pub few : length parts.links < most_links
   pub number : link_number entry.shape.link ≡ length parts.links
   pub unsplit : entry.quotas ≡ []
+
+pub record MayAddGroup (parts : PlanParts) (name : List ℕ) : Type 0 where
+  pub first : parts.callers ≡ []
+  pub version : has_groups parts.version ≡ true
+  pub new : is_new parts.groups name ≡ true
+  pub few : length parts.groups < most_groups
+
+-- a quota of a link that has none of its group, and that it fits beside the others
+pub record MayAddQuota (parts : PlanParts) (place : ℕ) (quota : Quota) : Type 0 where
+  pub first : parts.callers ≡ []
+  pub version : has_groups parts.version ≡ true
+  pub link : LinkEntry
+  pub linked : slice_get parts.links place ≡ Some link
+  pub there : quota_is_there parts.groups quota ≡ true
+  pub new : is_of_new_group link.quotas quota ≡ true
+  pub range : quota_in_range quota ≡ true
+  pub fit : quotas_fit link.shape (link.quotas ++ quota ∷ []) ≡ true
+  pub unused : LeavesUnused link.shape.bounds quota
 
 pub record MayAddCaller (parts : PlanParts) (name : List ℕ) (group : ℕ) : Type 0 where
   pub new : is_new (caller_names parts.callers) name ≡ true
@@ -141,13 +176,19 @@ pub record AreEnough (parts : PlanParts) : Type 0 where
   pub links : 1 ≤ length parts.links
   pub ticks : (parts.rounds + parts.tail) * length parts.links ≤ most_rounds
 
--- ---- the laws, whose proofs are in `proofs/Growing.antt`
+-- ---- the laws, whose proofs are in `proofs/Growing.antt` and `proofs/QuotaGrowth.antt`
 
 abbrev pub NothingKeeps : Type 0
 NothingKeeps = (version : Version) → KeepSoFar (nothing_of version)
 
 abbrev pub LinksKeep : Type 0
 LinksKeep = (parts : PlanParts) (entry : LinkEntry) → KeepSoFar parts → MayAddLink parts entry → KeepSoFar (with_link entry parts)
+
+abbrev pub GroupsKeep : Type 0
+GroupsKeep = (parts : PlanParts) (name : List ℕ) → KeepSoFar parts → MayAddGroup parts name → KeepSoFar (with_group name parts)
+
+abbrev pub QuotasKeep : Type 0
+QuotasKeep = (parts : PlanParts) (place : ℕ) (quota : Quota) → KeepSoFar parts → MayAddQuota parts place quota → KeepSoFar (with_quota place quota parts)
 
 abbrev pub CallersKeep : Type 0
 CallersKeep = (parts : PlanParts) (name : List ℕ) (group : ℕ) → KeepSoFar parts → MayAddCaller parts name group → KeepSoFar (with_caller name group parts)

@@ -1,12 +1,13 @@
 -- A plan of one link, one request and one caller, as the tests have it: link 0 has levels of 10, 20 and 40 ticks, a
--- propagation of 2 and no quotas, channel 0 goes over it, and caller 0 opens that channel and no other.
+-- propagation of 2 and no quotas, or quotas without load after its levels; channel 0 goes over it, and caller 0 opens that channel and no other.
 use Rattle.std.specs.Prelude.{◌≡◌, ℕ, None, List, [], ◌∷◌, length}
+use Rattle.std.specs.List.{All}
 use Rattle.net_units.specs.Numbers.{link_number, actor_number, channel_number}
 use Rattle.hop_reservation.specs.declared.route.Hop.{Hop}
 use Rattle.link_steps.specs.Lists.{Each}
 use Rattle.setup_protocol.specs.Requests.{jitter_of}
 use Rattle.setup_protocol.specs.declared.request.Request.{Request}
-use Rattle.call_script.specs.Parts.{PlanParts, openings_in}
+use Rattle.call_script.specs.Parts.{PlanParts, LeavesUnused, openings_in}
 use Rattle.call_script.specs.declared.entries.LinkEntry.{LinkEntry}
 use Rattle.call_script.specs.declared.entries.RequestEntry.{RequestEntry}
 use Rattle.call_script.specs.declared.entries.CallerEntry.{CallerEntry}
@@ -16,6 +17,13 @@ pub record IsThatLink (entry : LinkEntry) : Type 0 where
   pub bounds : entry.shape.bounds ≡ 10 ∷ 20 ∷ 40 ∷ []
   pub prop : entry.shape.prop ≡ 2
   pub unsplit : entry.quotas ≡ []
+
+-- the same, perhaps with quotas
+pub record IsPerhapsSplit (entry : LinkEntry) : Type 0 where
+  pub number : link_number entry.shape.link ≡ 0
+  pub bounds : entry.shape.bounds ≡ 10 ∷ 20 ∷ 40 ∷ []
+  pub prop : entry.shape.prop ≡ 2
+  pub unused : All (LeavesUnused (10 ∷ 20 ∷ 40 ∷ [])) entry.quotas
 
 pub record IsOverIt (hop : Hop) : Type 0 where
   pub link : link_number hop.link ≡ 0

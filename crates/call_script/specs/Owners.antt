@@ -1,28 +1,36 @@
 -- Whose a channel is. One caller opens a request, sends on it and then may close it; after that it names it no more. No other
 -- caller names its channel.
-use Rattle.std.specs.Prelude.{◌≡◌, ◌≢◌, ℕ, ◌<◌, ◌⊎◌, Some, List, [], ◌∷◌, length}
+use Rattle.std.specs.Prelude.{◌≡◌, ◌≢◌, ℕ, ◌<◌, ◌⊎◌, Option, Some, None, List, [], ◌∷◌, length}
 use Rattle.std.specs.List.{slice_get}
 use Rattle.net_units.specs.Numbers.{channel_number}
+use Rattle.net_units.specs.declared.numbers.ChanNo.{ChanNo}
+use Rattle.hop_reservation.specs.declared.route.Hop.{Hop}
 use Rattle.link_steps.specs.Lists.{Each}
 use Rattle.setup_protocol.specs.Hops.{RequestFits}
 use Rattle.setup_protocol.specs.declared.request.Request.{Request}
 use Rattle.call_script.specs.Tasks.{Network}
 use Rattle.call_script.specs.declared.tasks.Task.{Task}
-use Rattle.call_script.specs.declared.tasks.Task.TheVariants.{Opens, Sends, Closes, Pours}
+use Rattle.call_script.specs.declared.tasks.Task.TheVariants.{Opens, Sends, Closes}
+
+-- packets of another channel, or best-effort ones, which have none
+abbrev pub PacketsOff : ℕ → Option ChanNo → Type 0
+PacketsOff c None = Unit {0}
+PacketsOff c (Some chan) = channel_number chan ≢ c
 
 -- the task names another channel, or none
 abbrev pub TaskOff : ℕ → Task → Type 0
 TaskOff c (Opens request) = channel_number request.chan ≢ c
-TaskOff c (Sends request count gap size) = channel_number request.chan ≢ c
+TaskOff c (Sends link chan count gap size) = PacketsOff c chan
 TaskOff c (Closes request) = channel_number request.chan ≢ c
-TaskOff c (Pours link count gap size) = Unit {0}
 
--- a send on the request
+-- a send on the request, at the first hop of its route
 pub record IsSendOn (request : Request) (task : Task) : Type 0 where
+  pub hop : Hop
   pub count : ℕ
   pub gap : ℕ
   pub size : ℕ
-  pub is : task ≡ Sends request count gap size
+  pub stands : slice_get request.route 0 ≡ Some hop
+  pub is : task ≡ Sends hop.link (Some request.chan) count gap size
 
 -- after its opening a request is sent on, and closed at last
 abbrev pub SendsOnce : Request → List Task → Type 0

@@ -1,7 +1,6 @@
 -- What a caller asks next follows from its own replies alone. It goes through its tasks in order. The one under way has
 -- the replies since it began; with its last reply the next task begins that takes a step at all.
 use Rattle.std.specs.Prelude.{ℕ, Bool, true, false, nat_eq, if◌then◌else◌, Option, Some, None, List, [], ◌∷◌, ◌++◌}
-use Rattle.std.specs.List.{slice_get}
 use Rattle.net_units.specs.Numbers.{channel_number}
 use Rattle.net_units.specs.declared.numbers.LinkNo.{LinkNo}
 use Rattle.net_units.specs.declared.numbers.ChanNo.{ChanNo}
@@ -12,11 +11,11 @@ use Rattle.link_steps.specs.declared.replies.Reply.TheVariants.{Planned, Refused
 use Rattle.link_steps.specs.declared.replies.Refusal.{Refusal}
 use Rattle.link_steps.specs.declared.replies.Refusal.TheVariants.{Busy, TooBig}
 use Rattle.setup_protocol.specs.Laws.{is_accepted}
-use Rattle.setup_protocol.specs.Setup.{Outcome, asked_of, next_ask, progress_of, verdict_of, is_expected}
+use Rattle.setup_protocol.specs.Setup.{Outcome, next_ask, progress_of, verdict_of, is_expected}
 use Rattle.setup_protocol.specs.Teardown.{next_release, is_closing}
 use Rattle.setup_protocol.specs.declared.request.Request.{Request}
 use Rattle.call_script.specs.declared.tasks.Task.{Task}
-use Rattle.call_script.specs.declared.tasks.Task.TheVariants.{Opens, Sends, Closes, Pours}
+use Rattle.call_script.specs.declared.tasks.Task.TheVariants.{Opens, Sends, Closes}
 
 -- what a request has come to
 pub record Opened : Type 0 where
@@ -31,22 +30,21 @@ pub record Standing : Type 0 where
 
 -- ---- the task under way
 
--- the one submit of a send
-abbrev pub submit_next : Request → ℕ → ℕ → ℕ → List Reply → Option (LinkNo × Ask)
-submit_next request count gap size [] = asked_of (slice_get request.route 0) (λ hop. Submit request.chan count gap size)
-submit_next request count gap size (reply ∷ replies) = None
+-- the ask for packets: a submit of a channel's, a pour of best-effort ones
+abbrev pub packets_ask : Option ChanNo → ℕ → ℕ → ℕ → Ask
+packets_ask None count gap size = Pour count gap size
+packets_ask (Some chan) count gap size = Submit chan count gap size
 
--- the one pour
-abbrev pub pour_next : LinkNo → ℕ → ℕ → ℕ → List Reply → Option (LinkNo × Ask)
-pour_next link count gap size [] = Some (link, Pour count gap size)
-pour_next link count gap size (reply ∷ replies) = None
+-- the one ask of a link
+abbrev pub once_next : LinkNo → Ask → List Reply → Option (LinkNo × Ask)
+once_next link ask [] = Some (link, ask)
+once_next link ask (reply ∷ replies) = None
 
 -- what a task asks after these replies
 abbrev pub task_ask : Task → List Reply → Option (LinkNo × Ask)
 task_ask (Opens request) replies = next_ask request replies
-task_ask (Sends request count gap size) replies = submit_next request count gap size replies
+task_ask (Sends link chan count gap size) replies = once_next link (packets_ask chan count gap size) replies
 task_ask (Closes request) replies = next_release request.chan request.route replies
-task_ask (Pours link count gap size) replies = pour_next link count gap size replies
 
 -- ---- the tasks that take a step
 
@@ -55,11 +53,15 @@ unfoldable pub is_established : ChanNo → List Opened → Bool
 is_established chan [] = false
 is_established chan (opened ∷ outcomes) = if nat_eq (channel_number opened.chan) (channel_number chan) then is_accepted opened.outcome else is_established chan outcomes
 
+-- whether the packets of a channel may be sent; best-effort ones, which have none, always may
+abbrev pub is_ready : Option ChanNo → List Opened → Bool
+is_ready None outcomes = true
+is_ready (Some chan) outcomes = is_established chan outcomes
+
 abbrev pub takes_step : List Opened → Task → Bool
 takes_step outcomes (Opens request) = true
-takes_step outcomes (Sends request count gap size) = is_established request.chan outcomes
+takes_step outcomes (Sends link chan count gap size) = is_ready chan outcomes
 takes_step outcomes (Closes request) = is_established request.chan outcomes
-takes_step outcomes (Pours link count gap size) = true
 
 -- the tasks from the first one on that takes a step
 unfoldable pub from_step : List Opened → List Task → List Task
@@ -78,9 +80,8 @@ settled_as request (Some outcome) = record { chan = request.chan; outcome = outc
 -- what a task adds to the outcomes, once it is over
 abbrev pub outcome_by : Task → List Reply → List Opened
 outcome_by (Opens request) replies = settled_as request (verdict_of request replies)
-outcome_by (Sends request count gap size) replies = []
+outcome_by (Sends link chan count gap size) replies = []
 outcome_by (Closes request) replies = []
-outcome_by (Pours link count gap size) replies = []
 
 -- the task goes on where it asks once more
 abbrev pub continued : List Opened → Task → List Task → List Reply → Option (LinkNo × Ask) → Standing
@@ -143,9 +144,8 @@ answers_submit _ = false
 -- whether this is a reply to what the task asks after these replies
 abbrev pub task_expects : Task → List Reply → Reply → Bool
 task_expects (Opens request) replies reply = is_expected request (progress_of request replies) reply
-task_expects (Sends request count gap size) replies reply = answers_submit reply
+task_expects (Sends link chan count gap size) replies reply = answers_submit reply
 task_expects (Closes request) replies reply = is_closing reply
-task_expects (Pours link count gap size) replies reply = answers_submit reply
 
 abbrev pub first_expects : List Task → List Reply → Reply → Bool
 first_expects [] replies reply = false

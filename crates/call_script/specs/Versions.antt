@@ -1,12 +1,12 @@
 -- The scenario's language has versions. In the first one a link compares the load of a level in the window as long as the
 -- level's bound; from the second one on in some window up to the bound. From the third one on a link may take best-effort
--- packets, and a caller may pour them. From the fourth one on the route of a request may be found between two nodes. None of
--- them has groups of callers yet.
+-- packets, and a caller may pour them. From the fourth one on the route of a request may be found between two nodes. From
+-- the fifth one on callers may be of groups, between which links may be split.
 use Rattle.std.specs.Prelude.{Bool, true, false}
 use Rattle.traffic_contract.specs.declared.admission.Test.{Test}
 use Rattle.traffic_contract.specs.declared.admission.Test.TheVariants.{Whole, Least}
 use Rattle.call_script.specs.declared.version.Version.{Version}
-use Rattle.call_script.specs.declared.version.Version.TheVariants.{One, Two, Three, Four}
+use Rattle.call_script.specs.declared.version.Version.TheVariants.{One, Two, Three, Four, Five}
 
 -- the test of the links
 abbrev pub test_of : Version → Test
@@ -14,6 +14,7 @@ test_of One = Whole
 test_of Two = Least
 test_of Three = Least
 test_of Four = Least
+test_of Five = Least
 
 -- whether a plan may have best-effort packets
 abbrev pub has_best_effort : Version → Bool
@@ -21,6 +22,7 @@ has_best_effort One = false
 has_best_effort Two = false
 has_best_effort Three = true
 has_best_effort Four = true
+has_best_effort Five = true
 
 -- whether the route of a request may be found between two nodes
 abbrev pub has_found_routes : Version → Bool
@@ -28,6 +30,7 @@ has_found_routes One = false
 has_found_routes Two = false
 has_found_routes Three = false
 has_found_routes Four = true
+has_found_routes Five = true
 
 -- whether callers may be of groups, and links have quotas
 abbrev pub has_groups : Version → Bool
@@ -35,6 +38,7 @@ has_groups One = false
 has_groups Two = false
 has_groups Three = false
 has_groups Four = false
+has_groups Five = true
 
 -- whether two tests are the same
 abbrev pub is_test : Test → Test → Bool

@@ -1,4 +1,4 @@
--- The task under way, as it is kept. An opening has its setup, which has an ask left; a send and a pour have their one ask;
+-- The task under way, as it is kept. An opening has its setup, which has an ask left; a send has its one ask;
 -- a closing has its teardown, with a hop left. Once the last reply to a task is taken, an opening says what its request has
 -- come to.
 use Rattle.std.specs.Prelude.{◌≡◌, ◌<◌, ℕ, Bool, true, false, Option, Some, None, List, [], ◌∷◌, length, map, reverse, vec_len, vec_capacity, ◌-◌}
@@ -15,9 +15,9 @@ use Rattle.setup_protocol.specs.State.{outcome_of}
 use Rattle.setup_protocol.specs.declared.request.Request.{Request}
 use Rattle.setup_protocol.specs.declared.setup.Setup.{Setup}
 use Rattle.setup_protocol.specs.declared.teardown.Teardown.{Teardown}
-use Rattle.call_script.specs.Scripts.{Opened, submit_next, pour_next, task_ask, outcome_by}
+use Rattle.call_script.specs.Scripts.{Opened, packets_ask, once_next, task_ask, outcome_by}
 use Rattle.call_script.specs.declared.tasks.Task.{Task}
-use Rattle.call_script.specs.declared.tasks.Task.TheVariants.{Opens, Sends, Closes, Pours}
+use Rattle.call_script.specs.declared.tasks.Task.TheVariants.{Opens, Sends, Closes}
 use Rattle.call_script.specs.declared.work.Known.{Known}
 use Rattle.call_script.specs.declared.work.Turn.{Turn}
 use Rattle.call_script.specs.declared.work.Turn.TheVariants.{On, Over, Settled}
@@ -46,8 +46,7 @@ pub record IsClosing (teardown : Teardown) (request : Request) (replies : List R
 -- the work is that of the first of these tasks, after these replies to it
 abbrev pub WorkStands : Work → List Task → List Reply → Type 0
 WorkStands (work.Opening chan setup) (Opens request ∷ tasks) replies = IsOpening chan setup request replies
-WorkStands (work.Once to ask) (Sends request count gap size ∷ tasks) replies = IsOnce (submit_next request count gap size []) to ask replies
-WorkStands (work.Once to ask) (Pours link count gap size ∷ tasks) replies = IsOnce (pour_next link count gap size []) to ask replies
+WorkStands (work.Once to ask) (Sends link chan count gap size ∷ tasks) replies = IsOnce (once_next link (packets_ask chan count gap size) []) to ask replies
 WorkStands (work.Closing teardown) (Closes request ∷ tasks) replies = IsClosing teardown request replies
 WorkStands work.Idle [] replies = Unit {0}
 WorkStands _ _ replies = ⊥
@@ -95,9 +94,8 @@ TurnStands (Settled known) work (task ∷ tasks) replies = IsFinished task repli
 
 -- ---- tasks that can begin
 
--- the request of a task has a route
+-- the request of an opening or a closing has a route
 abbrev pub HasRoute : Task → Type 0
 HasRoute (Opens request) = IsRoute request.route
-HasRoute (Sends request count gap size) = IsRoute request.route
+HasRoute (Sends link chan count gap size) = Unit {0}
 HasRoute (Closes request) = IsRoute request.route
-HasRoute (Pours link count gap size) = Unit {0}

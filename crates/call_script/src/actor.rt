@@ -8,8 +8,8 @@ ghost use Rattle.link_steps.specs.declared.replies.Reply.{Reply as Replied};
 ghost use Rattle.setup_protocol.specs.State.{outcome_of};
 ghost use Rattle.call_script.specs.Parts.{PlanParts};
 ghost use Rattle.call_script.specs.Plans.{HasTerms};
-ghost use Rattle.call_script.specs.Scripts.{ask_at, begun, expects, from_step, is_established, outcome_in, takes_step};
-ghost use Rattle.call_script.specs.Tasks.{request_of, task_of, tasks_of};
+ghost use Rattle.call_script.specs.Scripts.{ask_at, begun, expects, from_step, is_established, is_ready, outcome_in, takes_step};
+ghost use Rattle.call_script.specs.Tasks.{request_of, send_on, task_of, tasks_of};
 ghost use Rattle.call_script.specs.Work.{WorkStands, HasRoute, accepts_in, opened_among};
 
 use crate::entries::RequestEntry;
@@ -163,9 +163,18 @@ impl Actor {
     {
         match task {
             Task::Opens(_) => true,
-            Task::Sends { request, .. } => self.is_established(request.chan),
+            Task::Sends { chan, .. } => self.is_ready(*chan),
             Task::Closes(request) => self.is_established(request.chan),
-            Task::Pours { .. } => true,
+        }
+    }
+
+    // Whether the packets of this channel may be sent; best-effort ones, which have none, always may.
+    fn is_ready(&self, chan: Option<ChanNo>) -> bool
+        ensures { result ≡ is_ready chan (opened_among self.now.known.items) }
+    {
+        match chan {
+            Some(chan) => self.is_established(chan),
+            None => true,
         }
     }
 
@@ -216,24 +225,35 @@ fn task_of(requests: &[RequestEntry], op: &Op) -> Option<Task>
             count,
             gap,
             size,
-        } => Some(Task::Sends {
-            request: request_of(requests, *chan)?,
-            count: *count,
-            gap: *gap,
-            size: *size,
-        }),
+        } => Some(send_on(&request_of(requests, *chan)?, *count, *gap, *size)),
         Op::Close(chan) => Some(Task::Closes(request_of(requests, *chan)?)),
         Op::Pour {
             link,
             count,
             gap,
             size,
-        } => Some(Task::Pours {
+        } => Some(Task::Sends {
             link: *link,
+            chan: None,
             count: *count,
             gap: *gap,
             size: *size,
         }),
+    }
+}
+
+// A send on the channel of this request, at the first hop of its route.
+fn send_on(request: &Request, count: u64, gap: u64, size: u32) -> Task
+    requires { IsRoute request.now.route }
+    ensures task { Some result ≡ send_on count gap size request.now }
+    ensures route { HasRoute result }
+{
+    Task::Sends {
+        link: request.route.hop(1).link,
+        chan: Some(request.chan),
+        count,
+        gap,
+        size,
     }
 }
 

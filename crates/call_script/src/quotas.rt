@@ -1,7 +1,9 @@
 //! The quotas of a link.
 ghost use Rattle.std.specs.Prelude.{◌≡◌, ◌++◌, ◌∷◌, [], OnOk, OnErr};
+ghost use Rattle.call_script.specs.Groups.{quotas_fit};
 
-use link_steps::Quota;
+use crate::rules::quotas::fit_with;
+use link_steps::{LinkShape, Quota};
 use net_units::OutOfMemory;
 use std::alloc::Global;
 use std::marker::Model;
@@ -54,6 +56,14 @@ impl Quotas {
         ensures { result.now ≡ self.now }
     {
         self.quotas.as_slice()
+    }
+
+    /// Whether a link of this shape can be split by these quotas and one more: at each level they leave room for the blocking within
+    /// its bound, and they fit its buffer.
+    pub fn fit_with(&self, shape: &LinkShape, more: &Quota) -> bool
+        ensures { result ≡ quotas_fit shape.now (self.now ++ more.now ∷ []) }
+    {
+        fit_with(shape, self.quotas.as_slice(), more)
     }
 
     /// The quotas, without taking memory.

@@ -1,5 +1,5 @@
 //! An operation with what it needs of the plan.
-use net_units::LinkNo;
+use net_units::{ChanNo, LinkNo};
 use setup_protocol::Request;
 
 /// An operation of a caller, with the request of its channel in place of the channel's number.
@@ -7,20 +7,14 @@ use setup_protocol::Request;
 pub enum Task {
     /// Set the request up.
     Opens(Request),
-    /// Submit packets at the first hop of the request's route.
+    /// Ask a link once for packets: to submit those of a channel, at the first hop of its route, or to pour best-effort ones.
     Sends {
-        request: Request,
+        link: LinkNo,
+        chan: Option<ChanNo>,
         count: u64,
         gap: u64,
         size: u32,
     },
     /// Release the request's channel, hop by hop.
     Closes(Request),
-    /// Pour best-effort packets at a link.
-    Pours {
-        link: LinkNo,
-        count: u64,
-        gap: u64,
-        size: u32,
-    },
 }

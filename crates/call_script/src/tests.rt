@@ -1,9 +1,11 @@
 //! Plans and a caller over one link, worked by hand. The link has levels of 10, 20 and 40 ticks and a propagation of 2.
 ghost use Rattle.std.specs.Prelude.{◌≡◌, [], ◌∷◌, IfOk, OnOk, List, length};
+ghost use Rattle.std.specs.List.{All};
+ghost use Rattle.call_script.specs.Parts.{LeavesUnused};
 ghost use Rattle.net_units.specs.Numbers.{link_number, channel_number};
 ghost use Rattle.link_steps.specs.Lists.{Each};
 ghost use Rattle.link_steps.specs.declared.replies.Reply.{Reply as Replied};
-ghost use Rattle.call_script.specs.OneLink.{IsOverIt, IsThatLink, IsThatRequest, IsThatScript};
+ghost use Rattle.call_script.specs.OneLink.{IsOverIt, IsPerhapsSplit, IsThatRequest, IsThatScript};
 ghost use Rattle.call_script.specs.Standing.{CallerStands};
 
 use super::*;
@@ -33,14 +35,41 @@ fn link_no() -> Result<LinkNo, Fail>
 }
 
 fn link(alloc: Global, test: Test, best: u32) -> Result<LinkEntry, Fail>
-    ensures { IfOk result IsThatLink }
+    ensures { IfOk result IsPerhapsSplit }
+{
+    link_with(test, best, Quotas::none(alloc))
+}
+
+// Of the group of this number.
+fn quota(group: u8) -> Quota
+    ensures { result.levels ≡ 4 ∷ 8 ∷ 20 ∷ 0 ∷ 0 ∷ 0 ∷ 0 ∷ 0 ∷ [] }
+{
+    Quota {
+        group,
+        buffer: 50,
+        levels: [4, 8, 20, 0, 0, 0, 0, 0],
+    }
+}
+
+// The first group alone has a quota.
+fn split_link(alloc: Global) -> Result<LinkEntry, Fail>
+    ensures { IfOk result IsPerhapsSplit }
+{
+    let mut quotas = Quotas::none(alloc);
+    quotas.push(quota(1))?;
+    link_with(Test::Least, 0, quotas)
+}
+
+fn link_with(test: Test, best: u32, quotas: Quotas) -> Result<LinkEntry, Fail>
+    requires { All (LeavesUnused (10 ∷ 20 ∷ 40 ∷ [])) quotas }
+    ensures { IfOk result IsPerhapsSplit }
 {
     Ok(LinkEntry {
         name: name("A")?,
         from: name("n1")?,
         to: name("n2")?,
         shape: LinkShape::new(link_no()?, 1, 4, 2, 100, bounds()?, test, best)?,
-        quotas: Quotas::none(alloc),
+        quotas,
     })
 }
 
@@ -73,9 +102,9 @@ fn request(found: Option<(Name, Name)>) -> Result<RequestEntry, Fail>
     })
 }
 
-// The caller opens the request, and then it pours or it doesn't.
+// The caller, which is of this group, opens the request, and then it pours or it doesn't.
 #[tactic(auto, unfolding(crate::specs::Parts::openings_in))]
-fn caller(alloc: Global, chan: ChanNo, pours: bool) -> Result<CallerEntry, Fail>
+fn caller(alloc: Global, chan: ChanNo, group: u8, pours: bool) -> Result<CallerEntry, Fail>
     requires { channel_number chan ≡ 0 }
     ensures { IfOk result IsThatScript }
 {
@@ -91,7 +120,7 @@ fn caller(alloc: Global, chan: ChanNo, pours: bool) -> Result<CallerEntry, Fail>
     }
     Ok(CallerEntry {
         name: name("k1")?,
-        group: 0,
+        group,
         ops: Ops::new(ops),
     })
 }
@@ -105,19 +134,45 @@ fn plan(
     pours: bool,
     rounds: u64,
 ) -> Result<Result<Plan, BadPlan>, Fail>
-    requires { IsThatLink link }
+    requires { IsPerhapsSplit link }
     ensures callers { IfOk result (λ made. IfOk made (λ plan. length plan.callers ≡ 1)) }
     ensures links { IfOk result (λ made. IfOk made (λ plan. length plan.links ≡ 1)) }
 {
     let request = request(found)?;
-    let caller = caller(alloc, request.request.chan, pours)?;
+    let caller = caller(alloc, request.request.chan, 0, pours)?;
+    plan_with(
+        alloc,
+        version,
+        link,
+        Vec::new(alloc),
+        request,
+        caller,
+        rounds,
+    )
+}
+
+// A plan of these parts.
+fn plan_with(
+    alloc: Global,
+    version: Version,
+    link: LinkEntry,
+    groups: Vec<Name>,
+    request: RequestEntry,
+    caller: CallerEntry,
+    rounds: u64,
+) -> Result<Result<Plan, BadPlan>, Fail>
+    requires link { IsPerhapsSplit link }
+    requires request { IsThatRequest request }
+    requires script { IsThatScript caller }
+    ensures callers { IfOk result (λ made. IfOk made (λ plan. length plan.callers ≡ 1)) }
+    ensures links { IfOk result (λ made. IfOk made (λ plan. length plan.links ≡ 1)) }
+{
     let mut links = Vec::new(alloc);
     links.push(link)?;
     let mut requests = Vec::new(alloc);
     push_request(&mut requests, request)?;
     let mut callers = Vec::new(alloc);
     callers.push(caller)?;
-    let groups = Vec::new(alloc);
     Ok(Plan::new(alloc, version, links, groups, requests, callers, rounds, 0))
 }
 
@@ -134,6 +189,7 @@ fn a_plan_keeps_the_rules_of_its_version(rt: HostRuntime) -> Result<(), Fail> {
         (Version::Three, Test::Least, 1, false, true, 0, None),
         (Version::Three, Test::Least, 1, true, true, 0, Some(1)),
         (Version::Four, Test::Least, 1, true, true, 0, None),
+        (Version::Five, Test::Least, 1, true, true, 0, None),
     ] {
         let link = link(rt.alloc(), test, best)?;
         let nodes = if found {
@@ -158,12 +214,37 @@ fn a_link_without_quotas_is_not_split(rt: HostRuntime) -> Result<(), Fail> {
     Ok(())
 }
 
-fn quota(group: u8) -> Quota {
-    Quota {
-        group,
-        buffer: 50,
-        levels: [4, 8, 20, 0, 0, 0, 0, 0],
-    }
+// A plan of that link with a quota, of that caller, which is of its group, and of a group more.
+fn split_plan(alloc: Global, version: Version) -> Result<Result<Plan, BadPlan>, Fail>
+    ensures { IfOk result (λ made. IfOk made (λ plan. length plan.links ≡ 1)) }
+{
+    let request = request(None)?;
+    let caller = caller(alloc, request.request.chan, 1, false)?;
+    let mut groups = Vec::new(alloc);
+    groups.push(name("g1")?)?;
+    groups.push(name("g2")?)?;
+    plan_with(
+        alloc,
+        version,
+        split_link(alloc)?,
+        groups,
+        request,
+        caller,
+        0,
+    )
+}
+
+#[test]
+fn a_link_with_quotas_is_split_between_groups(rt: HostRuntime) -> Result<(), Fail> {
+    let alloc = rt.alloc();
+    let before = split_plan(alloc, Version::Four)?;
+    assert_eq!(rt; before.err(), Some(BadPlan::Broken { rule: 1 }));
+    let plan = split_plan(alloc, Version::Five)??;
+    assert_eq!(rt; plan.groups().len(), 2);
+    let split = plan.split(alloc, link_no()?)?.ok_or("no split")?;
+    assert_eq!(rt; split.quotas(), [quota(1)].as_slice());
+    assert_eq!(rt; split.groups(), [1u8].as_slice());
+    Ok(())
 }
 
 #[test]

@@ -15,6 +15,8 @@ pub enum Version {
     Three,
     /// As version three; the route of a request may be found between two nodes.
     Four,
+    /// As version four; callers may be of groups, between which links may be split.
+    Five,
 }
 
 impl Version {
@@ -24,7 +26,7 @@ impl Version {
     {
         match self {
             Version::One => Test::Whole,
-            Version::Two | Version::Three | Version::Four => Test::Least,
+            Version::Two | Version::Three | Version::Four | Version::Five => Test::Least,
         }
     }
 
@@ -34,7 +36,7 @@ impl Version {
     {
         match self {
             Version::One | Version::Two => false,
-            Version::Three | Version::Four => true,
+            Version::Three | Version::Four | Version::Five => true,
         }
     }
 
@@ -44,7 +46,7 @@ impl Version {
     {
         match self {
             Version::One | Version::Two | Version::Three => false,
-            Version::Four => true,
+            Version::Four | Version::Five => true,
         }
     }
 
@@ -54,6 +56,7 @@ impl Version {
     {
         match self {
             Version::One | Version::Two | Version::Three | Version::Four => false,
+            Version::Five => true,
         }
     }
 }

@@ -1,15 +1,12 @@
 //! The task of a caller that is under way.
 ghost use Rattle.std.specs.Prelude.{◌≡◌, ◌↔◌, ◌<◌, [], false, true, ◌∷◌, ◌++◌, None, Some, IsTrue, IsOk, IsNone, IfOk, IfErr, OnErr, List, length, option_map};
-ghost use Rattle.std.specs.List.{slice_get};
-ghost use Rattle.link_steps.specs.declared.asks.Ask.{Ask as Asked};
 ghost use Rattle.link_steps.specs.declared.replies.Reply.{Reply as Replied};
-ghost use Rattle.hop_reservation.specs.Routes.{IsRoute};
 ghost use Rattle.setup_protocol.specs.Releases.{Releases};
-ghost use Rattle.setup_protocol.specs.Setup.{asked, asked_of, is_expected, settled_in};
+ghost use Rattle.setup_protocol.specs.Setup.{asked, is_expected, settled_in};
 ghost use Rattle.setup_protocol.specs.Standing.{progress_in};
 ghost use Rattle.setup_protocol.specs.Teardown.{is_closing, next_release};
 ghost use Rattle.setup_protocol.specs.declared.request.Request.{Request as Asking};
-ghost use Rattle.call_script.specs.Scripts.{first_ask, first_expects, answers_submit};
+ghost use Rattle.call_script.specs.Scripts.{first_ask, first_expects, answers_submit, packets_ask};
 ghost use Rattle.call_script.specs.Work.{WorkStands, TurnStands, HasRoute, IsOpening, IsClosing, is_under_way};
 ghost use Rattle.call_script.specs.declared.tasks.Task.{Task as Under};
 ghost use Rattle.call_script.specs.declared.tasks.Task.TheVariants.{Opens, Closes};
@@ -17,7 +14,6 @@ ghost use Rattle.call_script.specs.declared.work.Turn.TheVariants as turns;
 ghost use Rattle.call_script.specs.declared.work.Work.TheVariants as works;
 
 use crate::tasks::Task;
-use hop_reservation::Route;
 use link_steps::{Ask, Refusal, Reply, Unexpected};
 use net_units::{ChanNo, LinkNo};
 use setup_protocol::{Setup, Teardown, Verdict};
@@ -65,36 +61,16 @@ impl Work {
                 setup: Setup::new(request),
             },
             Task::Sends {
-                request,
-                count,
-                gap,
-                size,
-            } => {
-                let ask = Ask::Submit {
-                    chan: request.chan,
-                    count: *count,
-                    gap: *gap,
-                    size: *size,
-                };
-                Work::Once {
-                    to: first_link(&request.route),
-                    ask,
-                }
-            }
-            Task::Closes(request) => Work::Closing(Teardown::new(request.chan, request.route)),
-            Task::Pours {
                 link,
+                chan,
                 count,
                 gap,
                 size,
             } => Work::Once {
                 to: *link,
-                ask: Ask::Pour {
-                    count: *count,
-                    gap: *gap,
-                    size: *size,
-                },
+                ask: packets_ask(*chan, *count, *gap, *size),
             },
+            Task::Closes(request) => Work::Closing(Teardown::new(request.chan, request.route)),
         }
     }
 
@@ -176,10 +152,17 @@ fn take_closing(teardown: &mut Teardown, reply: Reply) -> Result<Turn, Unexpecte
     }
 }
 
-// The link of the first hop.
-fn first_link(route: &Route) -> LinkNo
-    requires { IsRoute route.now }
-    ensures { (ask : Asked) → Some (result, ask) ≡ asked_of (slice_get route.now 0) (λ hop. ask) }
+// The ask for packets: a submit of a channel's, or a pour of best-effort ones.
+fn packets_ask(chan: Option<ChanNo>, count: u64, gap: u64, size: u32) -> Ask
+    ensures { result ≡ packets_ask chan count gap size }
 {
-    route.hop(1).link
+    match chan {
+        Some(chan) => Ask::Submit {
+            chan,
+            count,
+            gap,
+            size,
+        },
+        None => Ask::Pour { count, gap, size },
+    }
 }

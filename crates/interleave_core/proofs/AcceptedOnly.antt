@@ -127,7 +127,7 @@ setup-accepts network request owner first done past tasks outcomes task rest rep
 kind-accepts : (network : Network) (request : Request) (owner : ℕ) (first : HopAt network request 0) (done : Done) (past : List Done) (tasks : List Task) (outcomes : List Opened) (task : Task) (rest : List Task) (replies : List Reply) (terms : Reservation) → slice_get network.scripts owner ≡ Some tasks → actor_number done.actor ≡ owner → standing tasks (replies_to owner past) ≡ record { tasks = task ∷ rest; replies = replies; outcomes = outcomes } → held_at network request 0 first (done ∷ past) ≡ Some terms → terms.phase ≡ Ph.Committed → (IsMild (channel_number request.chan) done.ask → AcceptedIn network request owner (done ∷ past)) → OwnKind network request done past task replies → AcceptedIn network request owner (done ∷ past)
 kind-accepts network request owner first done past tasks outcomes task rest replies terms found by is held phase mild (OwnOff other off) = mild (off-mild (channel_number request.chan) done.ask off)
 kind-accepts network request owner first done past tasks outcomes task rest replies terms found by is held phase mild (OwnSetup later made own rows setup) = setup-accepts network request owner first done past tasks outcomes task rest replies later terms found by is made own rows held phase
-kind-accepts network request owner first done past tasks outcomes task rest replies terms found by is held phase mild (OwnSend count gap size own asks) = mild (subst (IsMild (channel_number request.chan)) (sym asks) tt)
+kind-accepts network request owner first done past tasks outcomes task rest replies terms found by is held phase mild (OwnSend hop count gap size own asks) = mild (subst (IsMild (channel_number request.chan)) (sym asks) tt)
 kind-accepts network request owner first done past tasks outcomes task rest replies terms found by is held phase mild (OwnClose levels own here on asks comm) = mild (subst (IsMild (channel_number request.chan)) (sym asks) tt)
 
 left-accepts : (network : Network) (request : Request) (owner : ℕ) (first : HopAt network request 0) (done : Done) (past : List Done) (tasks : List Task) (outcomes : List Opened) (left : List Task) (replies : List Reply) (terms : Reservation) → NetworkFits network → RequestFits network.links request → IsRun network past → (next : IsNext network past done) → slice_get network.scripts owner ≡ Some tasks → actor_number done.actor ≡ owner → standing tasks (replies_to owner past) ≡ record { tasks = left; replies = replies; outcomes = outcomes } → held_at network request 0 first (done ∷ past) ≡ Some terms → terms.phase ≡ Ph.Committed → (IsMild (channel_number request.chan) done.ask → AcceptedIn network request owner (done ∷ past))

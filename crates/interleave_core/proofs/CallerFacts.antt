@@ -10,7 +10,7 @@ use Rattle.hop_reservation.specs.Offers.{AreLevels, IsLevelOf}
 use Rattle.hop_reservation.specs.declared.route.Hop.{Hop}
 use Rattle.hop_reservation.proofs.OfferFacts.{AreLevels-push}
 use Rattle.link_steps.specs.declared.asks.Ask.{Ask}
-use Rattle.link_steps.specs.declared.asks.Ask.TheVariants.{Relax, Deny, Submit, Release, Arrive, Tick, Pour}
+use Rattle.link_steps.specs.declared.asks.Ask.TheVariants.{Relax, Deny, Release, Arrive, Tick}
 use Rattle.link_steps.specs.declared.replies.Entry.{Entry}
 use Rattle.link_steps.specs.declared.replies.Reply.{Reply}
 use Rattle.link_steps.specs.declared.replies.Reply.TheVariants as Is
@@ -28,11 +28,12 @@ use Rattle.setup_protocol.proofs.ProgressFacts.{offers-other, offers-more, progr
 use Rattle.call_script.specs.Fits.{TaskFits}
 use Rattle.setup_protocol.specs.Hops.{IsHopOf, RequestFits}
 use Rattle.call_script.specs.declared.tasks.Task.{Task}
-use Rattle.call_script.specs.declared.tasks.Task.TheVariants.{Opens, Sends, Closes, Pours}
-use Rattle.call_script.specs.Scripts.{Opened, Standing, task_ask, takes_step, from_step, begun, outcome_by, continued, resumed, replied, standing, first_ask, ask_at}
+use Rattle.call_script.specs.declared.tasks.Task.TheVariants.{Opens, Sends, Closes}
+use Rattle.call_script.specs.Scripts.{Opened, Standing, packets_ask, task_ask, takes_step, from_step, begun, outcome_by, continued, resumed, replied, standing, first_ask, ask_at}
 use Rattle.channel_laws.specs.Asks.{MayReplyTo, IsReserve}
 use Rattle.link_steps.proofs.ListParts.{Each-at}
 use Rattle.channel_laws.proofs.OfferAnswers.{offer-answers}
+use Rattle.interleave_core.proofs.OnceFacts.{once-asked, packets-hold}
 
 -- ---- what callers ask
 
@@ -79,23 +80,18 @@ of-own links (Some hop) to ask own is fits same =
 abbrev pub OffersFit : List Task → List Reply → Type 0
 OffersFit [] replies = Unit {0}
 OffersFit (Opens request ∷ tasks) replies = AreLevels request.route (offers_in replies)
-OffersFit (Sends request count gap size ∷ tasks) replies = Unit {0}
+OffersFit (Sends link chan count gap size ∷ tasks) replies = Unit {0}
 OffersFit (Closes request ∷ tasks) replies = Unit {0}
-OffersFit (Pours link count gap size ∷ tasks) replies = Unit {0}
 
 task-asks : (links : List Link) (task : Task) (replies : List Reply) (to : LinkNo) (ask : Ask) → TaskFits links task → OffersFit (task ∷ []) replies → task_ask task replies ≡ Some (to, ask) → AsksLink links to ask
 task-asks links (Opens request) replies to ask fits are same = opens-asks links request replies to ask fits are same
-task-asks links (Sends request count gap size) [] to ask fits are same = of-own links (slice_get request.route 0) to ask (Submit request.chan count gap size) tt (λ shape. fits.send) same
-task-asks links (Sends request count gap size) (reply ∷ replies) to ask fits are same = cc
-task-asks links (Pours at count gap size) [] to ask fits are same =
-    let both : (at, Pour count gap size) ≡ (to, ask) = same_Some (at, Pour count gap size) (to, ask) same in
-    let own : Pour count gap size ≡ ask = ap (λ pair. pair.1) both in
+task-asks links (Sends at chan count gap size) replies to ask fits are same =
+    let once = once-asked at (packets_ask chan count gap size) replies to ask same in
     record {
-      callers = subst IsCallers own tt;
-      fits = λ link found. (let is : fits.link ≡ link = same_Some fits.link link (sym fits.linked ∙ ap (λ l. slice_get links (link_number l)) (ap (λ pair. pair.0) both) ∙ found) in
-          subst (AskFits link.shape) own (subst (λ l. 1 ≤ l.shape.best) is fits.best, fits.pour));
+      callers = subst IsCallers once.is (packets-hold IsCallers chan count gap size (λ c. tt) tt);
+      fits = λ link found. (let is : fits.link ≡ link = same_Some fits.link link (sym fits.linked ∙ ap (λ l. slice_get links (link_number l)) once.at ∙ found) in
+          subst (AskFits link.shape) once.is (subst (λ l. AskFits l.shape (packets_ask chan count gap size)) is fits.packets));
     }
-task-asks links (Pours at count gap size) (reply ∷ replies) to ask fits are same = cc
 task-asks links (Closes request) replies to ask fits are same = of-own links (slice_get request.route (length replies)) to ask (Release request.chan (first_count replies)) tt (λ shape. tt) same
 
 pub record StandingFits (links : List Link) (at : Standing) : Type 0 where
@@ -105,15 +101,13 @@ pub record StandingFits (links : List Link) (at : Standing) : Type 0 where
 -- the first task alone
 pub first-fits : (task : Task) (tasks : List Task) (replies : List Reply) → OffersFit (task ∷ tasks) replies → OffersFit (task ∷ []) replies
 first-fits (Opens request) tasks replies are = are
-first-fits (Sends request count gap size) tasks replies are = are
+first-fits (Sends link chan count gap size) tasks replies are = are
 first-fits (Closes request) tasks replies are = are
-first-fits (Pours link count gap size) tasks replies are = are
 
 with-rest : (task : Task) (tasks : List Task) (replies : List Reply) → OffersFit (task ∷ []) replies → OffersFit (task ∷ tasks) replies
 with-rest (Opens request) tasks replies are = are
-with-rest (Sends request count gap size) tasks replies are = are
+with-rest (Sends link chan count gap size) tasks replies are = are
 with-rest (Closes request) tasks replies are = are
-with-rest (Pours link count gap size) tasks replies are = are
 
 asks-first : (links : List Link) (tasks : List Task) (replies : List Reply) (to : LinkNo) (ask : Ask) → Each (TaskFits links) tasks → OffersFit tasks replies → first_ask tasks replies ≡ Some (to, ask) → AsksLink links to ask
 asks-first links [] replies to ask fits are same = cc
@@ -212,9 +206,8 @@ none-yet : (tasks : List Task) → OffersFit tasks []
 unfolding offers_in AreLevels
 none-yet [] = tt
 none-yet (Opens request ∷ tasks) = tt
-none-yet (Sends request count gap size ∷ tasks) = tt
+none-yet (Sends link chan count gap size ∷ tasks) = tt
 none-yet (Closes request ∷ tasks) = tt
-none-yet (Pours link count gap size ∷ tasks) = tt
 
 from-step-fits : (links : List Link) (outcomes : List Opened) (tasks : List Task) → Each (TaskFits links) tasks → Each (TaskFits links) (from_step outcomes tasks)
 unfolding from_step
@@ -228,9 +221,8 @@ begun-fits links outcomes tasks each = record { tasks = from-step-fits links out
 task-goes-on : (links : List Link) (task : Task) (replies : List Reply) (reply : Reply) (to : LinkNo) (ask : Ask) (link : Link) (h : List Entry) → TaskFits links task → OffersFit (task ∷ []) replies → task_ask task replies ≡ Some (to, ask) → slice_get links (link_number to) ≡ Some link → MayReplyTo link.shape h ask reply
     → OffersFit (task ∷ []) (replies ++ reply ∷ [])
 task-goes-on links (Opens request) replies reply to ask link h fits are same found answered = offers-go-on links request replies reply to ask link h fits are same found answered
-task-goes-on links (Sends request count gap size) replies reply to ask link h fits are same found answered = tt
+task-goes-on links (Sends at chan count gap size) replies reply to ask link h fits are same found answered = tt
 task-goes-on links (Closes request) replies reply to ask link h fits are same found answered = tt
-task-goes-on links (Pours at count gap size) replies reply to ask link h fits are same found answered = tt
 
 continued-fits : (links : List Link) (outcomes : List Opened) (task : Task) (tasks : List Task) (replies : List Reply) (next : Option (LinkNo × Ask)) → Each (TaskFits links) (task ∷ tasks) → OffersFit (task ∷ []) replies → StandingFits links (continued outcomes task tasks replies next)
 continued-fits links outcomes task tasks replies (Some to) each are = record { tasks = each; offers = with-rest task tasks replies are }

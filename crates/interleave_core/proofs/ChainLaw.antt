@@ -275,9 +275,9 @@ own-leaves network request owner first done past task replies fits sound asked r
   told = λ given is some. absurd (let clash : Opens request ≡ Closes request = sym own ∙ is in cc);
   whole = setup-whole network request first (done ∷ past) _ _ rows.hops;
 }
-own-leaves network request owner first done past task replies fits sound asked run next was frozen (OwnSend count gap size own is) = record {
+own-leaves network request owner first done past task replies fits sound asked run next was frozen (OwnSend hop count gap size own is) = record {
   tells = λ i at on. subst (TellsAll (channel_number request.chan) (count_at network request 0 first past) (count_at network request i at past)) (sym is) tt;
-  told = λ given closes some. absurd (let clash : Sends request count gap size ≡ Closes request = sym own ∙ closes in cc);
+  told = λ given closes some. absurd (let clash : Sends hop.link (Some request.chan) count gap size ≡ Closes request = sym own ∙ closes in cc);
   whole = mild-whole network request owner first done past fits run (subst (IsMild (channel_number request.chan)) (sym is) tt) was (λ levels comm. send-later network request done past count gap size levels is comm);
 }
 own-leaves network request owner first done past task replies fits sound asked run next was frozen (OwnClose levels own here on is comm) = record {

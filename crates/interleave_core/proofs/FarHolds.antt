@@ -8,6 +8,7 @@ use Rattle.std.proofs.lemmas.Option.{same_Some, slice_get_within}
 use Rattle.std.specs.Prelude.{nat_eq, find}
 use Rattle.net_units.specs.Numbers.{link_number, channel_number}
 use Rattle.net_units.specs.declared.numbers.LinkNo.{LinkNo}
+use Rattle.hop_reservation.specs.declared.route.Hop.{Hop}
 use Rattle.hop_reservation.specs.Routes.{link_of}
 use Rattle.link_steps.specs.declared.asks.Ask.{Ask}
 use Rattle.link_steps.specs.declared.asks.Ask.TheVariants.{Reserve, Submit, Release, Tick}
@@ -36,7 +37,7 @@ use Rattle.call_script.specs.declared.tasks.Task.TheVariants.{Opens, Sends, Clos
 use Rattle.call_script.specs.Tasks.{Network}
 use Rattle.run_record.specs.Runs.{entry_of, part_of}
 use Rattle.interleave_core.specs.Runs.{IsNext, IsRun}
-use Rattle.call_script.specs.Scripts.{Opened, submit_next, task_ask, first_ask}
+use Rattle.call_script.specs.Scripts.{Opened, once_next, task_ask, first_ask}
 use Rattle.interleave_core.proofs.CallerFacts.{StandingFits}
 use Rattle.channel_laws.proofs.ChannelRows.{own-count, legal-free}
 use Rattle.interleave_core.proofs.FlightFacts.{part-grows}
@@ -54,6 +55,7 @@ use Rattle.channel_laws.specs.Reservations.{held_by, ComesOf, Stays, Closed}
 use Rattle.channel_laws.proofs.TermsAfter.{comes-mild}
 use Rattle.interleave_core.specs.Paths.{HopAt, packets_at, count_at}
 use Rattle.setup_protocol.proofs.HopAsks.{asked-at, of-setup}
+use Rattle.interleave_core.proofs.OnceFacts.{once-asked}
 
 -- ---- one hop
 
@@ -164,7 +166,7 @@ NoRelease _ = Unit {0}
 pub data OwnKind (network : Network) (request : Request) (done : Done) (past : List Done) (task : Task) (replies : List Reply) : Type 0 where
   OwnOff : TaskOff (channel_number request.chan) task → IsOff (channel_number request.chan) done.ask → OwnKind network request done past task replies
   OwnSetup : (later : List Reply) → later ≡ replies ++ done.reply ∷ [] → task ≡ Opens request → SetupRows network request later (done ∷ past) → NoRelease done.ask → OwnKind network request done past task replies
-  OwnSend : (count gap size : ℕ) → task ≡ Sends request count gap size → done.ask ≡ Submit request.chan count gap size → OwnKind network request done past task replies
+  OwnSend : (hop : Hop) (count gap size : ℕ) → task ≡ Sends hop.link (Some request.chan) count gap size → done.ask ≡ Submit request.chan count gap size → OwnKind network request done past task replies
   OwnClose : (levels : List ℕ) → task ≡ Closes request → (here : HopAt network request (length replies)) → link_number done.link ≡ link_number here.hop.link → done.ask ≡ Release request.chan (first_count replies) → IsComm Some request levels (length replies) (held_at network request (length replies) here past) → OwnKind network request done past task replies
 
 setup-keeps : (request : Request) (p : Progress) (to : LinkNo) (ask : Ask) → asked request p ≡ Some (to, ask) → NoRelease ask
@@ -176,9 +178,8 @@ close-kind network request done past task replies levels sound is comm asks =
     let here = hop-at network request (length replies) sound (slice_get_within request.route (length replies) own.hop own.stands) in
     OwnClose levels is here (ap link_number own.at ∙ ap link_of (same_Some own.hop here.hop (sym own.stands ∙ here.stands))) own.is (comm (length replies) here (omega arith))
 
-send-kind : (network : Network) (request : Request) (done : Done) (past : List Done) (task : Task) (replies : List Reply) (count gap size : ℕ) → task ≡ Sends request count gap size → submit_next request count gap size replies ≡ Some (done.link, done.ask) → OwnKind network request done past task replies
-send-kind network request done past task [] count gap size is asks = OwnSend count gap size is (asked-at request.route 0 (λ hop. Submit request.chan count gap size) done.link done.ask asks).is
-send-kind network request done past task (reply ∷ replies) count gap size is asks = cc
+send-kind : (network : Network) (request : Request) (done : Done) (past : List Done) (task : Task) (replies : List Reply) (hop : Hop) (count gap size : ℕ) → task ≡ Sends hop.link (Some request.chan) count gap size → once_next hop.link (Submit request.chan count gap size) replies ≡ Some (done.link, done.ask) → OwnKind network request done past task replies
+send-kind network request done past task replies hop count gap size is asks = OwnSend hop count gap size is (sym (once-asked hop.link (Submit request.chan count gap size) replies done.link done.ask asks).is)
 
 pub own-kind : (network : Network) (request : Request) (done : Done) (past : List Done) (outcomes : List Opened) (task : Task) (tasks : List Task) (replies : List Reply) → NetworkFits network → RequestFits network.links request → IsRun network past → (next : IsNext network past done) → StandingFits network.links (record { tasks = task ∷ tasks; replies = replies; outcomes = outcomes }) → GoesAt network request past (task ∷ tasks) replies outcomes → task_ask task replies ≡ Some (done.link, done.ask) → ClosesAt network request past (record { tasks = task ∷ tasks; replies = replies; outcomes = outcomes })
     → OwnKind network request done past task replies
@@ -193,7 +194,7 @@ own-kind network request done past outcomes task tasks replies fits sound run ne
 own-kind network request done past outcomes task tasks replies fits sound run next stands goes asks (Denied (inr (inr own)) first none) = absurd (not-own request task _ first own.0 (λ off. off refl))
 own-kind network request done past outcomes task tasks replies fits sound run next stands goes asks (Open levels (inl off) fresh comm) = OwnOff off.0 (task-off (channel_number request.chan) task replies done.link done.ask off.0 asks)
 own-kind network request done past outcomes task tasks replies fits sound run next stands goes asks (Open levels (inr (inl own)) fresh comm) =
-    send-kind network request done past task replies own.0.count own.0.gap own.0.size own.0.is (subst (λ t. first_ask (t ∷ tasks) replies ≡ Some (done.link, done.ask)) own.0.is asks)
+    send-kind network request done past task replies own.0.hop own.0.count own.0.gap own.0.size own.0.is (subst (λ t. first_ask (t ∷ tasks) replies ≡ Some (done.link, done.ask)) own.0.is asks)
 own-kind network request done past outcomes task tasks replies fits sound run next stands goes asks (Open levels (inr (inr own)) fresh comm) =
     let none : length replies ≡ 0 = ap length (fresh own.0) in
     close-kind network request done past task replies levels sound own.0 (λ i at from. comm i at (omega (arith, none))) (subst (λ t. first_ask (t ∷ tasks) replies ≡ Some (done.link, done.ask)) own.0 asks)

@@ -20,7 +20,7 @@ use Rattle.setup_protocol.proofs.LawFacts.{accepted-keep}
 use Rattle.run_record.specs.declared.done.Done.{Done}
 use Rattle.call_script.specs.Fits.{NetworkFits}
 use Rattle.call_script.specs.declared.tasks.Task.{Task}
-use Rattle.call_script.specs.declared.tasks.Task.TheVariants.{Opens, Sends, Closes, Pours}
+use Rattle.call_script.specs.declared.tasks.Task.TheVariants.{Opens, Sends, Closes}
 use Rattle.call_script.specs.Tasks.{Network}
 use Rattle.run_record.specs.Runs.{part_of, replies_to}
 use Rattle.interleave_core.specs.Runs.{IsNext, IsRun}
@@ -79,9 +79,8 @@ continued-comes request outcomes (Opens own) tasks replies None outcome same =
       | inl before ↦ inl before
       | inr both ↦ inr (record { own = own; is = refl; chan = both.0; verdict = both.1 })
     ]
-continued-comes request outcomes (Sends own count gap size) tasks replies None outcome same = inl same
+continued-comes request outcomes (Sends link chan count gap size) tasks replies None outcome same = inl same
 continued-comes request outcomes (Closes own) tasks replies None outcome same = inl same
-continued-comes request outcomes (Pours link count gap size) tasks replies None outcome same = inl same
 
 resumed-comes : (request : Request) (outcomes : List Opened) (task : Task) (tasks : List Task) (replies : List Reply) (outcome : Outcome) → outcome_in request.chan (resumed outcomes (task ∷ tasks) replies).outcomes ≡ Some outcome → (outcome_in request.chan outcomes ≡ Some outcome) ⊎ OpensWith request task replies outcome
 unfolding resumed
@@ -93,7 +92,7 @@ opens-own network request own run task tasks replies outcomes is chan (Early (in
 opens-own network request own run task tasks replies outcomes is chan (Early (inr mine) none) = mine.0
 opens-own network request own run task tasks replies outcomes is chan (Denied sends first none) = absurd (subst (TaskOff (channel_number request.chan)) is first chan)
 opens-own network request own run task tasks replies outcomes is chan (Open levels (inl off) fresh comm) = absurd (subst (TaskOff (channel_number request.chan)) is off.0 chan)
-opens-own network request own run task tasks replies outcomes is chan (Open levels (inr (inl mine)) fresh comm) = absurd (let clash : Sends request mine.0.count mine.0.gap mine.0.size ≡ Opens own = sym mine.0.is ∙ is in cc)
+opens-own network request own run task tasks replies outcomes is chan (Open levels (inr (inl mine)) fresh comm) = absurd (let clash : Sends mine.0.hop.link (Some request.chan) mine.0.count mine.0.gap mine.0.size ≡ Opens own = sym mine.0.is ∙ is in cc)
 opens-own network request own run task tasks replies outcomes is chan (Open levels (inr (inr mine)) fresh comm) = absurd (let clash : Closes request ≡ Opens own = sym mine.0 ∙ is in cc)
 opens-own network request own run task tasks replies outcomes is chan (Closing levels rest same others comm) = absurd (let clash : Closes request ≡ Opens own = sym (head-same task tasks (Closes request) rest same) ∙ is in cc)
 opens-own network request own run task tasks replies outcomes is chan (Over others) = absurd (subst (TaskOff (channel_number request.chan)) is others.0 chan)

@@ -49,7 +49,7 @@ own-entry network request done past task replies (OwnSetup later made own rows s
       | inl tick ↦ MildOne (subst (IsMild (channel_number request.chan)) (sym tick) tt)
       | inr other ↦ SetupOne later rows other
     ]
-own-entry network request done past task replies (OwnSend count gap size own is) = MildOne (subst (IsMild (channel_number request.chan)) (sym is) tt)
+own-entry network request done past task replies (OwnSend hop count gap size own is) = MildOne (subst (IsMild (channel_number request.chan)) (sym is) tt)
 own-entry network request done past task replies (OwnClose levels own here on is comm) = MildOne (subst (IsMild (channel_number request.chan)) (sym is) tt)
 
 left-entry : (network : Network) (request : Request) (done : Done) (past : List Done) (outcomes : List Opened) (left : List Task) (replies : List Reply) → NetworkFits network → RequestFits network.links request → IsRun network past → (next : IsNext network past done) → first_ask left replies ≡ Some (done.link, done.ask) → StandingFits network.links (record { tasks = left; replies = replies; outcomes = outcomes }) → GoesAt network request past left replies outcomes → ClosesAt network request past (record { tasks = left; replies = replies; outcomes = outcomes }) → EntryIs network request done past

@@ -1,3 +1,4 @@
+pub mod OnceFacts
 pub mod CallerFacts
 pub mod RunLegal
 pub mod RunOf

@@ -9,7 +9,7 @@ use Rattle.net_units.specs.Numbers.{link_number, actor_number, link_at}
 use Rattle.net_units.specs.declared.numbers.LinkNo.{LinkNo}
 use Rattle.hop_reservation.specs.declared.route.Hop.{Hop}
 use Rattle.link_steps.specs.declared.asks.Ask.{Ask}
-use Rattle.link_steps.specs.declared.asks.Ask.TheVariants.{Tick, Pour}
+use Rattle.link_steps.specs.declared.asks.Ask.TheVariants.{Tick}
 use Rattle.link_steps.specs.declared.replies.Entry.{Entry}
 use Rattle.link_steps.specs.declared.replies.Reply.{Reply}
 use Rattle.link_steps.specs.declared.shape.LinkShape.{LinkShape}
@@ -22,10 +22,10 @@ use Rattle.setup_protocol.specs.Setup.{Progress, Reserving, Undoing, Relaxing, S
 use Rattle.setup_protocol.specs.declared.request.Request.{Request}
 use Rattle.call_script.specs.Fits.{TaskFits, NetworkFits}
 use Rattle.setup_protocol.specs.Hops.{IsHopOf}
-use Rattle.call_script.specs.Scripts.{first_ask, ask_at, script_ask, standing, task_ask}
+use Rattle.call_script.specs.Scripts.{packets_ask, first_ask, ask_at, script_ask, standing, task_ask}
 use Rattle.call_script.specs.Tasks.{Network}
 use Rattle.call_script.specs.declared.tasks.Task.{Task}
-use Rattle.call_script.specs.declared.tasks.Task.TheVariants.{Opens, Sends, Closes, Pours}
+use Rattle.call_script.specs.declared.tasks.Task.TheVariants.{Opens, Sends, Closes}
 use Rattle.tick_plane.specs.Planes.{Plane, is_due, next_due, ask_due, flight_in, plane_with, plane_of}
 use Rattle.tick_plane.specs.declared.flight.Flight.{Flight}
 use Rattle.run_record.specs.Runs.{replies_to, part_of}
@@ -38,6 +38,7 @@ use Rattle.channel_laws.proofs.NextLinks.{NamesNext, NextsAre, after-nexts, sent
 use Rattle.setup_protocol.proofs.HopAsks.{asked-at}
 use Rattle.tick_plane.proofs.FlightFacts.{asks-due, flight-in, flights-with}
 use Rattle.channel_laws.proofs.SentFacts.{tick-answer}
+use Rattle.interleave_core.proofs.OnceFacts.{once-asked, packets-hold}
 
 -- a link that comes next, if there is one, is there
 abbrev NextLinked : List Link → Option LinkNo → Type 0
@@ -75,16 +76,13 @@ setup-there links request (Settled outcome) to ask hops same = cc
 
 task-there : (links : List Link) (task : Task) (replies : List Reply) (to : LinkNo) (ask : Ask) → TaskFits links task → task_ask task replies ≡ Some (to, ask) → AsksThere links to ask
 task-there links (Opens request) replies to ask fits same = setup-there links request (progress_of request replies) to ask fits.hops same
-task-there links (Sends request count gap size) [] to ask fits same = asks-hop links request.route 0 _ to ask fits.of_request.hops (λ hop. tt) same
-task-there links (Sends request count gap size) (reply ∷ replies) to ask fits same = cc
-task-there links (Closes request) replies to ask fits same = asks-hop links request.route (length replies) _ to ask fits.hops (λ hop. tt) same
-task-there links (Pours at count gap size) [] to ask fits same =
-    let both = same_Some (at, Pour count gap size) (to, ask) same in
+task-there links (Sends at chan count gap size) replies to ask fits same =
+    let once = once-asked at (packets_ask chan count gap size) replies to ask same in
     record {
-      linked = subst (IsLinkThere links) (ap (λ pair. pair.0) both) (record { link = fits.link; found = fits.linked });
-      next = subst (NamesNext (NextLinked links)) (ap (λ pair. pair.1) both) tt;
+      linked = subst (IsLinkThere links) once.at (record { link = fits.link; found = fits.linked });
+      next = subst (NamesNext (NextLinked links)) once.is (packets-hold (NamesNext (NextLinked links)) chan count gap size (λ own. tt) tt);
     }
-task-there links (Pours at count gap size) (reply ∷ replies) to ask fits same = cc
+task-there links (Closes request) replies to ask fits same = asks-hop links request.route (length replies) _ to ask fits.hops (λ hop. tt) same
 
 tasks-there : (links : List Link) (tasks : List Task) (replies : List Reply) (to : LinkNo) (ask : Ask) → Each (TaskFits links) tasks → first_ask tasks replies ≡ Some (to, ask) → AsksThere links to ask
 tasks-there links [] replies to ask fits same = cc

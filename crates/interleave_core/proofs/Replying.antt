@@ -5,6 +5,7 @@ use Rattle.std.proofs.lemmas.Option.{same_Some}
 use Rattle.std.specs.List.{slice_get}
 use Rattle.std.specs.Prelude.{nat_eq}
 use Rattle.net_units.specs.Numbers.{link_number, actor_number, channel_number}
+use Rattle.net_units.specs.declared.numbers.ChanNo.{ChanNo}
 use Rattle.net_units.specs.declared.numbers.LinkNo.{LinkNo}
 use Rattle.hop_reservation.specs.Offers.{next_levels}
 use Rattle.link_steps.specs.declared.asks.Ask.{Ask}
@@ -22,10 +23,10 @@ use Rattle.setup_protocol.specs.Teardown.{is_closing, next_release}
 use Rattle.setup_protocol.specs.declared.request.Request.{Request}
 use Rattle.call_script.specs.Fits.{NetworkFits}
 use Rattle.call_script.specs.Owners.{TaskOff, SendsOnce, FullScript, IsOwned, IsUnnamed, AllOwned}
-use Rattle.call_script.specs.Scripts.{Standing, submit_next, pour_next, standing, first_ask, ask_at, answers_submit, first_expects}
+use Rattle.call_script.specs.Scripts.{Standing, packets_ask, once_next, standing, first_ask, ask_at, answers_submit, first_expects}
 use Rattle.call_script.specs.Tasks.{Network}
 use Rattle.call_script.specs.declared.tasks.Task.{Task}
-use Rattle.call_script.specs.declared.tasks.Task.TheVariants.{Opens, Sends, Closes, Pours}
+use Rattle.call_script.specs.declared.tasks.Task.TheVariants.{Opens, Sends, Closes}
 use Rattle.channel_laws.specs.Reservations.{IsSendReply, IsReleased, IsArriveReply}
 use Rattle.channel_laws.proofs.ArriveReplies.{arrive-told, of-arrive}
 use Rattle.channel_laws.proofs.SendReplies.{pour-answered, of-released}
@@ -41,6 +42,7 @@ use Rattle.interleave_core.proofs.RunGoes.{off-standing, setup-expected}
 use Rattle.interleave_core.proofs.RunLegal.{AsksOf, plane-next, caller-next}
 use Rattle.setup_protocol.proofs.HopAsks.{of-hop}
 use Rattle.channel_laws.proofs.SentFacts.{tick-answer}
+use Rattle.interleave_core.proofs.OnceFacts.{once-asked, packets-hold}
 
 -- ---- the tests and the facts say the same
 
@@ -79,23 +81,19 @@ record Expected (tasks : List Task) (replies : List Reply) (ask : Ask) (reply : 
 opens-expected : (request : Request) (rest : List Task) (replies : List Reply) (to : LinkNo) (ask : Ask) (reply : Reply) → next_ask request replies ≡ Some (to, ask) → is_expected request (progress_of request replies) reply ≡ true → Expected (Opens request ∷ rest) replies ask reply
 opens-expected request rest replies to ask reply same is = record { is = is; answered = setup-answered request (progress_of request replies) to ask reply same is }
 
-sends-expected : (request : Request) (count gap size : ℕ) (rest : List Task) (replies : List Reply) (to : LinkNo) (ask : Ask) (reply : Reply) → submit_next request count gap size replies ≡ Some (to, ask) → IsSendReply reply → Expected (Sends request count gap size ∷ rest) replies ask reply
-sends-expected request count gap size rest [] to ask reply same is = record { is = send-expected reply is; answered = of-hop (λ a. IsReplyOf a reply) (slice_get request.route 0) _ to ask (λ hop. is) same }
-sends-expected request count gap size rest (first ∷ replies) to ask reply same is = cc
+sends-expected : (link : LinkNo) (chan : Option ChanNo) (count gap size : ℕ) (rest : List Task) (replies : List Reply) (to : LinkNo) (ask : Ask) (reply : Reply) → once_next link (packets_ask chan count gap size) replies ≡ Some (to, ask) → IsSendReply reply
+    → Expected (Sends link chan count gap size ∷ rest) replies ask reply
+sends-expected link chan count gap size rest replies to ask reply same is = record {
+  is = send-expected reply is;
+  answered = subst (λ a. IsReplyOf a reply) (once-asked link (packets_ask chan count gap size) replies to ask same).is (packets-hold (λ a. IsReplyOf a reply) chan count gap size (λ own. is) is);
+}
 
 closes-expected : (request : Request) (rest : List Task) (replies : List Reply) (to : LinkNo) (ask : Ask) (reply : Reply) → next_release request.chan request.route replies ≡ Some (to, ask) → IsReleased reply → Expected (Closes request ∷ rest) replies ask reply
 closes-expected request rest replies to ask reply same is = record { is = of-released (λ r. is_closing r ≡ true) reply (λ count cancelled. refl) is; answered = of-hop (λ a. IsReplyOf a reply) (slice_get request.route (length replies)) _ to ask (λ hop. is) same }
 
-poured : (link : LinkNo) (count gap size : ℕ) (replies : List Reply) (to : LinkNo) (ask : Ask) → pour_next link count gap size replies ≡ Some (to, ask) → ask ≡ Pour count gap size
-poured link count gap size [] to ask same = sym (ap (λ pair. pair.1) (same_Some (link, Pour count gap size) (to, ask) same))
-poured link count gap size (reply ∷ replies) to ask same = cc
-
 pour-reply : (link : Link) (h : List Entry) (ask : Ask) (count gap size : ℕ) → ask ≡ Pour count gap size → IsSendReply (reply_to link h ask)
 unfolding reply_to reply_at
 pour-reply link h ask count gap size same = subst (λ a. IsSendReply (reply_to link h a)) (sym same) (pour-answered (clock_of h) link.shape.cap size _)
-
-pours-expected : (at : LinkNo) (count gap size : ℕ) (rest : List Task) (replies : List Reply) (to : LinkNo) (ask : Ask) (reply : Reply) → pour_next at count gap size replies ≡ Some (to, ask) → IsSendReply reply → Expected (Pours at count gap size ∷ rest) replies ask reply
-pours-expected at count gap size rest replies to ask reply same is = record { is = send-expected reply is; answered = subst (λ a. IsReplyOf a reply) (sym (poured at count gap size replies to ask same)) is }
 
 -- ---- the owner of a channel opens it by its own request
 
@@ -110,7 +108,7 @@ own-open network request own rest run at first same closes = by-state closes whe
 
   by-sends : SendsOnce own (Opens request ∷ rest) → request ≡ own
   by-sends (inl off) = absurd (off.0 same)
-  by-sends (inr (inl send)) = absurd (let clash : Opens request ≡ Sends own send.0.count send.0.gap send.0.size = send.0.is in cc)
+  by-sends (inr (inl send)) = absurd (let clash : Opens request ≡ Sends send.0.hop.link (Some own.chan) send.0.count send.0.gap send.0.size = send.0.is in cc)
   by-sends (inr (inr close)) = absurd (let clash : Opens request ≡ Closes own = close.0 in cc)
 
   by-state : ClosesAt network own run at → request ≡ own
@@ -183,15 +181,16 @@ caller-expected network past done tasks step other = by-tasks (stand past done t
     by-first : (xs : List Task) → (stand past done tasks).tasks ≡ xs → first_ask xs (stand past done tasks).replies ≡ Some (done.link, done.ask) → Expected xs (stand past done tasks).replies done.ask done.reply
     by-first [] is asked = cc
     by-first (Opens request ∷ rest) is asked = opens-expected request rest (stand past done tasks).replies done.link done.ask done.reply asked (open-reply network past done tasks rest request step is)
-    by-first (Sends request count gap size ∷ rest) is asked =
-        (let own = named-own network past done tasks rest (Sends request count gap size) (channel_number request.chan) step is (λ off. off refl) in
-        sends-expected request count gap size rest (stand past done tasks).replies done.link done.ask done.reply asked (usual-reply network past done tasks rest (Sends request count gap size) (channel_number request.chan) step own is (sym own.own.chan)))
+    by-first (Sends link (Some chan) count gap size ∷ rest) is asked =
+        (let own = named-own network past done tasks rest (Sends link (Some chan) count gap size) (channel_number chan) step is (λ off. off refl) in
+        sends-expected link (Some chan) count gap size rest (stand past done tasks).replies done.link done.ask done.reply asked
+        (usual-reply network past done tasks rest (Sends link (Some chan) count gap size) (channel_number chan) step own is (λ off. off (sym own.own.chan))))
+    by-first (Sends link None count gap size ∷ rest) is asked =
+        sends-expected link None count gap size rest (stand past done tasks).replies done.link done.ask done.reply asked
+        (subst IsSendReply (sym step.next.answered) (pour-reply step.next.link (part_of (link_number done.link) past) done.ask count gap size (sym (once-asked link (Pour count gap size) (stand past done tasks).replies done.link done.ask asked).is)))
     by-first (Closes request ∷ rest) is asked =
         (let own = named-own network past done tasks rest (Closes request) (channel_number request.chan) step is (λ off. off refl) in
         closes-expected request rest (stand past done tasks).replies done.link done.ask done.reply asked (usual-reply network past done tasks rest (Closes request) (channel_number request.chan) step own is (sym own.own.chan)))
-    by-first (Pours at count gap size ∷ rest) is asked =
-        pours-expected at count gap size rest (stand past done tasks).replies done.link done.ask done.reply asked
-        (subst IsSendReply (sym step.next.answered) (pour-reply step.next.link (part_of (link_number done.link) past) done.ask count gap size (poured at count gap size (stand past done tasks).replies done.link done.ask asked)))
 
 -- ---- each reply to the plane
 

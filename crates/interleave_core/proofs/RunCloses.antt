@@ -8,6 +8,7 @@ use Rattle.std.specs.Prelude.{nat_eq}
 use Rattle.net_units.specs.Numbers.{link_number, actor_number, channel_number}
 use Rattle.net_units.specs.declared.numbers.LinkNo.{LinkNo}
 use Rattle.hop_reservation.specs.Routes.{link_of}
+use Rattle.hop_reservation.specs.declared.route.Hop.{Hop}
 use Rattle.link_steps.specs.declared.asks.Ask.{Ask}
 use Rattle.link_steps.specs.declared.asks.Ask.TheVariants.{Submit, Release}
 use Rattle.link_steps.specs.declared.replies.Reply.{Reply}
@@ -20,14 +21,14 @@ use Rattle.setup_protocol.specs.Setup.{Outcome, Denies, next_ask, verdict_of}
 use Rattle.setup_protocol.specs.Teardown.{first_count, next_release}
 use Rattle.setup_protocol.specs.declared.request.Request.{Request}
 use Rattle.run_record.specs.declared.done.Done.{Done}
-use Rattle.call_script.specs.Owners.{TaskOff, SendsOnce, FullScript, OwnedFully}
+use Rattle.call_script.specs.Owners.{PacketsOff, TaskOff, SendsOnce, FullScript, OwnedFully}
 use Rattle.call_script.specs.Fits.{NetworkFits}
 use Rattle.call_script.specs.declared.tasks.Task.{Task}
-use Rattle.call_script.specs.declared.tasks.Task.TheVariants.{Opens, Sends, Closes, Pours}
+use Rattle.call_script.specs.declared.tasks.Task.TheVariants.{Opens, Sends, Closes}
 use Rattle.call_script.specs.Tasks.{Network}
 use Rattle.run_record.specs.Runs.{part_of, replies_to}
 use Rattle.interleave_core.specs.Runs.{plane_no, plane_at, IsNext, IsRun}
-use Rattle.call_script.specs.Scripts.{Opened, Standing, submit_next, task_ask, is_established, takes_step, from_step, begun, settled_as, outcome_by, continued, resumed, standing, first_ask, ask_at}
+use Rattle.call_script.specs.Scripts.{Opened, Standing, once_next, task_ask, is_established, takes_step, from_step, begun, settled_as, outcome_by, continued, resumed, standing, first_ask, ask_at}
 use Rattle.tick_plane.specs.Planes.{next_due}
 use Rattle.interleave_core.proofs.CallerFacts.{StandingFits}
 use Rattle.interleave_core.proofs.HopsAt.{hop-at}
@@ -43,6 +44,7 @@ use Rattle.channel_laws.specs.Reservations.{held_by}
 use Rattle.channel_laws.proofs.TermsAfter.{held-submitted}
 use Rattle.interleave_core.specs.Paths.{HopAt}
 use Rattle.setup_protocol.proofs.HopAsks.{asked-at, first-named}
+use Rattle.interleave_core.proofs.OnceFacts.{once-asked}
 
 -- ---- scripts
 
@@ -95,9 +97,8 @@ off-established request (Opens r) replies outcomes off = by-verdict (verdict_of 
   by-verdict : (verdict : Option Outcome) → is_established request.chan (settled_as r verdict ++ outcomes) ≡ is_established request.chan outcomes
   by-verdict None = refl
   by-verdict (Some outcome) = established-skip request r outcome outcomes off
-off-established request (Sends r count gap size) replies outcomes off = refl
+off-established request (Sends link chan count gap size) replies outcomes off = refl
 off-established request (Closes r) replies outcomes off = refl
-off-established request (Pours link count gap size) replies outcomes off = refl
 
 -- ---- the next task that takes a step
 
@@ -141,9 +142,8 @@ open-from request outcomes (task ∷ tasks) sends =
 -- the replies of sends and closes are theirs
 abbrev pub IsUsualReply : Request → Task → Reply → Type 0
 IsUsualReply request (Opens r) reply = Unit {0}
-IsUsualReply request (Sends r count gap size) reply = channel_number r.chan ≡ channel_number request.chan → IsSendReply reply
+IsUsualReply request (Sends link chan count gap size) reply = (PacketsOff (channel_number request.chan) chan → ⊥) → IsSendReply reply
 IsUsualReply request (Closes r) reply = channel_number r.chan ≡ channel_number request.chan → IsReleased reply
-IsUsualReply request (Pours link count gap size) reply = Unit {0}
 
 abbrev pub FirstUsual : Request → List Task → Reply → Type 0
 FirstUsual request [] reply = Unit {0}
@@ -151,9 +151,8 @@ FirstUsual request (task ∷ tasks) reply = IsUsualReply request task reply
 
 off-usual : (request : Request) (task : Task) (reply : Reply) → TaskOff (channel_number request.chan) task → IsUsualReply request task reply
 off-usual request (Opens r) reply off = tt
-off-usual request (Sends r count gap size) reply off = λ same. absurd (off same)
+off-usual request (Sends link chan count gap size) reply off = λ named. absurd (named off)
 off-usual request (Closes r) reply off = λ same. absurd (off same)
-off-usual request (Pours link count gap size) reply off = tt
 
 pub record ClosesNext (network : Network) (request : Request) (run : List Done) (tasks : List Task) (reply : Reply) (at : Standing) : Type 0 where
   pub usual : FirstUsual request tasks reply
@@ -186,25 +185,26 @@ off-step network request done past outcomes task tasks replies fits run asks oth
 -- ---- the request's own tasks
 
 -- a submit
-send-step : (network : Network) (request : Request) (done : Done) (past : List Done) (outcomes : List Opened) (tasks : List Task) (replies : List Reply) (levels : List ℕ) (count gap size : ℕ) → NetworkFits network → RequestFits network.links request → IsRun network past → (next : IsNext network past done) → SendsOnce request tasks → AllComm network request levels 0 past → submit_next request count gap size replies ≡ Some (done.link, done.ask)
-    → ClosesNext network request (done ∷ past) (Sends request count gap size ∷ tasks) done.reply (resumed outcomes (Sends request count gap size ∷ tasks) (replies ++ done.reply ∷ []))
+send-step : (network : Network) (request : Request) (done : Done) (past : List Done) (outcomes : List Opened) (tasks : List Task) (replies : List Reply) (levels : List ℕ) (hop : Hop) (count gap size : ℕ) → NetworkFits network → RequestFits network.links request → IsRun network past → (next : IsNext network past done) → SendsOnce request tasks → AllComm network request levels 0 past → slice_get request.route 0 ≡ Some hop → once_next hop.link (Submit request.chan count gap size) replies ≡ Some (done.link, done.ask)
+    → ClosesNext network request (done ∷ past) (Sends hop.link (Some request.chan) count gap size ∷ tasks) done.reply (resumed outcomes (Sends hop.link (Some request.chan) count gap size ∷ tasks) (replies ++ done.reply ∷ []))
 unfolding resumed reply_at
-send-step network request done past outcomes tasks (reply ∷ replies) levels count gap size fits sound run next sends comm asks = cc
-send-step network request done past outcomes tasks [] levels count gap size fits sound run next sends comm asks =
-    let own = asked-at request.route 0 (λ hop. Submit request.chan count gap size) done.link done.ask asks in
-    let here = hop-at network request 0 sound (slice_get_within request.route 0 own.hop own.stands) in
-    let on : link_number done.link ≡ link_number here.hop.link = ap link_number own.at ∙ ap link_of (same_Some own.hop here.hop (sym own.stands ∙ here.stands)) in
+send-step network request done past outcomes tasks (reply ∷ replies) levels hop count gap size fits sound run next sends comm stands asks = cc
+send-step network request done past outcomes tasks [] levels hop count gap size fits sound run next sends comm stands asks =
+    let once = once-asked hop.link (Submit request.chan count gap size) [] done.link done.ask asks in
+    let asked : done.ask ≡ Submit request.chan count gap size = sym once.is in
+    let here = hop-at network request 0 sound (slice_get_within request.route 0 hop stands) in
+    let on : link_number done.link ≡ link_number here.hop.link = ap link_number (sym once.at) ∙ ap link_of (same_Some hop here.hop (sym stands ∙ here.stands)) in
     let held = comm 0 here (omega arith) in
-    let reply = hop-reply network request 0 here done past next on ∙ ap (reply_at here.link (clock_of (part_of (link_number here.hop.link) past)) (scan_of here.link.shape (part_of (link_number here.hop.link) past))) own.is in
+    let reply = hop-reply network request 0 here done past next on ∙ ap (reply_at here.link (clock_of (part_of (link_number here.hop.link) past)) (scan_of here.link.shape (part_of (link_number here.hop.link) past))) asked in
     let later : AllComm network request levels 0 (done ∷ past) = λ i at from. elim (cases_Bool (nat_eq i 0)) [
       | inl hit ↦ (let e = eqb-true i 0 hit in
-          let hop : link_number at.hop.link ≡ link_number here.hop.link = ap link_of (same_Some at.hop here.hop (sym at.stands ∙ ap (slice_get request.route) e ∙ here.stands)) in
-          subst (IsComm Some request levels i) (sym (held-here network request i at done past (on ∙ sym hop) ∙ ap (λ a. held_by request.chan (after at.link.shape (clock_of (part_of (link_number at.hop.link) past)) (scan_of at.link.shape (part_of (link_number at.hop.link) past)) a done.reply).rows) own.is ∙ held-submitted at.link.shape request.chan request.chan (clock_of (part_of (link_number at.hop.link) past)) (scan_of at.link.shape (part_of (link_number at.hop.link) past)) count gap size done.reply)) (comm i at from))
+          let same : link_number at.hop.link ≡ link_number here.hop.link = ap link_of (same_Some at.hop here.hop (sym at.stands ∙ ap (slice_get request.route) e ∙ here.stands)) in
+          subst (IsComm Some request levels i) (sym (held-here network request i at done past (on ∙ sym same) ∙ ap (λ a. held_by request.chan (after at.link.shape (clock_of (part_of (link_number at.hop.link) past)) (scan_of at.link.shape (part_of (link_number at.hop.link) past)) a done.reply).rows) asked ∙ held-submitted at.link.shape request.chan request.chan (clock_of (part_of (link_number at.hop.link) past)) (scan_of at.link.shape (part_of (link_number at.hop.link) past)) count gap size done.reply)) (comm i at from))
       | inr miss ↦ subst (IsComm Some request levels i) (sym (held-elsewhere network request i at done past (other-hop network request i 0 at here done sound.route on (eqb-false i 0 miss)))) (comm i at from)
     ] in
     let more = open-from request outcomes tasks sends in
     record {
-      usual = λ same. subst IsSendReply (sym reply) (submit-committed (clock_of (part_of (link_number here.hop.link) past)) size request.chan _ held.terms held.is held.first held.phase);
+      usual = λ named. subst IsSendReply (sym reply) (submit-committed (clock_of (part_of (link_number here.hop.link) past)) size request.chan _ held.terms held.is held.first held.phase);
       closes = Open levels more.0 more.1 later;
     }
 
@@ -292,7 +292,7 @@ closes-step network request done past outcomes (task ∷ tasks) replies fits sou
     (λ more same. (let from = open-from request (more ++ outcomes) tasks off.1 in Open levels from.0 from.1 later))
 closes-step network request done past outcomes (task ∷ tasks) replies fits sound run next stands goes asks (Open levels (inr (inl own)) fresh comm) =
     subst (λ t. ClosesNext network request (done ∷ past) (t ∷ tasks) done.reply (resumed outcomes (t ∷ tasks) (replies ++ done.reply ∷ []))) (sym own.0.is)
-    (send-step network request done past outcomes tasks replies levels own.0.count own.0.gap own.0.size fits sound run next own.1 comm (subst (λ t. first_ask (t ∷ tasks) replies ≡ Some (done.link, done.ask)) own.0.is asks))
+    (send-step network request done past outcomes tasks replies levels own.0.hop own.0.count own.0.gap own.0.size fits sound run next own.1 comm own.0.stands (subst (λ t. first_ask (t ∷ tasks) replies ≡ Some (done.link, done.ask)) own.0.is asks))
 closes-step network request done past outcomes (task ∷ tasks) replies fits sound run next stands goes asks (Open levels (inr (inr own)) fresh comm) =
     let empty : replies ≡ [] = fresh own.0 in
     let none : length replies ≡ 0 = ap length empty in
@@ -319,9 +319,8 @@ sends-other request [] sends = tt
 sends-other request (task ∷ tasks) (inl off) = (one task off.0, sends-other request tasks off.1) where
   one : (t : Task) → TaskOff (channel_number request.chan) t → IsOther (channel_number request.chan) t
   one (Opens r) off = off
-  one (Sends r count gap size) off = tt
+  one (Sends link chan count gap size) off = tt
   one (Closes r) off = tt
-  one (Pours link count gap size) off = tt
 sends-other request (task ∷ tasks) (inr (inl own)) = (subst (IsOther (channel_number request.chan)) (sym own.0.is) tt, sends-other request tasks own.1)
 sends-other request (task ∷ tasks) (inr (inr own)) = (subst (IsOther (channel_number request.chan)) (sym own.0) tt, sends-other request tasks (each-sends request tasks own.1))
 

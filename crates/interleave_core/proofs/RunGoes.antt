@@ -26,13 +26,13 @@ use Rattle.call_script.specs.Owners.{TaskOff}
 use Rattle.call_script.specs.Fits.{NetworkFits}
 use Rattle.interleave_core.specs.Hops.{ChannelAsked}
 use Rattle.call_script.specs.declared.tasks.Task.{Task}
-use Rattle.call_script.specs.declared.tasks.Task.TheVariants.{Opens, Sends, Closes, Pours}
+use Rattle.call_script.specs.declared.tasks.Task.TheVariants.{Opens, Sends, Closes}
 use Rattle.call_script.specs.Tasks.{Network}
 use Rattle.tick_plane.specs.declared.flight.Flight.{Flight}
 use Rattle.tick_plane.specs.Planes.{next_due, ask_due}
 use Rattle.run_record.specs.Runs.{part_of, replies_to}
 use Rattle.interleave_core.specs.Runs.{plane_no, plane_at, IsNext, IsRun}
-use Rattle.call_script.specs.Scripts.{Opened, Standing, task_ask, takes_step, from_step, settled_as, outcome_by, outcome_in, continued, resumed, standing, first_ask, ask_at}
+use Rattle.call_script.specs.Scripts.{Opened, Standing, packets_ask, task_ask, takes_step, from_step, settled_as, outcome_by, outcome_in, continued, resumed, standing, first_ask, ask_at}
 use Rattle.interleave_core.proofs.CallerFacts.{OffersFit, StandingFits}
 use Rattle.hop_reservation.specs.Offers.{AreLevels}
 use Rattle.interleave_core.proofs.HopsAt.{HaveLevelsAt}
@@ -46,6 +46,7 @@ use Rattle.channel_laws.specs.Reservations.{held_by, IsOpen, ComesOf, Stays, Clo
 use Rattle.channel_laws.proofs.TermsAfter.{held-off, comes-mild}
 use Rattle.interleave_core.specs.Paths.{HopAt, packets_at}
 use Rattle.setup_protocol.proofs.HopAsks.{of-hop, of-setup}
+use Rattle.interleave_core.proofs.OnceFacts.{once-asked, packets-hold, packets-off}
 
 -- ---- scripts
 
@@ -66,10 +67,7 @@ off-asked c request p to ask other same = of-setup (IsOff c) request p to ask (�
 
 pub task-off : (c : ℕ) (task : Task) (replies : List Reply) (to : LinkNo) (ask : Ask) → TaskOff c task → task_ask task replies ≡ Some (to, ask) → IsOff c ask
 task-off c (Opens request) replies to ask off same = off-asked c request (progress_of request replies) to ask off same
-task-off c (Sends request count gap size) [] to ask off same = of-hop (IsOff c) (slice_get request.route 0) (λ hop. Submit request.chan count gap size) to ask (λ hop. off) same
-task-off c (Sends request count gap size) (reply ∷ replies) to ask off same = cc
-task-off c (Pours link count gap size) [] to ask off same = subst (IsOff c) (ap (λ pair. pair.1) (same_Some (link, Pour count gap size) (to, ask) same)) tt
-task-off c (Pours link count gap size) (reply ∷ replies) to ask off same = cc
+task-off c (Sends link chan count gap size) replies to ask off same = subst (IsOff c) (once-asked link (packets_ask chan count gap size) replies to ask same).is (packets-off c chan count gap size off)
 task-off c (Closes request) replies to ask off same = of-hop (IsOff c) (slice_get request.route (length replies)) (λ hop. Release request.chan _) to ask (λ hop. off) same
 
 pub tasks-off : (c : ℕ) (tasks : List Task) (replies : List Reply) (to : LinkNo) (ask : Ask) → Each (TaskOff c) tasks → first_ask tasks replies ≡ Some (to, ask) → IsOff c ask
@@ -152,10 +150,8 @@ mild-hop c (Some hop) to ask own mild same = subst (IsMild c) (ap (λ pair. pair
 pub mild-tasks : (c : ℕ) (tasks : List Task) (replies : List Reply) (to : LinkNo) (ask : Ask) → Each (IsOther c) tasks → first_ask tasks replies ≡ Some (to, ask) → IsMild c ask
 mild-tasks c [] replies to ask others same = cc
 mild-tasks c (Opens request ∷ tasks) replies to ask others same = off-mild c ask (off-asked c request (progress_of request replies) to ask others.0 same)
-mild-tasks c (Sends request count gap size ∷ tasks) [] to ask others same = mild-hop c (slice_get request.route 0) to ask (Submit request.chan count gap size) tt same
-mild-tasks c (Sends request count gap size ∷ tasks) (reply ∷ replies) to ask others same = cc
-mild-tasks c (Pours link count gap size ∷ tasks) [] to ask others same = subst (IsMild c) (ap (λ pair. pair.1) (same_Some (link, Pour count gap size) (to, ask) same)) tt
-mild-tasks c (Pours link count gap size ∷ tasks) (reply ∷ replies) to ask others same = cc
+mild-tasks c (Sends link chan count gap size ∷ tasks) replies to ask others same =
+    subst (IsMild c) (once-asked link (packets_ask chan count gap size) replies to ask same).is (packets-hold (IsMild c) chan count gap size (λ own. tt) tt)
 mild-tasks c (Closes request ∷ tasks) replies to ask others same = mild-hop c (slice_get request.route (length replies)) to ask (Release request.chan _) tt same
 
 kept-comes : (request : Request) (levels : List ℕ) (i : ℕ) (terms : Reservation) (before : Option Reservation) → ComesOf terms before → ((old : Reservation) → before ≡ Some old → KeptTerms request levels i old) → KeptTerms request levels i terms
@@ -201,9 +197,8 @@ is-run network past done run next = (run, next)
 -- a task that names another channel opens another one
 pub off-other : (c : ℕ) (task : Task) → TaskOff c task → IsOther c task
 off-other c (Opens request) off = off
-off-other c (Sends request count gap size) off = tt
+off-other c (Sends link chan count gap size) off = tt
 off-other c (Closes request) off = tt
-off-other c (Pours link count gap size) off = tt
 
 script-opened : (request : Request) (tasks : List Task) → ScriptOnce request tasks → OpenedOnce request tasks
 script-opened request [] once = tt
@@ -263,9 +258,8 @@ other-outcome request (Opens r) replies outcomes other = by-verdict (verdict_of 
   by-verdict : (verdict : Option Outcome) → outcome_in request.chan (settled_as r verdict ++ outcomes) ≡ outcome_in request.chan outcomes
   by-verdict None = refl
   by-verdict (Some outcome) = outcome-skip request r outcome outcomes other
-other-outcome request (Sends r count gap size) replies outcomes other = refl
+other-outcome request (Sends link chan count gap size) replies outcomes other = refl
 other-outcome request (Closes r) replies outcomes other = refl
-other-outcome request (Pours link count gap size) replies outcomes other = refl
 
 recorded-same : (request : Request) (levels : List ℕ) (accepted : Bool) (outcomes later : List Opened) → outcome_in request.chan later ≡ outcome_in request.chan outcomes → Recorded request levels accepted outcomes → Recorded request levels accepted later
 recorded-same request levels accepted outcomes later same recorded = record {

@@ -10,7 +10,7 @@ use Rattle.net_units.specs.declared.numbers.LinkNo.{LinkNo}
 use Rattle.hop_reservation.specs.Routes.{IsRoute}
 use Rattle.hop_reservation.specs.declared.route.Hop.{Hop}
 use Rattle.link_steps.specs.declared.asks.Ask.{Ask}
-use Rattle.link_steps.specs.declared.asks.Ask.TheVariants.{Reserve, Submit, Release, Pour}
+use Rattle.link_steps.specs.declared.asks.Ask.TheVariants.{Reserve, Release}
 use Rattle.link_steps.specs.declared.replies.Entry.{Entry}
 use Rattle.link_steps.specs.declared.replies.Reply.{Reply}
 use Rattle.link_steps.specs.declared.replies.Reply.TheVariants as Is
@@ -25,27 +25,27 @@ use Rattle.channel_laws.specs.Channels.{HopTerms, offers_with, offers_to, Offers
 use Rattle.call_script.specs.Fits.{NetworkFits}
 use Rattle.interleave_core.specs.Hops.{terms_at, ChannelAsked}
 use Rattle.call_script.specs.declared.tasks.Task.{Task}
-use Rattle.call_script.specs.declared.tasks.Task.TheVariants.{Opens, Sends, Closes, Pours}
+use Rattle.call_script.specs.declared.tasks.Task.TheVariants.{Opens, Sends, Closes}
 use Rattle.call_script.specs.Tasks.{Network}
 use Rattle.tick_plane.specs.declared.flight.Flight.{Flight}
 use Rattle.tick_plane.specs.Planes.{next_due, ask_due}
 use Rattle.run_record.specs.Runs.{part_of, replies_to}
 use Rattle.interleave_core.specs.Runs.{plane_no, plane_at, IsNext, IsRun}
-use Rattle.call_script.specs.Scripts.{Opened, Standing, task_ask, takes_step, from_step, begun, outcome_by, continued, resumed, standing, first_ask, ask_at}
+use Rattle.call_script.specs.Scripts.{Opened, Standing, packets_ask, task_ask, takes_step, from_step, begun, outcome_by, continued, resumed, standing, first_ask, ask_at}
 use Rattle.channel_laws.specs.Asks.{IsReserve}
 use Rattle.channel_laws.proofs.OfferAnswers.{offer-answers}
 use Rattle.interleave_core.proofs.CallerFacts.{undone-asks, tested-asks}
 use Rattle.hop_reservation.proofs.RouteFacts.{index-apart}
 use Rattle.interleave_core.proofs.RunLegal.{answered-may, plane-next, caller-next, part-on, part-off, replies-by, replies-off}
 use Rattle.setup_protocol.proofs.HopAsks.{asked-at}
+use Rattle.interleave_core.proofs.OnceFacts.{once-asked, packets-hold}
 
 -- ---- scripts
 
 abbrev pub IsOther : ℕ → Task → Type 0
 IsOther c (Opens request) = channel_number request.chan ≢ c
-IsOther c (Sends request count gap size) = Unit {0}
+IsOther c (Sends link chan count gap size) = Unit {0}
 IsOther c (Closes request) = Unit {0}
-IsOther c (Pours link count gap size) = Unit {0}
 
 -- no task opens the channel, or one does, by this request
 abbrev pub OpenedOnce : Request → List Task → Type 0
@@ -109,10 +109,8 @@ offer-reserves shape h ask (Is.Refused refusal) same offer = cc
 -- a task of another channel
 task-other : (c : ℕ) (task : Task) (replies : List Reply) (to : LinkNo) (ask : Ask) → IsOther c task → task_ask task replies ≡ Some (to, ask) → IsReserve ask → reserve_chan ask ≢ c
 task-other c (Opens request) replies to ask other same is = (let own = reserves request replies to ask same is in λ e. other (ap reserve_chan (sym own.is) ∙ e))
-task-other c (Sends request count gap size) [] to ask other same is = absurd (subst IsReserve (asked-at request.route 0 (λ hop. Submit request.chan count gap size) to ask same).is is)
-task-other c (Sends request count gap size) (reply ∷ replies) to ask other same is = cc
-task-other c (Pours link count gap size) [] to ask other same is = absurd (subst IsReserve (sym (ap (λ pair. pair.1) (same_Some (link, Pour count gap size) (to, ask) same))) is)
-task-other c (Pours link count gap size) (reply ∷ replies) to ask other same is = cc
+task-other c (Sends link chan count gap size) replies to ask other same is =
+    absurd (packets-hold (λ own. IsReserve own → ⊥) chan count gap size (λ own none. none) (λ none. none) (subst IsReserve (sym (once-asked link (packets_ask chan count gap size) replies to ask same).is) is))
 task-other c (Closes request) replies to ask other same is = absurd (subst IsReserve (asked-at request.route (length replies) (λ hop. Release request.chan _) to ask same).is is)
 
 tasks-other : (c : ℕ) (tasks : List Task) (replies : List Reply) (to : LinkNo) (ask : Ask) → Each (IsOther c) tasks → first_ask tasks replies ≡ Some (to, ask) → IsReserve ask → reserve_chan ask ≢ c
@@ -154,9 +152,8 @@ pub record IsUpTo (request : Request) (replies : List Reply) (run : List Done) :
 abbrev pub IsFresh : Request → List Done → List Task → List Reply → Type 0
 IsFresh request run [] replies = Unit {0}
 IsFresh request run (Opens r ∷ tasks) replies = (channel_number r.chan ≡ channel_number request.chan → IsUpTo request replies run) × (channel_number r.chan ≢ channel_number request.chan → NoneYet (channel_number request.chan) tasks run)
-IsFresh request run (Sends r count gap size ∷ tasks) replies = NoneYet (channel_number request.chan) tasks run
+IsFresh request run (Sends link chan count gap size ∷ tasks) replies = NoneYet (channel_number request.chan) tasks run
 IsFresh request run (Closes r ∷ tasks) replies = NoneYet (channel_number request.chan) tasks run
-IsFresh request run (Pours link count gap size ∷ tasks) replies = NoneYet (channel_number request.chan) tasks run
 
 pub record IsAhead (request : Request) (run : List Done) (at : Standing) : Type 0 where
   pub opened : OpenedOnce request at.tasks
@@ -181,9 +178,8 @@ first-fresh request run (Opens r) tasks none = (
   λ same. record { none = λ alone i hop stands upto. none (λ others. others.0 same) (link_number hop.link) },
   λ other some. none (λ others. some others.1),
 )
-first-fresh request run (Sends r count gap size) tasks none = λ some. none (λ others. some others.1)
+first-fresh request run (Sends link chan count gap size) tasks none = λ some. none (λ others. some others.1)
 first-fresh request run (Closes r) tasks none = λ some. none (λ others. some others.1)
-first-fresh request run (Pours link count gap size) tasks none = λ some. none (λ others. some others.1)
 
 fresh-from : (request : Request) (run : List Done) (outcomes : List Opened) (tasks : List Task) → NoneYet (channel_number request.chan) tasks run → IsFresh request run (from_step outcomes tasks) []
 unfolding from_step
@@ -203,15 +199,13 @@ none-kept c tasks done past un none some n = part-untouched c n done past un ∙
 
 rest-fresh : (request : Request) (run : List Done) (task : Task) (tasks : List Task) (replies : List Reply) → IsOther (channel_number request.chan) task → IsFresh request run (task ∷ tasks) replies → NoneYet (channel_number request.chan) tasks run
 rest-fresh request run (Opens r) tasks replies other fresh = fresh.1 other
-rest-fresh request run (Sends r count gap size) tasks replies other fresh = fresh
+rest-fresh request run (Sends link chan count gap size) tasks replies other fresh = fresh
 rest-fresh request run (Closes r) tasks replies other fresh = fresh
-rest-fresh request run (Pours link count gap size) tasks replies other fresh = fresh
 
 other-fresh : (request : Request) (run : List Done) (task : Task) (tasks : List Task) (replies : List Reply) → IsOther (channel_number request.chan) task → NoneYet (channel_number request.chan) tasks run → IsFresh request run (task ∷ tasks) replies
 other-fresh request run (Opens r) tasks replies other none = (λ same. absurd (other same), λ _. none)
-other-fresh request run (Sends r count gap size) tasks replies other none = none
+other-fresh request run (Sends link chan count gap size) tasks replies other none = none
 other-fresh request run (Closes r) tasks replies other none = none
-other-fresh request run (Pours link count gap size) tasks replies other none = none
 
 -- an offer to the owner's own setup
 record IsOffered (request : Request) (replies : List Reply) (done : Done) (past : List Done) : Type 0 where
@@ -348,9 +342,8 @@ fresh-later request done past (Opens r ∷ tasks) replies un fresh = (
   λ same. record { none = λ alone i hop stands from. part-untouched (channel_number request.chan) (link_number hop.link) done past un ∙ (fresh.0 same).none alone i hop stands from },
   λ other. none-kept (channel_number request.chan) tasks done past un (fresh.1 other),
 )
-fresh-later request done past (Sends r count gap size ∷ tasks) replies un fresh = none-kept (channel_number request.chan) tasks done past un fresh
+fresh-later request done past (Sends link chan count gap size ∷ tasks) replies un fresh = none-kept (channel_number request.chan) tasks done past un fresh
 fresh-later request done past (Closes r ∷ tasks) replies un fresh = none-kept (channel_number request.chan) tasks done past un fresh
-fresh-later request done past (Pours link count gap size ∷ tasks) replies un fresh = none-kept (channel_number request.chan) tasks done past un fresh
 
 away : (network : Network) (request : Request) (owner : ℕ) (done : Done) (past : List Done) → actor_number done.actor ≢ owner → IsUntouched (channel_number request.chan) done.ask done.reply → SetupStands network request owner past → SetupStands network request owner (done ∷ past)
 away network request owner done past other un was = record {

@@ -28,7 +28,7 @@ use Rattle.call_script.specs.Fits.{NetworkFits}
 use Rattle.call_script.specs.Scripts.{Opened, standing, standing_of, resumed, continued, from_step, takes_step, outcome_by, task_ask, first_ask, ask_at}
 use Rattle.call_script.specs.Tasks.{Network}
 use Rattle.call_script.specs.declared.tasks.Task.{Task}
-use Rattle.call_script.specs.declared.tasks.Task.TheVariants.{Opens, Sends, Closes, Pours}
+use Rattle.call_script.specs.declared.tasks.Task.TheVariants.{Opens, Sends, Closes}
 use Rattle.interleave_core.specs.Runs.{plane_no, plane_at, next_for, IsNext, IsRun, done_at, stepped, step}
 use Rattle.interleave_core.specs.Turns.{most_steps, most_over, caller_most, plane_most, most_left, MakesOne, StepsComeToAnEnd}
 use Rattle.interleave_core.proofs.CallerFacts.{OffersFit, first-fits, StandingFits}
@@ -84,11 +84,9 @@ hop-within hops i (Some hop) to ask own is same = slice_get_within hops i hop is
 
 task-few : (task : Task) (replies : List Reply) (to : LinkNo) (ask : Ask) → OffersFit (task ∷ []) replies → task_ask task replies ≡ Some (to, ask) → length replies < most_steps task
 task-few (Opens request) replies to ask are same = setup-few request replies to ask are same
-task-few (Sends request count gap size) [] to ask are same = omega arith
-task-few (Sends request count gap size) (reply ∷ replies) to ask are same = cc
+task-few (Sends link chan count gap size) [] to ask are same = omega arith
+task-few (Sends link chan count gap size) (reply ∷ replies) to ask are same = cc
 task-few (Closes request) replies to ask are same = hop-within request.route (length replies) (slice_get request.route (length replies)) to ask _ refl same
-task-few (Pours link count gap size) [] to ask are same = omega arith
-task-few (Pours link count gap size) (reply ∷ replies) to ask are same = cc
 
 from-step-most : (outcomes : List Opened) (tasks : List Task) → most_over (from_step outcomes tasks) ≤ most_over tasks
 unfolding from_step most_over

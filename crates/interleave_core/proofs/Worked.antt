@@ -201,7 +201,7 @@ abbrev short_way : Request
 short_way = request_over chan1 (wide_link 1 ∷ []) 22
 
 abbrev chain : ℕ → Network
-chain rounds = network_of (wide_link 0 ∷ wide_link 1 ∷ []) ((Opens long_way ∷ Sends long_way 1 10 2 ∷ []) ∷ (Opens short_way ∷ []) ∷ []) rounds
+chain rounds = network_of (wide_link 0 ∷ wide_link 1 ∷ []) ((Opens long_way ∷ Sends (link_at 0) (Some chan0) 1 10 2 ∷ []) ∷ (Opens short_way ∷ []) ∷ []) rounds
 
 unfoldable times : ℕ → ActorNo → List ActorNo
 times zero actor = []

@@ -18,7 +18,7 @@ pub mod stepping;
 pub use callers::{Callers, replay};
 pub use engine::Engine;
 pub use links::new_link;
-pub use playing::{PlayFault, play};
+pub use playing::{PlayFault, play, play_out};
 pub use refusal::CoreRefusal;
 pub use stepping::Core;
 

@@ -97,8 +97,9 @@ fn play_all(core: &mut Core, plan: &Plan) -> Result<(), PlayFault>
     Ok(())
 }
 
-// Lets the actor make its steps until it has none left.
-fn play_out(core: &mut Core, plan: &Plan, actor: ActorNo) -> Result<(), PlayFault>
+/// Lets the actor make its steps until it has none left. The plan is the one that the core was made for. An `Err` comes only for
+/// want of memory.
+pub fn play_out(core: &mut Core, plan: &Plan, actor: ActorNo) -> Result<(), PlayFault>
     requires stands { CoreStands plan.now core.old }
     requires actor { actor_number actor ≤ length plan.now.callers }
     ensures stands { CoreStands plan.now core.new }

@@ -1,7 +1,7 @@
 //! Worked reserves on a link that is split between two groups.
 //!
-//! A link keeps many facts true, and each step puts them all among what is known. So one loop holds the link, and the test
-//! holds a table of what it is asked and what it has to reply.
+//! A link keeps many facts true, and each step puts them all among what is known. So the loop over the table of asks and replies is
+//! generic: of the link it knows what each link owes, and no more.
 ghost use Rattle.std.specs.Prelude.{◌≡◌, ◌<◌, ◌≤◌, IsTrue};
 ghost use Rattle.net_units.specs.Limits.{most_channels};
 ghost use Rattle.link_steps.specs.Legal.{AskFits};
@@ -47,9 +47,9 @@ fn split_link(alloc: Global) -> Result<AnyLink, Fail> {
     Ok(AnyLink::Quota(link))
 }
 
-// The first reply of the link that isn't the worked one, with its place in the table, from 0.
-fn first_other(alloc: Global, turns: &[Turn]) -> Result<Option<(usize, Reply)>, Fail> {
-    let mut link = split_link(alloc)?;
+// The first reply of a link that isn't the worked one, with its place in the table, from 0.
+fn first_other<L: LinkStep>(link: L, turns: &[Turn]) -> Result<Option<(usize, Reply)>, Fail> {
+    let mut link = link;
     for (place, turn) in turns.iter().enumerate() {
         let reply = step(&mut link, &turn.ask)?;
         if reply != turn.reply {
@@ -60,7 +60,7 @@ fn first_other(alloc: Global, turns: &[Turn]) -> Result<Option<(usize, Reply)>, 
 }
 
 // One step. A test fails where a number of an ask is out of its limits, or the clock past the range of a step.
-fn step(link: &mut AnyLink, ask: &Ask) -> Result<Reply, Fail> {
+fn step<L: LinkStep>(link: &mut L, ask: &Ask) -> Result<Reply, Fail> {
     if link.clock() >= 1 << 61 {
         return Err(Fail::from("the clock is too late for a step"));
     }
@@ -234,6 +234,6 @@ fn each_group_goes_by_its_own_quota(rt: HostRuntime) -> Result<(), Fail> {
         ticked(),
         offered(3, &voice, 100, 1, 3),
     ];
-    assert_eq!(rt; first_other(rt.alloc(), &turns)?, None);
+    assert_eq!(rt; first_other(split_link(rt.alloc())?, &turns)?, None);
     Ok(())
 }

@@ -23,7 +23,7 @@ use Rattle.channel_laws.specs.Channels.{is_of_channel}
 use Rattle.call_script.specs.Owners.{OwnedFully, TaskOff, IsUnnamed}
 use Rattle.call_script.specs.Parts.{PlanParts}
 use Rattle.call_script.specs.Plans.{IsPlan}
-use Rattle.call_script.specs.Tasks.{Network, request_of, task_of, with_task, tasks_of, script_of, network_of}
+use Rattle.call_script.specs.Tasks.{Network, request_of, send_on, task_for, task_of, with_task, tasks_of, script_of, network_of}
 use Rattle.call_script.specs.declared.entries.RequestEntry.{RequestEntry}
 use Rattle.call_script.specs.declared.operations.Op.{Op}
 use Rattle.call_script.specs.declared.operations.Op.TheVariants.{Open, Send, Close, Pour}
@@ -67,9 +67,13 @@ ops-off-none c requests planned none (op ∷ ops) = by-op op (ops-off-none c req
   opens None n is rest = rest
   opens (Some request) n is rest = (off n request is, rest)
 
-  sends : (found : Option Request) (n count gap size : ℕ) → slice_get (map request_of requests) n ≡ found → Each (TaskOff c) (tasks_of (map request_of requests) ops) → Each (TaskOff c) (with_task (option_map (λ request. Sends request count gap size) found) (tasks_of (map request_of requests) ops))
+  sends-at : (found : Option Hop) (request : Request) (count gap size : ℕ) → channel_number request.chan ≢ c → Each (TaskOff c) (tasks_of (map request_of requests) ops) → Each (TaskOff c) (with_task (option_map (λ (hop : Hop). Sends hop.link (Some request.chan) count gap size) found) (tasks_of (map request_of requests) ops))
+  sends-at None request count gap size other rest = rest
+  sends-at (Some hop) request count gap size other rest = (other, rest)
+
+  sends : (found : Option Request) (n count gap size : ℕ) → slice_get (map request_of requests) n ≡ found → Each (TaskOff c) (tasks_of (map request_of requests) ops) → Each (TaskOff c) (with_task (task_for (send_on count gap size) found) (tasks_of (map request_of requests) ops))
   sends None n count gap size is rest = rest
-  sends (Some request) n count gap size is rest = (off n request is, rest)
+  sends (Some request) n count gap size is rest = sends-at (slice_get request.route 0) request count gap size (off n request is) rest
 
   closes : (found : Option Request) (n : ℕ) → slice_get (map request_of requests) n ≡ found → Each (TaskOff c) (tasks_of (map request_of requests) ops) → Each (TaskOff c) (with_task (option_map (λ request. Closes request) found) (tasks_of (map request_of requests) ops))
   closes None n is rest = rest

@@ -1,10 +1,10 @@
 //! The numbers of quotas, and what those of a link come to.
-ghost use Rattle.std.specs.Prelude.{◌≡◌, ◌≤◌, length, nat_le};
+ghost use Rattle.std.specs.Prelude.{◌≡◌, ◌≤◌, ◌<◌, ◌+◌, ◌^◌, ◌++◌, ◌∷◌, [], length, nat_le};
 ghost use Rattle.std.specs.List.{list_all};
 ghost use Rattle.net_units.specs.Limits.{most_bound};
 ghost use Rattle.net_units.specs.Numbers.{level_number};
 ghost use Rattle.traffic_contract.specs.Admission.{total};
-ghost use Rattle.link_steps.specs.Split.{buffer_part};
+ghost use Rattle.link_steps.specs.Split.{level_part, buffer_part};
 ghost use Rattle.call_script.specs.Draft.{parts_in};
 ghost use Rattle.call_script.specs.Groups.{quota_in_range, quotas_are_in_range, level_fits, quotas_fit, quotas_are_fit};
 ghost use Rattle.call_script.specs.declared.entries.LinkEntry.{LinkEntry as Linked};
@@ -75,7 +75,19 @@ fn quotas_fit(shape: &LinkShape, quotas: &[Quota]) -> bool
             return false;
         }
     }
-    buffer_fits(quotas, shape.buffer)
+    buffer_fits(0, quotas, shape.buffer)
+}
+
+// Whether these quotas and one more together fit a link.
+pub(crate) fn fit_with(shape: &LinkShape, quotas: &[Quota], more: &Quota) -> bool
+    ensures { result ≡ quotas_fit shape.now (quotas.now ++ more.now ∷ []) }
+{
+    for index in 0..shape.bounds.len() {
+        if !level_fits_with(shape, quotas, more, level_at(index + 1)) {
+            return false;
+        }
+    }
+    buffer_fits(u64::from(more.buffer), quotas, shape.buffer)
 }
 
 // Whether the quotas of a level leave room for the blocking within its bound.
@@ -83,15 +95,43 @@ fn level_fits(shape: &LinkShape, quotas: &[Quota], level: Level) -> bool
     requires { level_number level ≤ length shape.now.bounds }
     ensures { result ≡ level_fits shape.now quotas.now (level_number level) }
 {
-    let bound = u64::from(shape.bounds.at(level));
-    let mut sum = u64::from(shape.blocking());
+    loads_fit(
+        u64::from(shape.blocking()),
+        quotas,
+        level,
+        shape.bounds.at(level),
+    )
+}
+
+// The same with one quota more.
+fn level_fits_with(shape: &LinkShape, quotas: &[Quota], more: &Quota, level: Level) -> bool
+    requires { level_number level ≤ length shape.now.bounds }
+    ensures { result ≡ level_fits shape.now (quotas.now ++ more.now ∷ []) (level_number level) }
+{
+    let first = u64::from(shape.blocking()) + u64::from(load_at(more, level));
+    loads_fit(first, quotas, level, shape.bounds.at(level))
+}
+
+// What the quota has at a level.
+fn load_at(quota: &Quota, level: Level) -> u32
+    ensures { result ≡ level_part (level_number level) quota.now }
+{
+    quota.levels[usize::from(level.get()) - 1]
+}
+
+// Whether so much load, and what the quotas have of a level, are within a bound.
+fn loads_fit(first: u64, quotas: &[Quota], level: Level, bound: u32) -> bool
+    requires { first < 2 ^ 33 }
+    ensures { result ≡ nat_le (first + total (level_part (level_number level)) quotas.now) bound }
+{
+    let mut sum = first;
     for quota in quotas {
-        sum += u64::from(quota.levels[usize::from(level.get()) - 1]);
-        if sum > bound {
+        sum += u64::from(load_at(quota, level));
+        if sum > u64::from(bound) {
             return false;
         }
     }
-    sum <= bound
+    sum <= u64::from(bound)
 }
 
 // The level of this number.
@@ -106,16 +146,17 @@ fn level_at(number: u8) -> Level
     }
 }
 
-// Whether the quotas' units are within those of the buffer.
-fn buffer_fits(quotas: &[Quota], units: u32) -> bool
-    ensures { result ≡ nat_le (total buffer_part quotas.now) units }
+// Whether so many units, and those of the quotas, are within those of the buffer.
+fn buffer_fits(first: u64, quotas: &[Quota], units: u32) -> bool
+    requires { first < 2 ^ 33 }
+    ensures { result ≡ nat_le (first + total buffer_part quotas.now) units }
 {
-    let mut sum = 0;
+    let mut sum = first;
     for quota in quotas {
         sum += u64::from(quota.buffer);
         if sum > u64::from(units) {
             return false;
         }
     }
-    true
+    sum <= u64::from(units)
 }

@@ -1,7 +1,7 @@
 //! A worked history, and whether a link has it.
 //!
-//! A link's state keeps a dozen facts true, and each step puts them all among what is known. So a test that holds a link from
-//! step to step takes minutes to prove. Here one loop holds it, and a test holds a table.
+//! A link's state keeps a dozen facts true, and each step puts them all among what is known: a test that holds one from step to
+//! step takes minutes to prove. So the loop over the table of asks and replies is generic: of the link it knows what each owes.
 ghost use Rattle.std.specs.Prelude.{◌≡◌, ◌∷◌, [], IsTrue, IfOk};
 ghost use Rattle.traffic_contract.specs.declared.admission.Test.TheVariants.{Whole};
 ghost use Rattle.link_steps.specs.Legal.{AskFits, SubmitFits};
@@ -56,7 +56,13 @@ pub(super) fn first_other(
     shape: &LinkShape,
     turns: &[Turn],
 ) -> Result<Option<Other>, Fail> {
-    let mut link = LinkState::new(alloc, *shape)?;
+    let link = LinkState::new(alloc, *shape)?;
+    other_of(link, turns)
+}
+
+// The first reply of a link that isn't the worked one.
+fn other_of<L: LinkStep>(link: L, turns: &[Turn]) -> Result<Option<Other>, Fail> {
+    let mut link = link;
     for (turn, worked) in turns.iter().enumerate() {
         let other = match worked {
             Turn::Asked(ask, reply) => reply_but(&mut link, ask, reply)?,
@@ -70,7 +76,7 @@ pub(super) fn first_other(
 }
 
 // The link's reply, where it isn't this one.
-fn reply_but(link: &mut LinkState, ask: &Ask, worked: &Reply) -> Result<Option<Reply>, Fail> {
+fn reply_but<L: LinkStep>(link: &mut L, ask: &Ask, worked: &Reply) -> Result<Option<Reply>, Fail> {
     let reply = step(link, ask)?;
     if reply == *worked {
         Ok(None)
@@ -80,7 +86,7 @@ fn reply_but(link: &mut LinkState, ask: &Ask, worked: &Reply) -> Result<Option<R
 }
 
 // Ticks that are to be quiet. It answers the first that isn't.
-fn tick_until(link: &mut LinkState, clock: u64) -> Result<Option<Reply>, Fail> {
+fn tick_until<L: LinkStep>(link: &mut L, clock: u64) -> Result<Option<Reply>, Fail> {
     for number in link.clock()..clock {
         let other = reply_but(link, &Ask::Tick, &ticked(number, 0, None))?;
         if other.is_some() {
@@ -92,7 +98,7 @@ fn tick_until(link: &mut LinkState, clock: u64) -> Result<Option<Reply>, Fail> {
 
 // One step. A test fails where a number of an ask is out of its limits, or the clock past the range of a step, so that none
 // has to prove that they aren't.
-pub(super) fn step(link: &mut LinkState, ask: &Ask) -> Result<Reply, Fail> {
+pub(super) fn step<L: LinkStep>(link: &mut L, ask: &Ask) -> Result<Reply, Fail> {
     if link.clock() >= 1 << 61 {
         return Err(Fail::from("the clock is too late for a step"));
     }

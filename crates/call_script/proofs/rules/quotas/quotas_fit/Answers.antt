@@ -1,5 +1,5 @@
 -- The level at hand fits, or it doesn't.
-use Rattle.std.proofs.Common.{◌≡◌, ◌+◌, ◌-◌, ◌∙◌, ap, sym, true, false, Bool, length, arith}
+use Rattle.std.proofs.Common.{◌≡◌, ℕ, ◌+◌, ◌-◌, ◌∙◌, ap, sym, true, false, Bool, length, arith}
 use Rattle.std.specs.Prelude.{◌&&◌, nat_le}
 use Rattle.traffic_contract.specs.Admission.{total}
 use Rattle.link_steps.specs.Room.{all_from}
@@ -25,4 +25,5 @@ pub returns : goal.returns
 returns c =
     let test = level_fits c.args.shape.now c.args.quotas.now in
     let all = c.loop-index.invariant ∙ levels-over test (length c.args.shape.now.bounds) c.loop-index.index (let past = c.loop-index-test.false in omega (arith, past, c.len-index-end.ensures.value)) in
-    c.buffer_fits.ensures ∙ sym (ap (λ (levels : Bool). levels && nat_le (total buffer_part c.args.quotas.now) c.args.shape.now.buffer) all)
+    let units : 0 + total buffer_part c.args.quotas.now ≡ total buffer_part c.args.quotas.now = omega arith in
+    c.buffer_fits.ensures ∙ ap (λ (n : ℕ). nat_le n c.args.shape.now.buffer) units ∙ sym (ap (λ (levels : Bool). levels && nat_le (total buffer_part c.args.quotas.now) c.args.shape.now.buffer) all)

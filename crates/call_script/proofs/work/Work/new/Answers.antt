@@ -1,6 +1,5 @@
--- An opening begins with a setup that has an ask left, a send with its submit.
-use Rattle.std.proofs.Common.{refl, sym}
-use Rattle.link_steps.specs.declared.asks.Ask.TheVariants.{Submit}
+-- An opening begins with a setup that has an ask left, a send with its one ask.
+use Rattle.std.proofs.Common.{Some, ap, refl, sym}
 use Rattle.hop_reservation.specs.Routes.{IsRoute}
 use Rattle.call_script.specs.Work.{HasRoute}
 use Rattle.call_script.proofs.WorkFacts.{fresh-setup}
@@ -17,4 +16,4 @@ returns-in-Opens c = λ tasks.
     })
 
 pub returns-in-Sends : goal.returns-in-Sends
-returns-in-Sends c = λ tasks. rw c.in-Sends.is (record { fresh = refl; asks = sym (c.first_link.ensures (Submit c.in-Sends.request.chan c.in-Sends.count c.in-Sends.gap c.in-Sends.size)) })
+returns-in-Sends c = λ tasks. rw c.in-Sends.is (record { fresh = refl; asks = ap (λ ask. Some (c.in-Sends.link, ask)) (sym c.packets_ask.ensures) })
