@@ -10,5 +10,4 @@ pub mod ChannelFacts
 pub mod LinkTallies
 pub mod EarlyTicks
 pub mod SummaryFacts
-pub mod PlainFields
 mod Worked

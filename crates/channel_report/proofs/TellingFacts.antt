@@ -67,10 +67,6 @@ pub nothing-told : (result : Result (Unit {0}) ReportFault) (a : Option (List �
 nothing-told result a gathered f text is =
     failed result Memory a a gathered gathered f f text is (part-of-longer a a gathered text (record { front = []; rest = gathered; appends = Appends-nil a; joined = refl })) (omega arith)
 
--- the same where a call wanted it
-pub nothing-told-for : (result : Result (Unit {0}) ReportFault) (why : ReportFault) (a : Option (List ℕ)) (gathered : List ℕ) (f : ℕ) (text : List ℕ) → IsErrAnd result (λ fault. fault ≡ why) → why ≡ Memory → Tells result a a gathered gathered f f text
-nothing-told-for result why a gathered f text is memory = nothing-told result a gathered f text (subst (λ (w : ReportFault). IsErrAnd result (λ fault. fault ≡ w)) memory is)
-
 -- a fault at an item
 pub item-failed : {X : Type 0} (line : X → List ℕ) (xs : List X) (i : ℕ) (x : X) (text : List ℕ) (a b c : Option (List ℕ)) (gathered gathered' gathered'' : List ℕ) (f f' f'' : ℕ) (result : Result (Unit {0}) ReportFault) (why : ReportFault)
     → IsErrAnd result (λ fault. fault ≡ why) → i < length xs → x ≡ get_or xs i x → text ≡ line x → f ≤ f' → Gathers a b gathered gathered' (flat_map line (take i xs)) → WritesPart b c (gathered' ++ text) × IsWhy why f' f''

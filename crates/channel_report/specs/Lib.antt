@@ -14,4 +14,3 @@ pub mod Delays
 pub mod DelayTallies
 pub mod Channels
 pub mod Summary
-pub mod Csv

@@ -35,15 +35,3 @@ impl From<AllocError> for ReportFault {
         ReportFault::Memory
     }
 }
-
-// `csv` writes into memory alone here, so what it refuses is told as want of memory.
-impl From<csv::Error> for ReportFault {
-    ghost use Rattle.std.specs.Prelude.{◌≡◌};
-    ghost use Rattle.channel_report.specs.declared.fault.ReportFault.TheVariants.{Memory};
-
-    ghost from_gives = { λ _ fault. fault ≡ Memory };
-
-    fn from(_failed: csv::Error) -> ReportFault {
-        ReportFault::Memory
-    }
-}

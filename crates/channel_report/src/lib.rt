@@ -8,7 +8,6 @@
 mod channel_lines;
 mod channel_tally;
 mod counts;
-mod csv_rows;
 mod delay_tally;
 mod end_line;
 pub mod fault;

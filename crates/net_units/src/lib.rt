@@ -20,7 +20,7 @@ pub use levels::Levels;
 pub use name::Name;
 pub use numbers::{ActorNo, ChanNo, Level, LinkNo};
 
-/// Memory was wanted and not there. What the call was to change is unchanged, unless the call says otherwise.
+/// Out of memory. What the call was to change is unchanged, unless the call says otherwise.
 #[derive(Clone, Copy, Debug, PartialEq, Eq)]
 pub struct OutOfMemory;
 

@@ -9,6 +9,7 @@ mod TaskFacts
 mod BetweenFacts
 mod OpFacts
 mod OpsFew
+mod StepCounts
 mod ScriptEnds
 mod PlaneSteps
 mod RoundFacts
@@ -16,4 +17,5 @@ mod PieceFacts
 mod GivenUp
 mod OpenFacts
 mod RaceFacts
+mod TailFacts
 mod WorkedFacts

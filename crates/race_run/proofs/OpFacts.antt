@@ -2,7 +2,7 @@
 use Rattle.std.proofs.Common.{◌≡◌, ◌≢◌, ℕ, ◌+◌, ◌<◌, ◌≤◌, Bool, true, false, List, [], ◌∷◌, ◌++◌, map, set, get_or, length, Option, Some, None, refl, sym, ap, ◌∙◌, subst, inl, inr, arith}
 use Rattle.std.proofs.lemmas.Bool.{eq-eqb, ne_eqb, cases_eq}
 use Rattle.std.proofs.lemmas.List.{length-map, length-set, get_or-set_same, get_or-set_other}
-use Rattle.std.proofs.lemmas.Option.{same_Some, slice_get-map, slice_get_past, slice_get_within}
+use Rattle.std.proofs.lemmas.Option.{same_Some, slice_get-map, slice_get_cases, slice_get_past, slice_get_within}
 use Rattle.std.specs.List.{slice_get}
 use Rattle.std.specs.Prelude.{option_map}
 use Rattle.net_units.specs.Numbers.{actor_number, channel_number, link_number}
@@ -30,18 +30,18 @@ use Rattle.link_ledger.specs.Tokens.{Token}
 use Rattle.link_ledger.specs.declared.entries.OwnEntry.{OwnEntry}
 use Rattle.shared_network.specs.Calls.{OthersStay, HasNone, IsEstablished, Follows, SetsUp, TearsDown, reply_in}
 use Rattle.setup_protocol.specs.Hops.{IsHopOf}
-use Rattle.call_script.specs.Fits.{SendFits, PourFits, TaskFits}
+use Rattle.call_script.specs.Fits.{SendFits, TaskFits}
 use Rattle.call_script.specs.Owners.{TaskOff, FullScript}
 use Rattle.call_script.specs.Parts.{PlanParts}
 use Rattle.call_script.specs.Plans.{IsPlan}
-use Rattle.call_script.specs.Scripts.{Opened, is_established, outcome_by, settled_as, submit_next, task_ask}
+use Rattle.call_script.specs.Scripts.{Opened, is_established, outcome_by, settled_as, task_ask}
 use Rattle.call_script.specs.Standing.{requests_of}
-use Rattle.call_script.specs.Tasks.{network_of, request_of, task_of, with_task}
+use Rattle.call_script.specs.Tasks.{network_of, request_of, send_on, task_for, task_of, with_task}
 use Rattle.call_script.specs.declared.entries.RequestEntry.{RequestEntry}
 use Rattle.call_script.specs.declared.operations.Op.{Op}
 use Rattle.call_script.specs.declared.operations.Op.TheVariants.{Open, Send, Close, Pour}
 use Rattle.call_script.specs.declared.tasks.Task.{Task}
-use Rattle.call_script.specs.declared.tasks.Task.TheVariants.{Opens, Sends, Closes, Pours}
+use Rattle.call_script.specs.declared.tasks.Task.TheVariants.{Opens, Sends, Closes}
 use Rattle.call_script.proofs.FitFacts.{request-fits, plan-fits}
 use Rattle.call_script.proofs.OwnerFacts.{owned-by}
 use Rattle.race_run.specs.Callers.{StandsBetween, CallerIsAt, HasOp, IsNetworkOf, caller_of}
@@ -86,6 +86,9 @@ request-at parts own c entry found = ap (option_map own) (slice_get-map request_
 
 pub request-none : (parts : PlanParts) (own : Request → Task) (c : ℕ) → slice_get parts.requests c ≡ None → option_map own (slice_get (requests_of parts) c) ≡ None
 request-none parts own c none = ap (option_map own) (slice_get-map request_of parts.requests c ∙ ap (option_map request_of) none)
+
+pub send-none : (parts : PlanParts) (count gap size c : ℕ) → slice_get parts.requests c ≡ None → task_for (send_on count gap size) (slice_get (requests_of parts) c) ≡ None
+send-none parts count gap size c none = ap (task_for (send_on count gap size)) (slice_get-map request_of parts.requests c ∙ ap (option_map request_of) none)
 
 -- ---- over an operation that is no task
 
@@ -239,23 +242,44 @@ one-reply entries one same =
 
 -- ---- sending
 
-send-at : (parts : PlanParts) (caller place : ℕ) (chan : ChanNo) (count gap size : ℕ) (entry : RequestEntry) (pass : Token) (accepted : List Bool) → CallerIsAt parts caller place pass accepted → HasOp parts caller place (Send chan count gap size) → slice_get parts.requests (channel_number chan) ≡ Some entry → HereAt parts caller place (Sends entry.request count gap size) pass accepted
-send-at parts caller place chan count gap size entry pass accepted at has found = here-with parts caller place (Send chan count gap size) (Sends entry.request count gap size) pass accepted at has (request-at parts (λ request. Sends request count gap size) (channel_number chan) entry found)
+-- the first hop of a request
+record FirstHop (request : Request) : Type 0 where
+  hop : Hop
+  is : slice_get request.route 0 ≡ Some hop
 
-sends-apart : (one other : Request) (count gap size : ℕ) → Sends one count gap size ≡ Opens other → ⊥
-sends-apart one other count gap size same = cc
+first-hop : (parts : PlanParts) (c : ℕ) (entry : RequestEntry) → IsPlan parts → slice_get parts.requests c ≡ Some entry → FirstHop entry.request
+first-hop parts c entry plan found =
+    let least = route-least parts c entry plan found in
+    elim (slice_get_cases entry.request.route 0).1 [
+      | inl at ↦ record { hop = at.0; is = at.2 }
+      | inr past ↦ absurd (omega (arith, past.0, least))
+    ]
+
+abbrev send_task : Request → Hop → ℕ → ℕ → ℕ → Task
+send_task request hop count gap size = Sends hop.link (Some request.chan) count gap size
+
+send-at : (parts : PlanParts) (caller place : ℕ) (chan : ChanNo) (count gap size : ℕ) (entry : RequestEntry) (hop : Hop) (pass : Token) (accepted : List Bool) → CallerIsAt parts caller place pass accepted → HasOp parts caller place (Send chan count gap size) → slice_get parts.requests (channel_number chan) ≡ Some entry → slice_get entry.request.route 0 ≡ Some hop
+    → HereAt parts caller place (send_task entry.request hop count gap size) pass accepted
+send-at parts caller place chan count gap size entry hop pass accepted at has found first =
+    here-with parts caller place (Send chan count gap size) (send_task entry.request hop count gap size) pass accepted at has
+    (ap (task_for (send_on count gap size)) (slice_get-map request_of parts.requests (channel_number chan) ∙ ap (option_map request_of) found) ∙ ap (option_map (λ (h : Hop). send_task entry.request h count gap size)) first)
+
+sends-apart : (link : LinkNo) (chan : Option ChanNo) (other : Request) (count gap size : ℕ) → Sends link chan count gap size ≡ Opens other → ⊥
+sends-apart link chan other count gap size same = cc
 
 established-told : (parts : PlanParts) (front rest : List Task) (pass : Token) (accepted : List Bool) (c : ℕ) (entry : RequestEntry) (told : Bool) → IsPlan parts → (between : StandsBetween (network_of parts) front rest pass accepted) → slice_get parts.requests c ≡ Some entry → get_or accepted c false ≡ told → is_established entry.request.chan between.outcomes ≡ told
 established-told parts front rest pass accepted c entry told plan between found is = between.known entry.request.chan ∙ ap (λ n. get_or accepted n false) (plan.planned.requests c entry found) ∙ is
 
 pub send-passed : (parts : PlanParts) (caller place : ℕ) (chan : ChanNo) (count gap size : ℕ) (entry : RequestEntry) (pass : Token) (accepted : List Bool) → IsPlan parts → CallerIsAt parts caller place pass accepted → HasOp parts caller place (Send chan count gap size) → slice_get parts.requests (channel_number chan) ≡ Some entry → get_or accepted (channel_number chan) false ≡ false → CallerIsAt parts caller (place + 1) pass accepted
 send-passed parts caller place chan count gap size entry pass accepted plan at has found is =
-    let h = send-at parts caller place chan count gap size entry pass accepted at has found in
-    h.next pass accepted refl refl (between-skipped (network_of parts) h.front (Sends entry.request count gap size) h.rest pass accepted h.between (established-told parts h.front _ pass accepted (channel_number chan) entry false plan h.between found is) (λ request same. sends-apart entry.request request count gap size same))
+    let first = first-hop parts (channel_number chan) entry plan found in
+    let h = send-at parts caller place chan count gap size entry first.hop pass accepted at has found first.is in
+    h.next pass accepted refl refl (between-skipped (network_of parts) h.front (send_task entry.request first.hop count gap size) h.rest pass accepted h.between (established-told parts h.front _ pass accepted (channel_number chan) entry false plan h.between found is) (λ request same. sends-apart first.hop.link (Some entry.request.chan) request count gap size same))
 
 pub send-owner : (parts : PlanParts) (links : List Link) (owners : List ActorNo) (caller place : ℕ) (chan : ChanNo) (count gap size : ℕ) (entry : RequestEntry) (pass : Token) (accepted : List Bool) → IsPlan parts → IsNetworkOf parts links owners → CallerIsAt parts caller place pass accepted → HasOp parts caller place (Send chan count gap size) → slice_get parts.requests (channel_number chan) ≡ Some entry → IsOwner owners pass.actor entry.request.chan
 send-owner parts links owners caller place chan count gap size entry pass accepted plan network at has found =
-    owner-at parts links owners caller place (channel_number chan) entry (Sends entry.request count gap size) pass accepted plan network (send-at parts caller place chan count gap size entry pass accepted at has found) found (ASend count gap size)
+    let first = first-hop parts (channel_number chan) entry plan found in
+    owner-at parts links owners caller place (channel_number chan) entry (send_task entry.request first.hop count gap size) pass accepted plan network (send-at parts caller place chan count gap size entry first.hop pass accepted at has found first.is) found (ASend first.hop.link count gap size)
 
 -- the first hop is over a link of the network
 pub send-there : (parts : PlanParts) (links : List Link) (owners : List ActorNo) (c : ℕ) (entry : RequestEntry) (hop : Hop) → IsPlan parts → IsNetworkOf parts links owners → slice_get parts.requests c ≡ Some entry → slice_get entry.request.route 0 ≡ Some hop → link_number hop.link < length links
@@ -265,24 +289,24 @@ send-there parts links owners c entry hop plan network found first =
 
 pub send-fits : (parts : PlanParts) (links : List Link) (caller place : ℕ) (chan : ChanNo) (count gap size : ℕ) (entry : RequestEntry) (pass : Token) (accepted : List Bool) (l : ℕ) → IsPlan parts → CallerIsAt parts caller place pass accepted → HasOp parts caller place (Send chan count gap size) → slice_get parts.requests (channel_number chan) ≡ Some entry → FitsAt links l (Submit entry.request.chan count gap size)
 send-fits parts links caller place chan count gap size entry pass accepted l plan at has found =
-    let h = send-at parts caller place chan count gap size entry pass accepted at has found in
-    let fits : SendFits (network_of parts).links entry.request count gap size = task-fits parts caller place (Sends entry.request count gap size) pass accepted plan h in
-    λ link there. fits.send
+    let first = first-hop parts (channel_number chan) entry plan found in
+    let h = send-at parts caller place chan count gap size entry first.hop pass accepted at has found first.is in
+    let fits : SendFits (network_of parts).links first.hop.link (Some entry.request.chan) count gap size = task-fits parts caller place (send_task entry.request first.hop count gap size) pass accepted plan h in
+    λ link there. fits.packets
 
 pub send-over : (parts : PlanParts) (caller place : ℕ) (chan : ChanNo) (count gap size : ℕ) (entry : RequestEntry) (hop : Hop) (reply : Reply) (pass pass' : Token) (accepted : List Bool) → IsPlan parts → CallerIsAt parts caller place pass accepted → HasOp parts caller place (Send chan count gap size) → slice_get parts.requests (channel_number chan) ≡ Some entry → get_or accepted (channel_number chan) false ≡ true
     → slice_get entry.request.route 0 ≡ Some hop → pass'.actor ≡ pass.actor → Adds pass pass' (record { link = hop.link; ask = Submit entry.request.chan count gap size; reply = reply } ∷ [])
     → ((request : Request) → IsEstablished request pass.own → IsEstablished request pass'.own) → ((c : ChanNo) → IsOff (channel_number c) (Submit entry.request.chan count gap size) → HasNone c pass.own → HasNone c pass'.own) → CallerIsAt parts caller (place + 1) pass' accepted
 send-over parts caller place chan count gap size entry hop reply pass pass' accepted plan at has found is first by made established unopened =
-    let h = send-at parts caller place chan count gap size entry pass accepted at has found in
-    let task = Sends entry.request count gap size in
+    let h = send-at parts caller place chan count gap size entry hop pass accepted at has found first in
+    let task = send_task entry.request hop count gap size in
     let one : Asked = record { link = hop.link; ask = Submit entry.request.chan count gap size; reply = reply } in
-    let asks : submit_next entry.request count gap size [] ≡ Some (hop.link, Submit entry.request.chan count gap size) = ap (λ found. asked_of found (λ hop. Submit entry.request.chan count gap size)) first in
     let none : task_ask task (map reply_in made.entries) ≡ None = ap (task_ask task) (one-reply made.entries one made.are) in
     h.next pass' accepted by refl
-    (between-made (network_of parts) h.front task h.rest pass pass' accepted accepted made.entries h.between h.tasks by made.own (established-told parts h.front _ pass accepted (channel_number chan) entry true plan h.between found is) (one-follows (task_ask task) made.entries one made.are asks) none (one-some made.entries one made.are) (record {
+    (between-made (network_of parts) h.front task h.rest pass pass' accepted accepted made.entries h.between h.tasks by made.own (established-told parts h.front _ pass accepted (channel_number chan) entry true plan h.between found is) (one-follows (task_ask task) made.entries one made.are refl) none (one-some made.entries one made.are) (record {
       known = h.between.known;
       fresh = λ c off had. unopened c off had;
-      live = λ request has each accepts. established request (h.between.live request (has-front (Opens request) h.front task has (λ same. sends-apart entry.request request count gap size same)) (each-front _ h.front task each).0 accepts);
+      live = λ request has each accepts. established request (h.between.live request (has-front (Opens request) h.front task has (λ same. sends-apart hop.link (Some entry.request.chan) request count gap size same)) (each-front _ h.front task each).0 accepts);
     }))
 
 -- ---- closing
@@ -325,33 +349,31 @@ close-over parts caller place chan entry count pass pass' accepted plan at has f
 
 -- ---- pouring
 
-pour-at : (parts : PlanParts) (caller place : ℕ) (link : LinkNo) (count gap size : ℕ) (pass : Token) (accepted : List Bool) → CallerIsAt parts caller place pass accepted → HasOp parts caller place (Pour link count gap size) → HereAt parts caller place (Pours link count gap size) pass accepted
-pour-at parts caller place link count gap size pass accepted at has = here-with parts caller place (Pour link count gap size) (Pours link count gap size) pass accepted at has refl
+pour-at : (parts : PlanParts) (caller place : ℕ) (link : LinkNo) (count gap size : ℕ) (pass : Token) (accepted : List Bool) → CallerIsAt parts caller place pass accepted → HasOp parts caller place (Pour link count gap size) → HereAt parts caller place (Sends link None count gap size) pass accepted
+pour-at parts caller place link count gap size pass accepted at has = here-with parts caller place (Pour link count gap size) (Sends link None count gap size) pass accepted at has refl
 
 pub pour-there : (parts : PlanParts) (links : List Link) (owners : List ActorNo) (caller place : ℕ) (link : LinkNo) (count gap size : ℕ) (pass : Token) (accepted : List Bool) → IsPlan parts → IsNetworkOf parts links owners → CallerIsAt parts caller place pass accepted → HasOp parts caller place (Pour link count gap size) → link_number link < length links
 pour-there parts links owners caller place link count gap size pass accepted plan network at has =
-    let fits : PourFits (network_of parts).links link count gap size = task-fits parts caller place (Pours link count gap size) pass accepted plan (pour-at parts caller place link count gap size pass accepted at has) in
+    let fits : SendFits (network_of parts).links link None count gap size = task-fits parts caller place (Sends link None count gap size) pass accepted plan (pour-at parts caller place link count gap size pass accepted at has) in
     subst (λ (ls : List Link). link_number link < length ls) (sym network.links_are) (slice_get_within (network_of parts).links (link_number link) fits.link fits.linked)
 
 pub pour-fits : (parts : PlanParts) (links : List Link) (owners : List ActorNo) (caller place : ℕ) (link : LinkNo) (count gap size : ℕ) (pass : Token) (accepted : List Bool) → IsPlan parts → IsNetworkOf parts links owners → CallerIsAt parts caller place pass accepted → HasOp parts caller place (Pour link count gap size) → FitsAt links (link_number link) (PourAsk count gap size)
 pour-fits parts links owners caller place link count gap size pass accepted plan network at has =
-    let fits : PourFits (network_of parts).links link count gap size = task-fits parts caller place (Pours link count gap size) pass accepted plan (pour-at parts caller place link count gap size pass accepted at has) in
+    let fits : SendFits (network_of parts).links link None count gap size = task-fits parts caller place (Sends link None count gap size) pass accepted plan (pour-at parts caller place link count gap size pass accepted at has) in
     λ found there. (let same : fits.link ≡ found = same_Some fits.link found (sym fits.linked ∙ ap (λ (ls : List Link). slice_get ls (link_number link)) (sym network.links_are) ∙ there) in
-    subst (λ (l : Link). AskFits l.shape (PourAsk count gap size)) same (fits.best, fits.pour))
+    subst (λ (l : Link). AskFits l.shape (PourAsk count gap size)) same fits.packets)
 
 pub pour-over : (parts : PlanParts) (caller place : ℕ) (link : LinkNo) (count gap size : ℕ) (reply : Reply) (pass pass' : Token) (accepted : List Bool) → CallerIsAt parts caller place pass accepted → HasOp parts caller place (Pour link count gap size)
     → pass'.actor ≡ pass.actor → Adds pass pass' (record { link = link; ask = PourAsk count gap size; reply = reply } ∷ [])
     → ((request : Request) → IsEstablished request pass.own → IsEstablished request pass'.own) → ((c : ChanNo) → IsOff (channel_number c) (PourAsk count gap size) → HasNone c pass.own → HasNone c pass'.own) → CallerIsAt parts caller (place + 1) pass' accepted
 pour-over parts caller place link count gap size reply pass pass' accepted at has by made established unopened =
     let h = pour-at parts caller place link count gap size pass accepted at has in
-    let task = Pours link count gap size in
+    let task = Sends link None count gap size in
     let one : Asked = record { link = link; ask = PourAsk count gap size; reply = reply } in
     let none : task_ask task (map reply_in made.entries) ≡ None = ap (task_ask task) (one-reply made.entries one made.are) in
     h.next pass' accepted by refl
     (between-made (network_of parts) h.front task h.rest pass pass' accepted accepted made.entries h.between h.tasks by made.own refl (one-follows (task_ask task) made.entries one made.are refl) none (one-some made.entries one made.are) (record {
       known = h.between.known;
       fresh = λ c off had. unopened c tt had;
-      live = λ request has each accepts. established request (h.between.live request (has-front (Opens request) h.front task has (λ same. pours-apart request same)) (each-front _ h.front task each).0 accepts);
-    })) where
-      pours-apart : (other : Request) → Pours link count gap size ≡ Opens other → ⊥
-      pours-apart other same = cc
+      live = λ request has each accepts. established request (h.between.live request (has-front (Opens request) h.front task has (λ same. sends-apart link None request count gap size same)) (each-front _ h.front task each).0 accepts);
+    }))

@@ -30,18 +30,18 @@ use Rattle.std.proofs.Math.Bool.{or-true}
 -- ---- operations by their kinds
 
 -- the channel that an operation closes
-abbrev closed_by : Op → List ℕ
+abbrev pub closed_by : Op → List ℕ
 closed_by (Open chan) = []
 closed_by (Send chan count gap size) = []
 closed_by (Close chan) = channel_number chan ∷ []
 closed_by (Pour link count gap size) = []
 
-abbrev closings : List Op → List ℕ
+abbrev pub closings : List Op → List ℕ
 closings [] = []
 closings (op ∷ ops) = closed_by op ++ closings ops
 
 -- a send and a pour are of a packet at least
-abbrev IsLoaded : List RequestEntry → Op → Type 0
+abbrev pub IsLoaded : List RequestEntry → Op → Type 0
 IsLoaded requests (Open chan) = Unit {0}
 IsLoaded requests (Send chan count gap size) = 1 ≤ count * hops_of (slice_get requests (channel_number chan))
 IsLoaded requests (Close chan) = Unit {0}
@@ -100,7 +100,7 @@ closes-itself : (above : List Op) (chan : ChanNo) → list_any (closes (channel_
 closes-itself above chan =
     list_any-append (closes (channel_number chan)) above (Close chan ∷ []) ∙ ap (λ b. list_any (closes (channel_number chan)) above || (b || false)) (eq-eqb (channel_number chan) (channel_number chan) refl) ∙ or-true (list_any (closes (channel_number chan)) above)
 
-closed-once : (above ops : List Op) → each_after is_unclosed above ops ≡ true → IsDistinct eqb (closings ops)
+pub closed-once : (above ops : List Op) → each_after is_unclosed above ops ≡ true → IsDistinct eqb (closings ops)
 unfolding each_after IsDistinct
 closed-once above [] kept = tt
 closed-once above (Open chan ∷ ops) kept = closed-once (above ++ Open chan ∷ []) ops (and_parts (is_unclosed above (Open chan)) (each_after is_unclosed (above ++ Open chan ∷ []) ops) kept).1
@@ -134,7 +134,7 @@ send-loaded parts n caller chan count plan found any some =
     mul-le 1 1 count (hops_of (slice_get parts.requests (channel_number chan))) some hops
 
 module _ (parts : PlanParts) (n : ℕ) (caller : CallerEntry) (plan : IsPlan parts) (found : slice_get parts.callers n ≡ Some caller) where
-  all-loaded : (above ops : List Op) → caller.ops ≡ above ++ ops → list_all op_in_range ops ≡ true → each_after is_opened above ops ≡ true → Each (IsLoaded parts.requests) ops
+  pub all-loaded : (above ops : List Op) → caller.ops ≡ above ++ ops → list_all op_in_range ops ≡ true → each_after is_opened above ops ≡ true → Each (IsLoaded parts.requests) ops
   unfolding each_after
   all-loaded above [] are range opened = tt
   all-loaded above (Open chan ∷ ops) are range opened =
@@ -155,14 +155,14 @@ module _ (parts : PlanParts) (n : ℕ) (caller : CallerEntry) (plan : IsPlan par
 
 -- ---- all of them
 
-openings-few : (parts : PlanParts) (n : ℕ) (caller : CallerEntry) → IsPlan parts → slice_get parts.callers n ≡ Some caller → length (openings_in n caller.ops) ≤ 1024
+pub openings-few : (parts : PlanParts) (n : ℕ) (caller : CallerEntry) → IsPlan parts → slice_get parts.callers n ≡ Some caller → length (openings_in n caller.ops) ≤ 1024
 openings-few parts n caller plan found =
     let most = openings-most 0 parts.callers n n caller found (omega arith) in
     let all = ap length plan.planned.openings ∙ length-map parts.requests opening_of in
     let few = (few-in parts (keeps-rules parts plan.kept).few).requests in
     omega (arith, most, all, few)
 
-load-few : (parts : PlanParts) (n : ℕ) (caller : CallerEntry) → IsPlan parts → slice_get parts.callers n ≡ Some caller → total (load_of parts.requests) caller.ops ≤ 262144
+pub load-few : (parts : PlanParts) (n : ℕ) (caller : CallerEntry) → IsPlan parts → slice_get parts.callers n ≡ Some caller → total (load_of parts.requests) caller.ops ≤ 262144
 unfolding are_within_load
 load-few parts n caller plan found =
     let split = and_parts (nat_le (load_in parts.requests parts.callers) 262144) _ (keeps-rules parts plan.kept).load in

@@ -12,7 +12,7 @@ use Rattle.link_steps.specs.Lists.{Each}
 use Rattle.link_steps.specs.Split.{Link}
 use Rattle.link_steps.proofs.ListFacts.{Each-append, Each-map}
 use Rattle.step_stamp.specs.Lists.{up_to}
-use Rattle.link_ledger.specs.Tokens.{Token}
+use Rattle.link_ledger.specs.Tokens.{Token, actors_opened}
 use Rattle.link_ledger.proofs.OwnFacts.{get-left, get-last}
 use Rattle.shared_network.specs.Gathering.{AreAll, token_actor}
 use Rattle.shared_network.specs.Ready.{IsNew, MayStep, PassGoesOn}
@@ -79,7 +79,7 @@ module _ (table : TableId) (owners : List ActorNo) (links : List Link) (parts : 
       let inside = slice_get_within callers k pass found in
       let is = numbered-at token_actor (callers ++ last ∷ []) (suc (length parts.callers)) k pass all.actors (let m = many in omega (arith, inside, m)) (get-left callers (last ∷ []) k pass found) in
       let new = Each-at (IsNew table owners links (suc (length parts.callers))) callers k pass parted.0 found in
-      record { may_step = new.may_step; begins = record { caller = (let m = many in omega (arith, inside, is, m)); own = new.own; drawn = new.drawn } }
+      record { may_step = new.may_step; begins = record { caller = (let m = many in omega (arith, inside, is, m)); own = new.own; drawn = ap length new.drawn } }
 
   pub all-begin : (plane : KeptPlane) → IsAtRound parts 0 plane last → Each (MayBegin table owners links parts) (map (λ (p : Token). Script p) callers ++ Rounds plane last ∷ [])
   all-begin plane at =
@@ -167,9 +167,9 @@ module _ (table : TableId) (owners : List ActorNo) (links : List Link) (parts : 
         record {
           some = omega (arith, long);
           actors = same-actors ∙ all.actors ∙ ap up_to (sym long);
-          among = subst (λ k. Each (λ (p : Token). p.view.among ≡ k) (callers' ++ final ∷ [])) (sym long)
-              (Each-append (λ (p : Token). p.view.among ≡ n) callers' (final ∷ [])
-              (each-along ScriptEnds (IsNew table owners links n) (λ (p : Token). p.view.among ≡ n) (λ p q ended new. ended.goes.among ∙ new.among) callers callers' made.scripts news.0)
+          among = subst (λ k. Each (λ (p : Token). actors_opened p ≡ k) (callers' ++ final ∷ [])) (sym long)
+              (Each-append (λ (p : Token). actors_opened p ≡ n) callers' (final ∷ [])
+              (each-along ScriptEnds (IsNew table owners links n) (λ (p : Token). actors_opened p ≡ n) (λ p q ended new. ended.goes.among ∙ new.among) callers callers' made.scripts news.0)
               (ends.goes.among ∙ made.rounds.goes.among ∙ news.1.0.among, tt));
           may_step = Each-append (MayStep table owners links) callers' (final ∷ []) (each-of ScriptEnds (MayStep table owners links) (λ p q ended. ended.goes.may_step) callers callers' made.scripts) (ends.goes.may_step, tt);
         }

@@ -1,7 +1,7 @@
 -- The plane with its pass: at the start, over a step, and once all rounds are made, when the pass has made all.
 use Rattle.std.proofs.Common.{◌≡◌, ℕ, suc, ◌+◌, ◌-◌, ◌^◌, ◌<◌, ◌≤◌, ◌⊎◌, true, Option, Some, None, List, [], ◌∷◌, ◌++◌, length, map, reverse, refl, sym, ap, ◌∙◌, subst, inl, inr, arith}
 use Rattle.std.proofs.lemmas.Bool.{cases_Bool, eq-eqb, le-ltb, lt-ltb}
-use Rattle.std.proofs.lemmas.List.{append-nil, append_assoc, length-map, map-append}
+use Rattle.std.proofs.lemmas.List.{append-nil, append_assoc, map-append}
 use Rattle.std.proofs.lemmas.List.Elements.{filter-append}
 use Rattle.std.proofs.lemmas.Nat.{mul-le}
 use Rattle.std.specs.Prelude.{nat_eq}
@@ -15,8 +15,8 @@ use Rattle.link_steps.specs.declared.replies.Reply.{Reply}
 use Rattle.tick_plane.specs.Kept.{KeptPlane}
 use Rattle.tick_plane.specs.Planes.{Plane, ask_due, next_due, plane_ask, plane_of, plane_start, plane_with}
 use Rattle.tick_plane.specs.declared.flight.Flight.{Flight}
-use Rattle.link_ledger.specs.Own.{own_drawn}
-use Rattle.link_ledger.specs.Tokens.{Token}
+use Rattle.link_ledger.specs.Tokens.{Token, stamps_drawn}
+use Rattle.shared_network.proofs.CountFacts.{drawn-count}
 use Rattle.link_ledger.specs.declared.entries.OwnEntry.{OwnEntry}
 use Rattle.shared_network.specs.Added.{Asked, asked_in}
 use Rattle.shared_network.specs.Calls.{Follows, reply_in}
@@ -111,10 +111,10 @@ step-made network plane plane' pass pass' reply fits on made =
     }
 
 -- the pass has drawn few stamps, as the rounds of a plan are few
-pub few-drawn : (table : TableId) (owners : List ActorNo) (links : List Link) (network : Network) (plane : KeptPlane) (pass : Token) → NetworkFits network → PlaneIsOn network plane pass → MayStep table owners links pass → length pass.view.drawn < 2 ^ 40 - 64
+pub few-drawn : (table : TableId) (owners : List ActorNo) (links : List Link) (network : Network) (plane : KeptPlane) (pass : Token) → NetworkFits network → PlaneIsOn network plane pass → MayStep table owners links pass → stamps_drawn pass < 2 ^ 40 - 64
 few-drawn table owners links network plane pass fits on may =
     let own = ap length on.only in
-    let drew = ap length may.exact.drawn ∙ length-map pass.own (own_drawn pass.actor) in
+    let drew = drawn-count table owners links pass may in
     let steps = steps-few (length network.links) plane.rounds (rounds_in pass.own) fits.some on.planes.follows in
     let rounds : plane.rounds ≤ 1048576 = subst (λ n. n ≤ 1048576) (sym on.rounds) fits.rounds in
     let most = mul-le plane.rounds (length network.links) 1048576 32 rounds fits.few in

@@ -31,7 +31,7 @@ use Rattle.interleave_core.proofs.ActorFacts.{plane-number}
 
 -- ---- played
 
-some-of : {X : Type 0} (found : Option X) (x : X) → found ≡ Some x → IsSome found
+pub some-of : {X : Type 0} (found : Option X) (x : X) → found ≡ Some x → IsSome found
 some-of (Some y) x is = refl
 some-of None x is = absurd (let clash : None ≡ Some x = is in cc)
 
@@ -44,7 +44,7 @@ follows-itself network (done ∷ past) is =
     (follows-more network [] past (done ∷ past) (reverse (map actor_of past)) (done.actor ∷ []) (follows-itself network past is.0)
     (follows-one network past (done ∷ past) done.actor (some-of (next_for network (actor_number done.actor) past) (done.link, done.ask) is.1.asked) (sym (step-is network past done is.1))))
 
-turned-actors : (entries : List Done) → reverse (map actor_of (reverse entries)) ≡ actors_of entries
+pub turned-actors : (entries : List Done) → reverse (map actor_of (reverse entries)) ≡ actors_of entries
 turned-actors entries = ap reverse (turned-map actor_of entries) ∙ reverse-reverse (map actor_of entries)
 
 pub run-follows : (network : Network) (entries : List Done) (items : List Do) → AreMaximalRuns (actors_of entries) items → IsRun network (reverse entries) → FollowsTurns network [] (turns_of items) (reverse entries)

@@ -1,13 +1,14 @@
 -- What a caller's script tells of a channel at an operation: before it is opened no task names it, and where it is sent on or
 -- closed it was opened above and not closed.
-use Rattle.std.proofs.Common.{◌≡◌, ℕ, List, [], ◌∷◌, ◌++◌, refl, sym, subst, inl, inr}
+use Rattle.std.proofs.Common.{◌≡◌, ℕ, Some, List, [], ◌∷◌, ◌++◌, refl, sym, subst, inl, inr}
 use Rattle.net_units.specs.Numbers.{channel_number}
+use Rattle.net_units.specs.declared.numbers.LinkNo.{LinkNo}
 use Rattle.link_steps.specs.Lists.{Each}
 use Rattle.setup_protocol.specs.declared.request.Request.{Request}
 use Rattle.step_stamp.specs.Lists.{Has}
 use Rattle.call_script.specs.Owners.{TaskOff, IsSendOn, SendsOnce, FullScript}
 use Rattle.call_script.specs.declared.tasks.Task.{Task}
-use Rattle.call_script.specs.declared.tasks.Task.TheVariants.{Opens, Sends, Closes, Pours}
+use Rattle.call_script.specs.declared.tasks.Task.TheVariants.{Opens, Sends, Closes}
 use Rattle.race_run.specs.Callers.{LeavesOpen}
 
 chan_of : Request → ℕ
@@ -16,12 +17,12 @@ chan_of request = channel_number request.chan
 -- a task that names the channel isn't off it
 pub data Names (request : Request) : Task → Type 0 where
   AnOpen : Names request (Opens request)
-  ASend : (count gap size : ℕ) → Names request (Sends request count gap size)
+  ASend : (link : LinkNo) (count gap size : ℕ) → Names request (Sends link (Some request.chan) count gap size)
   AClose : Names request (Closes request)
 
 pub named-off : (request : Request) (task : Task) → Names request task → TaskOff (channel_number request.chan) task → ⊥
 named-off request task AnOpen off = off refl
-named-off request task (ASend count gap size) off = off refl
+named-off request task (ASend link count gap size) off = off refl
 named-off request task AClose off = off refl
 
 pub each-middle : (P : Task → Type 0) (front : List Task) (task : Task) (rest : List Task) → Each P (front ++ task ∷ rest) → P task
@@ -30,9 +31,8 @@ each-middle P (first ∷ front) task rest each = each-middle P front task rest e
 
 off-leaves : (c : ℕ) (task : Task) → TaskOff c task → LeavesOpen c task
 off-leaves c (Opens request) off = tt
-off-leaves c (Sends request count gap size) off = tt
+off-leaves c (Sends link chan count gap size) off = tt
 off-leaves c (Closes request) off = off
-off-leaves c (Pours link count gap size) off = tt
 
 send-leaves : (request : Request) (task : Task) → IsSendOn request task → LeavesOpen (channel_number request.chan) task
 send-leaves request task send = subst (LeavesOpen (channel_number request.chan)) (sym send.is) tt
@@ -40,7 +40,7 @@ send-leaves request task send = subst (LeavesOpen (channel_number request.chan))
 -- after its opening a channel isn't opened again
 sends-no-open : (request : Request) (front rest : List Task) → SendsOnce request (front ++ Opens request ∷ rest) → ⊥
 sends-no-open request [] rest (inl off) = off.0 refl
-sends-no-open request [] rest (inr (inl send)) = (let is : Opens request ≡ Sends request send.0.count send.0.gap send.0.size = send.0.is in cc)
+sends-no-open request [] rest (inr (inl send)) = (let is : Opens request ≡ Sends send.0.hop.link (Some request.chan) send.0.count send.0.gap send.0.size = send.0.is in cc)
 sends-no-open request [] rest (inr (inr close)) = (let is : Opens request ≡ Closes request = close.0 in cc)
 sends-no-open request (task ∷ front) rest (inl off) = sends-no-open request front rest off.1
 sends-no-open request (task ∷ front) rest (inr (inl send)) = sends-no-open request front rest send.1
@@ -60,15 +60,15 @@ sends-open request (first ∷ front) task rest names (inr (inr close)) = absurd 
 
 -- a use of the channel, by a send or a close
 pub data Uses (request : Request) : Task → Type 0 where
-  BySend : (count gap size : ℕ) → Uses request (Sends request count gap size)
+  BySend : (link : LinkNo) (count gap size : ℕ) → Uses request (Sends link (Some request.chan) count gap size)
   ByClose : Uses request (Closes request)
 
 uses-names : (request : Request) (task : Task) → Uses request task → Names request task
-uses-names request task (BySend count gap size) = ASend count gap size
+uses-names request task (BySend link count gap size) = ASend link count gap size
 uses-names request task ByClose = AClose
 
 uses-apart : (request : Request) (task : Task) → Uses request task → task ≡ Opens request → ⊥
-uses-apart request task (BySend count gap size) is = (let clash : Sends request count gap size ≡ Opens request = is in cc)
+uses-apart request task (BySend link count gap size) is = (let clash : Sends link (Some request.chan) count gap size ≡ Opens request = is in cc)
 uses-apart request task ByClose is = (let clash : Closes request ≡ Opens request = is in cc)
 
 pub record IsLive (request : Request) (front : List Task) : Type 0 where

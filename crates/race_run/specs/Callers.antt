@@ -21,16 +21,15 @@ use Rattle.call_script.specs.declared.entries.CallerEntry.{CallerEntry}
 use Rattle.call_script.specs.declared.entries.RequestEntry.{RequestEntry}
 use Rattle.call_script.specs.declared.operations.Op.{Op}
 use Rattle.call_script.specs.declared.tasks.Task.{Task}
-use Rattle.call_script.specs.declared.tasks.Task.TheVariants.{Opens, Sends, Closes, Pours}
+use Rattle.call_script.specs.declared.tasks.Task.TheVariants.{Opens, Sends, Closes}
 use Rattle.interleave_core.specs.Parts.{IsAsked}
 use Rattle.race_run.specs.Whole.{own_done}
 
 -- the task doesn't close the channel of this number
 abbrev pub LeavesOpen : ℕ → Task → Type 0
 LeavesOpen c (Opens request) = Unit {0}
-LeavesOpen c (Sends request count gap size) = Unit {0}
+LeavesOpen c (Sends link chan count gap size) = Unit {0}
 LeavesOpen c (Closes request) = channel_number request.chan ≢ c
-LeavesOpen c (Pours link count gap size) = Unit {0}
 
 -- of the tasks, those of `front` are done. `accepted` tells of each channel, by its number, whether it was accepted so far
 pub record StandsBetween (network : Network) (front rest : List Task) (pass : Token) (accepted : List Bool) : Type 0 where

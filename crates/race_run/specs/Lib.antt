@@ -4,4 +4,5 @@ pub mod Merging
 pub mod Callers
 pub mod Rounds
 pub mod Pieces
+pub mod Tail
 pub mod Worked

@@ -10,7 +10,7 @@ use Rattle.net_units.specs.declared.OutOfMemory.{OutOfMemory}
 use Rattle.link_steps.specs.Lists.{Each}
 use Rattle.link_steps.specs.Split.{Link}
 use Rattle.step_stamp.specs.Lists.{up_to}
-use Rattle.link_ledger.specs.Tokens.{Token}
+use Rattle.link_ledger.specs.Tokens.{Token, stamps_drawn}
 use Rattle.shared_network.specs.Gathering.{token_actor}
 use Rattle.shared_network.specs.Ready.{IsNew, MayStep, PassGoesOn}
 use Rattle.tick_plane.specs.Kept.{KeptPlane}
@@ -38,7 +38,7 @@ pub record AreNew (table : TableId) (owners : List ActorNo) (links : List Link) 
 pub record IsUnbegun (parts : PlanParts) (pass : Token) : Type 0 where
   pub caller : actor_number pass.actor < length parts.callers
   pub own : pass.own ≡ []
-  pub drawn : pass.view.drawn ≡ []
+  pub drawn : stamps_drawn pass ≡ 0
 
 -- the plane stands where so many of its rounds are made
 pub record IsAtRound (parts : PlanParts) (round : ℕ) (plane : KeptPlane) (pass : Token) : Type 0 where

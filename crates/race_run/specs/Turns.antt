@@ -1,6 +1,7 @@
 -- The schedule of a run that has happened is its list of actors, in the order of time, in maximal runs: each item says how many
 -- entries in a row are one actor's, and the next item is of another actor.
-use Rattle.std.specs.Prelude.{◌≡◌, ◌≢◌, ◌≤◌, Bool, false, nat_eq, List, [], ◌∷◌, map}
+use Rattle.std.specs.Prelude.{◌≡◌, ◌≢◌, ℕ, ◌≤◌, Bool, false, nat_eq, List, [], ◌∷◌, map}
+use Rattle.net_units.specs.Limits.{most_steps}
 use Rattle.net_units.specs.Numbers.{actor_number}
 use Rattle.net_units.specs.declared.numbers.ActorNo.{ActorNo}
 use Rattle.link_steps.specs.Lists.{Each}
@@ -23,6 +24,13 @@ Alternate (item ∷ items) = BeginsOtherThan item.actor items × Alternate items
 pub record IsUnwritten (item : Do) : Type 0 where
   pub line : item.line ≡ 0
   pub some : 1 ≤ item.count
+
+-- the scenario's language writes it, where there are so many callers: its actor is one of them or the plane, and its steps are
+-- within the limit
+pub record IsWritable (callers : ℕ) (item : Do) : Type 0 where
+  pub actor : actor_number item.actor ≤ callers
+  pub least : 1 ≤ item.count
+  pub most : item.count ≤ most_steps
 
 -- the items are the maximal runs of these actors
 pub record AreMaximalRuns (actors : List ActorNo) (items : List Do) : Type 0 where

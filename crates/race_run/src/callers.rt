@@ -4,6 +4,7 @@ ghost use Rattle.call_script.specs.declared.operations.Op.TheVariants.{Open, Sen
 ghost use Rattle.setup_protocol.specs.Laws.{is_accepted};
 ghost use Rattle.setup_protocol.specs.State.{outcome_of};
 ghost use Rattle.race_run.specs.Callers.{CallerIsAt, HasLeft, HasOp, IsNetworkOf};
+ghost use Rattle.link_ledger.specs.Tokens.{stamps_drawn};
 ghost use Rattle.shared_network.specs.Ready.{MayStep, PassGoesOn};
 
 use call_script::{Op, Plan};
@@ -35,9 +36,9 @@ pub(crate) fn make_op<L: LinkStep + Send, H: Home, W: Wait, G: Gate>(
     requires pass { MayStep H.table H.owners H.links pass.old }
     requires at { CallerIsAt plan.now at.0 at.1 pass.old accepted.old }
     requires left { HasLeft plan.now at.0 at.1 }
-    requires few { length pass.old.view.drawn ≤ 32 * at.1 }
+    requires few { stamps_drawn pass.old ≤ 32 * at.1 }
     ensures at { OnOk result (CallerIsAt plan.now at.0 (at.1 + 1) pass.new accepted.new) }
-    ensures drew { OnOk result (length pass.new.view.drawn ≤ length pass.old.view.drawn + 32) }
+    ensures drew { OnOk result (stamps_drawn pass.new ≤ stamps_drawn pass.old + 32) }
     ensures ready { OnOk result (PassGoesOn H.table H.owners H.links pass.old pass.new) }
     ensures actor { OnOk result (pass.new.actor ≡ pass.old.actor) }
 {
@@ -78,11 +79,11 @@ fn open_channel<L: LinkStep + Send, H: Home, W: Wait, G: Gate>(
 ) -> Result<(), OutOfMemory>
     requires network { IsNetworkOf plan.now H.links H.owners }
     requires pass { MayStep H.table H.owners H.links pass.old }
-    requires few { length pass.old.view.drawn < 2 ^ 40 - 64 }
+    requires few { stamps_drawn pass.old < 2 ^ 40 - 64 }
     requires at { CallerIsAt plan.now at.0 at.1 pass.old accepted.old }
     requires op { HasOp plan.now at.0 at.1 (Open chan) }
     ensures at { OnOk result (CallerIsAt plan.now at.0 (at.1 + 1) pass.new accepted.new) }
-    ensures drew { OnOk result (length pass.new.view.drawn ≤ length pass.old.view.drawn + 32) }
+    ensures drew { OnOk result (stamps_drawn pass.new ≤ stamps_drawn pass.old + 32) }
     ensures ready { OnOk result (PassGoesOn H.table H.owners H.links pass.old pass.new) }
     ensures actor { OnOk result (pass.new.actor ≡ pass.old.actor) }
 {
@@ -117,11 +118,11 @@ fn send_on<L: LinkStep + Send, H: Home, W: Wait, G: Gate>(
 ) -> Result<(), OutOfMemory>
     requires network { IsNetworkOf plan.now H.links H.owners }
     requires pass { MayStep H.table H.owners H.links pass.old }
-    requires few { length pass.old.view.drawn < 2 ^ 40 - 64 }
+    requires few { stamps_drawn pass.old < 2 ^ 40 - 64 }
     requires at { CallerIsAt plan.now at.0 at.1 pass.old accepted.now }
     requires op { HasOp plan.now at.0 at.1 (Send packets.0 packets.1 packets.2 packets.3) }
     ensures at { OnOk result (CallerIsAt plan.now at.0 (at.1 + 1) pass.new accepted.now) }
-    ensures drew { OnOk result (length pass.new.view.drawn ≤ length pass.old.view.drawn + 32) }
+    ensures drew { OnOk result (stamps_drawn pass.new ≤ stamps_drawn pass.old + 32) }
     ensures ready { OnOk result (PassGoesOn H.table H.owners H.links pass.old pass.new) }
     ensures actor { OnOk result (pass.new.actor ≡ pass.old.actor) }
 {
@@ -158,11 +159,11 @@ fn close_channel<L: LinkStep + Send, H: Home, W: Wait, G: Gate>(
 ) -> Result<(), OutOfMemory>
     requires network { IsNetworkOf plan.now H.links H.owners }
     requires pass { MayStep H.table H.owners H.links pass.old }
-    requires few { length pass.old.view.drawn < 2 ^ 40 - 64 }
+    requires few { stamps_drawn pass.old < 2 ^ 40 - 64 }
     requires at { CallerIsAt plan.now at.0 at.1 pass.old accepted.now }
     requires op { HasOp plan.now at.0 at.1 (Close chan) }
     ensures at { OnOk result (CallerIsAt plan.now at.0 (at.1 + 1) pass.new accepted.now) }
-    ensures drew { OnOk result (length pass.new.view.drawn ≤ length pass.old.view.drawn + 32) }
+    ensures drew { OnOk result (stamps_drawn pass.new ≤ stamps_drawn pass.old + 32) }
     ensures ready { OnOk result (PassGoesOn H.table H.owners H.links pass.old pass.new) }
     ensures actor { OnOk result (pass.new.actor ≡ pass.old.actor) }
 {
@@ -192,11 +193,11 @@ fn pour<L: LinkStep + Send, H: Home, W: Wait, G: Gate>(
 ) -> Result<(), OutOfMemory>
     requires network { IsNetworkOf plan.now H.links H.owners }
     requires pass { MayStep H.table H.owners H.links pass.old }
-    requires few { length pass.old.view.drawn < 2 ^ 40 - 64 }
+    requires few { stamps_drawn pass.old < 2 ^ 40 - 64 }
     requires at { CallerIsAt plan.now at.0 at.1 pass.old accepted.now }
     requires op { HasOp plan.now at.0 at.1 (Pour packets.0 packets.1 packets.2 packets.3) }
     ensures at { OnOk result (CallerIsAt plan.now at.0 (at.1 + 1) pass.new accepted.now) }
-    ensures drew { OnOk result (length pass.new.view.drawn ≤ length pass.old.view.drawn + 32) }
+    ensures drew { OnOk result (stamps_drawn pass.new ≤ stamps_drawn pass.old + 32) }
     ensures ready { OnOk result (PassGoesOn H.table H.owners H.links pass.old pass.new) }
     ensures actor { OnOk result (pass.new.actor ≡ pass.old.actor) }
 {

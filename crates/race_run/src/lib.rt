@@ -12,6 +12,7 @@ pub mod pieces;
 pub mod racing;
 pub mod rounds;
 pub mod scripts;
+pub mod tail;
 pub mod turns;
 pub mod weaving;
 

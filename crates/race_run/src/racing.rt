@@ -1,5 +1,5 @@
 //! A race: a plan made over locked links, by threads.
-ghost use Rattle.std.specs.Prelude.{◌≡◌, ◌≤◌, suc, [], IfOk, OnOk, length, map};
+ghost use Rattle.std.specs.Prelude.{◌≡◌, suc, [], IfOk, length, map};
 ghost use Rattle.link_steps.specs.Lists.{Each};
 ghost use Rattle.step_stamp.specs.Lists.{up_to};
 ghost use Rattle.step_stamp.specs.Opening.{AreLinks, ArePasses};
@@ -8,14 +8,14 @@ ghost use Rattle.call_script.specs.Plans.{IsPlan};
 ghost use Rattle.call_script.specs.Tasks.{network_of};
 ghost use Rattle.interleave_core.specs.Runs.{plane_no};
 ghost use Rattle.shared_network.specs.Gathering.{AreAll, token_actor};
-ghost use Rattle.shared_network.specs.Ready.{MayStep, PassGoesOn};
 ghost use Rattle.race_run.specs.Callers.{IsNetworkOf};
-ghost use Rattle.race_run.specs.Pieces.{AreNew, IsAtRound};
+ghost use Rattle.race_run.specs.Pieces.{AreNew};
+ghost use Rattle.race_run.specs.Tail.{TailIsLast, own_in};
 ghost use Rattle.race_run.specs.Whole.{HasMadeAll, IsWhole};
 
 use crate::opening::{links_of, owners_of, plane_of, stamps_of};
 use crate::pieces::{make_pieces, passes_of, pieces_of};
-use crate::rounds::make_rounds;
+use crate::tail::make_tail;
 use call_script::Plan;
 use link_ledger::{Home, Pass};
 use link_quota::AnyLink;
@@ -27,12 +27,12 @@ use std::marker::Brand;
 use std::sync::Wait;
 use std::thread::Threads;
 use step_stamp::{LinkSeat, PassSeat, Stamps};
-use tick_plane::Plane;
 
 /// Makes the plan over a network of its links. The owners of its channels are the callers of the plan's requests. The callers'
 /// scripts and the plane's first `rounds` rounds run as pieces of one parallel call, each on a thread of its own where the
-/// machine can start one; the plane's last `tail` rounds follow once all have ended. Then the network is closed. Ok answers
-/// the journals of its links and the passes of its actors, which are whole for the plan.
+/// machine can start one; the plane's last `tail` rounds follow once all have ended, with stamps above all of theirs
+/// (`tail`). Then the network is closed. Ok answers the journals of its links and the passes of its actors, which are whole
+/// for the plan (`whole`).
 ///
 /// The gate is called round each step. An `Err` comes only for want of memory, and the network is given up then. The call may
 /// wait.
@@ -43,6 +43,7 @@ pub fn race<R: Threads + Wait + Sync, G: Gate + Sync>(
     gate: &G,
 ) -> Result<Closed, OutOfMemory>
     ensures whole { IfOk result (λ closed. IsWhole (network_of plan.now) closed.passes.items closed.journals.items) }
+    ensures tail { IfOk result (λ closed. TailIsLast plan.now (map own_in closed.passes.items)) }
 {
     let links = links_of(alloc, plan)?;
     let owners = owners_of(alloc, plan)?;
@@ -68,7 +69,8 @@ fn race_over<L: LinkStep + Send, H: Home + Send + Sync, R: Threads + Wait + Sync
     requires links { map L.link_of links.items ≡ H.links }
     requires stand { Each (λ link. L.stands_for link []) links.items }
     requires owners { owners.items ≡ H.owners }
-    ensures { IfOk result (λ closed. IsWhole (network_of plan.now) closed.passes.items closed.journals.items) }
+    ensures whole { IfOk result (λ closed. IsWhole (network_of plan.now) closed.passes.items closed.journals.items) }
+    ensures tail { IfOk result (λ closed. TailIsLast plan.now (map own_in closed.passes.items)) }
 {
     let (network, passes) = Network::<L, H>::open(alloc, opened, links, owners)?;
     let passes = make_all(rt, alloc, &network, plan, gate, passes)?;
@@ -92,6 +94,7 @@ fn make_all<L: LinkStep + Send, H: Home + Send + Sync, R: Threads + Wait + Sync,
     ensures all { IfOk result (λ made. AreAll H.table H.owners H.links made.items) }
     ensures actors { IfOk result (λ made. map token_actor made.items ≡ up_to (suc (plane_no (network_of plan.now)))) }
     ensures made { IfOk result (λ made. Each (HasMadeAll (network_of plan.now)) made.items) }
+    ensures tail { IfOk result (λ made. TailIsLast plan.now (map own_in made.items)) }
 {
     let mut passes = passes;
     let Some(last) = passes.pop() else {
@@ -102,28 +105,7 @@ fn make_all<L: LinkStep + Send, H: Home + Send + Sync, R: Threads + Wait + Sync,
     let made = make_pieces(rt, alloc, network, plan, gate, pieces)?;
     let (callers, plane, last) = passes_of(alloc, made)?;
     let mut callers = callers;
-    callers.push(make_tail(rt, network, plan, gate, plane, last)?)?;
+    let last = make_tail(rt, network, plan, gate, &callers, plane, last)?;
+    callers.push(last)?;
     Ok(callers)
-}
-
-// The plane's rounds after the callers, with its pass.
-fn make_tail<L: LinkStep + Send, H: Home, W: Wait, G: Gate>(
-    rt: &W,
-    network: &Network<L, H>,
-    plan: &Plan,
-    gate: &G,
-    plane: Plane,
-    pass: Pass,
-) -> Result<Pass, OutOfMemory>
-    requires network { IsNetworkOf plan.now H.links H.owners }
-    requires may_step { MayStep H.table H.owners H.links pass }
-    requires at { IsAtRound plan.now plan.now.rounds plane pass }
-    ensures made { IfOk result (HasMadeAll (network_of plan.now)) }
-    ensures ready { IfOk result (PassGoesOn H.table H.owners H.links pass) }
-    ensures actor { IfOk result (λ made. made.actor ≡ pass.actor) }
-{
-    let (mut plane, mut pass) = (plane, pass);
-    let all = plan.rounds() + plan.tail();
-    make_rounds(rt, network, plan, gate, &mut plane, all, &mut pass)?;
-    Ok(pass)
 }

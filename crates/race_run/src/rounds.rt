@@ -3,6 +3,8 @@ ghost use Rattle.std.specs.Prelude.{◌≡◌, ◌+◌, ◌<◌, ◌≤◌, OnOk
 ghost use Rattle.call_script.specs.Tasks.{network_of};
 ghost use Rattle.race_run.specs.Callers.{IsNetworkOf};
 ghost use Rattle.race_run.specs.Rounds.{PlaneIsAt, PlaneIsOn, IsStepped};
+ghost use Rattle.link_ledger.specs.Tokens.{last_seen};
+ghost use Rattle.shared_network.specs.Added.{AddsAbove};
 ghost use Rattle.shared_network.specs.Ready.{MayStep, PassGoesOn};
 
 use call_script::Plan;
@@ -37,6 +39,7 @@ pub(crate) fn make_rounds<L: LinkStep + Send, H: Home, W: Wait, G: Gate>(
     ensures round { OnOk result (plane.new.at.round ≡ until) }
     ensures ready { OnOk result (PassGoesOn H.table H.owners H.links pass.old pass.new) }
     ensures actor { OnOk result (pass.new.actor ≡ pass.old.actor) }
+    ensures later { OnOk result (AddsAbove (last_seen pass.old) pass.old pass.new) }
 {
     while plane.round() < until {
         make_round(rt, network, plan, gate, plane, pass)?;
@@ -61,6 +64,7 @@ fn make_round<L: LinkStep + Send, H: Home, W: Wait, G: Gate>(
     ensures round { OnOk result (plane.new.at.round ≡ plane.old.at.round + 1) }
     ensures ready { OnOk result (PassGoesOn H.table H.owners H.links pass.old pass.new) }
     ensures actor { OnOk result (pass.new.actor ≡ pass.old.actor) }
+    ensures later { OnOk result (AddsAbove (last_seen pass.old) pass.old pass.new) }
 {
     let round = plane.round();
     while plane.round() == round {
@@ -86,6 +90,7 @@ fn make_step<L: LinkStep + Send, H: Home, W: Wait, G: Gate>(
     ensures stepped { OnOk result (IsStepped plane.old plane.new) }
     ensures ready { OnOk result (PassGoesOn H.table H.owners H.links pass.old pass.new) }
     ensures actor { OnOk result (pass.new.actor ≡ pass.old.actor) }
+    ensures later { OnOk result (AddsAbove (last_seen pass.old) pass.old pass.new) }
 {
     // Read for what it says of every plan.
     let _valid = plan.links();

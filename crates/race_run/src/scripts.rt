@@ -4,6 +4,7 @@ ghost use Rattle.net_units.specs.Numbers.{actor_number};
 ghost use Rattle.call_script.specs.Tasks.{network_of};
 ghost use Rattle.race_run.specs.Callers.{CallerIsAt, HasOps, IsNetworkOf};
 ghost use Rattle.race_run.specs.Whole.{HasMadeAll};
+ghost use Rattle.link_ledger.specs.Tokens.{stamps_drawn};
 ghost use Rattle.shared_network.specs.Ready.{MayStep, PassGoesOn};
 
 use crate::callers::make_op;
@@ -31,7 +32,7 @@ pub(crate) fn make_script<L: LinkStep + Send, H: Home, W: Wait, G: Gate>(
 ) -> Result<(), OutOfMemory>
     requires network { IsNetworkOf plan.now H.links H.owners }
     requires is { (caller < length plan.now.callers) × (actor_number pass.old.actor ≡ caller) }
-    requires new { (pass.old.own ≡ []) × (pass.old.view.drawn ≡ []) × MayStep H.table H.owners H.links pass.old }
+    requires new { (pass.old.own ≡ []) × (stamps_drawn pass.old ≡ 0) × MayStep H.table H.owners H.links pass.old }
     ensures made { OnOk result (HasMadeAll (network_of plan.now) pass.new) }
     ensures ready { OnOk result (PassGoesOn H.table H.owners H.links pass.old pass.new) }
     ensures actor { OnOk result (pass.new.actor ≡ pass.old.actor) }
@@ -61,7 +62,7 @@ fn make_ops<L: LinkStep + Send, H: Home, W: Wait, G: Gate>(
 ) -> Result<(), OutOfMemory>
     requires network { IsNetworkOf plan.now H.links H.owners }
     requires pass { MayStep H.table H.owners H.links pass.old }
-    requires drawn { pass.old.view.drawn ≡ [] }
+    requires drawn { stamps_drawn pass.old ≡ 0 }
     requires all { HasOps plan.now all.0 all.1 }
     requires at { CallerIsAt plan.now all.0 0 pass.old accepted.old }
     ensures made { OnOk result (HasMadeAll (network_of plan.now) pass.new) }

@@ -8,6 +8,8 @@ ghost use Rattle.call_script.specs.Tasks.{network_of};
 ghost use Rattle.race_run.specs.Whole.{IsWhole};
 ghost use Rattle.race_run.specs.Worked.{AreNumbered, IsWorkedCaller, IsWorkedHop, IsWorkedLink, IsWorkedRequest};
 
+mod orders;
+
 use super::*;
 use call_script::{
     CallerEntry, LinkEntry, Op, Ops, Plan, Quotas, RequestEntry, Version, push_request,

@@ -1,11 +1,11 @@
 //! The run that journals and passes tell.
-ghost use Rattle.std.specs.Prelude.{◌≡◌, ℕ, IfOk, None, true, reverse};
+ghost use Rattle.std.specs.Prelude.{◌≡◌, ℕ, IfOk, None, true, length, reverse};
 ghost use Rattle.call_script.specs.Tasks.{network_of};
 ghost use Rattle.interleave_core.specs.Runs.{next_for};
 ghost use Rattle.interleave_core.specs.Schedules.{IsActorOf, IsPlayed};
 ghost use Rattle.interleave_core.specs.Standing.{IsGuaranteedRun};
 ghost use Rattle.link_steps.specs.Lists.{Each};
-ghost use Rattle.race_run.specs.Turns.{AreMaximalRuns, actors_of};
+ghost use Rattle.race_run.specs.Turns.{AreMaximalRuns, IsWritable, actors_of};
 ghost use Rattle.race_run.specs.Whole.{IsWhole, weave_of};
 
 use crate::merging::{merged, recorded};
@@ -28,13 +28,15 @@ pub struct Raced {
 /// The run that a closed network's journals tell: all their entries in order of stamp, with the schedule of their actors in
 /// maximal runs, written, with no lines. The journals and passes are whole for the plan. Then this is the run of the plan by
 /// that schedule, in it every actor makes all its steps, and it has the whole guarantee at its beginning and after each of
-/// its entries. An `Err` comes only for want of memory. It waits for nobody.
+/// its entries. The scenario's language writes the schedule: its actors are the plan's, and each item has 1 to 1,048,576
+/// steps (`language`). An `Err` comes only for want of memory. It waits for nobody.
 pub fn woven(alloc: Global, plan: &Plan, closed: &Closed) -> Result<Raced, OutOfMemory>
     requires whole { IsWhole (network_of plan.now) closed.now.passes.items closed.now.journals.items }
     ensures weave { IfOk result (λ raced. reverse raced.run.entries ≡ weave_of closed.now.journals.items) }
     ensures runs { IfOk result (λ raced. AreMaximalRuns (actors_of raced.run.entries) raced.schedule.items) }
     ensures written { IfOk result (λ raced. raced.schedule.written ≡ true) }
     ensures actors { IfOk result (λ raced. Each (IsActorOf plan.now) raced.schedule.items) }
+    ensures language { IfOk result (λ raced. Each (IsWritable (length plan.now.callers)) raced.schedule.items) }
     ensures played { IfOk result (λ raced. IsPlayed (network_of plan.now) raced.schedule (reverse raced.run.entries)) }
     ensures over { IfOk result (λ raced. (actor : ℕ) → next_for (network_of plan.now) actor (reverse raced.run.entries) ≡ None) }
     ensures guaranteed { IfOk result (λ raced. IsGuaranteedRun plan.now (reverse raced.run.entries)) }

@@ -4,7 +4,10 @@ use Rattle.std.proofs.lemmas.Bool.{true≢false}
 use Rattle.std.specs.Prelude.{is_some, unwrap_or}
 use Rattle.link_steps.specs.Lists.{Each}
 use Rattle.link_steps.proofs.ListFacts.{Each-append}
-use Rattle.call_script.specs.Growing.{KeepSoFar, with_op}
+use Rattle.net_units.specs.Numbers.{link_number}
+use Rattle.net_units.specs.declared.numbers.LinkNo.{LinkNo}
+use Rattle.link_steps.specs.declared.quota.Quota.{Quota}
+use Rattle.call_script.specs.Growing.{KeepSoFar, with_op, add_quota}
 use Rattle.call_script.specs.Parts.{PlanParts}
 use Rattle.call_script.specs.Plans.{IsPlan}
 use Rattle.call_script.specs.Broken.{rule_broken}
@@ -17,8 +20,9 @@ use Rattle.call_script.specs.declared.schedule.Do.{Do}
 use Rattle.call_script.specs.declared.version.Version.{Version}
 use Rattle.call_script.specs.declared.version.Version.TheVariants.{One}
 use Rattle.call_script.proofs.Growing.{nothing-keeps, link-keeps, caller-keeps, open-keeps, send-keeps, close-keeps, pour-keeps, rounds-keep, tail-keeps, grown-is-plan}
+use Rattle.call_script.proofs.QuotaGrowth.{group-keeps, quota-keeps}
 use Rattle.scenario_reader.specs.Drafts.{Said, nothing_said, with_item, is_complete, rounds_of, parts_said, schedule_said}
-use Rattle.scenario_reader.specs.Kept.{IsDo, IsScheduleOf, IsDraft, MayDo, MayPutLink, MayPutCaller, MayPutOpen, MayPutOp, MayPutRounds, MayPutTail, MayPutSchedule, MayPutDo, MayAdd}
+use Rattle.scenario_reader.specs.Kept.{IsDo, IsScheduleOf, IsDraft, MayDo, MayPutLink, MayPutGroup, MayPutQuota, MayPutCaller, MayPutOpen, MayPutOp, MayPutRounds, MayPutTail, MayPutSchedule, MayPutDo, MayAdd}
 use Rattle.scenario_reader.specs.declared.item.Item.{Item}
 use Rattle.scenario_reader.specs.declared.item.Item.TheVariants as item
 
@@ -73,9 +77,33 @@ draft_link said entry d may = record {
   schedule = d.schedule;
 }
 
-draft_caller : (said : Said) (name : List ℕ) → IsDraft said → MayPutCaller said name → IsDraft (with_item (item.Caller name) said)
-draft_caller said name d may = record {
-  keeps = caller-keeps (parts_said said) name 0 d.keeps may.caller;
+draft_group : (said : Said) (name : List ℕ) → IsDraft said → MayPutGroup said name → IsDraft (with_item (item.Group name) said)
+draft_group said name d may = record {
+  keeps = group-keeps (parts_said said) name d.keeps may.group;
+  unheaded = λ e. absurd (may.before.before.headed e);
+  unlinked_callers = d.unlinked_callers;
+  unlinked_rounds = d.unlinked_rounds;
+  unrounded = d.unrounded;
+  untailed = d.untailed;
+  ticks = d.ticks;
+  schedule = d.schedule;
+}
+
+draft_quota : (said : Said) (link : LinkNo) (quota : Quota) → IsDraft said → MayPutQuota said link quota → IsDraft (with_item (item.Quota link quota) said)
+draft_quota said link quota d may = record {
+  keeps = quota-keeps (parts_said said) (link_number link) quota d.keeps may.share;
+  unheaded = λ e. absurd (may.before.before.headed e);
+  unlinked_callers = λ e. may.share.first;
+  unlinked_rounds = λ e. may.before.before.unrounded;
+  unrounded = d.unrounded;
+  untailed = d.untailed;
+  ticks = none_holds (λ tail. (rounds_of said + tail) * length (add_quota (link_number link) quota said.links) ≤ 524288) said.tail (d.unrounded may.before.before.unrounded);
+  schedule = d.schedule;
+}
+
+draft_caller : (said : Said) (name : List ℕ) (group : ℕ) → IsDraft said → MayPutCaller said name group → IsDraft (with_item (item.Caller name group) said)
+draft_caller said name group d may = record {
+  keeps = caller-keeps (parts_said said) name group d.keeps may.caller;
   unheaded = λ e. absurd (may.before.before.headed e);
   unlinked_callers = λ e. absurd (may.before.linked e);
   unlinked_rounds = d.unlinked_rounds;
@@ -171,7 +199,9 @@ pub draft_more : (said : Said) (what : Item) → IsDraft said → MayAdd said wh
 draft_more said item.Nothing d may = d
 draft_more said (item.Header version) d may = draft_header said version d may
 draft_more said (item.Link entry) d may = draft_link said entry d may
-draft_more said (item.Caller name) d may = draft_caller said name d may
+draft_more said (item.Group name) d may = draft_group said name d may
+draft_more said (item.Quota link quota) d may = draft_quota said link quota d may
+draft_more said (item.Caller name group) d may = draft_caller said name group d may
 draft_more said (item.Open entry) d may = draft_open said entry d may
 draft_more said (item.Op what) d may = draft_op said what d may
 draft_more said (item.Rounds count) d may = draft_rounds said count d may

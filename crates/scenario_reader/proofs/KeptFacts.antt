@@ -7,9 +7,11 @@ use Rattle.std.proofs.lemmas.List.Folds.{list_any-append}
 use Rattle.std.proofs.lemmas.Option.{same_Some}
 use Rattle.std.specs.List.{list_all, list_any, slice_get, slice_index_or}
 use Rattle.std.specs.Prelude.{◌&&◌}
-use Rattle.net_units.specs.Numbers.{actor_number, channel_number}
+use Rattle.net_units.specs.Numbers.{link_number, actor_number, channel_number}
+use Rattle.net_units.specs.declared.numbers.LinkNo.{LinkNo}
 use Rattle.traffic_contract.specs.Admission.{total}
-use Rattle.call_script.specs.Growing.{new_caller, add_op, last_ops}
+use Rattle.link_steps.specs.declared.quota.Quota.{Quota}
+use Rattle.call_script.specs.Growing.{with_its_quota, new_caller, add_quota, add_op, last_ops}
 use Rattle.call_script.specs.Parts.{PlanParts}
 use Rattle.call_script.specs.Rules.{each_after, is_opened, opens, are_opened, route_is_there, pour_is_there, are_there, closes, load_of, load_in}
 use Rattle.call_script.specs.declared.entries.CallerEntry.{CallerEntry}
@@ -24,6 +26,7 @@ use Rattle.call_script.proofs.OwnerFacts.{any-later, twice-not}
 use Rattle.call_script.proofs.GrowthFacts.{last-passes, get-more, added-names, added-length}
 use Rattle.call_script.proofs.Growing.{HaveRequests, callers-load, all-have}
 use Rattle.call_script.proofs.OpeningFacts.{owner-inside}
+use Rattle.call_script.proofs.QuotaGrowth.{quota-names, quota-length}
 use Rattle.scenario_reader.specs.Drafts.{Said, nothing_said, with_item, parts_said}
 use Rattle.scenario_reader.specs.Kept.{IsDraft, IsKeptBeside, MayPutLink, MayPutCaller, MayPutOpen, MayPutOp, MayDo}
 use Rattle.scenario_reader.specs.declared.item.Item.TheVariants as item
@@ -62,29 +65,57 @@ kept_link said links requests callers closed load entry k may = record {
   few_rounds = k.few_rounds;
 }
 
--- ---- callers
-
--- the operations of a new caller
-last_new : (callers : List CallerEntry) (name : List ℕ) → last_ops (callers ++ new_caller name 0 ∷ []) ≡ []
-last_new [] name = refl
-last_new (caller ∷ []) name = refl
-last_new (caller ∷ next ∷ callers) name = last_new (next ∷ callers) name
-
--- a caller more
-pub kept_caller : (said : Said) (links requests callers : List (List ℕ)) (closed : List Bool) (load : ℕ) (name : List ℕ) → IsDraft said → IsKeptBeside said links requests callers closed load → MayPutCaller said name
-    → IsKeptBeside (with_item (item.Caller name) said) links requests (callers ++ name ∷ []) closed load
-kept_caller said links requests callers closed load name d k may = record {
+-- a group more
+pub kept_group : (said : Said) (links requests callers : List (List ℕ)) (closed : List Bool) (load : ℕ) (name : List ℕ) → IsKeptBeside said links requests callers closed load
+    → IsKeptBeside (with_item (item.Group name) said) links requests callers closed load
+kept_group said links requests callers closed load name k = record {
   same_links = k.same_links;
   same_requests = k.same_requests;
-  same_callers = ap (λ names. names ++ name ∷ []) k.same_callers ∙ sym (map-append (λ (c : CallerEntry). c.name) said.callers (new_caller name 0 ∷ []));
+  same_callers = k.same_callers;
+  all_closed = k.all_closed;
+  same_closed = k.same_closed;
+  same_load = k.same_load;
+  few_links = k.few_links;
+  few_requests = k.few_requests;
+  few_callers = k.few_callers;
+  small_load = k.small_load;
+  few_rounds = k.few_rounds;
+}
+
+-- a quota more
+pub kept_quota : (said : Said) (links requests callers : List (List ℕ)) (closed : List Bool) (load : ℕ) (link : LinkNo) (quota : Quota) → IsKeptBeside said links requests callers closed load
+    → IsKeptBeside (with_item (item.Quota link quota) said) links requests callers closed load
+kept_quota said links requests callers closed load link quota k = record {
+  same_links = k.same_links ∙ sym (quota-names (link_number link) quota said.links);
+  same_requests = k.same_requests;
+  same_callers = k.same_callers;
+  all_closed = k.all_closed;
+  same_closed = k.same_closed;
+  same_load = k.same_load;
+  few_links = omega (arith, k.few_links, quota-length (link_number link) quota said.links);
+  few_requests = k.few_requests;
+  few_callers = k.few_callers;
+  small_load = k.small_load;
+  few_rounds = k.few_rounds;
+}
+
+-- ---- callers
+
+-- a caller more
+pub kept_caller : (said : Said) (links requests callers : List (List ℕ)) (closed : List Bool) (load : ℕ) (name : List ℕ) (group : ℕ) → IsDraft said → IsKeptBeside said links requests callers closed load → MayPutCaller said name group
+    → IsKeptBeside (with_item (item.Caller name group) said) links requests (callers ++ name ∷ []) closed load
+kept_caller said links requests callers closed load name group d k may = record {
+  same_links = k.same_links;
+  same_requests = k.same_requests;
+  same_callers = ap (λ names. names ++ name ∷ []) k.same_callers ∙ sym (map-append (λ (c : CallerEntry). c.name) said.callers (new_caller name group ∷ []));
   all_closed = k.all_closed;
   same_closed = λ n entry found by.
       let inside = owner-inside (parts_said said) n entry d.keeps.planned found in
-      absurd (omega (arith, inside, by, length-append said.callers (new_caller name 0 ∷ [])));
-  same_load = (let more = total-push (λ (c : CallerEntry). total (load_of said.requests) c.ops) said.callers (new_caller name 0) in omega (arith, k.same_load, more));
+      absurd (omega (arith, inside, by, length-append said.callers (new_caller name group ∷ [])));
+  same_load = (let more = total-push (λ (c : CallerEntry). total (load_of said.requests) c.ops) said.callers (new_caller name group) in omega (arith, k.same_load, more));
   few_links = k.few_links;
   few_requests = k.few_requests;
-  few_callers = omega (arith, may.caller.few, length-append said.callers (new_caller name 0 ∷ []));
+  few_callers = omega (arith, may.caller.few, length-append said.callers (new_caller name group ∷ []));
   small_load = k.small_load;
   few_rounds = k.few_rounds;
 }
@@ -324,7 +355,13 @@ kept_tail said links requests callers closed load count k = record {
   few_rounds = k.few_rounds;
 }
 
--- ---- cells of callers
+-- ---- cells of links and callers
+
+-- a link, with one quota more in its place
+pub set_quota : (links : List LinkEntry) (quota : Quota) (place : ℕ) (entry link : LinkEntry) → slice_get links place ≡ Some entry → link ≡ with_its_quota quota entry → set links place link ≡ add_quota place quota links
+set_quota [] quota place entry link at is = refl
+set_quota (first ∷ links) quota zero entry link at is = ap (λ (e : LinkEntry). e ∷ links) (is ∙ ap (with_its_quota quota) (sym (same_Some first entry at)))
+set_quota (first ∷ links) quota (suc place) entry link at is = ap (λ es. first ∷ es) (set_quota links quota place entry link at is)
 
 -- the last caller, with one operation more in its place
 pub set_last : (callers : List CallerEntry) (op : Op) (place : ℕ) (entry caller : CallerEntry) → place + 1 ≡ length callers → slice_get callers place ≡ Some entry

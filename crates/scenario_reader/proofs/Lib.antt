@@ -2,6 +2,7 @@ pub mod FormFacts
 pub mod DecimalFacts
 pub mod NameFacts
 pub mod NamedFacts
+pub mod PlaceFacts
 pub mod NodeFacts
 pub mod NodeSteps
 pub mod FoundNodes
@@ -17,7 +18,9 @@ pub mod KeptFacts
 pub mod PassFacts
 pub mod OwnFacts
 pub mod LinkMay
+pub mod GroupMay
 pub mod OpenMay
+pub mod QuotaMay
 pub mod OpMay
 pub mod SayFacts
 pub mod ReadFacts
@@ -31,12 +34,19 @@ pub mod OpenBack
 pub mod NamedBack
 pub mod SaysBack
 pub mod LineFields
+pub mod GroupBack
+pub mod QuotaBack
 pub mod ReadsBack
 pub mod WalkBack
 pub mod PlanBack
+pub mod SplitBack
 pub mod ScheduleBack
 pub mod TextBack
 pub mod LineFacts
 pub mod TextFacts
 pub mod WrittenFacts
+pub mod AuditFacts
+pub mod CsvRows
+pub mod LevelFields
+pub mod AuditKeeps
 mod Worked

@@ -18,15 +18,15 @@ use Rattle.call_script.proofs.RuleFacts.{from-low}
 use Rattle.scenario_reader.specs.BothWays.{AreNodesNamed}
 use Rattle.scenario_reader.specs.BothWays.{HasNames}
 use Rattle.scenario_reader.specs.Fields.{is_field, are_fields}
-use Rattle.scenario_reader.specs.PlanText.{best_fields, bounds_fields, link_fields, caller_fields, with_name, route_names, way_fields, contract_fields, control_fields, delay_fields, open_fields, send_fields, close_fields, pour_fields, rounds_fields, tail_fields}
+use Rattle.scenario_reader.specs.PlanText.{best_fields, bounds_fields, link_fields, with_name, route_names, way_fields, contract_fields, control_fields, delay_fields, open_fields, send_fields, close_fields, pour_fields, rounds_fields, tail_fields}
 use Rattle.scenario_reader.proofs.FieldText.{name_field, number_field}
 use Rattle.scenario_reader.proofs.LinesBack.{ArePackets}
 use Rattle.scenario_reader.proofs.OpenBack.{IsHopHere}
 
-both_fields : (xs ys : List (List ℕ)) → are_fields xs ≡ true → are_fields ys ≡ true → are_fields (xs ++ ys) ≡ true
+pub both_fields : (xs ys : List (List ℕ)) → are_fields xs ≡ true → are_fields ys ≡ true → are_fields (xs ++ ys) ≡ true
 both_fields xs ys first rest = list_all-append is_field xs ys ∙ and_from (are_fields xs) (are_fields ys) first rest
 
-numbers_fields : (ns : List ℕ) → ((i : ℕ) → i < length ns → get_or ns i 0 < 2 ^ 64) → are_fields (map decimal ns) ≡ true
+pub numbers_fields : (ns : List ℕ) → ((i : ℕ) → i < length ns → get_or ns i 0 < 2 ^ 64) → are_fields (map decimal ns) ≡ true
 numbers_fields [] few = refl
 numbers_fields (n ∷ ns) few = rw (number_field n (few 0 (omega arith)), numbers_fields ns (λ i h. few (suc i) (omega arith))) refl
 
@@ -51,9 +51,6 @@ link_is_line entry named =
       number_field entry.shape.buffer (omega (arith, entry.shape.buffer_most)),
     ) refl)
     after
-
-pub caller_is_line : (name : List ℕ) → is_name name ≡ true → are_fields (caller_fields name) ≡ true
-caller_is_line name is = rw (name_field name is) refl
 
 route_fields : (links : List LinkEntry) (hops : List Hop) → Each (IsHopHere links) hops → are_fields (route_names links hops) ≡ true
 route_fields links [] here = refl

@@ -1,17 +1,20 @@
--- What the forms of a link line and of an open line say: how many bounds there are, and how many links in the route.
-use Rattle.std.proofs.Common.{◌≡◌, ℕ, zero, suc, ◌+◌, ◌≤◌, true, false, ◌&&◌, ◌||◌, List, [], ◌∷◌, length, drop, refl, sym, ◌∙◌, subst, inl, inr, arith}
+-- What the forms of the lines of links, quotas, callers and requests say: how many bounds and loads there are, whether a caller names a
+-- group, and how many links there are in the route.
+use Rattle.std.proofs.Common.{◌≡◌, ℕ, zero, suc, ◌+◌, ◌≤◌, true, false, ◌&&◌, ◌||◌, List, [], ◌∷◌, length, get_or, drop, refl, sym, ap, ◌∙◌, subst, inl, inr, arith}
 use Rattle.std.proofs.lemmas.Bool.{or_cases, and_parts, cases_Bool}
 use Rattle.std.proofs.lemmas.List.{get_or-drop}
-use Rattle.call_script.specs.Versions.{has_best_effort, has_found_routes}
+use Rattle.call_script.specs.Versions.{has_best_effort, has_found_routes, has_groups}
 use Rattle.call_script.specs.declared.version.Version.{Version}
 use Rattle.scenario_reader.specs.Fields.{field_at}
 use Rattle.scenario_reader.specs.Forms.{text_of, is_word, route_length, has_form}
+use Rattle.scenario_reader.specs.GroupLines.{caller_form, member_form, is_caller_line, names_group}
+use Rattle.scenario_reader.specs.QuotaLine.{quota_form, load_fields}
 use Rattle.scenario_reader.specs.LinkLine.{link_front, plain_form, best_form, is_link_line, has_best, bound_fields}
 use Rattle.scenario_reader.specs.OpenLine.{open_front, rate_form, jitter_form, found_front, found_rate_form, found_jitter_form, is_found_line, is_found, is_open_line, route_hops}
 use Rattle.scenario_reader.specs.declared.form.Keyword.TheVariants as word
 use Rattle.scenario_reader.specs.declared.form.Part.{Part}
 use Rattle.scenario_reader.specs.declared.form.Part.TheVariants as part
-use Rattle.scenario_reader.proofs.FormText.{few_taken, after_links, after_front, word_at}
+use Rattle.scenario_reader.proofs.FormText.{few_taken, after_links, as_written, after_front, word_at}
 
 -- a word is the test of its bytes
 word_is : (field : List ℕ) → field ≡ text_of word.Levels → is_word word.Best field ≡ false
@@ -50,6 +53,26 @@ link_line_few version fields e =
     elim (or_cases (has_form plain_form fields) (has_best_effort version && has_form best_form fields) e) [
       | inl plain ↦ plain_few fields plain
       | inr best ↦ best_few fields (and_parts (has_best_effort version) (has_form best_form fields) best).1
+    ]
+
+-- up to 8 loads stand in a quota line
+pub quota_few : (fields : List (List ℕ)) → has_form quota_form fields ≡ true → length (load_fields fields) ≤ 8
+quota_few fields e =
+    few_at fields 6 (after_front (part.Word word.Quota ∷ part.Field ∷ part.Field ∷ part.Word word.Buffer ∷ part.Field ∷ part.Word word.Levels ∷ []) (part.Bounds ∷ []) fields 0 tt e)
+
+-- a caller line without more behind the name names no group
+pub plain_caller : (fields : List (List ℕ)) → has_form caller_form fields ≡ true → names_group fields ≡ false
+plain_caller fields e =
+    let none = as_written [] fields 2 (after_front (part.Word word.Caller ∷ part.Field ∷ []) [] fields 0 tt e) in
+    let empty : field_at fields 2 ≡ [] = sym (get_or-drop 2 fields 0 []) ∙ ap (λ fs. get_or fs 0 []) none in
+    ap (is_word word.Group) empty
+
+-- a line that names a group is of a version that has groups
+pub group_version : (version : Version) (fields : List (List ℕ)) → is_caller_line version fields ≡ true → names_group fields ≡ true → has_groups version ≡ true
+group_version version fields e named =
+    elim (or_cases (has_form caller_form fields) (has_groups version && has_form member_form fields) e) [
+      | inl plain ↦ absurd (let clash : true ≡ false = sym named ∙ plain_caller fields plain in cc)
+      | inr member ↦ (and_parts (has_groups version) (has_form member_form fields) member).0
     ]
 
 -- the route of a line has 1 to 16 links

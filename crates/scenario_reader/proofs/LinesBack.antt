@@ -1,4 +1,4 @@
--- The lines of a plan but those of links and opens pass, and say what they are of.
+-- The lines of a plan's operations, `rounds` and `tail` pass, and say what they are of.
 use Rattle.std.proofs.Common.{◌≡◌, ℕ, ◌+◌, ◌*◌, ◌<◌, ◌≤◌, true, false, not, nat_lt, nat_le, List, [], ◌∷◌, length, Option, Some, None, decimal, codes, refl, sym, ◌∙◌, ap, subst, arith}
 use Rattle.std.specs.Prelude.{is_some}
 use Rattle.std.proofs.lemmas.Bool.{le-leb, lt-ltb, not_from_false}
@@ -8,7 +8,7 @@ use Rattle.net_units.specs.Text.{is_name}
 use Rattle.net_units.specs.declared.numbers.ChanNo.{ChanNo}
 use Rattle.net_units.specs.declared.numbers.LinkNo.{LinkNo}
 use Rattle.call_script.specs.Growing.{last_ops}
-use Rattle.call_script.specs.Rules.{caller_names, hops_of, load_in, takes_best_effort, packets_in_range, closes}
+use Rattle.call_script.specs.Rules.{hops_of, load_in, takes_best_effort, packets_in_range, closes}
 use Rattle.call_script.specs.declared.entries.LinkEntry.{LinkEntry}
 use Rattle.call_script.specs.declared.entries.RequestEntry.{RequestEntry}
 use Rattle.call_script.specs.declared.operations.Op.TheVariants as op
@@ -17,19 +17,14 @@ use Rattle.scenario_reader.specs.Causes.{unless}
 use Rattle.scenario_reader.specs.Decimal.{value_of}
 use Rattle.scenario_reader.specs.Drafts.{Said, rounds_of, link_named, own_request, is_closed}
 use Rattle.scenario_reader.specs.Fields.{field_at}
-use Rattle.scenario_reader.specs.Forms.{is_among, has_form, new_name_rule, used_name_rule, number_rule}
-use Rattle.scenario_reader.specs.Grammar.{caller_form, caller_rule, send_form, packets_rule, is_closed_request, load_rule, send_rule, send_said, close_form, close_rule, close_said, pour_form, pour_rule, pour_said, rounds_form, rounds_rule, are_few_ticks, tail_form, tail_rule}
-use Rattle.scenario_reader.specs.PlanText.{caller_fields, send_fields, close_fields, pour_fields, rounds_fields, tail_fields}
+use Rattle.scenario_reader.specs.Forms.{has_form, used_name_rule, number_rule}
+use Rattle.scenario_reader.specs.Grammar.{send_form, packets_rule, is_closed_request, load_rule, send_rule, send_said, close_form, close_rule, close_said, pour_form, pour_rule, pour_said, rounds_form, rounds_rule, are_few_ticks, tail_form, tail_rule}
+use Rattle.scenario_reader.specs.PlanText.{send_fields, close_fields, pour_fields, rounds_fields, tail_fields}
 use Rattle.scenario_reader.specs.declared.cause.Cause.TheVariants as cause
 use Rattle.scenario_reader.proofs.NumberText.{value-decimal, decimal_passes}
-use Rattle.scenario_reader.proofs.RulesBack.{pass_all, unless_holds, new_name_back, used_name_back}
+use Rattle.scenario_reader.proofs.RulesBack.{pass_all, unless_holds, used_name_back}
 
--- ---- callers, rounds and tail
-
-pub caller_back : (said : Said) (name : List ℕ) → is_name name ≡ true → is_among (caller_names said.callers) name ≡ false → length said.callers < 64 → caller_rule said (caller_fields name) ≡ None
-caller_back said name is new few =
-    pass_all (unless (has_form caller_form (caller_fields name)) cause.Shape ∷ new_name_rule (caller_names said.callers) name ∷ unless (nat_lt (length said.callers) 64) cause.Many ∷ [])
-    (refl, (new_name_back (caller_names said.callers) name is new, (unless_holds (nat_lt (length said.callers) 64) cause.Many (lt-ltb (length said.callers) 64 few), tt)))
+-- ---- rounds and tail
 
 pub rounds_back : (count : ℕ) → count ≤ 524288 → rounds_rule (rounds_fields count) ≡ None
 rounds_back count few =

@@ -42,10 +42,10 @@ record IsBehind (version : Version) (entry : LinkEntry) (rest : List (List ℕ))
   best_passes : best_rule (front_with entry rest) ≡ None
 
 -- 1 to 8 bounds end a link line
-bounds_form : (fs : List (List ℕ)) → 1 ≤ length fs → length fs ≤ 8 → has_form (part.Bounds ∷ []) fs ≡ true
+pub bounds_form : (fs : List (List ℕ)) → 1 ≤ length fs → length fs ≤ 8 → has_form (part.Bounds ∷ []) fs ≡ true
 bounds_form fs least most = rw (le-leb 1 (length fs) least, le-leb (length fs) 8 most) (ap (λ gs. has_form [] gs) (drop_all (length fs) fs (omega arith)))
 
-entry_bounds : (entry : LinkEntry) → AreBounds entry.shape.bounds
+pub entry_bounds : (entry : LinkEntry) → AreBounds entry.shape.bounds
 entry_bounds entry = bounds_parts entry.shape.bounds entry.shape.bounds_rise
 
 bounds_end : (entry : LinkEntry) → has_form (part.Bounds ∷ []) (map decimal entry.shape.bounds) ≡ true

@@ -1,4 +1,4 @@
--- A link line and a caller line that pass may add a link and a caller.
+-- A link line that passes may add a link.
 use Rattle.std.proofs.Common.{◌≡◌, ℕ, ◌≤◌, Bool, true, false, not, ◌&&◌, nat_eq, nat_lt, List, [], ◌∷◌, length, Option, Some, None, is_some, is_none, if◌then◌else◌, refl, sym, ◌∙◌, ap, subst, arith, inl, inr, ◌⊎◌}
 use Rattle.std.proofs.lemmas.Bool.{ltb-true, and_parts, and_from, or_cases, true≢false}
 use Rattle.std.proofs.lemmas.Option.{same_Some}
@@ -9,18 +9,17 @@ use Rattle.traffic_contract.specs.declared.admission.Test.{Test}
 use Rattle.traffic_contract.specs.declared.admission.Test.TheVariants.{Whole, Least}
 use Rattle.link_steps.specs.declared.shape.LinkShape.{LinkShape}
 use Rattle.call_script.specs.Growing.{MayAddLink}
-use Rattle.call_script.specs.Rules.{link_names, caller_names, link_has_version}
+use Rattle.call_script.specs.Rules.{link_names, link_has_version}
 use Rattle.call_script.specs.Versions.{test_of, has_best_effort, is_test}
 use Rattle.call_script.specs.declared.entries.LinkEntry.{LinkEntry}
 use Rattle.call_script.specs.declared.version.Version.{Version}
-use Rattle.call_script.specs.declared.version.Version.TheVariants.{One, Two, Three, Four}
+use Rattle.call_script.specs.declared.version.Version.TheVariants.{One, Two, Three, Four, Five}
 use Rattle.scenario_reader.specs.Causes.{unless}
 use Rattle.scenario_reader.specs.Drafts.{Said, parts_said}
 use Rattle.scenario_reader.specs.Entries.{LinkNumbers, has_rate, has_room, has_bounds, shape_with, shape_where, shape_of}
 use Rattle.scenario_reader.specs.Fields.{field_at}
 use Rattle.scenario_reader.specs.Forms.{has_form, name_rule, new_name_rule}
-use Rattle.scenario_reader.specs.Grammar.{caller_form, caller_rule}
-use Rattle.scenario_reader.specs.Kept.{MayPutLink, MayPutCaller}
+use Rattle.scenario_reader.specs.Kept.{MayPutLink}
 use Rattle.scenario_reader.specs.LinkLine.{plain_form, is_link_line, best_in, link_numbers, link_fields_rule, link_numbers_rule, best_rule, bound_numbers_rule, bound_fields, link_rule, link_with, link_said}
 use Rattle.scenario_reader.specs.declared.cause.Cause.TheVariants as cause
 use Rattle.scenario_reader.proofs.LineForms.{plain_best}
@@ -77,6 +76,7 @@ no_best Two fields e = plain fields (or_cases (has_form plain_form fields) false
   plain fields (inr e) = cc
 no_best Three fields e = refl
 no_best Four fields e = refl
+no_best Five fields e = refl
 
 -- ---- links
 
@@ -87,13 +87,14 @@ entry_version version fields shape test best e =
     (rw test (same_test (test_of version))) (rw best (no_best version fields e))
 
 pub link_may : (version : Version) (said : Said) (fields : List (List ℕ)) (entry : LinkEntry) → said.version ≡ Some version
-    → (nat_eq (length said.callers) 0 && is_none said.rounds) ≡ true → link_rule version said fields ≡ None → link_said version said fields ≡ Some entry → MayPutLink said entry
+    → (nat_eq (length said.groups) 0 && nat_eq (length said.callers) 0 && is_none said.rounds) ≡ true → link_rule version said fields ≡ None → link_said version said fields ≡ Some entry → MayPutLink said entry
 link_may version said fields entry v stands rule says =
     let p = all_pass (unless (is_link_line version fields) cause.Shape ∷ link_fields_rule said fields ∷ unless (nat_lt (length said.links) 32) cause.Many
     ∷ unless (has_bounds (link_numbers fields)) cause.Levels ∷ []) rule in
     let q = all_pass (new_name_rule (link_names said.links) (field_at fields 1) ∷ name_rule (field_at fields 2) ∷ name_rule (field_at fields 3)
     ∷ link_numbers_rule fields ∷ best_rule fields ∷ bound_numbers_rule (bound_fields fields) ∷ []) p.1.0 in
-    let may = and_parts (nat_eq (length said.callers) 0) (is_none said.rounds) stands in
+    let may = and_parts (nat_eq (length said.groups) 0 && nat_eq (length said.callers) 0) (is_none said.rounds) stands in
+    let nobody = and_parts (nat_eq (length said.groups) 0) (nat_eq (length said.callers) 0) may.0 in
     let few = ltb-true (length said.links) 32 (unless_passes (nat_lt (length said.links) 32) cause.Many p.1.1.0) in
     let made = made_some (link_with fields) (shape_of (link_at (length said.links)) (test_of version) (link_numbers fields)) entry says in
     let has = shape_has (link_at (length said.links)) (test_of version) (link_numbers fields) made.0 made.1 in
@@ -101,7 +102,7 @@ link_may version said fields entry v stands rule says =
     record {
       before = record { headed = headed_is said version v; unrounded = not_said said.rounds may.1 };
       link = subst (MayAddLink (parts_said said)) made.2 (record {
-        first = no_items said.callers may.0;
+        first = no_items said.callers nobody.1;
         version = subst (λ (w : Version). link_has_version w (link_with fields made.0) ≡ true) (sym (ap (λ o. unwrap_or o One) v))
             (entry_version version fields made.0 has.test_is has.best_is form);
         name = (new_name_passes (link_names said.links) (field_at fields 1) q.0).1;
@@ -109,22 +110,4 @@ link_may version said fields entry v stands rule says =
         number = ap link_number has.link_is ∙ omega arith;
         unsplit = refl;
       });
-    }
-
--- ---- callers
-
-pub caller_may : (version : Version) (said : Said) (fields : List (List ℕ)) → said.version ≡ Some version
-    → (not (nat_eq (length said.links) 0) && is_none said.rounds) ≡ true → caller_rule said fields ≡ None → MayPutCaller said (field_at fields 1)
-caller_may version said fields v stands rule =
-    let p = all_pass (unless (has_form caller_form fields) cause.Shape ∷ new_name_rule (caller_names said.callers) (field_at fields 1)
-    ∷ unless (nat_lt (length said.callers) 64) cause.Many ∷ []) rule in
-    let may = and_parts (not (nat_eq (length said.links) 0)) (is_none said.rounds) stands in
-    record {
-      before = record { before = record { headed = headed_is said version v; unrounded = not_said said.rounds may.1 }; linked = some_items said.links may.0 };
-      caller = record {
-        new = (new_name_passes (caller_names said.callers) (field_at fields 1) p.1.0).1;
-        few = ltb-true (length said.callers) 64 (unless_passes (nat_lt (length said.callers) 64) cause.Many p.1.1.0);
-        version = refl;
-        there = refl;
-      };
     }

@@ -9,7 +9,7 @@ use Rattle.traffic_contract.specs.Admission.{total}
 use Rattle.link_steps.specs.Lists.{Each}
 use Rattle.call_script.specs.Groups.{group_has_version, group_is_there}
 use Rattle.call_script.specs.Growing.{new_caller, with_its_op, KeepSoFar}
-use Rattle.call_script.specs.Parts.{parts_of, Opening, opened_by, openings_in, openings_of, opening_of}
+use Rattle.call_script.specs.Parts.{parts_with, Opening, opened_by, openings_in, openings_of, opening_of}
 use Rattle.call_script.specs.Rules.{each_after, is_new, link_names, caller_names, link_has_version, is_opened, is_unclosed, load_of, load_in}
 use Rattle.call_script.specs.declared.entries.CallerEntry.{CallerEntry}
 use Rattle.call_script.specs.declared.entries.LinkEntry.{LinkEntry}
@@ -17,10 +17,11 @@ use Rattle.call_script.specs.declared.entries.RequestEntry.{RequestEntry}
 use Rattle.call_script.specs.declared.operations.Op.{Op}
 use Rattle.call_script.specs.declared.version.Version.{Version}
 use Rattle.call_script.proofs.GrowthFacts.{added-total, added-last}
-use Rattle.call_script.proofs.Growing.{link-keeps, caller-keeps, length-more}
+use Rattle.call_script.proofs.Growing.{caller-keeps, length-more}
 use Rattle.traffic_contract.proofs.AdmissionFacts.{total-append}
 use Rattle.scenario_reader.specs.BothWays.{HasNames}
 use Rattle.scenario_reader.specs.PlanText.{link_fields, op_lines, caller_fields, caller_lines}
+use Rattle.scenario_reader.proofs.GroupBack.{GroupsStand}
 use Rattle.scenario_reader.proofs.ReadsBack.{front, link_read, caller_read}
 use Rattle.scenario_reader.proofs.SaysBack.{Reads, reads_none, reads_on}
 use Rattle.scenario_reader.proofs.WalkBack.{LinksStand, RestStands, Stands, OpSound, op_step}
@@ -36,26 +37,17 @@ pub record LinksLeft (version : Version) (links rest : List LinkEntry) : Type 0 
   pub numbers : (k : ℕ) (entry : LinkEntry) → slice_get rest k ≡ Some entry → link_number entry.shape.link ≡ length links + k
   pub unsplit : Each (λ (entry : LinkEntry). entry.quotas ≡ []) rest
 
--- they were read
-pub record LinksRead (version : Version) (links rest : List LinkEntry) : Type 0 where
-  pub keeps : KeepSoFar (parts_of version (links ++ rest) [] [] 0 0)
-  pub reads : Reads (map link_fields rest) (front version links [] []) (front version (links ++ rest) [] [])
-
-pub links_read : (version : Version) (links rest : List LinkEntry) → KeepSoFar (parts_of version links [] [] 0 0) → LinksLeft version links rest → LinksRead version links rest
+pub links_read : (version : Version) (links rest : List LinkEntry) → LinksLeft version links rest → Reads (map link_fields rest) (front version links [] [] []) (front version (links ++ rest) [] [] [])
 unfolding each_after
-links_read version links [] keeps left = record {
-  keeps = subst (λ (ls : List LinkEntry). KeepSoFar (parts_of version ls [] [] 0 0)) (sym (append-nil links)) keeps;
-  reads = subst (λ (ls : List LinkEntry). Reads [] (front version links [] []) (front version ls [] [])) (sym (append-nil links)) (reads_none (front version links [] []));
-}
-links_read version links (entry ∷ rest) keeps left =
+links_read version links [] left = subst (λ (ls : List LinkEntry). Reads [] (front version links [] [] []) (front version ls [] [] [])) (sym (append-nil links)) (reads_none (front version links [] [] []))
+links_read version links (entry ∷ rest) left =
     let kept = and_parts (link_has_version version entry) (list_all (link_has_version version) rest) left.kept in
     let new = and_parts (is_new (link_names links) entry.name) (each_after is_new (link_names links ++ entry.name ∷ []) (link_names rest)) left.new in
     let few : length links < 32 = (let all = left.few in omega (arith, all)) in
     let number : link_number entry.shape.link ≡ length links = left.numbers 0 entry refl ∙ omega arith in
     let longer = length-more links entry in
-    let grown = link-keeps (parts_of version links [] [] 0 0) entry keeps (record { first = refl; version = kept.0; name = new.0; few = few; number = number; unsplit = left.unsplit.0 }) in
     let one = link_read version links entry (record { named = left.named.0; kept = kept.0; new = not-true _ new.0; few = few; number = number; unsplit = left.unsplit.0 }) in
-    let others = links_read version (links ++ entry ∷ []) rest grown (record {
+    let others = links_read version (links ++ entry ∷ []) rest (record {
       named = left.named.1;
       kept = kept.1;
       new = subst (λ (names : List (List ℕ)). each_after is_new names (link_names rest) ≡ true) (sym (map-append (λ (e : LinkEntry). e.name) links (entry ∷ []))) new.1;
@@ -63,29 +55,26 @@ links_read version links (entry ∷ rest) keeps left =
       numbers = λ k e found. left.numbers (suc k) e found ∙ omega (arith, longer);
       unsplit = left.unsplit.1;
     }) in
-    record {
-      keeps = subst (λ (ls : List LinkEntry). KeepSoFar (parts_of version ls [] [] 0 0)) (append_assoc links (entry ∷ []) rest) others.keeps;
-      reads = subst (λ (ls : List LinkEntry). Reads (map link_fields (entry ∷ rest)) (front version links [] []) (front version ls [] [])) (append_assoc links (entry ∷ []) rest)
-          (reads_on (link_fields entry ∷ []) (map link_fields rest) (front version links [] []) (front version (links ++ entry ∷ []) [] []) (front version ((links ++ entry ∷ []) ++ rest) [] []) one others.reads);
-    }
+    subst (λ (ls : List LinkEntry). Reads (map link_fields (entry ∷ rest)) (front version links [] [] []) (front version ls [] [] [])) (append_assoc links (entry ∷ []) rest)
+    (reads_on (link_fields entry ∷ []) (map link_fields rest) (front version links [] [] []) (front version (links ++ entry ∷ []) [] [] []) (front version ((links ++ entry ∷ []) ++ rest) [] [] []) one others)
 
 -- ---- the operations of a caller
 
 abbrev with_ops : CallerEntry → List Op → CallerEntry
 with_ops caller ops = record { name = caller.name; group = caller.group; ops = caller.ops ++ ops }
 
-pub record OpsLeft (version : Version) (links : List LinkEntry) (all : List RequestEntry) (callers : List CallerEntry) (caller : CallerEntry) (ops : List Op) (later : ℕ) : Type 0 where
+pub record OpsLeft (version : Version) (links : List LinkEntry) (groups : List (List ℕ)) (all : List RequestEntry) (callers : List CallerEntry) (caller : CallerEntry) (ops : List Op) (later : ℕ) : Type 0 where
   pub sound : Each (OpSound version links) ops
   pub opened : each_after is_opened caller.ops ops ≡ true
   pub unclosed : each_after is_unclosed caller.ops ops ≡ true
   pub load : load_in all (callers ++ caller ∷ []) + total (load_of all) ops + later ≤ 262144
 
-pub record OpsRead (version : Version) (links : List LinkEntry) (all requests : List RequestEntry) (callers : List CallerEntry) (caller : CallerEntry) (ops : List Op) (following : List Opening) : Type 0 where
+pub record OpsRead (version : Version) (links : List LinkEntry) (groups : List (List ℕ)) (all requests : List RequestEntry) (callers : List CallerEntry) (caller : CallerEntry) (ops : List Op) (following : List Opening) : Type 0 where
   pub after : List RequestEntry
   pub rest : List RequestEntry
-  pub stands : Stands version links all after rest callers (with_ops caller ops)
+  pub stands : Stands version links groups all after rest callers (with_ops caller ops)
   pub left : following ≡ map opening_of rest
-  pub reads : Reads (flat_map (op_lines links all) ops) (front version links requests (callers ++ caller ∷ [])) (front version links after (callers ++ with_ops caller ops ∷ []))
+  pub reads : Reads (flat_map (op_lines links all) ops) (front version links groups requests (callers ++ caller ∷ [])) (front version links groups after (callers ++ with_ops caller ops ∷ []))
 
 same_caller : (caller : CallerEntry) → caller ≡ with_ops caller []
 same_caller caller = ap (λ (ops : List Op). record { name = caller.name; group = caller.group; ops = ops }) (sym (append-nil caller.ops))
@@ -97,57 +86,58 @@ step_caller caller op ops = ap (λ (all : List Op). record { name = caller.name;
 load_step : (all : List RequestEntry) (callers : List CallerEntry) (caller : CallerEntry) (op : Op) → load_in all (callers ++ with_its_op op caller ∷ []) ≤ load_in all (callers ++ caller ∷ []) + load_of all op
 load_step all callers caller op = subst (λ (cs : List CallerEntry). load_in all cs ≤ load_in all (callers ++ caller ∷ []) + load_of all op) (added-last op callers caller) (added-total (load_of all) op (callers ++ caller ∷ []))
 
-ops_read : (version : Version) (links : List LinkEntry) (all requests rest : List RequestEntry) (callers : List CallerEntry) (caller : CallerEntry) (ops : List Op) (later : ℕ) (following : List Opening) → LinksStand links
-    → Stands version links all requests rest callers caller → OpsLeft version links all callers caller ops later → openings_in (length callers) ops ++ following ≡ map opening_of rest → OpsRead version links all requests callers caller ops following
+ops_read : (version : Version) (links : List LinkEntry) (groups : List (List ℕ)) (all requests rest : List RequestEntry) (callers : List CallerEntry) (caller : CallerEntry) (ops : List Op) (later : ℕ) (following : List Opening) → LinksStand links
+    → Stands version links groups all requests rest callers caller → OpsLeft version links groups all callers caller ops later → openings_in (length callers) ops ++ following ≡ map opening_of rest → OpsRead version links groups all requests callers caller ops following
 unfolding each_after openings_in
-ops_read version links all requests rest callers caller [] later following stand s left is = record {
+ops_read version links groups all requests rest callers caller [] later following stand s left is = record {
   after = requests;
   rest = rest;
-  stands = subst (λ (c : CallerEntry). Stands version links all requests rest callers c) (same_caller caller) s;
+  stands = subst (λ (c : CallerEntry). Stands version links groups all requests rest callers c) (same_caller caller) s;
   left = is;
-  reads = subst (λ (c : CallerEntry). Reads [] (front version links requests (callers ++ caller ∷ [])) (front version links requests (callers ++ c ∷ []))) (same_caller caller) (reads_none (front version links requests (callers ++ caller ∷ [])));
+  reads = subst (λ (c : CallerEntry). Reads [] (front version links groups requests (callers ++ caller ∷ [])) (front version links groups requests (callers ++ c ∷ []))) (same_caller caller) (reads_none (front version links groups requests (callers ++ caller ∷ [])));
 }
-ops_read version links all requests rest callers caller (op ∷ ops) later following stand s left is =
+ops_read version links groups all requests rest callers caller (op ∷ ops) later following stand s left is =
     let opened = and_parts (is_opened caller.ops op) (each_after is_opened (caller.ops ++ op ∷ []) ops) left.opened in
     let unclosed = and_parts (is_unclosed caller.ops op) (each_after is_unclosed (caller.ops ++ op ∷ []) ops) left.unclosed in
     let load = left.load in
-    let step = op_step version links all requests rest callers caller op (openings_in (length callers) ops ++ following) stand s
+    let step = op_step version links groups all requests rest callers caller op (openings_in (length callers) ops ++ following) stand s
     (record { sound = left.sound.0; opened = opened.0; unclosed = unclosed.0; load = omega (arith, load) })
     (sym (append_assoc (opened_by (length callers) op) (openings_in (length callers) ops) following) ∙ is) in
     let more = load_step all callers caller op in
-    let others = ops_read version links all step.after step.rest callers (with_its_op op caller) ops later following stand step.stands
+    let others = ops_read version links groups all step.after step.rest callers (with_its_op op caller) ops later following stand step.stands
     (record { sound = left.sound.1; opened = opened.1; unclosed = unclosed.1; load = omega (arith, load, more) }) step.left in
     record {
       after = others.after;
       rest = others.rest;
-      stands = subst (λ (c : CallerEntry). Stands version links all others.after others.rest callers c) (step_caller caller op ops) others.stands;
+      stands = subst (λ (c : CallerEntry). Stands version links groups all others.after others.rest callers c) (step_caller caller op ops) others.stands;
       left = others.left;
-      reads = subst (λ (c : CallerEntry). Reads (flat_map (op_lines links all) (op ∷ ops)) (front version links requests (callers ++ caller ∷ [])) (front version links others.after (callers ++ c ∷ []))) (step_caller caller op ops)
-          (reads_on (op_lines links all op) (flat_map (op_lines links all) ops) (front version links requests (callers ++ caller ∷ [])) (front version links step.after (callers ++ with_its_op op caller ∷ []))
-          (front version links others.after (callers ++ with_ops (with_its_op op caller) ops ∷ [])) step.reads others.reads);
+      reads = subst (λ (c : CallerEntry). Reads (flat_map (op_lines links all) (op ∷ ops)) (front version links groups requests (callers ++ caller ∷ [])) (front version links groups others.after (callers ++ c ∷ []))) (step_caller caller op ops)
+          (reads_on (op_lines links all op) (flat_map (op_lines links all) ops) (front version links groups requests (callers ++ caller ∷ [])) (front version links groups step.after (callers ++ with_its_op op caller ∷ []))
+          (front version links groups others.after (callers ++ with_ops (with_its_op op caller) ops ∷ [])) step.reads others.reads);
     }
 
 -- ---- the callers
 
-pub record CallersLeft (version : Version) (links : List LinkEntry) (all : List RequestEntry) (callers left : List CallerEntry) : Type 0 where
+pub record CallersLeft (version : Version) (links : List LinkEntry) (groups : List (List ℕ)) (all : List RequestEntry) (callers left : List CallerEntry) : Type 0 where
   pub named : Each (λ (caller : CallerEntry). is_name caller.name ≡ true) left
   pub new : each_after is_new (caller_names callers) (caller_names left) ≡ true
   pub few : length callers + length left ≤ 64
-  pub groupless : Each (λ (caller : CallerEntry). caller.group ≡ 0) left
+  pub kept : list_all (λ (caller : CallerEntry). group_has_version version caller.group) left ≡ true
+  pub there : list_all (λ (caller : CallerEntry). group_is_there groups caller.group) left ≡ true
   pub sound : Each (λ (caller : CallerEntry). Each (OpSound version links) caller.ops) left
   pub opened : list_all (λ (caller : CallerEntry). each_after is_opened [] caller.ops) left ≡ true
   pub unclosed : list_all (λ (caller : CallerEntry). each_after is_unclosed [] caller.ops) left ≡ true
   pub load : load_in all callers + load_in all left ≤ 262144
 
 -- what was read of the requests
-pub record RequestsStand (version : Version) (links : List LinkEntry) (all requests rest : List RequestEntry) : Type 0 where
+pub record RequestsStand (version : Version) (links : List LinkEntry) (groups : List (List ℕ)) (all requests rest : List RequestEntry) : Type 0 where
   pub same : all ≡ requests ++ rest
   pub stand : RestStands version links requests rest
   pub named : Each (λ (entry : RequestEntry). is_name entry.name ≡ true) requests
 
-pub record CallersRead (version : Version) (links : List LinkEntry) (all requests : List RequestEntry) (callers left : List CallerEntry) : Type 0 where
-  pub keeps : KeepSoFar (parts_of version links all (callers ++ left) 0 0)
-  pub reads : Reads (flat_map (caller_lines links all) left) (front version links requests callers) (front version links all (callers ++ left))
+pub record CallersRead (version : Version) (links : List LinkEntry) (groups : List (List ℕ)) (all requests : List RequestEntry) (callers left : List CallerEntry) : Type 0 where
+  pub keeps : KeepSoFar (parts_with version links groups all (callers ++ left) 0 0)
+  pub reads : Reads (flat_map (caller_lines links groups all) left) (front version links groups requests callers) (front version links groups all (callers ++ left))
 
 load_new : (all : List RequestEntry) (callers : List CallerEntry) (name : List ℕ) (group : ℕ) → load_in all (callers ++ new_caller name group ∷ []) ≡ load_in all callers
 load_new all callers name group = (let both : load_in all (callers ++ new_caller name group ∷ []) ≡ load_in all callers + (0 + 0) = total-append (λ (c : CallerEntry). total (load_of all) c.ops) callers (new_caller name group ∷ []) in omega (arith, both))
@@ -155,46 +145,52 @@ load_new all callers name group = (let both : load_in all (callers ++ new_caller
 load_both : (all : List RequestEntry) (callers : List CallerEntry) (caller : CallerEntry) → load_in all (callers ++ caller ∷ []) ≡ load_in all callers + total (load_of all) caller.ops
 load_both all callers caller = (let both : load_in all (callers ++ caller ∷ []) ≡ load_in all callers + (total (load_of all) caller.ops + 0) = total-append (λ (c : CallerEntry). total (load_of all) c.ops) callers (caller ∷ []) in omega (arith, both))
 
-pub callers_read : (version : Version) (links : List LinkEntry) (all requests rest : List RequestEntry) (callers left : List CallerEntry) → LinksStand links → KeepSoFar (parts_of version links requests callers 0 0) → RequestsStand version links all requests rest
-    → CallersLeft version links all callers left → openings_of (length callers) left ≡ map opening_of rest → CallersRead version links all requests callers left
+pub callers_read : (version : Version) (links : List LinkEntry) (groups : List (List ℕ)) (all requests rest : List RequestEntry) (callers left : List CallerEntry) → LinksStand links → GroupsStand groups → KeepSoFar (parts_with version links groups requests callers 0 0) → RequestsStand version links groups all requests rest
+    → CallersLeft version links groups all callers left → openings_of (length callers) left ≡ map opening_of rest → CallersRead version links groups all requests callers left
 unfolding each_after openings_of
-callers_read version links all requests [] callers [] stand keeps rs cs is =
+callers_read version links groups all requests [] callers [] stand gs keeps rs cs is =
     let whole : requests ≡ all = sym (append-nil requests) ∙ sym rs.same in
     record {
-      keeps = subst (λ (all_callers : List CallerEntry). KeepSoFar (parts_of version links all all_callers 0 0)) (sym (append-nil callers)) (subst (λ (es : List RequestEntry). KeepSoFar (parts_of version links es callers 0 0)) whole keeps);
-      reads = subst (λ (all_callers : List CallerEntry). Reads [] (front version links requests callers) (front version links all all_callers)) (sym (append-nil callers))
-          (subst (λ (es : List RequestEntry). Reads [] (front version links requests callers) (front version links es callers)) whole (reads_none (front version links requests callers)));
+      keeps = subst (λ (all_callers : List CallerEntry). KeepSoFar (parts_with version links groups all all_callers 0 0)) (sym (append-nil callers)) (subst (λ (es : List RequestEntry). KeepSoFar (parts_with version links groups es callers 0 0)) whole keeps);
+      reads = subst (λ (all_callers : List CallerEntry). Reads [] (front version links groups requests callers) (front version links groups all all_callers)) (sym (append-nil callers))
+          (subst (λ (es : List RequestEntry). Reads [] (front version links groups requests callers) (front version links groups es callers)) whole (reads_none (front version links groups requests callers)));
     }
-callers_read version links all requests (entry ∷ rest) callers [] stand keeps rs cs is = cc
-callers_read version links all requests rest callers (caller ∷ left) stand keeps rs cs is =
+callers_read version links groups all requests (entry ∷ rest) callers [] stand gs keeps rs cs is = cc
+callers_read version links groups all requests rest callers (caller ∷ left) stand gs keeps rs cs is =
     let begun = new_caller caller.name caller.group in
-    let none : 0 ≡ caller.group = sym cs.groupless.0 in
+    let kept = and_parts (group_has_version version caller.group) (list_all (λ (c : CallerEntry). group_has_version version c.group) left) cs.kept in
+    let there = and_parts (group_is_there groups caller.group) (list_all (λ (c : CallerEntry). group_is_there groups c.group) left) cs.there in
     let new = and_parts (is_new (caller_names callers) caller.name) (each_after is_new (caller_names callers ++ caller.name ∷ []) (caller_names left)) cs.new in
     let all_few = cs.few in
     let few : length callers < 64 = omega (arith, all_few) in
     let opened = and_parts (each_after is_opened [] caller.ops) (list_all (λ (c : CallerEntry). each_after is_opened [] c.ops) left) cs.opened in
     let unclosed = and_parts (each_after is_unclosed [] caller.ops) (list_all (λ (c : CallerEntry). each_after is_unclosed [] c.ops) left) cs.unclosed in
     let load = cs.load in
-    let grown = caller-keeps (parts_of version links requests callers 0 0) caller.name caller.group keeps (record {
+    let grown = caller-keeps (parts_with version links groups requests callers 0 0) caller.name caller.group keeps (record {
       new = new.0;
       few = few;
-      version = subst (λ group. group_has_version version group ≡ true) none refl;
-      there = subst (λ group. group_is_there [] group ≡ true) none refl;
+      version = kept.0;
+      there = there.0;
     }) in
-    let first = subst (λ group. Reads (caller_fields caller.name ∷ []) (front version links requests callers) (front version links requests (callers ++ new_caller caller.name group ∷ []))) none
-    (caller_read version links requests callers caller.name stand.some cs.named.0 (not-true _ new.0) few) in
+    let first = caller_read version links groups requests callers caller.name caller.group stand.some (record {
+      named = cs.named.0;
+      new = not-true _ new.0;
+      few = few;
+      member = record { kept = kept.0; there = there.0; stand = gs };
+    }) in
     let empty = load_new all callers caller.name caller.group in
-    let ops = ops_read version links all requests rest callers begun caller.ops (load_in all left) (openings_of (suc (length callers)) left) stand
+    let ops = ops_read version links groups all requests rest callers begun caller.ops (load_in all left) (openings_of (suc (length callers)) left) stand
     (record { keeps = grown; same = rs.same; stand = rs.stand; named = rs.named; few = few })
     (record { sound = cs.sound.0; opened = opened.0; unclosed = unclosed.0; load = omega (arith, load, empty) }) is in
     let longer = length-more callers caller in
     let more = load_both all callers caller in
-    let others = callers_read version links all ops.after ops.rest (callers ++ caller ∷ []) left stand ops.stands.keeps (record { same = ops.stands.same; stand = ops.stands.stand; named = ops.stands.named })
+    let others = callers_read version links groups all ops.after ops.rest (callers ++ caller ∷ []) left stand gs ops.stands.keeps (record { same = ops.stands.same; stand = ops.stands.stand; named = ops.stands.named })
     (record {
       named = cs.named.1;
       new = subst (λ (names : List (List ℕ)). each_after is_new names (caller_names left) ≡ true) (sym (map-append (λ (c : CallerEntry). c.name) callers (caller ∷ []))) new.1;
       few = omega (arith, all_few, longer);
-      groupless = cs.groupless.1;
+      kept = kept.1;
+      there = there.1;
       sound = cs.sound.1;
       opened = opened.1;
       unclosed = unclosed.1;
@@ -202,9 +198,9 @@ callers_read version links all requests rest callers (caller ∷ left) stand kee
     })
     (ap (λ (n : ℕ). openings_of n left) longer ∙ ops.left) in
     record {
-      keeps = subst (λ (all_callers : List CallerEntry). KeepSoFar (parts_of version links all all_callers 0 0)) (append_assoc callers (caller ∷ []) left) others.keeps;
-      reads = subst (λ (all_callers : List CallerEntry). Reads (flat_map (caller_lines links all) (caller ∷ left)) (front version links requests callers) (front version links all all_callers)) (append_assoc callers (caller ∷ []) left)
-          (reads_on (caller_lines links all caller) (flat_map (caller_lines links all) left) (front version links requests callers) (front version links ops.after (callers ++ caller ∷ [])) (front version links all ((callers ++ caller ∷ []) ++ left))
-          (reads_on (caller_fields caller.name ∷ []) (flat_map (op_lines links all) caller.ops) (front version links requests callers) (front version links requests (callers ++ begun ∷ [])) (front version links ops.after (callers ++ caller ∷ [])) first ops.reads)
+      keeps = subst (λ (all_callers : List CallerEntry). KeepSoFar (parts_with version links groups all all_callers 0 0)) (append_assoc callers (caller ∷ []) left) others.keeps;
+      reads = subst (λ (all_callers : List CallerEntry). Reads (flat_map (caller_lines links groups all) (caller ∷ left)) (front version links groups requests callers) (front version links groups all all_callers)) (append_assoc callers (caller ∷ []) left)
+          (reads_on (caller_lines links groups all caller) (flat_map (caller_lines links groups all) left) (front version links groups requests callers) (front version links groups ops.after (callers ++ caller ∷ [])) (front version links groups all ((callers ++ caller ∷ []) ++ left))
+          (reads_on (caller_fields groups caller.name caller.group ∷ []) (flat_map (op_lines links all) caller.ops) (front version links groups requests callers) (front version links groups requests (callers ++ begun ∷ [])) (front version links groups ops.after (callers ++ caller ∷ [])) first ops.reads)
           others.reads);
     }

@@ -15,7 +15,9 @@ use Rattle.scenario_reader.specs.Decimal.{value_of}
 use Rattle.scenario_reader.specs.Drafts.{Said, rounds_of, caller_named}
 use Rattle.scenario_reader.specs.Fields.{fields_of, are_fields, field_at}
 use Rattle.scenario_reader.specs.Forms.{has_form, number_rule}
-use Rattle.scenario_reader.specs.Grammar.{header_version, header_said, caller_rule, send_rule, send_said, close_rule, close_said, pour_rule, pour_said, rounds_form, rounds_rule, are_few_ticks, tail_form, tail_rule, schedule_rule, do_form, is_plane, actor_rule, actor_named, actor_said, do_rule, do_by, do_said, may_stand, line_word, judge_as, judge_word, judge_after, judge_fields, is_passed_over, judge}
+use Rattle.scenario_reader.specs.Grammar.{header_version, header_said, send_rule, send_said, close_rule, close_said, pour_rule, pour_said, rounds_form, rounds_rule, are_few_ticks, tail_form, tail_rule, schedule_rule, do_form, is_plane, actor_rule, actor_named, actor_said, do_rule, do_by, do_said, may_stand, line_word, judge_as, judge_word, judge_after, judge_fields, is_passed_over, judge}
+use Rattle.scenario_reader.specs.GroupLines.{group_rule, group_in, caller_rule}
+use Rattle.scenario_reader.specs.QuotaLine.{quota_rule, quota_said}
 use Rattle.scenario_reader.specs.Kept.{IsDraft, MayPutRounds, MayPutTail, MayPutSchedule, MayPutDo, MayAdd}
 use Rattle.scenario_reader.specs.LinkLine.{link_rule, link_said}
 use Rattle.scenario_reader.specs.OpenLine.{open_rule, request_said}
@@ -25,7 +27,9 @@ use Rattle.scenario_reader.specs.declared.form.Keyword.{Keyword}
 use Rattle.scenario_reader.specs.declared.form.Keyword.TheVariants as word
 use Rattle.scenario_reader.specs.declared.item.Item.{Item}
 use Rattle.scenario_reader.specs.declared.item.Item.TheVariants as item
-use Rattle.scenario_reader.proofs.LinkMay.{headed_is, some_items, is_some_said, link_may, caller_may}
+use Rattle.scenario_reader.proofs.GroupMay.{group_may, caller_may}
+use Rattle.scenario_reader.proofs.LinkMay.{headed_is, some_items, is_some_said, link_may}
+use Rattle.scenario_reader.proofs.QuotaMay.{quota_may}
 use Rattle.scenario_reader.proofs.OpMay.{send_may, close_may, pour_may}
 use Rattle.scenario_reader.proofs.OpenMay.{open_may}
 use Rattle.scenario_reader.proofs.PassFacts.{judged_ok, stated_ok, made_some, unless_passes, all_pass, number_passes, not_said}
@@ -92,8 +96,14 @@ says_as word.Link version said number fields what draft v m e =
     let p = stated_ok (link_rule version said fields) (option_map item.Link (link_said version said fields)) what e in
     let made = made_some item.Link (link_said version said fields) what p.1 in
     subst (MayAdd said) made.2 (link_may version said fields made.0 v m p.0 made.1)
+says_as word.Group version said number fields what draft v m e =
+    let p = judged_ok (group_rule said fields) (item.Group (field_at fields 1)) what e in
+    subst (MayAdd said) p.1 (group_may version said fields v m p.0)
+says_as word.Quota version said number fields what draft v m e =
+    let p = stated_ok (quota_rule said fields) (quota_said said fields) what e in
+    quota_may version said fields what draft v m p.0 p.1
 says_as word.Caller version said number fields what draft v m e =
-    let p = judged_ok (caller_rule said fields) (item.Caller (field_at fields 1)) what e in
+    let p = judged_ok (caller_rule version said fields) (item.Caller (field_at fields 1) (group_in said fields)) what e in
     subst (MayAdd said) p.1 (caller_may version said fields v m p.0)
 says_as word.Open version said number fields what draft v m e =
     let p = judged_ok (open_rule version said fields) (item.Open (request_said said fields)) what e in

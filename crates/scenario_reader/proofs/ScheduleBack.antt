@@ -10,7 +10,7 @@ use Rattle.net_units.specs.Text.{is_name}
 use Rattle.net_units.specs.declared.numbers.ActorNo.{ActorNo}
 use Rattle.link_steps.specs.Lists.{Each}
 use Rattle.call_script.specs.ActorNames.{name_of_actor}
-use Rattle.call_script.specs.Parts.{PlanParts, parts_of, parts_with}
+use Rattle.call_script.specs.Parts.{PlanParts}
 use Rattle.call_script.specs.Rules.{are_distinct, caller_names}
 use Rattle.call_script.specs.declared.entries.CallerEntry.{CallerEntry}
 use Rattle.call_script.specs.declared.schedule.Do.{Do}
@@ -68,7 +68,7 @@ actor_back callers n names apart within =
 
 -- what was read, with these items of a schedule
 abbrev pub scheduled : PlanParts → List Do → Said
-scheduled parts items = record { version = Some parts.version; links = parts.links; requests = parts.requests; callers = parts.callers; rounds = Some parts.rounds; tail = Some parts.tail; written = true; items = items }
+scheduled parts items = record { version = Some parts.version; links = parts.links; groups = parts.groups; requests = parts.requests; callers = parts.callers; rounds = Some parts.rounds; tail = Some parts.tail; written = true; items = items }
 
 -- an item that was read on the line of this number
 abbrev numbered : ℕ → Do → Do
@@ -132,33 +132,29 @@ items_read parts done (it ∷ items) count names apart few each =
 
 -- ---- the schedule
 
--- a plan without groups is that of its other parts
-whole_parts : (parts : PlanParts) → parts.groups ≡ [] → parts_of parts.version parts.links parts.requests parts.callers parts.rounds parts.tail ≡ parts
-whole_parts parts none = ap (λ (groups : List (List ℕ)). parts_with parts.version parts.links groups parts.requests parts.callers parts.rounds parts.tail) (sym none)
-
 -- what was read is this plan with this schedule
 pub record IsWhole (parts : PlanParts) (schedule : Schedule) (after : Said) : Type 0 where
   pub complete : is_complete after ≡ true
   pub parts_are : parts_said after ≡ parts
   pub same : SameSchedule (schedule_said after) schedule
 
-schedule_read : (parts : PlanParts) → Reads (schedule_fields ∷ []) (whole parts.version parts.links parts.requests parts.callers parts.rounds parts.tail) (scheduled parts [])
-schedule_read parts = reads_one schedule_fields (whole parts.version parts.links parts.requests parts.callers parts.rounds parts.tail) item.Schedule refl (λ number.
-    judged_as parts.version (whole parts.version parts.links parts.requests parts.callers parts.rounds parts.tail) number schedule_fields word.Schedule item.Schedule refl refl refl refl refl refl)
+schedule_read : (parts : PlanParts) → Reads (schedule_fields ∷ []) (whole parts.version parts.links parts.groups parts.requests parts.callers parts.rounds parts.tail) (scheduled parts [])
+schedule_read parts = reads_one schedule_fields (whole parts.version parts.links parts.groups parts.requests parts.callers parts.rounds parts.tail) item.Schedule refl (λ number.
+    judged_as parts.version (whole parts.version parts.links parts.groups parts.requests parts.callers parts.rounds parts.tail) number schedule_fields word.Schedule item.Schedule refl refl refl refl refl refl)
 
-pub schedule_back : (parts : PlanParts) (schedule : Schedule) → Each (λ (caller : CallerEntry). is_name caller.name ≡ true) parts.callers → are_distinct (caller_names parts.callers) ≡ true → length parts.callers ≤ 64 → Each (IsDo parts.callers) schedule.items → (schedule.written ≡ false → schedule.items ≡ []) → parts.groups ≡ []
-    → (n : ℕ) → SomeLead (schedule_lines parts.callers schedule) (whole parts.version parts.links parts.requests parts.callers parts.rounds parts.tail) (IsWhole parts schedule) n
-schedule_back parts schedule names apart few each unwritten ungrouped = by schedule.written schedule.items each unwritten where
+pub schedule_back : (parts : PlanParts) (schedule : Schedule) → Each (λ (caller : CallerEntry). is_name caller.name ≡ true) parts.callers → are_distinct (caller_names parts.callers) ≡ true → length parts.callers ≤ 64 → Each (IsDo parts.callers) schedule.items → (schedule.written ≡ false → schedule.items ≡ [])
+    → (n : ℕ) → SomeLead (schedule_lines parts.callers schedule) (whole parts.version parts.links parts.groups parts.requests parts.callers parts.rounds parts.tail) (IsWhole parts schedule) n
+schedule_back parts schedule names apart few each unwritten = by schedule.written schedule.items each unwritten where
   done : (items : List Do) (after : Said) → ItemsRead parts [] items after → IsWhole parts (record { written = true; items = items }) after
-  done items after read = subst (IsWhole parts (record { written = true; items = items })) (sym read.is) (record { complete = refl; parts_are = whole_parts parts ungrouped; same = record { written = refl; items = read.same } })
+  done items after read = subst (IsWhole parts (record { written = true; items = items })) (sym read.is) (record { complete = refl; parts_are = refl; same = record { written = refl; items = read.same } })
 
   by : (written : Bool) (items : List Do) → Each (IsDo parts.callers) items → (written ≡ false → items ≡ [])
-      → (n : ℕ) → SomeLead (schedule_lines parts.callers (record { written = written; items = items })) (whole parts.version parts.links parts.requests parts.callers parts.rounds parts.tail) (IsWhole parts (record { written = written; items = items })) n
-  by true items all none = then_some (schedule_fields ∷ []) (map (do_fields parts.callers) items) (whole parts.version parts.links parts.requests parts.callers parts.rounds parts.tail) (scheduled parts []) (IsWhole parts (record { written = true; items = items })) (schedule_read parts)
+      → (n : ℕ) → SomeLead (schedule_lines parts.callers (record { written = written; items = items })) (whole parts.version parts.links parts.groups parts.requests parts.callers parts.rounds parts.tail) (IsWhole parts (record { written = written; items = items })) n
+  by true items all none = then_some (schedule_fields ∷ []) (map (do_fields parts.callers) items) (whole parts.version parts.links parts.groups parts.requests parts.callers parts.rounds parts.tail) (scheduled parts []) (IsWhole parts (record { written = true; items = items })) (schedule_read parts)
       (λ n. let read = items_read parts [] items n names apart few all in record { end = read.end; after = read.after; leads = read.leads; holds = done items read.after read.holds })
   by false items all none = λ n. record {
     end = n;
-    after = whole parts.version parts.links parts.requests parts.callers parts.rounds parts.tail;
-    leads = leads_nothing n (whole parts.version parts.links parts.requests parts.callers parts.rounds parts.tail);
-    holds = record { complete = refl; parts_are = whole_parts parts ungrouped; same = record { written = refl; items = ap (map unnumbered) (sym (none refl)) } };
+    after = whole parts.version parts.links parts.groups parts.requests parts.callers parts.rounds parts.tail;
+    leads = leads_nothing n (whole parts.version parts.links parts.groups parts.requests parts.callers parts.rounds parts.tail);
+    holds = record { complete = refl; parts_are = refl; same = record { written = refl; items = ap (map unnumbered) (sym (none refl)) } };
   }

@@ -1,17 +1,18 @@
 -- The text of a plan is read as that plan and its schedule.
 use Rattle.std.proofs.Common.{◌≡◌, ℕ, suc, ◌+◌, ◌*◌, ◌≤◌, Bool, true, false, List, [], ◌∷◌, ◌++◌, length, map, flat_map, refl, sym, ◌∙◌, ap, subst, arith}
 use Rattle.std.specs.Prelude.{nat_eq, nat_le, ◌||◌, if◌then◌else◌}
-use Rattle.std.proofs.lemmas.Bool.{and_parts, eqb-true, leb-true}
-use Rattle.std.specs.List.{list_all}
+use Rattle.std.proofs.lemmas.Bool.{and_parts, leb-true, ne_eqb}
+use Rattle.std.proofs.lemmas.List.{length-map}
+use Rattle.std.specs.List.{All, list_all}
 use Rattle.net_units.specs.Text.{is_name}
 use Rattle.link_steps.specs.Lists.{Each}
-use Rattle.call_script.specs.Groups.{quotas_have_version, group_has_version, KeepGroups}
-use Rattle.call_script.specs.Parts.{PlanParts}
+use Rattle.call_script.specs.Groups.{quotas_have_version, have_own_groups, quota_is_there, quota_in_range, quotas_fit}
+use Rattle.call_script.specs.Growing.{KeepSoFar}
+use Rattle.call_script.specs.Parts.{PlanParts, parts_with, openings_of, LeavesUnused}
 use Rattle.call_script.specs.Versions.{has_groups}
-use Rattle.call_script.specs.declared.version.Version.TheVariants.{One, Two, Three, Four}
 use Rattle.call_script.specs.Plans.{HasTerms, IsPlan}
-use Rattle.scenario_reader.specs.BothWays.{AreNodesNamed, IsFoundRoute, HaveFoundRoutes}
-use Rattle.call_script.specs.Rules.{each_after, link_has_version, request_has_version, have_version, have_links, route_is_there, pour_is_there, is_unclosed, op_has_version, op_in_range, request_in_range, is_joined, are_joined, are_unclosed, load_in, are_within_load, pour_is_taken, pours_are_taken}
+use Rattle.scenario_reader.specs.BothWays.{HasEightLoads, AreNodesNamed, IsFoundRoute, HaveFoundRoutes}
+use Rattle.call_script.specs.Rules.{each_after, are_distinct, link_has_version, request_has_version, have_version, have_links, have_names, are_there, are_in_range, are_few, route_is_there, pour_is_there, is_unclosed, op_has_version, op_in_range, request_in_range, is_joined, are_joined, are_unclosed, load_in, are_within_load, pour_is_taken, pours_are_taken}
 use Rattle.call_script.specs.declared.entries.CallerEntry.{CallerEntry}
 use Rattle.call_script.specs.declared.entries.LinkEntry.{LinkEntry}
 use Rattle.call_script.specs.declared.entries.RequestEntry.{RequestEntry}
@@ -19,21 +20,23 @@ use Rattle.call_script.specs.declared.operations.Op.{Op}
 use Rattle.call_script.specs.declared.schedule.Schedule.{Schedule}
 use Rattle.call_script.specs.declared.version.Version.{Version}
 use Rattle.link_steps.proofs.ListParts.{Each-at, Each-by_place}
-use Rattle.call_script.proofs.Growing.{version-in, nothing-keeps, names-in, used-in, ranges-in, few-in}
+use Rattle.call_script.proofs.Growing.{version-in, version-from, names-in, names-from, used-in, ranges-in, few-in, few-from}
 use Rattle.call_script.proofs.RuleFacts.{each-of, keeps-rules}
 use Rattle.scenario_reader.specs.BothWays.{AreNamed, unnumbered, APlansTextIsRead, ATextIsOfOnePlan}
 use Rattle.scenario_reader.specs.Drafts.{Said, nothing_said, is_complete, parts_said, schedule_said}
 use Rattle.scenario_reader.specs.Kept.{IsScheduleOf}
-use Rattle.scenario_reader.specs.PlanText.{header_fields, link_fields, caller_lines, rounds_fields, tail_fields, schedule_lines, plan_lines, plan_text}
+use Rattle.scenario_reader.specs.PlanText.{header_fields, link_fields, group_fields, quota_lines, caller_lines, rounds_fields, tail_fields, schedule_lines, plan_lines, plan_text}
 use Rattle.scenario_reader.specs.Reading.{PlanRead, BadLine, reading_on, reading}
 use Rattle.scenario_reader.specs.declared.cause.Cause.TheVariants as cause
 use Rattle.scenario_reader.specs.declared.item.Item.TheVariants as item
 use Rattle.scenario_reader.specs.Drafts.{with_item}
+use Rattle.scenario_reader.proofs.GroupBack.{GroupsStand, has_of}
 use Rattle.scenario_reader.proofs.LineText.{lines_of_text}
 use Rattle.scenario_reader.proofs.PlanBack.{links_read, callers_read}
 use Rattle.scenario_reader.proofs.ReadsBack.{front, whole, header_read, rounds_read, tail_read}
-use Rattle.scenario_reader.proofs.SaysBack.{leads_reading, leads_lines}
+use Rattle.scenario_reader.proofs.SaysBack.{Reads, leads_reading, leads_lines}
 use Rattle.scenario_reader.proofs.ScheduleBack.{SomeLead, then_some, IsWhole, schedule_back}
+use Rattle.scenario_reader.proofs.SplitBack.{bare, bare_names, bare_lines, bare_unsplit, bare_named, bare_kept, bare_numbers, bare_each, groups_read, QuotasLeft, shares_read}
 use Rattle.scenario_reader.proofs.WalkBack.{LinksStand, IsSound, OpSound}
 
 -- ---- what a plan's rules say of its parts
@@ -84,47 +87,66 @@ callers_sound version links (caller ∷ callers) kept there range taken =
     let d = and_parts (list_all (pour_is_taken links) caller.ops) (list_all (λ (c : CallerEntry). list_all (pour_is_taken links) c.ops) callers) taken in
     (ops_sound version links caller.ops a.0 b.0 c.0 d.0, callers_sound version links callers a.1 b.1 c.1 d.1)
 
--- ---- no groups
+-- ---- before the callers
 
--- no version has groups yet
-never_groups : (version : Version) → has_groups version ≡ false
-never_groups One = refl
-never_groups Two = refl
-never_groups Three = refl
-never_groups Four = refl
+-- the links, groups and quotas of a plan keep the rules so far
+begun_keeps : (parts : PlanParts) → IsPlan parts → KeepSoFar (parts_with parts.version parts.links parts.groups [] [] 0 0)
+unfolding have_version have_names are_there are_in_range are_few are_joined are_unclosed pours_are_taken openings_of each_after
+begun_keeps parts plan =
+    let rules = keeps-rules parts plan.kept in
+    let keep = rules.groups in
+    let names = names-in parts rules.names in
+    let few = few-in parts rules.few in
+    let begun = parts_with parts.version parts.links parts.groups [] [] 0 0 in
+    record {
+      version = version-from begun (record { links = (version-in parts rules.version).links; requests = refl; ops = refl });
+      names = names-from begun (record { links = names.links; callers = refl; requests = refl });
+      there = refl;
+      range = refl;
+      few = few-from begun (record { links = few.links; callers = omega arith; requests = omega arith });
+      joined = refl;
+      unclosed = refl;
+      load = omega arith;
+      pours = refl;
+      groups = record {
+        version_groups = keep.version_groups;
+        version_links = keep.version_links;
+        version_callers = refl;
+        named = keep.named;
+        own = keep.own;
+        quotas_there = keep.quotas_there;
+        callers_there = refl;
+        range = keep.range;
+        few = keep.few;
+        fit = keep.fit;
+      };
+      planned = record { links = plan.planned.links; requests = λ n entry found. cc; openings = refl; hops = λ n entry found. cc; unused = plan.planned.unused };
+      terms = tt;
+    }
 
-either_left : (a b : Bool) → (a || b) ≡ true → b ≡ false → a ≡ true
-either_left true b holds none = refl
-either_left false true holds none = cc
-either_left false false holds none = cc
+-- a list with elements is none of those that any version has
+has_for : {X : Type 0} (xs : List X) (has : Bool) → (nat_eq (length xs) 0 || has) ≡ true → 1 ≤ length xs → has ≡ true
+has_for xs has either some = has_of (nat_eq (length xs) 0) has either (ne_eqb (length xs) 0 (λ e. omega (arith, e, some)))
 
-empty_list : {X : Type 0} (xs : List X) → nat_eq (length xs) 0 ≡ true → xs ≡ []
-empty_list [] none = refl
-empty_list (x ∷ xs) some = absurd (let zero : suc (length xs) ≡ 0 = eqb-true (suc (length xs)) 0 some in omega (arith, zero))
+-- what holds of each holds at each place
+each_in : {X : Type 0} (P : X → Type 0) (xs : List X) → All P xs → Each P xs
+each_in P [] all = tt
+each_in P (x ∷ xs) all = (all 0 x (omega arith), each_in P xs (λ k d inside. all (suc k) d (omega (arith, inside))))
 
--- so a plan has no groups, no quotas, and no caller of a group
-record HasNoGroups (parts : PlanParts) : Type 0 where
-  none : parts.groups ≡ []
-  unsplit : Each (λ (entry : LinkEntry). entry.quotas ≡ []) parts.links
-  groupless : Each (λ (caller : CallerEntry). caller.group ≡ 0) parts.callers
-
-no_groups : (parts : PlanParts) → KeepGroups parts.version parts.groups parts.links parts.callers → HasNoGroups parts
-no_groups parts keep = record {
-  none = empty_list parts.groups (either_left (nat_eq (length parts.groups) 0) (has_groups parts.version) keep.version_groups (never_groups parts.version));
-  unsplit = links parts.links keep.version_links;
-  groupless = callers parts.callers keep.version_callers;
-} where
-  links : (entries : List LinkEntry) → list_all (quotas_have_version parts.version) entries ≡ true → Each (λ (entry : LinkEntry). entry.quotas ≡ []) entries
-  links [] all = tt
-  links (entry ∷ entries) all =
-      let both = and_parts (quotas_have_version parts.version entry) (list_all (quotas_have_version parts.version) entries) all in
-      (empty_list entry.quotas (either_left (nat_eq (length entry.quotas) 0) (has_groups parts.version) both.0 (never_groups parts.version)), links entries both.1)
-
-  callers : (entries : List CallerEntry) → list_all (λ (caller : CallerEntry). group_has_version parts.version caller.group) entries ≡ true → Each (λ (caller : CallerEntry). caller.group ≡ 0) entries
-  callers [] all = tt
-  callers (caller ∷ entries) all =
-      let both = and_parts (group_has_version parts.version caller.group) (list_all (λ (c : CallerEntry). group_has_version parts.version c.group) entries) all in
-      (eqb-true caller.group 0 (either_left (nat_eq caller.group 0) (has_groups parts.version) both.0 (never_groups parts.version)), callers entries both.1)
+-- the quotas of each link are left
+quotas_left : (parts : PlanParts) → IsPlan parts → AreNamed parts → Each (λ (entry : LinkEntry). QuotasLeft parts.version parts.groups entry [] entry.quotas) parts.links
+quotas_left parts plan named =
+    let keep = (keeps-rules parts plan.kept).groups in
+    let ls = parts.links in
+    Each-by_place (λ (entry : LinkEntry). QuotasLeft parts.version parts.groups entry [] entry.quotas) parts.links (λ n e found. record {
+      has = has_for e.quotas (has_groups parts.version) (Each-at (λ (x : LinkEntry). quotas_have_version parts.version x ≡ true) ls n e (each-of (quotas_have_version parts.version) ls keep.version_links) found);
+      own = Each-at (λ (x : LinkEntry). have_own_groups x.quotas ≡ true) ls n e (each-of (λ (x : LinkEntry). have_own_groups x.quotas) ls keep.own) found;
+      there = Each-at (λ (x : LinkEntry). list_all (quota_is_there parts.groups) x.quotas ≡ true) ls n e (each-of (λ (x : LinkEntry). list_all (quota_is_there parts.groups) x.quotas) ls keep.quotas_there) found;
+      range = Each-at (λ (x : LinkEntry). list_all quota_in_range x.quotas ≡ true) ls n e (each-of (λ (x : LinkEntry). list_all quota_in_range x.quotas) ls keep.range) found;
+      fit = Each-at (λ (x : LinkEntry). quotas_fit x.shape x.quotas ≡ true) ls n e (each-of (λ (x : LinkEntry). quotas_fit x.shape x.quotas) ls keep.fit) found;
+      eight = Each-at (λ (x : LinkEntry). Each HasEightLoads x.quotas) ls n e named.quotas found;
+      unused = each_in (LeavesUnused e.shape.bounds) e.quotas (plan.planned.unused n e found);
+    })
 
 -- ---- all lines
 
@@ -136,21 +158,36 @@ plan_leads parts schedule plan named routes is =
     let used = used-in parts rules.there in
     let ranges = ranges-in parts rules.range in
     let few = few-in parts rules.few in
-    let none = no_groups parts rules.groups in
+    let keep = rules.groups in
     let v = parts.version in
     let l = parts.links in
+    let gs = parts.groups in
     let rs = parts.requests in
     let cs = parts.callers in
-    let nobody = front v [] [] [] in
-    let linked = front v l [] [] in
-    let called = front v l rs cs in
+    let bares = map bare parts.links in
+    let nobody = front v [] [] [] [] in
+    let linked = front v bares [] [] [] in
+    let grouped = front v bares gs [] [] in
+    let split = front v l gs [] [] in
+    let called = front v l gs rs cs in
     let rounded = with_item (item.Rounds parts.rounds) called in
-    let done = whole v l rs cs parts.rounds parts.tail in
+    let done = whole v l gs rs cs parts.rounds parts.tail in
     let links_few = few.links in
     let requests_few = few.requests in
     let callers_few = few.callers in
     let stand : LinksStand l = record { some = says.some; named = named.links; apart = names.links; numbers = plan.planned.links } in
-    let links = links_read v [] l (nothing-keeps v) (record { named = named.links; kept = says.kept; new = names.links; few = omega (arith, links_few); numbers = λ k e found. plan.planned.links k e found ∙ omega arith; unsplit = none.unsplit }) in
+    let groups_stand : GroupsStand gs = record { named = named.groups; apart = keep.named } in
+    let some_bares : 1 ≤ length bares = (let some = says.some in omega (arith, some, length-map l bare)) in
+    let links = links_read v [] bares (record {
+      named = bare_named l named.links;
+      kept = bare_kept v l says.kept;
+      new = ap are_distinct (bare_names l) ∙ names.links;
+      few = omega (arith, links_few, length-map l bare);
+      numbers = λ k e found. bare_numbers l 0 (λ n x at. plan.planned.links n x at ∙ omega arith) k e found ∙ omega arith;
+      unsplit = bare_each l;
+    }) in
+    let groups = groups_read v bares [] gs some_bares (bare_unsplit l) (record { has = has_for gs (has_groups v) keep.version_groups; named = named.groups; new = keep.named; few = omega (arith, keep.few) }) in
+    let shares = shares_read v gs [] l groups_stand (record { named = named.links; apart = names.links; numbers = λ k e found. plan.planned.links k e found ∙ omega arith; quotas = quotas_left parts plan named }) in
     let sound : Each (IsSound v l) rs = Each-by_place (IsSound v l) rs (λ n e found. record {
       name = Each-at (λ (x : RequestEntry). is_name x.name ≡ true) rs n e named.requests found;
       there = Each-at (λ (x : RequestEntry). route_is_there l x ≡ true) rs n e (each-of (route_is_there l) rs used.routes) found;
@@ -163,17 +200,22 @@ plan_leads parts schedule plan named routes is =
       found = Each-at (λ (x : RequestEntry). IsFoundRoute l x.request.route x.found) rs n e routes found;
     }) in
     let load = says.load in
-    let callers = callers_read v l rs [] rs [] cs stand links.keeps
+    let callers = callers_read v l gs rs [] rs [] cs stand groups_stand (begun_keeps parts plan)
     (record { same = refl; stand = record { sound = sound; new = names.requests; few = omega (arith, requests_few); numbers = λ k e found. plan.planned.requests k e found ∙ omega arith }; named = tt })
-    (record { named = named.callers; new = names.callers; few = omega (arith, callers_few); groupless = none.groupless; sound = callers_sound v l cs says.ops_kept used.pours ranges.ops says.taken; opened = used.opened; unclosed = says.unclosed; load = omega (arith, load) })
+    (record { named = named.callers; new = names.callers; few = omega (arith, callers_few); kept = keep.version_callers; there = keep.callers_there; sound = callers_sound v l cs says.ops_kept used.pours ranges.ops says.taken; opened = used.opened; unclosed = says.unclosed; load = omega (arith, load) })
     plan.planned.openings in
-    let end = schedule_back parts schedule named.callers names.callers few.callers is.items is.unwritten none.none in
-    let tails = then_some (tail_fields parts.tail ∷ []) (schedule_lines cs schedule) rounded done (IsWhole parts schedule) (tail_read v l rs cs parts.rounds parts.tail ranges.tail says.ticks) end in
-    let rounds = then_some (rounds_fields parts.rounds ∷ []) (tail_fields parts.tail ∷ schedule_lines cs schedule) called rounded (IsWhole parts schedule) (rounds_read v l rs cs parts.rounds says.some ranges.rounds) tails in
+    let end = schedule_back parts schedule named.callers names.callers few.callers is.items is.unwritten in
+    let tails = then_some (tail_fields parts.tail ∷ []) (schedule_lines cs schedule) rounded done (IsWhole parts schedule) (tail_read v l gs rs cs parts.rounds parts.tail ranges.tail says.ticks) end in
+    let rounds = then_some (rounds_fields parts.rounds ∷ []) (tail_fields parts.tail ∷ schedule_lines cs schedule) called rounded (IsWhole parts schedule) (rounds_read v l gs rs cs parts.rounds says.some ranges.rounds) tails in
     let later = rounds_fields parts.rounds ∷ tail_fields parts.tail ∷ schedule_lines cs schedule in
-    let calls = then_some (flat_map (caller_lines l rs) cs) later linked called (IsWhole parts schedule) callers.reads rounds in
-    let lines = then_some (map link_fields l) (flat_map (caller_lines l rs) cs ++ later) nobody linked (IsWhole parts schedule) links.reads calls in
-    then_some (header_fields v ∷ []) (map link_fields l ++ (flat_map (caller_lines l rs) cs ++ later)) nothing_said nobody (IsWhole parts schedule) (header_read v) lines 0
+    let call_lines = flat_map (caller_lines l gs rs) cs in
+    let share_lines = flat_map (quota_lines gs) l in
+    let calls = then_some call_lines later split called (IsWhole parts schedule) callers.reads rounds in
+    let quotas = then_some share_lines (call_lines ++ later) grouped split (IsWhole parts schedule) shares calls in
+    let behind = then_some (map group_fields gs) (share_lines ++ (call_lines ++ later)) linked grouped (IsWhole parts schedule) groups quotas in
+    let bare_link_lines = subst (λ (lines : List (List (List ℕ))). Reads lines nobody linked) (bare_lines l) links in
+    let lines = then_some (map link_fields l) (map group_fields gs ++ (share_lines ++ (call_lines ++ later))) nobody linked (IsWhole parts schedule) bare_link_lines behind in
+    then_some (header_fields v ∷ []) (map link_fields l ++ (map group_fields gs ++ (share_lines ++ (call_lines ++ later)))) nothing_said nobody (IsWhole parts schedule) (header_read v) lines 0
 
 -- ---- the law
 

@@ -1,5 +1,5 @@
 -- The text of a plan is that of its parts, one after another.
-use Rattle.std.proofs.Common.{◌≡◌, ℕ, List, [], ◌∷◌, ◌++◌, map, refl, sym, ap, ◌∙◌, append_assoc}
+use Rattle.std.proofs.Common.{◌≡◌, ℕ, List, [], ◌∷◌, ◌++◌, map, refl, sym, ap, ap₂, ◌∙◌, append_assoc}
 use Rattle.std.proofs.lemmas.Grind.{flat_map-append}
 use Rattle.std.proofs.lemmas.List.{append-nil}
 use Rattle.std.proofs.lemmas.List.Folds.{flat_map-map}
@@ -13,13 +13,13 @@ use Rattle.call_script.specs.declared.operations.Op.{Op}
 use Rattle.call_script.specs.declared.schedule.Do.{Do}
 use Rattle.call_script.specs.declared.schedule.Schedule.{Schedule}
 use Rattle.scenario_reader.specs.Fields.{ended_line}
-use Rattle.scenario_reader.specs.PlanText.{header_fields, link_fields, caller_fields, op_fields, op_lines, caller_lines, lines_if, text_if, rounds_fields, tail_fields, do_fields, schedule_fields, schedule_lines, plan_text, link_text, op_text, caller_text, do_text, schedule_text, head_text, rounds_text, end_text}
+use Rattle.scenario_reader.specs.PlanText.{header_fields, link_fields, group_fields, quota_fields, quota_lines, caller_fields, op_fields, op_lines, caller_lines, lines_if, text_if, rounds_fields, tail_fields, do_fields, schedule_fields, schedule_lines, plan_text, link_text, group_text, quota_text, quotas_text, split_text, rest_text, op_text, caller_text, do_text, schedule_text, head_text, rounds_text, end_text}
 use Rattle.scenario_reader.proofs.WrittenFacts.{text-of-lists}
 
 -- a caller's line, and those of its operations
-pub caller-text : (links : List LinkEntry) (requests : List RequestEntry) (caller : CallerEntry) → ended_line (caller_fields caller.name) ++ flat_map (op_text links requests) caller.ops ≡ caller_text links requests caller
+pub caller-text : (links : List LinkEntry) (groups : List (List ℕ)) (requests : List RequestEntry) (caller : CallerEntry) → ended_line (caller_fields groups caller.name caller.group) ++ flat_map (op_text links requests) caller.ops ≡ caller_text links groups requests caller
 unfolding caller_text op_text
-caller-text links requests caller = ap (λ (rest : List ℕ). ended_line (caller_fields caller.name) ++ rest) (ops caller.ops) where
+caller-text links groups requests caller = ap (λ (rest : List ℕ). ended_line (caller_fields groups caller.name caller.group) ++ rest) (ops caller.ops) where
   one : (line : Option (List (List ℕ))) → text_if line ≡ flat_map ended_line (lines_if line)
   one None = refl
   one (Some fields) = sym (append-nil (ended_line fields))
@@ -46,24 +46,58 @@ no-schedule-text callers schedule unwritten = by schedule.written schedule.items
   by true items is = cc
   by false items is = refl
 
--- all lines
-pub parts-text : (parts : PlanParts) (schedule : Schedule) → head_text parts ++ (flat_map (caller_text parts.links parts.requests) parts.callers ++ end_text parts schedule) ≡ plan_text parts schedule
-unfolding plan_text head_text end_text rounds_text link_text caller_text schedule_text
-parts-text parts schedule =
-    let header = ended_line (header_fields parts.version) in
-    let callers = flat_map (caller_lines parts.links parts.requests) parts.callers in
+-- the quotas of a link
+pub quotas-text : (groups : List (List ℕ)) (entry : LinkEntry) → quotas_text groups entry ≡ flat_map ended_line (quota_lines groups entry)
+unfolding quotas_text quota_text
+quotas-text groups entry = sym (flat_map-map ended_line (quota_fields groups entry) entry.quotas)
+
+-- the groups, and the quotas of all links
+pub split-text : (groups : List (List ℕ)) (links : List LinkEntry) → split_text groups links ≡ flat_map ended_line (map group_fields groups) ++ flat_map ended_line (flat_map (quota_lines groups) links)
+unfolding split_text group_text
+split-text groups links =
+    ap (λ (first : List ℕ). first ++ flat_map (quotas_text groups) links) (sym (flat_map-map ended_line group_fields groups))
+    ∙ ap (λ (rest : List ℕ). flat_map ended_line (map group_fields groups) ++ rest) (shares links ∙ sym (text-of-lists ended_line (quota_lines groups) links))
+  where
+    shares : (entries : List LinkEntry) → flat_map (quotas_text groups) entries ≡ flat_map (λ (entry : LinkEntry). flat_map ended_line (quota_lines groups entry)) entries
+    shares [] = refl
+    shares (entry ∷ entries) = ap₂ (λ (first rest : List ℕ). first ++ rest) (quotas-text groups entry) (shares entries)
+
+-- the callers, and what stands after them
+pub rest-text : (parts : PlanParts) (schedule : Schedule) → rest_text parts schedule
+    ≡ flat_map ended_line (flat_map (caller_lines parts.links parts.groups parts.requests) parts.callers ++ (rounds_fields parts.rounds ∷ tail_fields parts.tail ∷ schedule_lines parts.callers schedule))
+unfolding rest_text end_text rounds_text caller_text schedule_text
+rest-text parts schedule =
+    let lines = caller_lines parts.links parts.groups parts.requests in
+    let callers = flat_map (caller_lines parts.links parts.groups parts.requests) parts.callers in
     let end = rounds_fields parts.rounds ∷ tail_fields parts.tail ∷ schedule_lines parts.callers schedule in
     sym (
-    ap (λ (rest : List ℕ). header ++ rest) (
-    flat_map-append ended_line (map link_fields parts.links) (callers ++ end)
-    ∙ ap (λ (first : List ℕ). first ++ flat_map ended_line (callers ++ end)) (flat_map-map ended_line link_fields parts.links)
-    ∙ ap (λ (rest : List ℕ). flat_map (λ entry. ended_line (link_fields entry)) parts.links ++ rest) (
     flat_map-append ended_line callers end
-    ∙ ap (λ (first : List ℕ). first ++ flat_map ended_line end) (text-of-lists ended_line (caller_lines parts.links parts.requests) parts.callers)
-    ∙ ap (λ (rest : List ℕ). flat_map (λ caller. flat_map ended_line (caller_lines parts.links parts.requests caller)) parts.callers ++ rest)
+    ∙ ap (λ (first : List ℕ). first ++ flat_map ended_line end) (text-of-lists ended_line lines parts.callers)
+    ∙ ap (λ (rest : List ℕ). flat_map (λ caller. flat_map ended_line (caller_lines parts.links parts.groups parts.requests caller)) parts.callers ++ rest)
     (sym (append_assoc (ended_line (rounds_fields parts.rounds)) (ended_line (tail_fields parts.tail)) (flat_map ended_line (schedule_lines parts.callers schedule))))
     )
+
+-- the header and the links
+head-text : (parts : PlanParts) → head_text parts ≡ ended_line (header_fields parts.version) ++ flat_map ended_line (map link_fields parts.links)
+unfolding head_text link_text
+head-text parts = ap (λ (rest : List ℕ). ended_line (header_fields parts.version) ++ rest) (sym (flat_map-map ended_line link_fields parts.links))
+
+-- all lines
+pub parts-text : (parts : PlanParts) (schedule : Schedule) → head_text parts ++ (split_text parts.groups parts.links ++ rest_text parts schedule) ≡ plan_text parts schedule
+unfolding plan_text
+parts-text parts schedule =
+    let header = ended_line (header_fields parts.version) in
+    let links = map link_fields parts.links in
+    let groups = map group_fields parts.groups in
+    let shares = flat_map (quota_lines parts.groups) parts.links in
+    let rest = flat_map (caller_lines parts.links parts.groups parts.requests) parts.callers ++ (rounds_fields parts.rounds ∷ tail_fields parts.tail ∷ schedule_lines parts.callers schedule) in
+    ap₂ (λ (first after : List ℕ). first ++ after) (head-text parts) (ap₂ (λ (first after : List ℕ). first ++ after) (split-text parts.groups parts.links) (rest-text parts schedule))
+    ∙ append_assoc header (flat_map ended_line links) ((flat_map ended_line groups ++ flat_map ended_line shares) ++ flat_map ended_line rest)
+    ∙ ap (λ (after : List ℕ). header ++ after) (
+    ap (λ (after : List ℕ). flat_map ended_line links ++ after) (
+    append_assoc (flat_map ended_line groups) (flat_map ended_line shares) (flat_map ended_line rest)
+    ∙ ap (λ (after : List ℕ). flat_map ended_line groups ++ after) (sym (flat_map-append ended_line shares rest))
+    ∙ sym (flat_map-append ended_line groups (shares ++ rest))
     )
-    ∙ sym (append_assoc header (flat_map (λ entry. ended_line (link_fields entry)) parts.links)
-    (flat_map (λ caller. flat_map ended_line (caller_lines parts.links parts.requests caller)) parts.callers ++ ((ended_line (rounds_fields parts.rounds) ++ ended_line (tail_fields parts.tail)) ++ flat_map ended_line (schedule_lines parts.callers schedule))))
+    ∙ sym (flat_map-append ended_line links (groups ++ (shares ++ rest)))
     )

@@ -15,7 +15,7 @@ use Rattle.hop_reservation.specs.declared.route.Hop.{Hop}
 use Rattle.link_steps.specs.Lists.{Each}
 use Rattle.link_steps.proofs.ListFacts.{Each-append}
 use Rattle.call_script.specs.Growing.{with_its_op, add_op, last_ops, IsOpenedThere, KeepSoFar}
-use Rattle.call_script.specs.Parts.{PlanParts, parts_of, Opening, opened_by, opening_of, FollowsLink}
+use Rattle.call_script.specs.Parts.{PlanParts, parts_with, Opening, opened_by, opening_of, FollowsLink}
 use Rattle.call_script.specs.Plans.{HasTerms}
 use Rattle.call_script.specs.Rules.{each_after, is_named, is_new, are_distinct, link_names, caller_names, request_names, have_names, has_link, route_is_there, pour_is_there, opens, is_opened, closes, is_unclosed, op_has_version, op_in_range, request_in_range, is_joined, hops_of, load_of, load_in, takes_best_effort, pour_is_taken}
 use Rattle.call_script.specs.declared.entries.CallerEntry.{CallerEntry}
@@ -43,7 +43,7 @@ use Rattle.net_units.proofs.NumberFacts.{same-link, same-channel}
 
 -- ---- lists
 
-at_seam : {X : Type 0} (xs : List X) (x : X) (ys : List X) (n : ℕ) → n ≡ length xs → slice_get (xs ++ x ∷ ys) n ≡ Some x
+pub at_seam : {X : Type 0} (xs : List X) (x : X) (ys : List X) (n : ℕ) → n ≡ length xs → slice_get (xs ++ x ∷ ys) n ≡ Some x
 at_seam [] x ys n same = ap (slice_get (x ∷ ys)) same
 at_seam (y ∷ xs) x ys zero same = absurd (omega (arith, same))
 at_seam (y ∷ xs) x ys (suc n) same = at_seam xs x ys n (omega (arith, same))
@@ -145,8 +145,8 @@ callers_less requests rest (caller ∷ callers) = (let one = ops_less requests r
 -- ---- within a caller
 
 -- all callers before one were read, and that one so far; `all` are the requests of the plan
-pub record Stands (version : Version) (links : List LinkEntry) (all requests rest : List RequestEntry) (callers : List CallerEntry) (caller : CallerEntry) : Type 0 where
-  pub keeps : KeepSoFar (parts_of version links requests (callers ++ caller ∷ []) 0 0)
+pub record Stands (version : Version) (links : List LinkEntry) (groups : List (List ℕ)) (all requests rest : List RequestEntry) (callers : List CallerEntry) (caller : CallerEntry) : Type 0 where
+  pub keeps : KeepSoFar (parts_with version links groups requests (callers ++ caller ∷ []) 0 0)
   pub same : all ≡ requests ++ rest
   pub stand : RestStands version links requests rest
   pub named : Each (λ (entry : RequestEntry). is_name entry.name ≡ true) requests
@@ -159,19 +159,19 @@ pub record OpSound (version : Version) (links : List LinkEntry) (op : Op) : Type
   pub taken : pour_is_taken links op ≡ true
 
 -- an operation that comes next
-pub record IsNextOp (version : Version) (links : List LinkEntry) (all : List RequestEntry) (callers : List CallerEntry) (caller : CallerEntry) (op : Op) : Type 0 where
+pub record IsNextOp (version : Version) (links : List LinkEntry) (groups : List (List ℕ)) (all : List RequestEntry) (callers : List CallerEntry) (caller : CallerEntry) (op : Op) : Type 0 where
   pub sound : OpSound version links op
   pub opened : is_opened caller.ops op ≡ true
   pub unclosed : is_unclosed caller.ops op ≡ true
   pub load : load_in all (callers ++ caller ∷ []) + load_of all op ≤ 262144
 
 -- the operation was read
-pub record Stepped (version : Version) (links : List LinkEntry) (all requests : List RequestEntry) (callers : List CallerEntry) (caller : CallerEntry) (op : Op) (openings : List Opening) : Type 0 where
+pub record Stepped (version : Version) (links : List LinkEntry) (groups : List (List ℕ)) (all requests : List RequestEntry) (callers : List CallerEntry) (caller : CallerEntry) (op : Op) (openings : List Opening) : Type 0 where
   pub after : List RequestEntry
   pub rest : List RequestEntry
-  pub stands : Stands version links all after rest callers (with_its_op op caller)
+  pub stands : Stands version links groups all after rest callers (with_its_op op caller)
   pub left : openings ≡ map opening_of rest
-  pub reads : Reads (op_lines links all op) (front version links requests (callers ++ caller ∷ [])) (front version links after (callers ++ with_its_op op caller ∷ []))
+  pub reads : Reads (op_lines links all op) (front version links groups requests (callers ++ caller ∷ [])) (front version links groups after (callers ++ with_its_op op caller ∷ []))
 
 distinct_requests : (parts : PlanParts) → have_names parts ≡ true → are_distinct (request_names parts.requests) ≡ true
 unfolding have_names
@@ -181,17 +181,17 @@ some_callers : (callers : List CallerEntry) (caller : CallerEntry) → 1 ≤ len
 some_callers callers caller = (let longer = length-more callers caller in omega (arith, longer))
 
 -- the request of a channel that the caller has opened and not closed
-record IsOurs (version : Version) (links : List LinkEntry) (all requests : List RequestEntry) (callers : List CallerEntry) (caller : CallerEntry) (chan : ChanNo) : Type 0 where
+record IsOurs (version : Version) (links : List LinkEntry) (groups : List (List ℕ)) (all requests : List RequestEntry) (callers : List CallerEntry) (caller : CallerEntry) (chan : ChanNo) : Type 0 where
   entry : RequestEntry
-  there : IsOpenedThere (parts_of version links requests (callers ++ caller ∷ []) 0 0) chan
-  here : IsOpenHere (front version links requests (callers ++ caller ∷ [])) chan entry
+  there : IsOpenedThere (parts_with version links groups requests (callers ++ caller ∷ []) 0 0) chan
+  here : IsOpenHere (front version links groups requests (callers ++ caller ∷ [])) chan entry
   found : slice_get requests (channel_number chan) ≡ Some entry
   among_all : slice_get all (channel_number chan) ≡ Some entry
 
-is_ours : (version : Version) (links : List LinkEntry) (all requests rest : List RequestEntry) (callers : List CallerEntry) (caller : CallerEntry) (chan : ChanNo) → Stands version links all requests rest callers caller
-    → list_any (opens (channel_number chan)) caller.ops ≡ true → list_any (closes (channel_number chan)) caller.ops ≡ false → IsOurs version links all requests callers caller chan
-is_ours version links all requests rest callers caller chan s opened unclosed =
-    let parts = parts_of version links requests (callers ++ caller ∷ []) 0 0 in
+is_ours : (version : Version) (links : List LinkEntry) (groups : List (List ℕ)) (all requests rest : List RequestEntry) (callers : List CallerEntry) (caller : CallerEntry) (chan : ChanNo) → Stands version links groups all requests rest callers caller
+    → list_any (opens (channel_number chan)) caller.ops ≡ true → list_any (closes (channel_number chan)) caller.ops ≡ false → IsOurs version links groups all requests callers caller chan
+is_ours version links groups all requests rest callers caller chan s opened unclosed =
+    let parts = parts_with version links groups requests (callers ++ caller ∷ []) 0 0 in
     let has = opened-has parts (length callers) (channel_number chan) caller s.keeps.planned (at_seam callers caller [] (length callers) refl) opened in
     let last : list_any (closes (channel_number chan)) (last_ops (callers ++ caller ∷ [])) ≡ false = ap (list_any (closes (channel_number chan))) (last-of callers caller) ∙ unclosed in
     let find = find_back (λ (e : RequestEntry). e.name) [] requests (channel_number chan) has.entry (distinct_requests parts s.keeps.names) has.found in
@@ -211,67 +211,67 @@ is_ours version links all requests rest callers caller chan s opened unclosed =
     }
 
 -- nothing is opened, and the last caller has the operation
-plain_step : (version : Version) (links : List LinkEntry) (all requests rest : List RequestEntry) (callers : List CallerEntry) (caller : CallerEntry) (op : Op) (openings : List Opening) (fields : List (List ℕ))
-    → Stands version links all requests rest callers caller → openings ≡ map opening_of rest → op_fields links all op ≡ Some fields → KeepSoFar (parts_of version links requests (add_op op (callers ++ caller ∷ [])) 0 0)
-    → Reads (fields ∷ []) (front version links requests (callers ++ caller ∷ [])) (front version links requests (add_op op (callers ++ caller ∷ []))) → Stepped version links all requests callers caller op openings
-plain_step version links all requests rest callers caller op openings fields s later is keeps reads = record {
+plain_step : (version : Version) (links : List LinkEntry) (groups : List (List ℕ)) (all requests rest : List RequestEntry) (callers : List CallerEntry) (caller : CallerEntry) (op : Op) (openings : List Opening) (fields : List (List ℕ))
+    → Stands version links groups all requests rest callers caller → openings ≡ map opening_of rest → op_fields links all op ≡ Some fields → KeepSoFar (parts_with version links groups requests (add_op op (callers ++ caller ∷ [])) 0 0)
+    → Reads (fields ∷ []) (front version links groups requests (callers ++ caller ∷ [])) (front version links groups requests (add_op op (callers ++ caller ∷ []))) → Stepped version links groups all requests callers caller op openings
+plain_step version links groups all requests rest callers caller op openings fields s later is keeps reads = record {
   after = requests;
   rest = rest;
-  stands = record { keeps = subst (λ (cs : List CallerEntry). KeepSoFar (parts_of version links requests cs 0 0)) (added-last op callers caller) keeps; same = s.same; stand = s.stand; named = s.named; few = s.few };
+  stands = record { keeps = subst (λ (cs : List CallerEntry). KeepSoFar (parts_with version links groups requests cs 0 0)) (added-last op callers caller) keeps; same = s.same; stand = s.stand; named = s.named; few = s.few };
   left = later;
-  reads = subst (λ (lines : List (List (List ℕ))). Reads lines (front version links requests (callers ++ caller ∷ [])) (front version links requests (callers ++ with_its_op op caller ∷ []))) (sym (ap lines_if is))
-      (subst (λ (cs : List CallerEntry). Reads (fields ∷ []) (front version links requests (callers ++ caller ∷ [])) (front version links requests cs)) (added-last op callers caller) reads);
+  reads = subst (λ (lines : List (List (List ℕ))). Reads lines (front version links groups requests (callers ++ caller ∷ [])) (front version links groups requests (callers ++ with_its_op op caller ∷ []))) (sym (ap lines_if is))
+      (subst (λ (cs : List CallerEntry). Reads (fields ∷ []) (front version links groups requests (callers ++ caller ∷ [])) (front version links groups requests cs)) (added-last op callers caller) reads);
 }
 
 -- the load with one operation more, of what was read
-load_so_far : (version : Version) (links : List LinkEntry) (all requests rest : List RequestEntry) (callers : List CallerEntry) (caller : CallerEntry) (op : Op) → Stands version links all requests rest callers caller
+load_so_far : (version : Version) (links : List LinkEntry) (groups : List (List ℕ)) (all requests rest : List RequestEntry) (callers : List CallerEntry) (caller : CallerEntry) (op : Op) → Stands version links groups all requests rest callers caller
     → load_in all (callers ++ caller ∷ []) + load_of all op ≤ 262144 → load_in requests (callers ++ caller ∷ []) + load_of requests op ≤ 262144
-load_so_far version links all requests rest callers caller op s load =
+load_so_far version links groups all requests rest callers caller op s load =
     let whole : load_in (requests ++ rest) (callers ++ caller ∷ []) + load_of (requests ++ rest) op ≤ 262144 = subst (λ (es : List RequestEntry). load_in es (callers ++ caller ∷ []) + load_of es op ≤ 262144) s.same load in
     let one = load_less requests rest op in
     let others = callers_less requests rest (callers ++ caller ∷ []) in
     omega (arith, whole, one, others)
 
-send_step : (version : Version) (links : List LinkEntry) (all requests rest : List RequestEntry) (callers : List CallerEntry) (caller : CallerEntry) (chan : ChanNo) (count gap size : ℕ) (openings : List Opening)
-    → Stands version links all requests rest callers caller → IsNextOp version links all callers caller (Send chan count gap size) → openings ≡ map opening_of rest → Stepped version links all requests callers caller (Send chan count gap size) openings
-send_step version links all requests rest callers caller chan count gap size openings s is later =
-    let parts = parts_of version links requests (callers ++ caller ∷ []) 0 0 in
-    let ours = is_ours version links all requests rest callers caller chan s (twice-not (list_any (opens (channel_number chan)) caller.ops) is.opened) (not-true (list_any (closes (channel_number chan)) caller.ops) is.unclosed) in
+send_step : (version : Version) (links : List LinkEntry) (groups : List (List ℕ)) (all requests rest : List RequestEntry) (callers : List CallerEntry) (caller : CallerEntry) (chan : ChanNo) (count gap size : ℕ) (openings : List Opening)
+    → Stands version links groups all requests rest callers caller → IsNextOp version links groups all callers caller (Send chan count gap size) → openings ≡ map opening_of rest → Stepped version links groups all requests callers caller (Send chan count gap size) openings
+send_step version links groups all requests rest callers caller chan count gap size openings s is later =
+    let parts = parts_with version links groups requests (callers ++ caller ∷ []) 0 0 in
+    let ours = is_ours version links groups all requests rest callers caller chan s (twice-not (list_any (opens (channel_number chan)) caller.ops) is.opened) (not-true (list_any (closes (channel_number chan)) caller.ops) is.unclosed) in
     let are = are_packets count gap size is.sound.range in
-    let load = load_so_far version links all requests rest callers caller (Send chan count gap size) s is.load in
+    let load = load_so_far version links groups all requests rest callers caller (Send chan count gap size) s is.load in
     let here : load_in requests (callers ++ caller ∷ []) + count * hops_of (Some ours.entry) ≤ 262144 = subst (λ (found : Option RequestEntry). load_in requests (callers ++ caller ∷ []) + count * hops_of found ≤ 262144) ours.found load in
-    plain_step version links all requests rest callers caller (Send chan count gap size) openings (send_fields count gap size ours.entry) s later (ap (option_map (send_fields count gap size)) ours.among_all)
+    plain_step version links groups all requests rest callers caller (Send chan count gap size) openings (send_fields count gap size ours.entry) s later (ap (option_map (send_fields count gap size)) ours.among_all)
     (send-keeps parts chan count gap size s.keeps (record { channel = ours.there; range = is.sound.range; load = load }))
-    (send_read version links requests (callers ++ caller ∷ []) chan count gap size ours.entry (some_callers callers caller) ours.here are here)
+    (send_read version links groups requests (callers ++ caller ∷ []) chan count gap size ours.entry (some_callers callers caller) ours.here are here)
 
-close_step : (version : Version) (links : List LinkEntry) (all requests rest : List RequestEntry) (callers : List CallerEntry) (caller : CallerEntry) (chan : ChanNo) (openings : List Opening)
-    → Stands version links all requests rest callers caller → IsNextOp version links all callers caller (Close chan) → openings ≡ map opening_of rest → Stepped version links all requests callers caller (Close chan) openings
-close_step version links all requests rest callers caller chan openings s is later =
-    let parts = parts_of version links requests (callers ++ caller ∷ []) 0 0 in
-    let ours = is_ours version links all requests rest callers caller chan s (twice-not (list_any (opens (channel_number chan)) caller.ops) is.opened) (not-true (list_any (closes (channel_number chan)) caller.ops) is.unclosed) in
-    plain_step version links all requests rest callers caller (Close chan) openings (close_fields ours.entry) s later (ap (option_map close_fields) ours.among_all)
+close_step : (version : Version) (links : List LinkEntry) (groups : List (List ℕ)) (all requests rest : List RequestEntry) (callers : List CallerEntry) (caller : CallerEntry) (chan : ChanNo) (openings : List Opening)
+    → Stands version links groups all requests rest callers caller → IsNextOp version links groups all callers caller (Close chan) → openings ≡ map opening_of rest → Stepped version links groups all requests callers caller (Close chan) openings
+close_step version links groups all requests rest callers caller chan openings s is later =
+    let parts = parts_with version links groups requests (callers ++ caller ∷ []) 0 0 in
+    let ours = is_ours version links groups all requests rest callers caller chan s (twice-not (list_any (opens (channel_number chan)) caller.ops) is.opened) (not-true (list_any (closes (channel_number chan)) caller.ops) is.unclosed) in
+    plain_step version links groups all requests rest callers caller (Close chan) openings (close_fields ours.entry) s later (ap (option_map close_fields) ours.among_all)
     (close-keeps parts chan s.keeps ours.there)
-    (close_read version links requests (callers ++ caller ∷ []) chan ours.entry (some_callers callers caller) ours.here)
+    (close_read version links groups requests (callers ++ caller ∷ []) chan ours.entry (some_callers callers caller) ours.here)
 
-pour_step : (version : Version) (links : List LinkEntry) (all requests rest : List RequestEntry) (callers : List CallerEntry) (caller : CallerEntry) (link : LinkNo) (count gap size : ℕ) (openings : List Opening) → LinksStand links
-    → Stands version links all requests rest callers caller → IsNextOp version links all callers caller (Pour link count gap size) → openings ≡ map opening_of rest → Stepped version links all requests callers caller (Pour link count gap size) openings
-pour_step version links all requests rest callers caller link count gap size openings stand s is later =
-    let parts = parts_of version links requests (callers ++ caller ∷ []) 0 0 in
+pour_step : (version : Version) (links : List LinkEntry) (groups : List (List ℕ)) (all requests rest : List RequestEntry) (callers : List CallerEntry) (caller : CallerEntry) (link : LinkNo) (count gap size : ℕ) (openings : List Opening) → LinksStand links
+    → Stands version links groups all requests rest callers caller → IsNextOp version links groups all callers caller (Pour link count gap size) → openings ≡ map opening_of rest → Stepped version links groups all requests callers caller (Pour link count gap size) openings
+pour_step version links groups all requests rest callers caller link count gap size openings stand s is later =
+    let parts = parts_with version links groups requests (callers ++ caller ∷ []) 0 0 in
     let at = is_there links link stand is.sound.there in
     let are = are_packets count gap size is.sound.range in
-    let load = load_so_far version links all requests rest callers caller (Pour link count gap size) s is.load in
-    plain_step version links all requests rest callers caller (Pour link count gap size) openings (pour_fields count gap size at.entry) s later (ap (option_map (pour_fields count gap size)) at.found)
+    let load = load_so_far version links groups all requests rest callers caller (Pour link count gap size) s is.load in
+    plain_step version links groups all requests rest callers caller (Pour link count gap size) openings (pour_fields count gap size at.entry) s later (ap (option_map (pour_fields count gap size)) at.found)
     (pour-keeps parts link count gap size s.keeps (record { some = some_callers callers caller; version = is.sound.kept; there = is.sound.there; range = is.sound.range; load = load; taken = is.sound.taken }))
-    (pour_read version links requests (callers ++ caller ∷ []) link count gap size at.entry (some_callers callers caller) is.sound.kept
+    (pour_read version links groups requests (callers ++ caller ∷ []) link count gap size at.entry (some_callers callers caller) is.sound.kept
     (record { name = at.name; found = at.named; same = at.same; taken = ap takes_best_effort (sym at.found) ∙ is.sound.taken }) are load)
 
 -- the next request is that of the open
-open_step : (version : Version) (links : List LinkEntry) (all requests rest : List RequestEntry) (callers : List CallerEntry) (caller : CallerEntry) (chan : ChanNo) (openings : List Opening) → LinksStand links
-    → Stands version links all requests rest callers caller → record { caller = length callers; chan = channel_number chan } ∷ openings ≡ map opening_of rest → Stepped version links all requests callers caller (Open chan) openings
+open_step : (version : Version) (links : List LinkEntry) (groups : List (List ℕ)) (all requests rest : List RequestEntry) (callers : List CallerEntry) (caller : CallerEntry) (chan : ChanNo) (openings : List Opening) → LinksStand links
+    → Stands version links groups all requests rest callers caller → record { caller = length callers; chan = channel_number chan } ∷ openings ≡ map opening_of rest → Stepped version links groups all requests callers caller (Open chan) openings
 unfolding each_after
-open_step version links all requests [] callers caller chan openings stand s later = cc
-open_step version links all requests (entry ∷ rest) callers caller chan openings stand s later =
-    let parts = parts_of version links requests (callers ++ caller ∷ []) 0 0 in
+open_step version links groups all requests [] callers caller chan openings stand s later = cc
+open_step version links groups all requests (entry ∷ rest) callers caller chan openings stand s later =
+    let parts = parts_with version links groups requests (callers ++ caller ∷ []) 0 0 in
     let first : record { caller = length callers; chan = channel_number chan } ≡ opening_of entry = cc in
     let others : openings ≡ map opening_of rest = cc in
     let by : actor_number entry.caller ≡ length callers = sym (ap (λ (o : Opening). o.caller) first) in
@@ -294,12 +294,12 @@ open_step version links all requests (entry ∷ rest) callers caller chan openin
       hops = sound.hops;
       terms = sound.terms;
     }) in
-    let reads = open_read version links requests (callers ++ caller ∷ []) entry (some_callers callers caller) (record {
+    let reads = open_read version links groups requests (callers ++ caller ∷ []) entry (some_callers callers caller) (record {
       kept = sound.kept;
       nodes = sound.nodes;
       found = sound.found;
       numbered = record { number = stand.numbers };
-      few_links = (few-in (parts_of version links requests (callers ++ caller ∷ []) 0 0) s.keeps.few).links;
+      few_links = (few-in (parts_with version links groups requests (callers ++ caller ∷ []) 0 0) s.keeps.few).links;
       name = sound.name;
       new = not-true (list_any (is_named entry.name) (request_names requests)) new;
       few = few;
@@ -319,24 +319,24 @@ open_step version links all requests (entry ∷ rest) callers caller chan openin
       after = requests ++ entry ∷ [];
       rest = rest;
       stands = record {
-        keeps = subst (λ (cs : List CallerEntry). KeepSoFar (parts_of version links (requests ++ entry ∷ []) cs 0 0)) to keeps;
+        keeps = subst (λ (cs : List CallerEntry). KeepSoFar (parts_with version links groups (requests ++ entry ∷ []) cs 0 0)) to keeps;
         same = s.same ∙ sym (append_assoc requests (entry ∷ []) rest);
         stand = rest_next version links requests entry rest s.stand;
         named = Each-append (λ (e : RequestEntry). is_name e.name ≡ true) requests (entry ∷ []) s.named (sound.name, tt);
         few = s.few;
       };
       left = others;
-      reads = subst (λ (lines : List (List (List ℕ))). Reads lines (front version links requests (callers ++ caller ∷ [])) (front version links (requests ++ entry ∷ []) (callers ++ with_its_op (Open chan) caller ∷ []))) (sym (ap (λ (e : Option RequestEntry). lines_if (option_map (open_fields links) e)) found))
-          (subst (λ (cs : List CallerEntry). Reads (open_fields links entry ∷ []) (front version links requests (callers ++ caller ∷ [])) (front version links (requests ++ entry ∷ []) cs)) to reads);
+      reads = subst (λ (lines : List (List (List ℕ))). Reads lines (front version links groups requests (callers ++ caller ∷ [])) (front version links groups (requests ++ entry ∷ []) (callers ++ with_its_op (Open chan) caller ∷ []))) (sym (ap (λ (e : Option RequestEntry). lines_if (option_map (open_fields links) e)) found))
+          (subst (λ (cs : List CallerEntry). Reads (open_fields links entry ∷ []) (front version links groups requests (callers ++ caller ∷ [])) (front version links groups (requests ++ entry ∷ []) cs)) to reads);
     }
   where
     new_first : (es : List RequestEntry) (e : RequestEntry) (after_it : List RequestEntry) → each_after is_new (request_names es) (request_names (e ∷ after_it)) ≡ true → is_new (request_names es) e.name ≡ true
     new_first es e after_it each = (and_parts (is_new (request_names es) e.name) (each_after is_new (request_names es ++ e.name ∷ []) (request_names after_it)) each).0
 
 -- any operation
-pub op_step : (version : Version) (links : List LinkEntry) (all requests rest : List RequestEntry) (callers : List CallerEntry) (caller : CallerEntry) (op : Op) (openings : List Opening) → LinksStand links
-    → Stands version links all requests rest callers caller → IsNextOp version links all callers caller op → opened_by (length callers) op ++ openings ≡ map opening_of rest → Stepped version links all requests callers caller op openings
-op_step version links all requests rest callers caller (Open chan) openings stand s is later = open_step version links all requests rest callers caller chan openings stand s later
-op_step version links all requests rest callers caller (Send chan count gap size) openings stand s is later = send_step version links all requests rest callers caller chan count gap size openings s is later
-op_step version links all requests rest callers caller (Close chan) openings stand s is later = close_step version links all requests rest callers caller chan openings s is later
-op_step version links all requests rest callers caller (Pour link count gap size) openings stand s is later = pour_step version links all requests rest callers caller link count gap size openings stand s is later
+pub op_step : (version : Version) (links : List LinkEntry) (groups : List (List ℕ)) (all requests rest : List RequestEntry) (callers : List CallerEntry) (caller : CallerEntry) (op : Op) (openings : List Opening) → LinksStand links
+    → Stands version links groups all requests rest callers caller → IsNextOp version links groups all callers caller op → opened_by (length callers) op ++ openings ≡ map opening_of rest → Stepped version links groups all requests callers caller op openings
+op_step version links groups all requests rest callers caller (Open chan) openings stand s is later = open_step version links groups all requests rest callers caller chan openings stand s later
+op_step version links groups all requests rest callers caller (Send chan count gap size) openings stand s is later = send_step version links groups all requests rest callers caller chan count gap size openings s is later
+op_step version links groups all requests rest callers caller (Close chan) openings stand s is later = close_step version links groups all requests rest callers caller chan openings s is later
+op_step version links groups all requests rest callers caller (Pour link count gap size) openings stand s is later = pour_step version links groups all requests rest callers caller link count gap size openings stand s is later

@@ -1,12 +1,13 @@
 -- A plan's text is read as that plan and its schedule, where it has at most 4,194,304 bytes: the items of the schedule then
--- have the numbers of their lines. So no text is that of two plans. The names of a plan are names, as those of each plan
--- that is made are; a route that it has as found between two nodes is the least one between them; and its schedule is one that a
+-- have the numbers of their lines. So no text is that of two plans. The names of a plan are names, and its quotas have
+-- eight loads, as those of each plan that is made do; a route that it has as found between two nodes is the least one between them; and its schedule is one that a
 -- scenario can have.
 use Rattle.std.specs.Prelude.{◌≡◌, ◌≤◌, ℕ, true, Option, Some, None, List, length, map}
 use Rattle.hop_reservation.specs.declared.route.Hop.{Hop}
 use Rattle.net_units.specs.Text.{is_name}
 use Rattle.scenario_reader.specs.declared.reader.TheConstants.{MOST_BYTES}
 use Rattle.link_steps.specs.Lists.{Each}
+use Rattle.link_steps.specs.declared.quota.Quota.{Quota}
 use Rattle.call_script.specs.Parts.{PlanParts}
 use Rattle.call_script.specs.Plans.{IsPlan}
 use Rattle.call_script.specs.declared.entries.LinkEntry.{LinkEntry}
@@ -30,8 +31,14 @@ abbrev pub AreNodesNamed : Option (List ℕ × List ℕ) → Type 0
 AreNodesNamed None = Unit {0}
 AreNodesNamed (Some (from, to)) = (is_name from ≡ true) × (is_name to ≡ true)
 
+-- a quota has eight loads, as each that is made has
+abbrev pub HasEightLoads : Quota → Type 0
+HasEightLoads quota = length quota.levels ≡ 8
+
 pub record AreNamed (parts : PlanParts) : Type 0 where
   pub links : Each HasNames parts.links
+  pub groups : Each (λ (name : List ℕ). is_name name ≡ true) parts.groups
+  pub quotas : Each (λ (entry : LinkEntry). Each HasEightLoads entry.quotas) parts.links
   pub nodes : Each (λ (entry : RequestEntry). AreNodesNamed entry.found) parts.requests
   pub requests : Each (λ (entry : RequestEntry). is_name entry.name ≡ true) parts.requests
   pub callers : Each (λ (caller : CallerEntry). is_name caller.name ≡ true) parts.callers

@@ -1,15 +1,15 @@
--- What was read of a scenario so far: the version that its header says; the links, the requests, and the callers with their
--- operations, as a plan has them; the numbers of rounds, once they were said; and the schedule: whether it was begun, and its
+-- What was read of a scenario so far: the version that its header says; the links with their quotas, the names of the groups, the
+-- requests, and the callers with their operations, as a plan has them; the numbers of rounds, once they were said; and the schedule: whether it was begun, and its
 -- items. When `tail` was said, the first parts are those of the plan. Links, requests and callers have the numbers of their
--- places, from 0, in the order of their lines. The operations that are read belong to the last caller.
-use Rattle.std.specs.Prelude.{ℕ, ◌-◌, Bool, true, false, nat_eq, if◌then◌else◌, Option, Some, None, List, [], ◌∷◌, ◌++◌, length, find, position, is_some, unwrap_or}
+-- places, from 0, in the order of their lines, and groups from 1. The operations that are read belong to the last caller.
+use Rattle.std.specs.Prelude.{ℕ, suc, ◌-◌, Bool, true, false, not, nat_eq, if◌then◌else◌, Option, Some, None, List, [], ◌∷◌, ◌++◌, length, find, position, is_some, unwrap_or, option_map}
 use Rattle.std.specs.List.{list_any}
-use Rattle.net_units.specs.Numbers.{actor_number, channel_number}
+use Rattle.net_units.specs.Numbers.{link_number, actor_number, channel_number}
 use Rattle.net_units.specs.declared.numbers.ChanNo.{ChanNo}
 use Rattle.hop_reservation.specs.declared.route.Hop.{Hop}
 use Rattle.link_steps.specs.declared.shape.LinkShape.{LinkShape}
-use Rattle.call_script.specs.Growing.{new_caller, add_op, last_ops}
-use Rattle.call_script.specs.Parts.{PlanParts, parts_of}
+use Rattle.call_script.specs.Growing.{new_caller, add_quota, add_op, last_ops}
+use Rattle.call_script.specs.Parts.{PlanParts, parts_with}
 use Rattle.call_script.specs.Rules.{is_named, caller_names, closes}
 use Rattle.call_script.specs.declared.entries.CallerEntry.{CallerEntry}
 use Rattle.call_script.specs.declared.entries.LinkEntry.{LinkEntry}
@@ -26,6 +26,7 @@ use Rattle.scenario_reader.specs.declared.item.Item.TheVariants as item
 pub record Said : Type 0 where
   pub version : Option Version
   pub links : List LinkEntry
+  pub groups : List (List ℕ)
   pub requests : List RequestEntry
   pub callers : List CallerEntry
   pub rounds : Option ℕ
@@ -34,20 +35,22 @@ pub record Said : Type 0 where
   pub items : List Do
 
 -- the record of its parts
-abbrev pub said_of : Option Version → List LinkEntry → List RequestEntry → List CallerEntry → Option ℕ → Option ℕ → Bool → List Do → Said
-said_of version links requests callers rounds tail written items =
-    record { version = version; links = links; requests = requests; callers = callers; rounds = rounds; tail = tail; written = written; items = items }
+abbrev pub said_of : Option Version → List LinkEntry → List (List ℕ) → List RequestEntry → List CallerEntry → Option ℕ → Option ℕ → Bool → List Do → Said
+said_of version links groups requests callers rounds tail written items =
+    record { version = version; links = links; groups = groups; requests = requests; callers = callers; rounds = rounds; tail = tail; written = written; items = items }
 
 -- before the first line
 abbrev pub nothing_said : Said
-nothing_said = record { version = None; links = []; requests = []; callers = []; rounds = None; tail = None; written = false; items = [] }
+nothing_said = record { version = None; links = []; groups = []; requests = []; callers = []; rounds = None; tail = None; written = false; items = [] }
 
 -- what was read once this line was, too
 abbrev pub with_item : Item → Said → Said
 with_item item.Nothing said = said
 with_item (item.Header version) said = record said { version = Some version }
 with_item (item.Link entry) said = record said { links = said.links ++ entry ∷ [] }
-with_item (item.Caller name) said = record said { callers = said.callers ++ new_caller name 0 ∷ [] }
+with_item (item.Group name) said = record said { groups = said.groups ++ name ∷ [] }
+with_item (item.Quota link quota) said = record said { links = add_quota (link_number link) quota said.links }
+with_item (item.Caller name group) said = record said { callers = said.callers ++ new_caller name group ∷ [] }
 with_item (item.Open entry) said = record said { requests = said.requests ++ entry ∷ []; callers = add_op (Open entry.request.chan) said.callers }
 with_item (item.Op op) said = record said { callers = add_op op said.callers }
 with_item (item.Rounds count) said = record said { rounds = Some count }
@@ -68,7 +71,7 @@ tail_of said = unwrap_or said.tail 0
 
 -- the parts of the plan
 abbrev pub parts_said : Said → PlanParts
-parts_said said = parts_of (unwrap_or said.version One) said.links said.requests said.callers (rounds_of said) (tail_of said)
+parts_said said = parts_with (unwrap_or said.version One) said.links said.groups said.requests said.callers (rounds_of said) (tail_of said)
 
 -- its schedule
 abbrev pub schedule_said : Said → Schedule
@@ -79,6 +82,14 @@ schedule_said said = record { written = said.written; items = said.items }
 -- the link of this name
 abbrev pub link_named : List LinkEntry → List ℕ → Option LinkEntry
 link_named links name = find (λ (entry : LinkEntry). is_named name entry.name) links
+
+-- a link of these has quotas
+abbrev pub has_quotas : List LinkEntry → Bool
+has_quotas links = list_any (λ (entry : LinkEntry). not (nat_eq (length entry.quotas) 0)) links
+
+-- the number of the group of this name, from 1
+abbrev pub group_named : List (List ℕ) → List ℕ → Option ℕ
+group_named groups name = option_map suc (position (is_named name) groups)
 
 -- the shape of a link
 abbrev pub shape_in : LinkEntry → LinkShape

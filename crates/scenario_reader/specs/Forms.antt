@@ -1,5 +1,5 @@
 -- The form of a line is a list of parts: fixed words, and fields that hold a name or a number. Two parts take
--- several fields: the links of a route, 1 to 16 fields up to the word `contract`; and the bounds of a link's
+-- several fields: the links of a route, 1 to 16 fields up to the word `contract`; and the numbers of a link's
 -- levels, 1 to 8 fields at the end. A line has a form when its fields fit the parts one by one.
 use Rattle.std.specs.Prelude.{ℕ, suc, Bool, true, false, nat_eq, nat_le, not, ◌&&◌, if◌then◌else◌, Option, Some, None, List, [], ◌∷◌, length, drop, codes}
 use Rattle.std.specs.List.{list_any}
@@ -16,6 +16,8 @@ use Rattle.scenario_reader.specs.declared.form.Part.TheVariants as part
 -- the bytes of a fixed word
 abbrev pub text_of : Keyword → List ℕ
 text_of word.Link = codes "link"
+text_of word.Group = codes "group"
+text_of word.Quota = codes "quota"
 text_of word.Caller = codes "caller"
 text_of word.Open = codes "open"
 text_of word.Send = codes "send"

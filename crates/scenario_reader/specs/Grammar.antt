@@ -1,29 +1,31 @@
--- The lines of a scenario, in their order: the header, which says the version of the language; the links; the callers, each
--- followed by its operations, which open requests, send on them and close them, and pour best-effort packets; `rounds`;
+-- The lines of a scenario, in their order: the header, which says the version of the language; the links; the groups of callers, and
+-- the quotas that groups have of links; the callers, each followed by its operations, which open requests, send on them and close them, and pour best-effort packets; `rounds`;
 -- `tail`; and then a schedule may stand, with its `do` lines. Each kind of line has a form, a list of rules in the order in
--- which they are judged, and what it says. Best-effort packets have their forms from version three on; before it these
--- forms don't exist.
+-- which they are judged, and what it says. Best-effort packets have their forms from version three on, and groups
+-- and quotas from version five on; before them these forms don't exist.
 use Rattle.std.specs.Prelude.{ℕ, ◌+◌, ◌*◌, Bool, true, false, nat_eq, nat_lt, nat_le, not, ◌&&◌, if◌then◌else◌, Option, Some, None, Result, Ok, Err, List, [], ◌∷◌, length, option_map, codes, is_some, is_none}
 use Rattle.std.specs.Cmp.Lexicographic.{pointwise}
-use Rattle.call_script.specs.Rules.{caller_names, hops_of, load_in, takes_best_effort}
-use Rattle.call_script.specs.Versions.{has_best_effort}
+use Rattle.call_script.specs.Rules.{hops_of, load_in, takes_best_effort}
+use Rattle.call_script.specs.Versions.{has_best_effort, has_groups}
 use Rattle.call_script.specs.declared.entries.LinkEntry.{LinkEntry}
 use Rattle.call_script.specs.declared.entries.RequestEntry.{RequestEntry}
 use Rattle.call_script.specs.declared.operations.Op.{Op}
 use Rattle.call_script.specs.declared.operations.Op.TheVariants as op
 use Rattle.call_script.specs.declared.schedule.Do.{Do}
 use Rattle.call_script.specs.declared.version.Version.{Version}
-use Rattle.call_script.specs.declared.version.Version.TheVariants.{One, Two, Three, Four}
+use Rattle.call_script.specs.declared.version.Version.TheVariants.{One, Two, Three, Four, Five}
 use Rattle.net_units.specs.declared.numbers.ActorNo.{ActorNo}
-use Rattle.net_units.specs.Limits.{most_steps, most_callers, most_packets, most_gap, most_size, most_rounds}
+use Rattle.net_units.specs.Limits.{most_steps, most_packets, most_gap, most_size, most_rounds}
 use Rattle.net_units.specs.Numbers.{actor_at}
 use Rattle.scenario_reader.specs.Causes.{Rule, unless, first_cause, judged, stated}
 use Rattle.scenario_reader.specs.Decimal.{value_of}
-use Rattle.scenario_reader.specs.Drafts.{Said, rounds_of, link_named, caller_named, own_request, is_closed}
+use Rattle.scenario_reader.specs.Drafts.{Said, rounds_of, has_quotas, link_named, caller_named, own_request, is_closed}
 use Rattle.scenario_reader.specs.Fields.{fields_of, are_fields, field_at}
-use Rattle.scenario_reader.specs.Forms.{is_word, has_form, new_name_rule, used_name_rule, number_rule}
+use Rattle.scenario_reader.specs.Forms.{is_word, has_form, used_name_rule, number_rule}
+use Rattle.scenario_reader.specs.GroupLines.{group_rule, group_in, caller_rule}
 use Rattle.scenario_reader.specs.LinkLine.{link_rule, link_said}
 use Rattle.scenario_reader.specs.OpenLine.{open_rule, request_said}
+use Rattle.scenario_reader.specs.QuotaLine.{quota_rule, quota_said}
 use Rattle.scenario_reader.specs.declared.cause.Cause.{Cause}
 use Rattle.scenario_reader.specs.declared.cause.Cause.TheVariants as cause
 use Rattle.scenario_reader.specs.declared.form.Keyword.{Keyword}
@@ -40,7 +42,8 @@ version_in field =
     if pointwise nat_eq field (codes "1") then Some One else (
     if pointwise nat_eq field (codes "2") then Some Two else (
     if pointwise nat_eq field (codes "3") then Some Three else (
-    if pointwise nat_eq field (codes "4") then Some Four else None)))
+    if pointwise nat_eq field (codes "4") then Some Four else (
+    if pointwise nat_eq field (codes "5") then Some Five else None))))
 
 abbrev pub header_version : List (List ℕ) → Option Version
 header_version fields =
@@ -50,18 +53,6 @@ header_version fields =
 abbrev pub header_said : Option Version → Result Item Cause
 header_said None = Err cause.Header
 header_said (Some version) = Ok (item.Header version)
-
--- ---- caller NAME
-
-abbrev pub caller_form : List Part
-caller_form = part.Word word.Caller ∷ part.Field ∷ []
-
-abbrev pub caller_rule : Said → List (List ℕ) → Rule
-caller_rule said fields = first_cause (
-    unless (has_form caller_form fields) cause.Shape
-    ∷ new_name_rule (caller_names said.callers) (field_at fields 1)
-    ∷ unless (nat_lt (length said.callers) most_callers) cause.Many
-    ∷ [])
 
 -- ---- send NAME COUNT GAP SIZE
 
@@ -211,9 +202,15 @@ do_said said number fields = option_map (do_by number fields) (actor_said said (
 
 -- ---- which lines may come next
 
+-- a link was read, and no caller and no rounds
+abbrev pub is_before_callers : Said → Bool
+is_before_callers said = not (nat_eq (length said.links) 0) && nat_eq (length said.callers) 0 && is_none said.rounds
+
 -- whether a line with this first word may come next
 abbrev pub may_stand : Version → Said → Keyword → Bool
-may_stand version said word.Link = nat_eq (length said.callers) 0 && is_none said.rounds
+may_stand version said word.Link = nat_eq (length said.groups) 0 && nat_eq (length said.callers) 0 && is_none said.rounds
+may_stand version said word.Group = has_groups version && is_before_callers said && not (has_quotas said.links)
+may_stand version said word.Quota = has_groups version && is_before_callers said
 may_stand version said word.Caller = not (nat_eq (length said.links) 0) && is_none said.rounds
 may_stand version said word.Open = not (nat_eq (length said.callers) 0) && is_none said.rounds
 may_stand version said word.Send = not (nat_eq (length said.callers) 0) && is_none said.rounds
@@ -229,6 +226,8 @@ may_stand version said other = false
 abbrev pub line_word : List ℕ → Option Keyword
 line_word field =
     if is_word word.Link field then Some word.Link else (
+    if is_word word.Group field then Some word.Group else (
+    if is_word word.Quota field then Some word.Quota else (
     if is_word word.Caller field then Some word.Caller else (
     if is_word word.Open field then Some word.Open else (
     if is_word word.Send field then Some word.Send else (
@@ -237,14 +236,16 @@ line_word field =
     if is_word word.Rounds field then Some word.Rounds else (
     if is_word word.Tail field then Some word.Tail else (
     if is_word word.Schedule field then Some word.Schedule else (
-    if is_word word.Do field then Some word.Do else None)))))))))
+    if is_word word.Do field then Some word.Do else None)))))))))))
 
 -- ---- judging
 
 -- what the line of this number says, which begins with this word, or its cause
 abbrev pub judge_as : Keyword → Version → Said → ℕ → List (List ℕ) → Result Item Cause
 judge_as word.Link version said number fields = stated (link_rule version said fields) (option_map item.Link (link_said version said fields))
-judge_as word.Caller version said number fields = judged (caller_rule said fields) (item.Caller (field_at fields 1))
+judge_as word.Group version said number fields = judged (group_rule said fields) (item.Group (field_at fields 1))
+judge_as word.Quota version said number fields = stated (quota_rule said fields) (quota_said said fields)
+judge_as word.Caller version said number fields = judged (caller_rule version said fields) (item.Caller (field_at fields 1) (group_in said fields))
 judge_as word.Open version said number fields = judged (open_rule version said fields) (item.Open (request_said said fields))
 judge_as word.Send version said number fields = stated (send_rule said fields) (option_map item.Op (send_said said fields))
 judge_as word.Close version said number fields = stated (close_rule said fields) (option_map item.Op (close_said said fields))

@@ -1,12 +1,14 @@
 -- What was read of a scenario so far, where no line was refused, keeps the rules of a plan, as far as it has come. Its parts
--- come in order: the header; the links; the callers with their operations; `rounds`; `tail`; and the schedule. Behind a part
--- that wasn't read nothing was read, but that a scenario needs no callers and no schedule.
+-- come in order: the header; the links; the groups, and the quotas of the links; the callers with their operations; `rounds`; `tail`; and the schedule. Behind a part
+-- that wasn't read nothing was read, but that a scenario needs no groups, no quotas, no callers and no schedule.
 use Rattle.std.specs.Prelude.{◌≡◌, ℕ, ◌+◌, ◌*◌, ◌≤◌, Bool, true, false, None, Some, IfSome, List, [], length}
 use Rattle.std.specs.List.{slice_get, slice_index_or}
-use Rattle.net_units.specs.Numbers.{actor_number}
+use Rattle.net_units.specs.Numbers.{link_number, actor_number}
+use Rattle.net_units.specs.declared.numbers.LinkNo.{LinkNo}
 use Rattle.net_units.specs.Limits.{most_steps, most_links, most_callers, most_requests, most_packets, most_rounds}
 use Rattle.link_steps.specs.Lists.{Each}
-use Rattle.call_script.specs.Growing.{KeepSoFar, MayAddLink, MayAddCaller, MayOpen, IsOpenedThere, MaySend, MayPour}
+use Rattle.link_steps.specs.declared.quota.Quota.{Quota}
+use Rattle.call_script.specs.Growing.{KeepSoFar, MayAddLink, MayAddGroup, MayAddQuota, MayAddCaller, MayOpen, IsOpenedThere, MaySend, MayPour}
 use Rattle.call_script.specs.Parts.{PlanParts}
 use Rattle.call_script.specs.Rules.{link_names, request_names, caller_names, load_in}
 use Rattle.call_script.specs.declared.entries.CallerEntry.{CallerEntry}
@@ -75,9 +77,17 @@ pub record MayPutLink (said : Said) (entry : LinkEntry) : Type 0 where
   pub before : IsBefore said
   pub link : MayAddLink (parts_said said) entry
 
-pub record MayPutCaller (said : Said) (name : List ℕ) : Type 0 where
+pub record MayPutGroup (said : Said) (name : List ℕ) : Type 0 where
   pub before : HasALink said
-  pub caller : MayAddCaller (parts_said said) name 0
+  pub group : MayAddGroup (parts_said said) name
+
+pub record MayPutQuota (said : Said) (link : LinkNo) (quota : Quota) : Type 0 where
+  pub before : HasALink said
+  pub share : MayAddQuota (parts_said said) (link_number link) quota
+
+pub record MayPutCaller (said : Said) (name : List ℕ) (group : ℕ) : Type 0 where
+  pub before : HasALink said
+  pub caller : MayAddCaller (parts_said said) name group
 
 pub record MayPutOpen (said : Said) (entry : RequestEntry) : Type 0 where
   pub before : HasALink said
@@ -120,7 +130,9 @@ abbrev pub MayAdd : Said → Item → Type 0
 MayAdd said item.Nothing = Unit {0}
 MayAdd said (item.Header version) = said.version ≡ None
 MayAdd said (item.Link entry) = MayPutLink said entry
-MayAdd said (item.Caller name) = MayPutCaller said name
+MayAdd said (item.Group name) = MayPutGroup said name
+MayAdd said (item.Quota link quota) = MayPutQuota said link quota
+MayAdd said (item.Caller name group) = MayPutCaller said name group
 MayAdd said (item.Open entry) = MayPutOpen said entry
 MayAdd said (item.Op what) = MayPutOp said what
 MayAdd said (item.Rounds count) = MayPutRounds said count

@@ -9,6 +9,8 @@ pub mod LinkLine
 pub mod Nodes
 pub mod FoundRoutes
 pub mod OpenLine
+pub mod GroupLines
+pub mod QuotaLine
 pub mod Grammar
 pub mod Reading
 pub mod Kept
@@ -18,3 +20,9 @@ pub mod ReadSteps
 pub mod PlanText
 pub mod BothWays
 pub mod Written
+pub mod AuditLines
+pub mod AuditRows
+pub mod CsvRows
+pub mod AuditReading
+pub mod AuditKept
+pub mod AuditSteps

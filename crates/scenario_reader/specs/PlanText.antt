@@ -1,12 +1,13 @@
--- The one text of a plan: the header with its version, its links, its callers each with its operations in their order,
--- `rounds` and `tail`, and, where its schedule is written, `schedule` and the `do` lines, each on a line of its own. Links,
--- callers and requests go by their names, and so does the plane. (An operation on what isn't there would have no line; a
+-- The one text of a plan: the header with its version, its links, its groups, the quotas link by link, its callers each with its
+-- operations in their order, `rounds` and `tail`, and, where its schedule is written, `schedule` and the `do` lines, each on a
+-- line of its own. Links, groups, callers and requests go by their names, and so does the plane. (An operation on what isn't there would have no line; a
 -- plan has none.)
-use Rattle.std.specs.Prelude.{ℕ, nat_eq, if◌then◌else◌, Option, Some, None, List, [], ◌∷◌, ◌++◌, map, codes, option_map}
+use Rattle.std.specs.Prelude.{ℕ, ◌-◌, nat_eq, if◌then◌else◌, Option, Some, None, List, [], ◌∷◌, ◌++◌, length, map, take, codes, option_map, unwrap_or}
 use Rattle.std.specs.Fmt.{decimal}
 use Rattle.std.specs.List.{flat_map, slice_get}
 use Rattle.net_units.specs.Numbers.{link_number, actor_number, channel_number}
 use Rattle.hop_reservation.specs.declared.route.Hop.{Hop}
+use Rattle.link_steps.specs.declared.quota.Quota.{Quota}
 use Rattle.setup_protocol.specs.declared.request.Control.{Control}
 use Rattle.setup_protocol.specs.declared.request.Control.TheVariants.{Rate, Jitter}
 use Rattle.setup_protocol.specs.declared.request.Request.{Request}
@@ -21,7 +22,7 @@ use Rattle.call_script.specs.declared.operations.Op.TheVariants.{Open, Send, Clo
 use Rattle.call_script.specs.declared.schedule.Do.{Do}
 use Rattle.call_script.specs.declared.schedule.Schedule.{Schedule}
 use Rattle.call_script.specs.declared.version.Version.{Version}
-use Rattle.call_script.specs.declared.version.Version.TheVariants.{One, Two, Three, Four}
+use Rattle.call_script.specs.declared.version.Version.TheVariants.{One, Two, Three, Four, Five}
 use Rattle.scenario_reader.specs.Fields.{ended_line}
 
 -- ---- tenet VERSION
@@ -31,6 +32,7 @@ version_field One = codes "1"
 version_field Two = codes "2"
 version_field Three = codes "3"
 version_field Four = codes "4"
+version_field Five = codes "5"
 
 abbrev pub header_fields : Version → List (List ℕ)
 header_fields version = codes "tenet" ∷ version_field version ∷ []
@@ -47,10 +49,34 @@ abbrev pub link_fields : LinkEntry → List (List ℕ)
 link_fields entry = codes "link" ∷ entry.name ∷ entry.from ∷ entry.to ∷ codes "rate" ∷ decimal entry.shape.rate ∷ codes "cap" ∷ decimal entry.shape.cap
     ∷ codes "prop" ∷ decimal entry.shape.prop ∷ codes "buffer" ∷ decimal entry.shape.buffer ∷ (best_fields entry.shape.best ++ bounds_fields entry.shape.bounds)
 
--- ---- caller NAME
+-- ---- group NAME
 
-abbrev pub caller_fields : List ℕ → List (List ℕ)
-caller_fields name = codes "caller" ∷ name ∷ []
+abbrev pub group_fields : List ℕ → List (List ℕ)
+group_fields name = codes "group" ∷ name ∷ []
+
+-- ---- quota LINK GROUP buffer U levels Q1 .. Qn
+
+-- the name of the group of this number, from 1
+abbrev pub group_name : List (List ℕ) → ℕ → List ℕ
+group_name groups group = unwrap_or (slice_get groups (group - 1)) []
+
+-- its loads, of as many levels as the link has
+abbrev pub loads_fields : List ℕ → List ℕ → List (List ℕ)
+loads_fields bounds levels = codes "levels" ∷ map decimal (take (length bounds) levels)
+
+abbrev pub quota_fields : List (List ℕ) → LinkEntry → Quota → List (List ℕ)
+quota_fields groups entry quota = codes "quota" ∷ entry.name ∷ group_name groups quota.group ∷ codes "buffer" ∷ decimal quota.buffer ∷ loads_fields entry.shape.bounds quota.levels
+
+abbrev pub quota_lines : List (List ℕ) → LinkEntry → List (List (List ℕ))
+quota_lines groups entry = map (quota_fields groups entry) entry.quotas
+
+-- ---- caller NAME, with group GROUP where it is of one
+
+abbrev pub member_fields : List (List ℕ) → ℕ → List (List ℕ)
+member_fields groups group = if nat_eq group 0 then [] else codes "group" ∷ group_name groups group ∷ []
+
+abbrev pub caller_fields : List (List ℕ) → List ℕ → ℕ → List (List ℕ)
+caller_fields groups name group = codes "caller" ∷ name ∷ member_fields groups group
 
 -- ---- open NAME route LINK1 .. LINKh contract XMIN XAVE I SMAX delay D rate, or jitter J in place of rate, or from NODE1 to NODE2
 -- ---- in place of the route
@@ -115,8 +141,8 @@ abbrev pub op_lines : List LinkEntry → List RequestEntry → Op → List (List
 op_lines links requests op = lines_if (op_fields links requests op)
 
 -- a caller with its operations
-abbrev pub caller_lines : List LinkEntry → List RequestEntry → CallerEntry → List (List (List ℕ))
-caller_lines links requests caller = caller_fields caller.name ∷ flat_map (op_lines links requests) caller.ops
+abbrev pub caller_lines : List LinkEntry → List (List ℕ) → List RequestEntry → CallerEntry → List (List (List ℕ))
+caller_lines links groups requests caller = caller_fields groups caller.name caller.group ∷ flat_map (op_lines links requests) caller.ops
 
 -- ---- rounds R, tail Q
 
@@ -141,8 +167,8 @@ schedule_lines callers schedule = if schedule.written then schedule_fields ∷ m
 
 -- the lines of a plan with its schedule, each as its fields
 abbrev pub plan_lines : PlanParts → Schedule → List (List (List ℕ))
-plan_lines parts schedule = header_fields parts.version ∷ (map link_fields parts.links ++ (flat_map (caller_lines parts.links parts.requests) parts.callers
-    ++ (rounds_fields parts.rounds ∷ tail_fields parts.tail ∷ schedule_lines parts.callers schedule)))
+plan_lines parts schedule = header_fields parts.version ∷ (map link_fields parts.links ++ (map group_fields parts.groups ++ (flat_map (quota_lines parts.groups) parts.links
+    ++ (flat_map (caller_lines parts.links parts.groups parts.requests) parts.callers ++ (rounds_fields parts.rounds ∷ tail_fields parts.tail ∷ schedule_lines parts.callers schedule)))))
 
 unfoldable pub plan_text : PlanParts → Schedule → List ℕ
 plan_text parts schedule = flat_map ended_line (plan_lines parts schedule)
@@ -161,6 +187,20 @@ link_line_front entry = codes "link" ++ spaced (entry.name ∷ entry.from ∷ en
 unfoldable pub link_text : LinkEntry → List ℕ
 link_text entry = ended_line (link_fields entry)
 
+unfoldable pub group_text : List ℕ → List ℕ
+group_text name = ended_line (group_fields name)
+
+unfoldable pub quota_text : List (List ℕ) → LinkEntry → Quota → List ℕ
+quota_text groups entry quota = ended_line (quota_fields groups entry quota)
+
+-- the quotas of a link
+unfoldable pub quotas_text : List (List ℕ) → LinkEntry → List ℕ
+quotas_text groups entry = flat_map (quota_text groups entry) entry.quotas
+
+-- the groups, and the quotas of the links
+unfoldable pub split_text : List (List ℕ) → List LinkEntry → List ℕ
+split_text groups links = flat_map group_text groups ++ flat_map (quotas_text groups) links
+
 -- the line, if there is one
 abbrev pub text_if : Option (List (List ℕ)) → List ℕ
 text_if None = []
@@ -169,8 +209,8 @@ text_if (Some fields) = ended_line fields
 unfoldable pub op_text : List LinkEntry → List RequestEntry → Op → List ℕ
 op_text links requests op = text_if (op_fields links requests op)
 
-unfoldable pub caller_text : List LinkEntry → List RequestEntry → CallerEntry → List ℕ
-caller_text links requests caller = flat_map ended_line (caller_lines links requests caller)
+unfoldable pub caller_text : List LinkEntry → List (List ℕ) → List RequestEntry → CallerEntry → List ℕ
+caller_text links groups requests caller = flat_map ended_line (caller_lines links groups requests caller)
 
 unfoldable pub do_text : List CallerEntry → Do → List ℕ
 do_text callers item = ended_line (do_fields callers item)
@@ -189,3 +229,7 @@ rounds_text rounds tail = ended_line (rounds_fields rounds) ++ ended_line (tail_
 -- what stands after the callers
 unfoldable pub end_text : PlanParts → Schedule → List ℕ
 end_text parts schedule = rounds_text parts.rounds parts.tail ++ schedule_text parts.callers schedule
+
+-- the callers, and what stands after them
+unfoldable pub rest_text : PlanParts → Schedule → List ℕ
+rest_text parts schedule = flat_map (caller_text parts.links parts.groups parts.requests) parts.callers ++ end_text parts schedule

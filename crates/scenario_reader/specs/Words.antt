@@ -26,6 +26,9 @@ cause_word cause.Cut = codes "cut"
 cause_word cause.Step = codes "step"
 cause_word cause.Best = codes "best"
 cause_word cause.Reach = codes "reach"
+cause_word cause.Accept = codes "accept"
+cause_word cause.Table = codes "table"
+cause_word cause.Quota = codes "quota"
 
 -- what a refusal says
 abbrev pub refusal_text : ReadRefusal → List ℕ

@@ -20,13 +20,13 @@ pub enum Cause {
     Name,
     /// A field that has to be a number isn't one.
     Number,
-    /// A new name is known already.
+    /// A new name is known already, or the link has a quota of the group.
     Known,
     /// A used name isn't known.
     Unknown,
     /// A number is out of its range.
     Range,
-    /// There are too many links, callers or requests.
+    /// There are too many links, groups, callers or requests.
     Many,
     /// The numbers aren't a contract.
     Contract,
@@ -48,6 +48,12 @@ pub enum Cause {
     Best,
     /// No walk of at most 16 links leads from the first node to the second.
     Reach,
+    /// In an audit's input, a line that begins with `accept ` and isn't a report's for a request of the scenario, or is its second.
+    Accept,
+    /// In an audit's input, a line of the table isn't a row, or the input ended before the table's header.
+    Table,
+    /// The loads of a quota aren't those of the link's levels, or with it the link's quotas come to more than the link has.
+    Quota,
 }
 
 /// Why a line isn't let pass.
@@ -106,6 +112,9 @@ impl Cause {
             Cause::Step => "step",
             Cause::Best => "best",
             Cause::Reach => "reach",
+            Cause::Accept => "accept",
+            Cause::Table => "table",
+            Cause::Quota => "quota",
         }
     }
 }

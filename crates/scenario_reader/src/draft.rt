@@ -8,7 +8,7 @@ use crate::names::Names;
 use call_script::{
     BadPlan, CallerEntry, Do, Dos, LinkEntry, Plan, RequestEntry, Schedule, Version,
 };
-use net_units::OutOfMemory;
+use net_units::{Name, OutOfMemory};
 use std::alloc::Global;
 use std::marker::Model;
 
@@ -19,6 +19,7 @@ use std::marker::Model;
 pub struct Draft {
     pub(crate) version: Option<Version>,
     pub(crate) links: Vec<LinkEntry>,
+    pub(crate) groups: Vec<Name>,
     pub(crate) requests: Vec<RequestEntry>,
     pub(crate) callers: Vec<CallerEntry>,
     pub(crate) rounds: Option<u64>,
@@ -41,10 +42,10 @@ impl Model for Draft {
 
     ghost Value = { Said };
 
-    ghost view = { λ d. said_of d.version d.links.items d.requests.items d.callers.items d.rounds d.tail d.written d.items.items };
+    ghost view = { λ d. said_of d.version d.links.items d.groups.items d.requests.items d.callers.items d.rounds d.tail d.written d.items.items };
 
-    ghost invariant = { λ d. IsDraft (said_of d.version d.links.items d.requests.items d.callers.items d.rounds d.tail d.written d.items.items)
-        × IsKeptBeside (said_of d.version d.links.items d.requests.items d.callers.items d.rounds d.tail d.written d.items.items)
+    ghost invariant = { λ d. IsDraft (said_of d.version d.links.items d.groups.items d.requests.items d.callers.items d.rounds d.tail d.written d.items.items)
+        × IsKeptBeside (said_of d.version d.links.items d.groups.items d.requests.items d.callers.items d.rounds d.tail d.written d.items.items)
         d.link_names d.request_names d.caller_names d.closed.items d.load };
 }
 
@@ -56,6 +57,7 @@ impl Draft {
         Ok(Draft {
             version: None,
             links: Vec::new(alloc),
+            groups: Vec::new(alloc),
             requests: Vec::new(alloc),
             callers: Vec::new(alloc),
             rounds: None,
@@ -100,12 +102,11 @@ impl Draft {
             written: self.written,
             items: Dos::new(self.items),
         };
-        let groups = Vec::new(alloc);
         let made = Plan::new(
             alloc,
             version,
             self.links,
-            groups,
+            self.groups,
             self.requests,
             self.callers,
             rounds,

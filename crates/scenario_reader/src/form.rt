@@ -9,6 +9,8 @@ use crate::fields::{field, field_count};
 #[derive(Clone, Copy, Debug, PartialEq, Eq)]
 pub enum Keyword {
     Link,
+    Group,
+    Quota,
     Caller,
     Open,
     Send,
@@ -39,6 +41,8 @@ impl Keyword {
     {
         match self {
             Keyword::Link => b"link",
+            Keyword::Group => b"group",
+            Keyword::Quota => b"quota",
             Keyword::Caller => b"caller",
             Keyword::Open => b"open",
             Keyword::Send => b"send",
@@ -80,7 +84,7 @@ pub enum Part {
     Field,
     /// The links of a route: 1 to 16 fields up to the word `contract`.
     Route,
-    /// The bounds of a link's levels: 1 to 8 fields at the end.
+    /// The numbers of a link's levels: 1 to 8 fields at the end.
     Bounds,
 }
 

@@ -1,6 +1,7 @@
 //! What a line of a scenario says.
 use call_script::{Do, LinkEntry, Op, RequestEntry, Version};
-use net_units::Name;
+use link_steps::Quota;
+use net_units::{LinkNo, Name};
 
 /// What a line says, where no rule refuses it.
 #[derive(Drop)]
@@ -11,8 +12,12 @@ pub enum Item {
     Header(Version),
     /// A link.
     Link(LinkEntry),
-    /// A caller begins, by its name.
-    Caller(Name),
+    /// A group, by its name.
+    Group(Name),
+    /// A quota of the link of this number.
+    Quota { link: LinkNo, quota: Quota },
+    /// A caller begins, by its name, with the number of its group, 0 for none.
+    Caller { name: Name, group: u8 },
     /// The caller opens a request.
     Open(RequestEntry),
     /// The caller sends on a request, closes one, or pours.

@@ -2,26 +2,21 @@
 //!
 //! Each kind of line has a form, a list of rules in the order in which they are judged, and what it says.
 ghost use Rattle.std.specs.Prelude.{◌≡◌, ◌≤◌, Some, Ok, IfOk};
-ghost use Rattle.call_script.specs.Rules.{caller_names};
-ghost use Rattle.scenario_reader.specs.Causes.{AnswersWithRoom, Judges, States};
+ghost use Rattle.scenario_reader.specs.Causes.{AnswersWithRoom};
+ghost use Rattle.scenario_reader.specs.Drafts.{has_quotas};
 ghost use Rattle.scenario_reader.specs.Decimal.{value_of};
 ghost use Rattle.scenario_reader.specs.Fields.{fields_of, field_at};
 ghost use Rattle.scenario_reader.specs.Kept.{MayAdd};
-ghost use Rattle.scenario_reader.specs.Grammar.{version_in, header_version, header_said, may_stand, line_word, judge_as, judge_word, judge_after, judge, is_passed_over, caller_rule};
+ghost use Rattle.scenario_reader.specs.Grammar.{version_in, header_version, header_said, may_stand, line_word, judge_as, judge_word, judge_after, judge, is_passed_over, is_before_callers};
 
 use crate::cause::{Cause, LineFault};
 use crate::draft::Draft;
 use crate::fields::{field, field_count, has_fields};
-use crate::form::{Keyword, Part, has_form};
+use crate::form::Keyword;
 use crate::item::Item;
 use crate::round_lines::{judge_rounds, judge_schedule};
-use crate::values::{new_name, require};
-use call_script::Version;
-use net_units::Name;
-use net_units::limits::MOST_CALLERS;
+use call_script::{LinkEntry, Version};
 use std::alloc::Global;
-
-const CALLER_FORM: [Part; 2] = [Part::Word(Keyword::Caller), Part::Field];
 
 impl Draft {
     /// What the line of this number says after what was read, or the cause by which it is refused.
@@ -82,7 +77,12 @@ impl Draft {
     {
         match word {
             Keyword::Link => Ok(Item::Link(self.judge_link(alloc, version, line)?)),
-            Keyword::Caller => Ok(Item::Caller(self.judge_caller(line)?)),
+            Keyword::Group => Ok(Item::Group(self.judge_group(line)?)),
+            Keyword::Quota => Ok(self.judge_quota(line)?),
+            Keyword::Caller => {
+                let (name, group) = self.judge_caller(version, line)?;
+                Ok(Item::Caller { name, group })
+            }
             Keyword::Open => Ok(Item::Open(self.judge_open(alloc, version, line)?)),
             Keyword::Send => Ok(Item::Op(self.judge_send(line)?)),
             Keyword::Close => Ok(Item::Op(self.judge_close(line)?)),
@@ -102,7 +102,13 @@ impl Draft {
         ensures { result ≡ may_stand version self.now word }
     {
         match word {
-            Keyword::Link => self.callers.is_empty() && self.rounds.is_none(),
+            Keyword::Link => {
+                self.groups.is_empty() && self.callers.is_empty() && self.rounds.is_none()
+            }
+            Keyword::Group => {
+                version.has_groups() && self.is_before_callers() && !has_quotas(&self.links)
+            }
+            Keyword::Quota => version.has_groups() && self.is_before_callers(),
             Keyword::Caller | Keyword::Rounds => !self.links.is_empty() && self.rounds.is_none(),
             Keyword::Open | Keyword::Send | Keyword::Close => {
                 !self.callers.is_empty() && self.rounds.is_none()
@@ -117,14 +123,21 @@ impl Draft {
         }
     }
 
-    fn judge_caller(&self, line: &[u8]) -> Result<Name, Cause>
-        ensures { Judges result (caller_rule self.now (fields_of line.now)) (field_at (fields_of line.now) 1) }
+    // Whether a link was read, and no caller and no rounds.
+    fn is_before_callers(&self) -> bool
+        ensures { result ≡ is_before_callers self.now }
     {
-        require(has_form(&CALLER_FORM, line), Cause::Shape)?;
-        let caller = new_name(field(line, 1), &self.caller_names)?;
-        require(self.callers.len() < MOST_CALLERS, Cause::Many)?;
-        Ok(caller)
+        !self.links.is_empty() && self.callers.is_empty() && self.rounds.is_none()
     }
+}
+
+// Whether a link of these has quotas.
+fn has_quotas(links: &[LinkEntry]) -> bool
+    ensures { result ≡ has_quotas links.now }
+{
+    links
+        .iter()
+        .any(|entry| !entry.quotas.as_slice().is_empty())
 }
 
 // Whether a line is passed over: an empty one, and one that begins with `#`.
@@ -167,6 +180,8 @@ fn version_in(field: &[u8]) -> Option<Version>
         Some(Version::Three)
     } else if field == b"4".as_slice() {
         Some(Version::Four)
+    } else if field == b"5".as_slice() {
+        Some(Version::Five)
     } else {
         None
     }
@@ -177,6 +192,10 @@ fn line_word(field: &[u8]) -> Option<Keyword>
 {
     if Keyword::Link.is(field) {
         Some(Keyword::Link)
+    } else if Keyword::Group.is(field) {
+        Some(Keyword::Group)
+    } else if Keyword::Quota.is(field) {
+        Some(Keyword::Quota)
     } else if Keyword::Caller.is(field) {
         Some(Keyword::Caller)
     } else if Keyword::Open.is(field) {

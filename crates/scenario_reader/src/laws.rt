@@ -1,6 +1,7 @@
 //! Laws of scenarios, each as the contract of a function that does nothing.
 ghost use Rattle.std.specs.Prelude.{◌≡◌};
 ghost use Rattle.scenario_reader.specs.BothWays.{APlansTextIsRead, ATextIsOfOnePlan};
+ghost use Rattle.scenario_reader.specs.CsvRows.{CsvReadsRows};
 ghost use Rattle.scenario_reader.specs.FoundRoutes.{FindsLeastRoutes, TellsNodesApart};
 ghost use Rattle.scenario_reader.specs.declared.reader.TheConstants.{MOST_BYTES};
 
@@ -29,4 +30,9 @@ pub fn two_nodes_have_two_numbers()
 /// A scenario may have 4,194,304 bytes.
 pub fn a_scenario_has_at_most_4194304_bytes()
     ensures { MOST_BYTES ≡ 4194304 }
+{}
+
+/// The fields of a row of a table are those that a reader of CSV finds in its line.
+pub fn csv_reads_rows_as_they_are_read()
+    ensures { CsvReadsRows }
 {}

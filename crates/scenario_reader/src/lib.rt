@@ -1,11 +1,13 @@
 //! Reading a scenario, from bytes to a plan and its schedule, and writing a plan's one text.
 #![tactic(auto)]
 
+pub mod audit;
 pub mod cause;
 pub mod draft;
 pub mod fault;
 pub mod fields;
 pub mod form;
+pub mod group_lines;
 mod hops;
 pub mod item;
 mod judge;
@@ -18,11 +20,13 @@ pub mod open_line;
 pub mod operation_lines;
 mod out;
 mod put;
+pub mod quota_line;
 pub mod reader;
 pub mod round_lines;
 pub mod values;
 pub mod writer;
 
+pub use audit::reader::read_audit;
 pub use call_script::{Do, Schedule};
 pub use cause::Cause;
 pub use fault::ReportFault;

@@ -1,13 +1,15 @@
 //! The lines of a plan's text.
-ghost use Rattle.std.specs.Prelude.{◌≡◌, ◌++◌, [], IfOk, OnOk, IfSome, IfNone, string_bytes, length, get_or, ◌<◌};
+ghost use Rattle.std.specs.Prelude.{◌≡◌, ◌++◌, [], IfOk, OnOk, IfSome, IfNone, string_bytes, length, get_or, map, ◌<◌};
+ghost use Rattle.std.specs.Fmt.{decimal};
 ghost use Rattle.std.specs.List.{slice_get};
 ghost use Rattle.net_units.specs.Numbers.{link_number, actor_number};
 ghost use Rattle.call_script.specs.ActorNames.{name_of_actor};
 ghost use Rattle.scenario_reader.specs.Fields.{ended_line};
-ghost use Rattle.scenario_reader.specs.PlanText.{header_fields, best_fields, bounds_fields, link_text, caller_fields, route_names, way_fields, with_name, contract_fields, delay_fields, open_fields, send_fields, close_fields, pour_fields, op_text, rounds_fields, tail_fields, do_text, schedule_fields, spaced, link_line_front};
+ghost use Rattle.scenario_reader.specs.PlanText.{header_fields, best_fields, bounds_fields, link_text, group_text, group_name, quota_text, caller_fields, route_names, way_fields, with_name, contract_fields, delay_fields, open_fields, send_fields, close_fields, pour_fields, op_text, rounds_fields, tail_fields, do_text, schedule_fields, spaced, link_line_front};
 
 use call_script::{CallerEntry, Do, LinkEntry, Op, RequestEntry, Version};
 use hop_reservation::Route;
+use link_steps::Quota;
 use net_units::{ActorNo, Bounds, Level, LinkNo, Name, OutOfMemory};
 use setup_protocol::{Control, Request};
 use std::alloc::{AllocError, Global};
@@ -21,6 +23,7 @@ pub(crate) fn header_line(alloc: Global, version: Version) -> Result<String, Out
         Version::Two => "2",
         Version::Three => "3",
         Version::Four => "4",
+        Version::Five => "5",
     };
     Ok(format!(in alloc; "tenet {number}\n")?)
 }
@@ -83,10 +86,66 @@ fn bound_at(bounds: &Bounds, index: u8) -> u32
     }
 }
 
-pub(crate) fn caller_line(alloc: Global, name: Name) -> Result<String, OutOfMemory>
-    ensures { IfOk result (λ line. string_bytes line ≡ ended_line (caller_fields name)) }
+#[tactic(auto, unfolding(crate::specs::PlanText::group_text))]
+pub(crate) fn group_line(alloc: Global, name: Name) -> Result<String, OutOfMemory>
+    ensures { IfOk result (λ line. string_bytes line ≡ group_text name) }
 {
-    Ok(format!(in alloc; "caller {name}\n")?)
+    Ok(format!(in alloc; "group {name}\n")?)
+}
+
+pub(crate) fn quota_line(
+    alloc: Global,
+    groups: &[Name],
+    entry: &LinkEntry,
+    quota: &Quota,
+) -> Result<String, OutOfMemory>
+    ensures { IfOk result (λ line. string_bytes line ≡ quota_text groups.now entry.now quota.now) }
+{
+    let (link, group) = (entry.name, group_name(groups, quota.group));
+    let buffer = quota.buffer;
+    let mut line = String::new(alloc);
+    write!(line, "quota {link} {group} buffer {buffer} levels")?;
+    push_loads(
+        &mut line,
+        &quota.levels[..usize::from(entry.shape.bounds.len())],
+    )?;
+    writeln!(line)?;
+    Ok(line)
+}
+
+// The loads of levels.
+fn push_loads(line: &mut String, loads: &[u32]) -> Result<(), AllocError>
+    ensures { OnOk result (string_bytes line.new ≡ string_bytes line.old ++ spaced (map decimal loads.now)) }
+{
+    for load in loads {
+        write!(line, " {load}")?;
+    }
+    Ok(())
+}
+
+// The name of the group of this number, from 1.
+fn group_name(groups: &[Name], group: u8) -> &str
+    ensures { result.now ≡ group_name groups.now group }
+{
+    match groups.get(usize::from(group).saturating_sub(1)) {
+        Some(name) => name.as_str(),
+        None => "",
+    }
+}
+
+pub(crate) fn caller_line(
+    alloc: Global,
+    groups: &[Name],
+    name: Name,
+    group: u8,
+) -> Result<String, OutOfMemory>
+    ensures { IfOk result (λ line. string_bytes line ≡ ended_line (caller_fields groups.now name group)) }
+{
+    if group == 0 {
+        return Ok(format!(in alloc; "caller {name}\n")?);
+    }
+    let group = group_name(groups, group);
+    Ok(format!(in alloc; "caller {name} group {group}\n")?)
 }
 
 pub(crate) fn open_line(

@@ -108,7 +108,7 @@ impl Draft {
     }
 
     // The shape of the link of this name.
-    fn link_named(&self, name: &Name) -> Option<LinkShape>
+    pub(crate) fn link_named(&self, name: &Name) -> Option<LinkShape>
         ensures { result ≡ option_map shape_in (link_named self.now.links name.now) }
     {
         let number = self.link_names.number_of(name)?;
@@ -136,7 +136,7 @@ impl Draft {
     }
 
     // The request of this name.
-    fn request_named(&self, name: &Name) -> Option<RequestEntry>
+    pub(crate) fn request_named(&self, name: &Name) -> Option<RequestEntry>
         ensures { result ≡ request_named self.now.requests name.now }
     {
         let number = self.request_names.number_of(name)?;

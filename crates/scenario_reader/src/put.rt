@@ -2,7 +2,7 @@
 ghost use Rattle.std.specs.Prelude.{◌≡◌, ◌≤◌, ◌++◌, ◌∷◌, [], ℕ, ◌<◌, false, OnOk, OnErr, length, vec_len, vec_capacity};
 ghost use Rattle.std.specs.List.{slice_get};
 ghost use Rattle.net_units.specs.Numbers.{channel_number};
-ghost use Rattle.call_script.specs.Growing.{add_op};
+ghost use Rattle.call_script.specs.Growing.{add_quota, add_op};
 ghost use Rattle.call_script.specs.Rules.{closes, hops_of, load_of};
 ghost use Rattle.call_script.specs.declared.operations.Op.TheVariants.{Close};
 ghost use Rattle.scenario_reader.specs.Drafts.{with_item};
@@ -12,7 +12,8 @@ ghost use Rattle.scenario_reader.specs.declared.item.Item.TheVariants as item;
 use crate::draft::Draft;
 use crate::item::Item;
 use call_script::{CallerEntry, Do, LinkEntry, Op, Ops, RequestEntry, Version};
-use net_units::{ChanNo, Name, OutOfMemory};
+use link_steps::Quota;
+use net_units::{ChanNo, LinkNo, Name, OutOfMemory};
 use std::alloc::Global;
 
 impl Draft {
@@ -26,7 +27,9 @@ impl Draft {
             Item::Nothing => {}
             Item::Header(version) => self.put_header(version),
             Item::Link(entry) => self.put_link(entry)?,
-            Item::Caller(name) => self.put_caller(alloc, &name)?,
+            Item::Group(name) => self.put_group(name)?,
+            Item::Quota { link, quota } => self.put_quota(link, quota)?,
+            Item::Caller { name, group } => self.put_caller(alloc, &name, group)?,
             Item::Open(entry) => self.put_open(&entry)?,
             Item::Op(op) => self.put_op(&op)?,
             Item::Rounds(count) => self.put_rounds(count),
@@ -55,15 +58,33 @@ impl Draft {
         Ok(())
     }
 
-    fn put_caller(&mut self, alloc: Global, name: &Name) -> Result<(), OutOfMemory>
-        requires { MayAdd self.old (item.Caller name.now) }
-        ensures ok { OnOk result (self.new ≡ with_item (item.Caller name.now) self.old) }
+    fn put_group(&mut self, name: Name) -> Result<(), OutOfMemory>
+        requires { MayAdd self.old (item.Group name) }
+        ensures ok { OnOk result (self.new ≡ with_item (item.Group name) self.old) }
+        ensures err { OnErr result (self.new ≡ self.old) }
+    {
+        self.groups.push(name)?;
+        Ok(())
+    }
+
+    fn put_quota(&mut self, link: LinkNo, quota: Quota) -> Result<(), OutOfMemory>
+        requires { MayAdd self.old (item.Quota link quota) }
+        ensures ok { OnOk result (self.new ≡ with_item (item.Quota link quota) self.old) }
+        ensures err { OnErr result (self.new ≡ self.old) }
+    {
+        add_quota(&mut self.links, usize::from(link.get()), quota)?;
+        Ok(())
+    }
+
+    fn put_caller(&mut self, alloc: Global, name: &Name, group: u8) -> Result<(), OutOfMemory>
+        requires { MayAdd self.old (item.Caller name.now group) }
+        ensures ok { OnOk result (self.new ≡ with_item (item.Caller name.now group) self.old) }
         ensures err { OnErr result (self.new ≡ self.old) }
     {
         self.callers.reserve(1)?;
         self.callers.push_reserved(CallerEntry {
             name: *name,
-            group: 0,
+            group,
             ops: Ops::new(Vec::new(alloc)),
         });
         self.caller_names.add(*name);
@@ -172,6 +193,15 @@ fn push_reserved<T: Copy>(items: &mut Vec<T>, item: &T)
     ensures { items.new.items ≡ items.old.items ++ item.now ∷ [] }
 {
     items.push_reserved(*item);
+}
+
+// Adds a quota to those of the link at this place. Want of memory changes nothing.
+fn add_quota(links: &mut Vec<LinkEntry>, place: usize, quota: Quota) -> Result<(), OutOfMemory>
+    requires { place < length links.old.items }
+    ensures ok { OnOk result (links.new.items ≡ add_quota place quota links.old.items) }
+    ensures err { OnErr result (links.new.items ≡ links.old.items) }
+{
+    links[place].quotas.push(quota)
 }
 
 // Adds an operation after those of the last caller. Want of memory changes nothing.

@@ -1,8 +1,10 @@
 //! Scenarios that are read, and lines that are refused.
 use crate::cause::Cause;
 use crate::reader::{ReadRefusal, read_plan};
-use byte_ends::MemSource;
-use call_script::{Op, Plan, Schedule, Version};
+use crate::writer::write_plan;
+use byte_ends::{MemSink, MemSource};
+use call_script::{Dos, Op, Plan, Schedule, Version};
+use link_steps::Quota;
 use net_units::{ChanNo, LinkNo};
 use setup_protocol::Control;
 use std::alloc::Global;
@@ -185,6 +187,19 @@ link B n2 n3 rate 1 cap 4 prop 2 buffer 100 levels 10 20 40
 caller k1
 ";
 
+const AFTER_GROUPS: &str = "tenet 5
+link A n1 n2 rate 1 cap 4 prop 2 buffer 100 levels 10 20 40
+group g1
+group g2
+";
+
+const AFTER_QUOTA: &str = "tenet 5
+link A n1 n2 rate 1 cap 4 prop 2 buffer 100 levels 10 20 40
+group g1
+group g2
+quota A g1 buffer 50 levels 4 8 20
+";
+
 // The line after these is refused by this cause.
 fn refuses(
     rt: &impl std::process::Abort,
@@ -233,10 +248,85 @@ fn a_line_is_refused_by_its_first_cause(rt: HostRuntime) -> Result<(), Fail> {
         (AFTER_CLOSE, "close r1", Cause::Closed),
         (AFTER_OPEN, "send r1 131073 1 2", Cause::Load),
         (AFTER_BEST, "pour B 262144 1 2", Cause::Best),
+        (AFTER_LINK, "group g1", Cause::Word),
+        (AFTER_LINK, "caller k1 group g1", Cause::Shape),
+        (AFTER_GROUPS, "group g2", Cause::Known),
+        (AFTER_GROUPS, "caller k1 group g3", Cause::Unknown),
+        (AFTER_QUOTA, "group g3", Cause::Word),
+        (
+            AFTER_QUOTA,
+            "quota A g1 buffer 0 levels 0 0 0",
+            Cause::Known,
+        ),
+        (
+            AFTER_QUOTA,
+            "quota A g2 buffer 50 levels 3 8 16",
+            Cause::Quota,
+        ),
+        (AFTER_QUOTA, "quota A g2 buffer 50 levels 2 8", Cause::Quota),
     ] {
         refuses(&rt, rt.alloc(), front, line, cause)?;
     }
     Ok(())
+}
+
+// A scenario with groups, two of whose quotas are of one link.
+const SPLIT: &str = "tenet 5
+link A n1 n2 rate 1 cap 4 prop 2 buffer 100 levels 10 20 40
+link B n2 n3 rate 1 cap 4 prop 2 buffer 100 levels 10
+group g1
+group g2
+quota A g2 buffer 50 levels 2 8 16
+quota A g1 buffer 50 levels 4 8 20
+quota B g1 buffer 0 levels 6
+caller k1 group g2
+caller k2
+rounds 0
+tail 0
+";
+
+#[test]
+fn groups_and_quotas_are_read_and_written_again(rt: HostRuntime) -> Result<(), Fail> {
+    let alloc = rt.alloc();
+    let (plan, _) = planned(alloc, SPLIT)?;
+    assert_eq!(rt; plan.groups().len(), 2);
+    match plan.links() {
+        [first, second] => {
+            assert_eq!(rt;
+                first.quotas.as_slice(),
+                [
+                    share(2, 50, [2, 8, 16, 0, 0, 0, 0, 0]),
+                    share(1, 50, [4, 8, 20, 0, 0, 0, 0, 0])
+                ]
+                .as_slice()
+            );
+            assert_eq!(rt;
+                second.quotas.as_slice(),
+                [share(1, 0, [6, 0, 0, 0, 0, 0, 0, 0])].as_slice()
+            );
+        }
+        _ => assert!(rt; false, "other links"),
+    }
+    match plan.callers() {
+        [first, second] => assert_eq!(rt; (first.group, second.group), (2, 0)),
+        _ => assert!(rt; false, "other callers"),
+    }
+    let schedule = Schedule {
+        written: false,
+        items: Dos::new(Vec::new(alloc)),
+    };
+    let mut sink = MemSink::new(alloc, 1_000, 50, Vec::new(alloc))?;
+    assert_eq!(rt; write_plan(alloc, &plan, &schedule, &mut sink), Ok(()));
+    assert_eq!(rt; sink.bytes(), SPLIT.as_bytes());
+    Ok(())
+}
+
+fn share(group: u8, buffer: u32, levels: [u32; 8]) -> Quota {
+    Quota {
+        group,
+        buffer,
+        levels,
+    }
 }
 
 #[test]

@@ -7,19 +7,22 @@ ghost use Rattle.byte_ends.specs.Faults.{FaultsRise};
 ghost use Rattle.byte_ends.specs.Gathering.{WritesPart};
 ghost use Rattle.link_steps.specs.Lists.{Each};
 ghost use Rattle.call_script.specs.declared.schedule.Do.{Do as Item};
-ghost use Rattle.scenario_reader.specs.PlanText.{plan_text, head_text, link_text, op_text, caller_text, do_text, rounds_text, schedule_text, end_text};
+ghost use Rattle.scenario_reader.specs.PlanText.{plan_text, head_text, link_text, op_text, split_text, rest_text, group_text, quota_text, quotas_text, caller_text, do_text, rounds_text, schedule_text, end_text};
 ghost use Rattle.scenario_reader.specs.Written.{AddsText};
 
 use crate::fault::ReportFault;
 use crate::lines::{
-    caller_line, do_line, header_line, link_line, op_line, rounds_line, schedule_line, tail_line,
+    caller_line, do_line, group_line, header_line, link_line, op_line, quota_line, rounds_line,
+    schedule_line, tail_line,
 };
 use crate::out::write_line;
 use byte_ends::{Gather, Sink};
 use call_script::{CallerEntry, Do, LinkEntry, Op, Plan, RequestEntry, Schedule};
+use link_steps::Quota;
+use net_units::Name;
 use std::alloc::Global;
 
-/// Writes the one text of the plan: the header, the links, the callers each with its operations in their order, `rounds` and
+/// Writes the one text of the plan: the header, the links, the groups, the quotas link by link, the callers each with its operations in their order, `rounds` and
 /// `tail`, and, where the schedule is written, `schedule` and its `do` lines. A request whose route was found has its two nodes in
 /// place of the links. The schedule's actors are those of the plan.
 ///
@@ -54,14 +57,21 @@ fn write_lines<K: Sink>(
     ensures { AddsText result (K.written sink.old) (K.written sink.new) out.old out.new (K.faults sink.old) (K.faults sink.new) (plan_text plan.now schedule.now) }
 {
     write_head(alloc, out, sink, plan)?;
-    write_callers(
-        alloc,
-        out,
-        sink,
-        plan.links(),
-        plan.requests(),
-        plan.callers(),
-    )?;
+    write_split(alloc, out, sink, plan.groups(), plan.links())?;
+    write_rest(alloc, out, sink, plan, schedule)
+}
+
+// The callers, and what stands after them.
+fn write_rest<K: Sink>(
+    alloc: Global,
+    out: &mut Gather,
+    sink: &mut K,
+    plan: &Plan,
+    schedule: &Schedule,
+) -> Result<(), ReportFault>
+    ensures { AddsText result (K.written sink.old) (K.written sink.new) out.old out.new (K.faults sink.old) (K.faults sink.new) (rest_text plan.now schedule.now) }
+{
+    write_callers(alloc, out, sink, plan, plan.callers())?;
     write_end(alloc, out, sink, plan, schedule)
 }
 
@@ -106,18 +116,93 @@ fn write_links<K: Sink>(
     Ok(())
 }
 
+// The groups, and the quotas of the links.
+fn write_split<K: Sink>(
+    alloc: Global,
+    out: &mut Gather,
+    sink: &mut K,
+    groups: &[Name],
+    links: &[LinkEntry],
+) -> Result<(), ReportFault>
+    ensures { AddsText result (K.written sink.old) (K.written sink.new) out.old out.new (K.faults sink.old) (K.faults sink.new) (split_text groups.now links.now) }
+{
+    write_groups(alloc, out, sink, groups)?;
+    write_shares(alloc, out, sink, groups, links)
+}
+
+fn write_groups<K: Sink>(
+    alloc: Global,
+    out: &mut Gather,
+    sink: &mut K,
+    groups: &[Name],
+) -> Result<(), ReportFault>
+    ensures { AddsText result (K.written sink.old) (K.written sink.new) out.old out.new (K.faults sink.old) (K.faults sink.new) (flat_map group_text groups.now) }
+{
+    for name in groups {
+        write_line(out, sink, group_line(alloc, *name))?;
+    }
+    Ok(())
+}
+
+// The quotas of all links.
+fn write_shares<K: Sink>(
+    alloc: Global,
+    out: &mut Gather,
+    sink: &mut K,
+    groups: &[Name],
+    links: &[LinkEntry],
+) -> Result<(), ReportFault>
+    ensures { AddsText result (K.written sink.old) (K.written sink.new) out.old out.new (K.faults sink.old) (K.faults sink.new) (flat_map (quotas_text groups.now) links.now) }
+{
+    for entry in links {
+        write_quotas(alloc, out, sink, groups, entry)?;
+    }
+    Ok(())
+}
+
+// The quotas of a link.
+#[tactic(auto, unfolding(crate::specs::PlanText::quotas_text))]
+fn write_quotas<K: Sink>(
+    alloc: Global,
+    out: &mut Gather,
+    sink: &mut K,
+    groups: &[Name],
+    entry: &LinkEntry,
+) -> Result<(), ReportFault>
+    ensures { AddsText result (K.written sink.old) (K.written sink.new) out.old out.new (K.faults sink.old) (K.faults sink.new) (quotas_text groups.now entry.now) }
+{
+    write_some_quotas(alloc, out, sink, groups, entry, entry.quotas.as_slice())
+}
+
+// These quotas of a link.
+fn write_some_quotas<K: Sink>(
+    alloc: Global,
+    out: &mut Gather,
+    sink: &mut K,
+    groups: &[Name],
+    entry: &LinkEntry,
+    quotas: &[Quota],
+) -> Result<(), ReportFault>
+    ensures { AddsText result (K.written sink.old) (K.written sink.new) out.old out.new (K.faults sink.old) (K.faults sink.new) (flat_map (quota_text groups.now entry.now) quotas.now) }
+{
+    for quota in quotas {
+        write_line(out, sink, quota_line(alloc, groups, entry, quota))?;
+    }
+    Ok(())
+}
+
+// These callers of the plan.
 fn write_callers<K: Sink>(
     alloc: Global,
     out: &mut Gather,
     sink: &mut K,
-    links: &[LinkEntry],
-    requests: &[RequestEntry],
+    plan: &Plan,
     callers: &[CallerEntry],
 ) -> Result<(), ReportFault>
-    ensures { AddsText result (K.written sink.old) (K.written sink.new) out.old out.new (K.faults sink.old) (K.faults sink.new) (flat_map (caller_text links.now requests.now) callers.now) }
+    ensures { AddsText result (K.written sink.old) (K.written sink.new) out.old out.new (K.faults sink.old) (K.faults sink.new) (flat_map (caller_text plan.now.links plan.now.groups plan.now.requests) callers.now) }
 {
     for caller in callers {
-        write_caller(alloc, out, sink, links, requests, caller)?;
+        write_caller(alloc, out, sink, plan, caller)?;
     }
     Ok(())
 }
@@ -126,14 +211,24 @@ fn write_caller<K: Sink>(
     alloc: Global,
     out: &mut Gather,
     sink: &mut K,
-    links: &[LinkEntry],
-    requests: &[RequestEntry],
+    plan: &Plan,
     caller: &CallerEntry,
 ) -> Result<(), ReportFault>
-    ensures { AddsText result (K.written sink.old) (K.written sink.new) out.old out.new (K.faults sink.old) (K.faults sink.new) (caller_text links.now requests.now caller.now) }
+    ensures { AddsText result (K.written sink.old) (K.written sink.new) out.old out.new (K.faults sink.old) (K.faults sink.new) (caller_text plan.now.links plan.now.groups plan.now.requests caller.now) }
 {
-    write_line(out, sink, caller_line(alloc, caller.name))?;
-    write_ops(alloc, out, sink, links, requests, caller.ops.as_slice())
+    write_line(
+        out,
+        sink,
+        caller_line(alloc, plan.groups(), caller.name, caller.group),
+    )?;
+    write_ops(
+        alloc,
+        out,
+        sink,
+        plan.links(),
+        plan.requests(),
+        caller.ops.as_slice(),
+    )
 }
 
 fn write_ops<K: Sink>(

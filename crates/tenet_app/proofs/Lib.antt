@@ -1,4 +1,5 @@
 pub mod PlayFacts
+pub mod AuditDue
 pub mod AnswerFacts
 pub mod LoadFacts
 pub mod RaceTexts
@@ -6,3 +7,4 @@ pub mod RaceFacts
 pub mod RaceLaws
 pub mod OneRace
 pub mod StepCause
+pub mod WordFacts

@@ -3,17 +3,20 @@ use Rattle.std.proofs.Common.{◌≡◌, inl, inr, ℕ, suc, ◌+◌, ◌*◌, B
 use Rattle.std.specs.Prelude.{is_some}
 use Rattle.std.proofs.lemmas.Bool.{cases_Bool}
 use Rattle.byte_ends.specs.WholeLines.{Ending, all_given, cut_short, too_long, outlook}
+use Rattle.call_script.specs.Groups.{most_groups}
 use Rattle.call_script.specs.Rules.{caller_names, link_names, request_names, hops_of, is_named, load_in, takes_best_effort}
 use Rattle.call_script.specs.declared.version.Version.{Version}
 use Rattle.net_units.specs.Limits.{most_best, most_bound, most_buffer, most_callers, most_delay, most_gap, most_interval, most_links, most_packets, most_propagation, most_rate, most_requests, most_rounds, most_size, most_steps}
 use Rattle.net_units.specs.Text.{is_name}
 use Rattle.scenario_reader.specs.Causes.{Rule, unless, or_else, first_cause, judged, stated}
 use Rattle.scenario_reader.specs.Decimal.{is_number, value_of}
-use Rattle.scenario_reader.specs.Drafts.{Said, nothing_said, is_complete, with_item, link_named, caller_named, own_request}
+use Rattle.scenario_reader.specs.Drafts.{Said, nothing_said, is_complete, with_item, link_named, group_named, caller_named, own_request}
 use Rattle.scenario_reader.specs.Entries.{has_bounds}
 use Rattle.scenario_reader.specs.Fields.{fields_of, are_fields, field_at}
 use Rattle.scenario_reader.specs.Forms.{has_form, is_among, name_rule, new_name_rule, used_name_rule, number_rule}
-use Rattle.scenario_reader.specs.Grammar.{caller_form, caller_rule, packets_rule, is_closed_request, load_rule, send_form, send_rule, close_form, close_rule, pour_form, pour_rule, rounds_form, rounds_rule, are_few_ticks, tail_form, tail_rule, schedule_form, schedule_rule, is_plane, actor_rule, do_form, do_rule, header_said, header_version, line_word, may_stand, judge_as, judge_word, judge_after, judge_fields, is_passed_over, judge}
+use Rattle.scenario_reader.specs.GroupLines.{group_form, group_rule, is_caller_line, names_group, member_rule, caller_rule}
+use Rattle.scenario_reader.specs.QuotaLine.{quota_form, load_fields, quota_in, quota_numbers_rule, is_new_quota, is_fit_quota, quota_rule}
+use Rattle.scenario_reader.specs.Grammar.{packets_rule, is_closed_request, load_rule, send_form, send_rule, close_form, close_rule, pour_form, pour_rule, rounds_form, rounds_rule, are_few_ticks, tail_form, tail_rule, schedule_form, schedule_rule, is_plane, actor_rule, do_form, do_rule, header_said, header_version, line_word, may_stand, judge_as, judge_word, judge_after, judge_fields, is_passed_over, judge}
 use Rattle.scenario_reader.specs.LinkLine.{is_link_line, has_best, bound_fields, link_numbers, link_numbers_rule, best_rule, link_fields_rule, link_rule}
 use Rattle.scenario_reader.specs.Nodes.{is_node, route_between}
 use Rattle.scenario_reader.specs.OpenLine.{is_open_line, is_found, has_jitter, hops_in, route_fields, after_route, contract_told, contract_of, is_way, route_link_rule, route_names_rule, nodes_rule, way_fields_rule, terms_rule, jitter_rule, open_fields_rule, between_rule, way_rule, open_limits_rule, open_rule}
@@ -99,11 +102,37 @@ other-link version said fields =
     (other-else _ _ (other-unless (nat_lt (length said.links) most_links) cause.Many refl)
     (other-else _ _ (other-unless (has_bounds (link_numbers fields)) cause.Levels refl) other-none)))
 
-other-caller : (said : Said) (fields : List (List ℕ)) → IsOther (caller_rule said fields)
-other-caller said fields =
-    other-else _ _ (other-unless (has_form caller_form fields) cause.Shape refl)
+other-group : (said : Said) (fields : List (List ℕ)) → IsOther (group_rule said fields)
+other-group said fields =
+    other-else _ _ (other-unless (has_form group_form fields) cause.Shape refl)
+    (other-else _ _ (other-new said.groups (field_at fields 1))
+    (other-else _ _ (other-unless (nat_lt (length said.groups) most_groups) cause.Many refl) other-none))
+
+other-quota-numbers : (fields : List (List ℕ)) → IsOther (quota_numbers_rule fields)
+other-quota-numbers fields =
+    other-else _ _ (other-number 0 most_buffer (field_at fields 4))
+    (other-else _ _ (other-all (number_rule 0 most_bound) (load_fields fields) (other-number 0 most_bound)) other-none)
+
+other-quota : (said : Said) (fields : List (List ℕ)) → IsOther (quota_rule said fields)
+other-quota said fields =
+    other-else _ _ (other-unless (has_form quota_form fields) cause.Shape refl)
+    (other-else _ _ (other-used (is_some (link_named said.links (field_at fields 1))) (field_at fields 1))
+    (other-else _ _ (other-used (is_some (group_named said.groups (field_at fields 2))) (field_at fields 2))
+    (other-else _ _ (other-unless (is_new_quota (link_named said.links (field_at fields 1)) (quota_in said fields)) cause.Known refl)
+    (other-else _ _ (other-quota-numbers fields)
+    (other-else _ _ (other-unless (is_fit_quota (length (load_fields fields)) (link_named said.links (field_at fields 1)) (quota_in said fields)) cause.Quota refl) other-none)))))
+
+other-member : (said : Said) (fields : List (List ℕ)) → IsOther (member_rule said fields)
+other-member said fields =
+    other-if (names_group fields) (used_name_rule (is_some (group_named said.groups (field_at fields 3))) (field_at fields 3)) None
+    (other-used (is_some (group_named said.groups (field_at fields 3))) (field_at fields 3)) other-none
+
+other-caller : (version : Version) (said : Said) (fields : List (List ℕ)) → IsOther (caller_rule version said fields)
+other-caller version said fields =
+    other-else _ _ (other-unless (is_caller_line version fields) cause.Shape refl)
     (other-else _ _ (other-new (caller_names said.callers) (field_at fields 1))
-    (other-else _ _ (other-unless (nat_lt (length said.callers) most_callers) cause.Many refl) other-none))
+    (other-else _ _ (other-member said fields)
+    (other-else _ _ (other-unless (nat_lt (length said.callers) most_callers) cause.Many refl) other-none)))
 
 other-terms : (fields : List (List ℕ)) → IsOther (terms_rule fields)
 other-terms fields =
@@ -227,7 +256,9 @@ stated-goes (Some why) said is = is.other
 
 goes-as : (keyword : Keyword) (version : Version) (said : Said) (number : ℕ) (fields : List (List ℕ)) → stops (judge_as keyword version said number fields) ≡ false
 goes-as word.Link version said number fields = stated-goes (link_rule version said fields) _ (other-link version said fields)
-goes-as word.Caller version said number fields = judged-goes (caller_rule said fields) _ (other-caller said fields)
+goes-as word.Group version said number fields = judged-goes (group_rule said fields) _ (other-group said fields)
+goes-as word.Quota version said number fields = stated-goes (quota_rule said fields) _ (other-quota said fields)
+goes-as word.Caller version said number fields = judged-goes (caller_rule version said fields) _ (other-caller version said fields)
 goes-as word.Open version said number fields = judged-goes (open_rule version said fields) _ (other-open version said fields)
 goes-as word.Send version said number fields = stated-goes (send_rule said fields) _ (other-send said fields)
 goes-as word.Close version said number fields = stated-goes (close_rule said fields) _ (other-close said fields)

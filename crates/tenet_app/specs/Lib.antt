@@ -2,3 +2,5 @@ pub mod Codes
 pub mod Playing
 pub mod Making
 pub mod Racing
+pub mod Working
+pub mod Auditing

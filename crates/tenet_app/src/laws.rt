@@ -1,13 +1,15 @@
-//! Laws of the words `play`, `race` and `make`, each as the contract of a function that does nothing.
+//! Laws of the words `play`, `race`, `make` and `audit`, each as the contract of a function that does nothing.
+ghost use Rattle.tenet_app.specs.Auditing.{AuditsDetermine};
 ghost use Rattle.tenet_app.specs.Making.{LoadsDetermine};
 ghost use Rattle.tenet_app.specs.Playing.{BytesDetermine};
 ghost use Rattle.tenet_app.specs.Racing.{RacesAreDue};
 
 /// Where nothing fails, the bytes determine the answer: a status that `play` may give is due for what the bytes come to, or
-/// memory ran out; and only one status and one text are due for them. So it is for `make`, of which the number and the size
+/// memory ran out; and only one status and one text are due for them. So it is for `audit`, for `make`, of which the number and the size
 /// determine the answer, and so for the status of `race`, whose text is that of some race.
 pub fn without_a_fault_the_bytes_determine_the_answer()
     ensures plays { BytesDetermine }
     ensures races { RacesAreDue }
     ensures makes { LoadsDetermine }
+    ensures audits { AuditsDetermine }
 {}

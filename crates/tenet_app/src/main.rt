@@ -6,6 +6,7 @@ ghost use Rattle.std.specs.IoError.{error_kind};
 ghost use Rattle.std.specs.declared.io.ErrorKind.TheVariants.{OutOfMemory};
 ghost use Rattle.tenet_app.specs.declared.status.Status.TheVariants.{Memory, Words};
 
+pub mod auditing;
 pub mod laws;
 pub mod making;
 pub mod playing;
@@ -13,6 +14,7 @@ pub mod racing;
 pub mod status;
 pub mod top;
 mod words;
+pub mod working;
 
 use byte_ends::{StdSink, StdSource};
 use net_units::NoGate;

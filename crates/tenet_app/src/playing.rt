@@ -60,7 +60,13 @@ fn answer<K: Sink>(
 }
 
 // Writes the report of a run.
-fn report<K: Sink>(alloc: Global, packets: bool, plan: &Plan, run: &Record, sink: &mut K) -> Status
+pub(crate) fn report<K: Sink>(
+    alloc: Global,
+    packets: bool,
+    plan: &Plan,
+    run: &Record,
+    sink: &mut K,
+) -> Status
     requires { IsRun (network_of plan.now) (reverse run.now.entries) }
     ensures reports { WritesReport result (report_of plan.now run.now.entries packets) (K.written sink.old) (K.written sink.new) (K.faults sink.old) (K.faults sink.new) }
     ensures counts { K.faults sink.old ≤ K.faults sink.new }

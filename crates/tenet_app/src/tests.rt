@@ -13,6 +13,7 @@ use std::sync::Wait;
 use std::test::Fail;
 use std::thread::Threads;
 
+mod audits;
 mod faults;
 mod loads;
 mod many;
@@ -20,6 +21,7 @@ mod networks;
 mod races;
 mod runs;
 mod voices;
+mod workers;
 
 const FIRST: &str = "tenet 1
 link A n1 n2 rate 1 cap 4 prop 2 buffer 100 levels 10 20 40

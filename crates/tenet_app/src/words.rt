@@ -1,5 +1,6 @@
 //! What the words after the program's name ask for.
 ghost use Rattle.std.specs.Prelude.{◌≡◌, ◌≤◌, IfSome, map, string_bytes};
+ghost use Rattle.tenet_app.specs.Auditing.{audit_words};
 ghost use Rattle.tenet_app.specs.Making.{both_of, make_words, number_from};
 ghost use Rattle.tenet_app.specs.Playing.{are_both, is_this_word, play_words};
 ghost use Rattle.tenet_app.specs.Racing.{are_both_to_race, race_words};
@@ -72,6 +73,16 @@ fn are_both_to_race(first: &str, second: &str) -> bool
     is_word(first, "race") && is_word(second, "--packets")
 }
 
+// Whether the words ask to audit.
+pub(crate) fn to_audit(words: &[String]) -> bool
+    ensures { result ≡ audit_words (map string_bytes words.now) }
+{
+    match words {
+        [word] => is_word(word.as_str(), "audit"),
+        _ => false,
+    }
+}
+
 // The number and the size of the load that the words ask to make, if they do.
 pub(crate) fn to_make(words: &[String]) -> Option<(u32, u32)>
     ensures made { result ≡ make_words (map string_bytes words.now) }
@@ -100,14 +111,14 @@ fn load_of(number: &str, size: &str) -> Option<(u32, u32)>
 }
 
 // The number within these bounds that a word is.
-fn number_from(word: &str, low: u64, high: u64) -> Option<u64>
+pub(crate) fn number_from(word: &str, low: u64, high: u64) -> Option<u64>
     ensures is { result ≡ number_from low high word.now }
     ensures range { IfSome result (λ value. (low ≤ value) × (value ≤ high)) }
 {
     number(word.as_bytes(), low, high).ok()
 }
 
-fn is_word(word: &str, text: &str) -> bool
+pub(crate) fn is_word(word: &str, text: &str) -> bool
     ensures { result ≡ is_this_word text.now word.now }
 {
     word == text

@@ -2,6 +2,10 @@
 //! links and sends 12 packets, and the second over the other three and sends 16.
 use super::{Ends, SOUND, ends_with};
 use crate::status::Status;
+use byte_ends::MemSink;
+use call_script::{Dos, Schedule};
+use load_maker::made;
+use scenario_reader::write_plan;
 use std::test::Fail;
 
 #[test]
@@ -45,5 +49,55 @@ fn other_words_make_nothing(rt: HostRuntime) -> Result<(), Fail> {
     for words in WRONG {
         ends_with(&rt, rt.alloc(), words, b"", SOUND, (Status::Words, ""))?;
     }
+    Ok(())
+}
+
+// The draws from 2 on, line by line, by a program of its own: each of the four contracts and of the lengths of a route, a caller's third
+// request with the close of its first, and both kinds of jitter control.
+#[test]
+fn a_load_has_these_lines(rt: HostRuntime) -> Result<(), Fail> {
+    let alloc = rt.alloc();
+    let plan = made(alloc, 2, 10)?;
+    let schedule = Schedule {
+        written: false,
+        items: Dos::new(Vec::new(alloc)),
+    };
+    let mut sink = MemSink::new(alloc, 4_096, 4_096, Vec::new(alloc))?;
+    assert_eq!(rt; write_plan(alloc, &plan, &schedule, &mut sink), Ok(()));
+    let text = "tenet 1
+link L1 n1 n2 rate 10 cap 100 prop 5 buffer 65536 levels 100 400 1600
+link L2 n2 n3 rate 10 cap 100 prop 5 buffer 65536 levels 100 400 1600
+link L3 n3 n4 rate 10 cap 100 prop 5 buffer 65536 levels 100 400 1600
+link L4 n4 n5 rate 10 cap 100 prop 5 buffer 65536 levels 100 400 1600
+caller k1
+open r1 route L2 contract 10 50 500 30 delay 905 jitter 400
+send r1 8 50 30
+open r5 route L1 L2 contract 200 200 200 20 delay 610 jitter 400
+send r5 3 200 20
+open r9 route L3 L4 contract 50 100 400 100 delay 210 rate
+send r9 13 100 100
+close r1
+caller k2
+open r2 route L2 contract 200 200 200 20 delay 1305 jitter 400
+send r2 4 200 20
+open r6 route L3 L4 contract 200 200 200 20 delay 210 jitter 400
+send r6 13 200 20
+open r10 route L1 L2 L3 L4 contract 10 50 500 30 delay 1620 rate
+send r10 4 50 30
+close r2
+caller k3
+open r3 route L4 contract 10 50 500 30 delay 105 jitter 400
+send r3 7 50 30
+open r7 route L1 L2 L3 L4 contract 200 200 200 20 delay 1220 rate
+send r7 2 200 20
+caller k4
+open r4 route L2 L3 L4 contract 20 40 200 50 delay 715 rate
+send r4 1 40 50
+open r8 route L2 L3 contract 20 40 200 50 delay 1410 jitter 400
+send r8 13 40 50
+rounds 4000
+tail 1000
+";
+    assert_eq!(rt; sink.bytes(), text.as_bytes());
     Ok(())
 }

@@ -1,6 +1,6 @@
 use Rattle.channel_report.specs.Table.{told_row}
-use Rattle.channel_report.proofs.TellingFacts.{nothing-told-for}
+use Rattle.channel_report.proofs.TellingFacts.{nothing-told}
 use Rattle.channel_report.proofs.table.tell_row.Goals as goal
 
-pub returns-in_err-line : goal.returns-in_err-line
-returns-in_err-line g c = nothing-told-for c.from_residual.result c.in_err-line.field-0.0 (g.K.Sink.written c.args.sink.now) c.args.gather.now (g.K.Sink.faults c.args.sink.now) (told_row c.args.plan.now c.args.row.now) c.from_residual.ensures.1 c.in_err-line.ensures.why
+pub returns-in_err-push_row : goal.returns-in_err-push_row
+returns-in_err-push_row g c = nothing-told c.from_residual.result (g.K.Sink.written c.args.sink.now) c.args.gather.now (g.K.Sink.faults c.args.sink.now) (told_row c.args.plan.now c.args.row.now) c.from_residual.ensures.1

@@ -1,15 +1,14 @@
 use Rattle.std.proofs.Common.{ap, sym, ◌∙◌, false, get_or}
 use Rattle.net_units.specs.Numbers.{channel_number}
 use Rattle.call_script.specs.declared.operations.Op.TheVariants.{Send}
-use Rattle.call_script.specs.declared.tasks.Task.TheVariants.{Sends}
 use Rattle.race_run.proofs.Lists.{there, missing}
-use Rattle.race_run.proofs.OpFacts.{send-owner, send-there, send-fits, send-passed, send-over, none-passed, request-none}
+use Rattle.race_run.proofs.OpFacts.{send-owner, send-there, send-fits, send-passed, send-over, none-passed, send-none}
 use Rattle.race_run.proofs.callers.send_on.Goals as goal
 
 pub returns-in_default-clause-at : goal.returns-in_default-clause-at
 returns-in_default-clause-at g c =
     let none = missing c.requests.result.now c.args.plan.now.requests c.get-number.result (channel_number c.args.packets.0) c.in_default.ensures.lookup.0 c.requests.ensures.value c.get-number.ensures.value in
-    none-passed c.args.plan.now c.args.at.0 c.args.at.1 (Send c.args.packets.0 c.args.packets.1 c.args.packets.2 c.args.packets.3) c.args.pass.now c.args.accepted.now c.requires.at c.requires.op (request-none c.args.plan.now (λ request. Sends request c.args.packets.1 c.args.packets.2 c.args.packets.3) (channel_number c.args.packets.0) none)
+    none-passed c.args.plan.now c.args.at.0 c.args.at.1 (Send c.args.packets.0 c.args.packets.1 c.args.packets.2 c.args.packets.3) c.args.pass.now c.args.accepted.now c.requires.at c.requires.op (send-none c.args.plan.now c.args.packets.1 c.args.packets.2 c.args.packets.3 (channel_number c.args.packets.0) none)
 
 pub returns-then-not-accepted-number-clause-at : goal.returns-then-not-accepted-number-clause-at
 returns-then-not-accepted-number-clause-at g c =

@@ -1,12 +1,15 @@
-use Rattle.std.proofs.Common.{◌≡◌, suc, true, false, length, sym, subst, arith}
+use Rattle.std.proofs.Common.{◌≡◌, suc, true, false, List, length, map, sym, subst, arith}
 use Rattle.link_steps.specs.Lists.{Each}
 use Rattle.shared_network.specs.Gathering.{AreAll, token_actor}
 use Rattle.shared_network.proofs.LinkNumbers.{numbered-length}
 use Rattle.call_script.specs.Tasks.{network_of}
+use Rattle.link_ledger.specs.Tokens.{Token}
 use Rattle.race_run.specs.Pieces.{AreNew, MayBegin}
+use Rattle.race_run.specs.Tail.{GoesLast, own_in}
 use Rattle.race_run.specs.Whole.{HasMadeAll}
 use Rattle.race_run.proofs.PieceFacts.{all-begin, last-own, last-plane, made-actors, made-all, made-are_all, made-in_order, made-of}
 use Rattle.race_run.proofs.RaceFacts.{plane-new}
+use Rattle.race_run.proofs.TailFacts.{tail-last}
 use Rattle.race_run.proofs.racing.make_all.Goals as goal
 
 pub unreachable-requires : goal.unreachable-requires
@@ -39,21 +42,27 @@ returns-clause-all g c =
     let all = subst (AreNew g.H.Home.table g.H.Home.owners g.H.Home.links c.args.plan.now) c.in-Some.ensures.items c.requires.new in
     let made = made-of g.H.Home.table g.H.Home.owners g.H.Home.links c.args.plan.now c.in_ok-pieces.pieces.items c.in_ok-made.made.items c.pop.new.self.items c.in_ok-callers.callers.items c.in_ok-plane.plane c.in_ok-callers.plane c.in-Some.last c.in_ok-callers.last c.in_ok-pieces.ensures c.in_ok-callers.ensures c.in_ok-made.ensures in
     subst (AreAll g.H.Home.table g.H.Home.owners g.H.Home.links) (sym c.in_ok-push.ensures.items)
-    (made-are_all g.H.Home.table g.H.Home.owners g.H.Home.links c.args.plan.now c.pop.new.self.items c.in_ok-callers.callers.items c.in_ok-plane.plane c.in_ok-callers.plane c.in-Some.last c.in_ok-callers.last c.in_ok-make_tail.field-0 all made
-    (record { made = c.in_ok-make_tail.ensures.made; goes = c.in_ok-make_tail.ensures.ready; actor = c.in_ok-make_tail.ensures.actor }))
+    (made-are_all g.H.Home.table g.H.Home.owners g.H.Home.links c.args.plan.now c.pop.new.self.items c.in_ok-callers.callers.items c.in_ok-plane.plane c.in_ok-callers.plane c.in-Some.last c.in_ok-callers.last c.in_ok-last.last all made
+    (record { made = c.in_ok-last.ensures.made; goes = c.in_ok-last.ensures.ready; actor = c.in_ok-last.ensures.actor }))
 
 pub returns-clause-actors : goal.returns-clause-actors
 returns-clause-actors g c =
     let all = subst (AreNew g.H.Home.table g.H.Home.owners g.H.Home.links c.args.plan.now) c.in-Some.ensures.items c.requires.new in
     let made = made-of g.H.Home.table g.H.Home.owners g.H.Home.links c.args.plan.now c.in_ok-pieces.pieces.items c.in_ok-made.made.items c.pop.new.self.items c.in_ok-callers.callers.items c.in_ok-plane.plane c.in_ok-callers.plane c.in-Some.last c.in_ok-callers.last c.in_ok-pieces.ensures c.in_ok-callers.ensures c.in_ok-made.ensures in
     rw c.in_ok-push.ensures.items
-    (made-actors g.H.Home.table g.H.Home.owners g.H.Home.links c.args.plan.now c.pop.new.self.items c.in_ok-callers.callers.items c.in_ok-plane.plane c.in_ok-callers.plane c.in-Some.last c.in_ok-callers.last c.in_ok-make_tail.field-0 all made
-    (record { made = c.in_ok-make_tail.ensures.made; goes = c.in_ok-make_tail.ensures.ready; actor = c.in_ok-make_tail.ensures.actor }))
+    (made-actors g.H.Home.table g.H.Home.owners g.H.Home.links c.args.plan.now c.pop.new.self.items c.in_ok-callers.callers.items c.in_ok-plane.plane c.in_ok-callers.plane c.in-Some.last c.in_ok-callers.last c.in_ok-last.last all made
+    (record { made = c.in_ok-last.ensures.made; goes = c.in_ok-last.ensures.ready; actor = c.in_ok-last.ensures.actor }))
 
 pub returns-clause-made : goal.returns-clause-made
 returns-clause-made g c =
     let all = subst (AreNew g.H.Home.table g.H.Home.owners g.H.Home.links c.args.plan.now) c.in-Some.ensures.items c.requires.new in
     let made = made-of g.H.Home.table g.H.Home.owners g.H.Home.links c.args.plan.now c.in_ok-pieces.pieces.items c.in_ok-made.made.items c.pop.new.self.items c.in_ok-callers.callers.items c.in_ok-plane.plane c.in_ok-callers.plane c.in-Some.last c.in_ok-callers.last c.in_ok-pieces.ensures c.in_ok-callers.ensures c.in_ok-made.ensures in
     subst (Each (HasMadeAll (network_of c.args.plan.now))) (sym c.in_ok-push.ensures.items)
-    (made-all g.H.Home.table g.H.Home.owners g.H.Home.links c.args.plan.now c.pop.new.self.items c.in_ok-callers.callers.items c.in_ok-plane.plane c.in_ok-callers.plane c.in-Some.last c.in_ok-callers.last c.in_ok-make_tail.field-0 all made
-    (record { made = c.in_ok-make_tail.ensures.made; goes = c.in_ok-make_tail.ensures.ready; actor = c.in_ok-make_tail.ensures.actor }))
+    (made-all g.H.Home.table g.H.Home.owners g.H.Home.links c.args.plan.now c.pop.new.self.items c.in_ok-callers.callers.items c.in_ok-plane.plane c.in_ok-callers.plane c.in-Some.last c.in_ok-callers.last c.in_ok-last.last all made
+    (record { made = c.in_ok-last.ensures.made; goes = c.in_ok-last.ensures.ready; actor = c.in_ok-last.ensures.actor }))
+
+pub returns-clause-tail : goal.returns-clause-tail
+returns-clause-tail g c =
+    let made = made-of g.H.Home.table g.H.Home.owners g.H.Home.links c.args.plan.now c.in_ok-pieces.pieces.items c.in_ok-made.made.items c.pop.new.self.items c.in_ok-callers.callers.items c.in_ok-plane.plane c.in_ok-callers.plane c.in-Some.last c.in_ok-callers.last c.in_ok-pieces.ensures c.in_ok-callers.ensures c.in_ok-made.ensures in
+    tail-last c.args.plan.now c.in_ok-callers.callers.items c.push.new.self.items c.in_ok-callers.plane c.in_ok-callers.last c.in_ok-last.last made.rounds.ends
+    (subst (λ (ps : List Token). GoesLast (map own_in ps) c.in_ok-callers.last c.in_ok-last.last) c.deref.ensures.value c.in_ok-last.ensures.last) c.in_ok-push.ensures.items

@@ -4,6 +4,7 @@ use Rattle.call_script.specs.Tasks.{network_of}
 use Rattle.shared_network.specs.Closing.{IsClosed}
 use Rattle.race_run.proofs.GivenUp.{kept-whole}
 use Rattle.race_run.proofs.RaceFacts.{all-new, links-few, passes-as, seats-as}
+use Rattle.race_run.proofs.TailFacts.{tail-kept}
 use Rattle.race_run.proofs.racing.race_over.Goals as goal
 
 pub open-requires-clause-seats : goal.open-requires-clause-seats
@@ -18,7 +19,10 @@ open-requires-clause-most g c κs within = links-few g.H.Home.table g.H.Home.own
 pub make_all-requires-clause-new : goal.make_all-requires-clause-new
 make_all-requires-clause-new g c κs within = all-new g.H.Home.table g.H.Home.owners g.H.Home.links c.args.plan.now c.requires.plan c.requires.network c.args.opened.2.items c.in_ok-network.passes.items c.requires.passes c.in_ok-network.ensures.actors c.in_ok-network.ensures.passes
 
-pub returns-in-Ok : goal.returns-in-Ok
-returns-in-Ok g c =
+pub returns-in-Ok-clause-whole : goal.returns-in-Ok-clause-whole
+returns-in-Ok-clause-whole g c =
     kept-whole (network_of c.args.plan.now) c.in_ok-passes.passes.items c.in-Ok.closed.passes.items c.in-Ok.closed.journals.items c.in-Ok.ensures.passes
     (subst (λ (ls : List Link). IsClosed ls c.in_ok-passes.passes.items c.in-Ok.closed.journals.items) c.requires.network.links_are c.in-Ok.ensures.closed) c.in_ok-passes.ensures.actors c.in_ok-passes.ensures.made
+
+pub returns-in-Ok-clause-tail : goal.returns-in-Ok-clause-tail
+returns-in-Ok-clause-tail g c = tail-kept c.args.plan.now c.in_ok-passes.passes.items c.in-Ok.closed.passes.items c.in-Ok.ensures.passes c.in_ok-passes.ensures.tail

@@ -1,6 +1,8 @@
 use Rattle.std.proofs.Common.{◌≡◌, ◌+◌, ◌⊎◌}
 use Rattle.call_script.specs.Tasks.{network_of}
 use Rattle.interleave_core.specs.Turns.{plane_most}
+use Rattle.link_ledger.specs.Tokens.{last_seen}
+use Rattle.shared_network.specs.Added.{AddsAbove}
 use Rattle.shared_network.specs.Ready.{PassGoesOn}
 use Rattle.race_run.specs.Rounds.{PlaneIsOn}
 use Rattle.race_run.proofs.rounds.make_round.Given as goal
@@ -12,6 +14,7 @@ invariant-loop-plane g l = record {
   round : (l.plane.at.round ≡ l.round) ⊎ ((l.plane.at.round ≡ l.round + 1) × (l.plane.at.ticked ≡ 0));
   ready : PassGoesOn g.H.Home.table g.H.Home.owners g.H.Home.links l.fn.pass l.pass;
   actor : l.pass.actor ≡ l.fn.pass.actor;
+  later : AddsAbove (last_seen l.fn.pass) l.fn.pass l.pass;
 }
 
 -- it has fewer steps left at most

@@ -1,5 +1,7 @@
 use Rattle.std.proofs.Common.{◌≡◌, ◌-◌, ◌≤◌}
 use Rattle.call_script.specs.Tasks.{network_of}
+use Rattle.link_ledger.specs.Tokens.{last_seen}
+use Rattle.shared_network.specs.Added.{AddsAbove}
 use Rattle.shared_network.specs.Ready.{PassGoesOn}
 use Rattle.race_run.specs.Rounds.{PlaneIsAt}
 use Rattle.race_run.proofs.rounds.make_rounds.Given as goal
@@ -11,6 +13,7 @@ invariant-loop-plane g l = record {
   round : l.plane.at.round ≤ l.until;
   ready : PassGoesOn g.H.Home.table g.H.Home.owners g.H.Home.links l.fn.pass l.pass;
   actor : l.pass.actor ≡ l.fn.pass.actor;
+  later : AddsAbove (last_seen l.fn.pass) l.fn.pass l.pass;
 }
 
 -- fewer rounds are left

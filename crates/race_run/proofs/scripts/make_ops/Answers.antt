@@ -1,9 +1,9 @@
-use Rattle.std.proofs.Common.{length, refl, ap, arith}
+use Rattle.std.proofs.Common.{refl, arith}
 use Rattle.race_run.proofs.ScriptEnds.{script-ends}
 use Rattle.race_run.proofs.scripts.make_ops.Goals as goal
 
 pub loop-place-init : goal.loop-place-init
-loop-place-init g c = record { at = c.requires.at; few = (let none = ap length c.requires.drawn in omega (arith, none)); ready = record { may_step = c.requires.pass; among = refl }; actor = refl }
+loop-place-init g c = record { at = c.requires.at; few = (let none = c.requires.drawn in omega (arith, none)); ready = record { may_step = c.requires.pass; among = refl }; actor = refl }
 
 pub make_op-requires-clause-left : goal.make_op-requires-clause-left
 make_op-requires-clause-left g c κs within =

@@ -1,4 +1,5 @@
-use Rattle.std.proofs.Common.{◌≡◌, ◌*◌, ◌≤◌, length}
+use Rattle.std.proofs.Common.{◌≡◌, ◌*◌, ◌≤◌}
+use Rattle.link_ledger.specs.Tokens.{stamps_drawn}
 use Rattle.race_run.specs.Callers.{CallerIsAt}
 use Rattle.shared_network.specs.Ready.{PassGoesOn}
 use Rattle.race_run.proofs.scripts.make_ops.Given as goal
@@ -7,7 +8,7 @@ use Rattle.race_run.proofs.scripts.make_ops.Given as goal
 abbrev pub invariant-loop-place : goal.invariant-loop-place
 invariant-loop-place g l = record {
   at : CallerIsAt l.plan l.all.0 l.place l.pass l.accepted;
-  few : length l.pass.view.drawn ≤ 32 * l.place;
+  few : stamps_drawn l.pass ≤ 32 * l.place;
   ready : PassGoesOn g.H.Home.table g.H.Home.owners g.H.Home.links l.fn.pass l.pass;
   actor : l.pass.actor ≡ l.fn.pass.actor;
 }

@@ -1,12 +1,13 @@
-use Rattle.std.proofs.Common.{[], All, IsPermutation, IsSortedBy, reverse, sym, subst}
+use Rattle.std.proofs.Common.{[], length, All, IsPermutation, IsSortedBy, reverse, sym, subst}
 use Rattle.link_steps.specs.Lists.{Each}
 use Rattle.call_script.specs.Tasks.{network_of}
 use Rattle.interleave_core.specs.Runs.{IsRun}
 use Rattle.interleave_core.specs.Schedules.{FollowsTurns, IsActorOf, turns_of}
 use Rattle.race_run.specs.Merging.{AreThere, is_before, places_of, sources_from}
-use Rattle.race_run.specs.Turns.{AreMaximalRuns, actors_of}
+use Rattle.race_run.specs.Turns.{AreMaximalRuns, IsWritable, actors_of}
 use Rattle.race_run.proofs.MergeFacts.{merge-weaves, whole-sorted, places-all-inside}
 use Rattle.race_run.proofs.RunFacts.{run-follows, run-items, run-guaranteed}
+use Rattle.race_run.proofs.StepCounts.{items-written}
 use Rattle.race_run.proofs.WholeFacts.{whole-run, whole-over}
 use Rattle.race_run.proofs.weaving.woven.Goals as goal
 
@@ -28,6 +29,14 @@ returns-clause-actors c =
     let is = subst (IsRun (network_of c.args.plan.now)) (sym weave) (whole-run (network_of c.args.plan.now) c.args.closed.now.passes.items c.args.closed.now.journals.items c.requires.whole) in
     let runs = subst (λ es. AreMaximalRuns (actors_of es) c.in_ok-items.items.items) c.entries.ensures c.in_ok-items.ensures in
     subst (Each (IsActorOf c.args.plan.now)) (sym c.new.ensures) (run-items c.args.plan.now c.in_ok-run.run'.entries c.in_ok-items.items.items runs is)
+
+pub returns-clause-language : goal.returns-clause-language
+returns-clause-language c =
+    let weave = returns-clause-weave c in
+    let is = subst (IsRun (network_of c.args.plan.now)) (sym weave) (whole-run (network_of c.args.plan.now) c.args.closed.now.passes.items c.args.closed.now.journals.items c.requires.whole) in
+    let runs = subst (λ es. AreMaximalRuns (actors_of es) c.in_ok-items.items.items) c.entries.ensures c.in_ok-items.ensures in
+    subst (Each (IsWritable (length c.args.plan.now.callers))) (sym c.new.ensures)
+    (items-written c.args.plan.now c.in_ok-run.run'.entries c.in_ok-items.items.items c.links-valid.ensures.valid runs is (run-items c.args.plan.now c.in_ok-run.run'.entries c.in_ok-items.items.items runs is))
 
 pub returns-clause-played : goal.returns-clause-played
 returns-clause-played c =

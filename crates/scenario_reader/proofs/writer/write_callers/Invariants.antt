@@ -7,4 +7,4 @@ use Rattle.scenario_reader.proofs.writer.write_callers.Given as goal
 -- the first of them were added
 abbrev pub invariant-loop-caller : goal.invariant-loop-caller
 invariant-loop-caller g l =
-    AddsAll (g.K.Sink.written l.initial.sink) (g.K.Sink.written l.sink) l.initial.out l.out (g.K.Sink.faults l.initial.sink) (g.K.Sink.faults l.sink) (flat_map (caller_text l.links l.requests) (take l.caller-index l.callers))
+    AddsAll (g.K.Sink.written l.initial.sink) (g.K.Sink.written l.sink) l.initial.out l.out (g.K.Sink.faults l.initial.sink) (g.K.Sink.faults l.sink) (flat_map (caller_text l.plan.links l.plan.groups l.plan.requests) (take l.caller-index l.callers))

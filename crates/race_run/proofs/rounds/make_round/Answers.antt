@@ -1,0 +1,18 @@
+use Rattle.std.proofs.Common.{◌≡◌, ◌+◌, ◌⊎◌, ◌∙◌, subst, arith}
+use Rattle.tick_plane.specs.Kept.{KeptPlane}
+use Rattle.race_run.proofs.TailFacts.{adds-more}
+use Rattle.race_run.proofs.rounds.make_round.Goals as goal
+
+pub loop-plane-preserved : goal.loop-plane-preserved
+loop-plane-preserved g c =
+    let so = c.loop-plane.invariant in
+    let made = c.in_ok-make_step.ensures in
+    let plane : KeptPlane = c.make_step.new.plane in
+    let here : c.loop-plane.plane.at.round ≡ c.round-round.result = omega (arith, c.round.ensures, c.loop-plane-test.true) in
+    record {
+      on = made.on;
+      round = subst (λ n. (plane.at.round ≡ n) ⊎ ((plane.at.round ≡ n + 1) × (plane.at.ticked ≡ 0))) here made.stepped.round;
+      ready = record { may_step = made.ready.may_step; among = made.ready.among ∙ so.ready.among };
+      actor = made.actor ∙ so.actor;
+      later = adds-more _ c.args.pass.now c.loop-plane.pass c.make_step.new.pass so.later made.later;
+    }

@@ -1,0 +1,23 @@
+use Rattle.std.proofs.Common.{◌≡◌, ◌+◌, ◌-◌, ◌≤◌}
+use Rattle.byte_ends.specs.Cutting.{IsCutting, IsOf}
+use Rattle.scenario_reader.specs.AuditReading.{nothing_read}
+use Rattle.scenario_reader.specs.AuditSteps.{audit_ahead, AuditsOn, ForetellsAudit}
+use Rattle.scenario_reader.proofs.ReadFacts.{at_start}
+use Rattle.scenario_reader.specs.declared.reader.TheConstants.{MOST_BYTES}
+use Rattle.scenario_reader.proofs.audit.reader.read_audit.Given as goal
+
+-- what is ahead, after what was read, comes to what all bytes come to
+abbrev pub invariant-loop-draft : goal.invariant-loop-draft
+invariant-loop-draft g l =
+    let left = g.S.Source.left in
+    record {
+      most : l.lines.most ≡ MOST_BYTES;
+      cutting : IsCutting l.lines;
+      source : IsOf l.lines (left l.source);
+      same : ForetellsAudit (left l.fn.source) (audit_ahead l.lines l.draft (left l.source));
+      passed : AuditsOn at_start l.lines nothing_read l.draft (left l.fn.source) (left l.source);
+      counts : g.S.Source.faults l.fn.source ≤ g.S.Source.faults l.source;
+    }
+
+abbrev pub decreases-loop-draft : goal.decreases-loop-draft
+decreases-loop-draft g l = MOST_BYTES + 1 - l.lines.number

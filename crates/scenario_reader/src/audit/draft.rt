@@ -1,0 +1,175 @@
+//! What was read of an audit's input so far.
+ghost use Rattle.std.specs.Prelude.{◌≡◌, ◌++◌, ◌∷◌, [], None, IfOk, IsTrue, OnOk, replicate};
+ghost use Rattle.call_script.specs.Accepted.{AreAccepted};
+ghost use Rattle.run_record.specs.SmallRows.{AreSmall, IsSmall};
+ghost use Rattle.scenario_reader.specs.AuditKept.{levels_given};
+ghost use Rattle.scenario_reader.specs.AuditReading.{audit_line, begins_report, nothing_read, report_begun, report_line, scenario_line, with_row};
+ghost use Rattle.scenario_reader.specs.AuditRows.{row_told};
+ghost use Rattle.scenario_reader.specs.AuditSteps.{Adds};
+ghost use Rattle.scenario_reader.specs.Drafts.{is_complete, parts_said};
+ghost use Rattle.scenario_reader.specs.Fields.{fields_of};
+ghost use Rattle.scenario_reader.specs.declared.audit.place.Place.TheVariants as place;
+
+use crate::audit::place::Place;
+use crate::cause::{Cause, LineFault};
+use crate::draft::Draft;
+use crate::fields::{field, field_count, has_fields};
+use crate::values::require;
+use call_script::Plan;
+use net_units::{Levels, OutOfMemory};
+use run_record::HopRow;
+use std::alloc::Global;
+use std::marker::Model;
+
+// The header of a table.
+const HEADER: &[u8] = b"channel,packet,hop,link,size,at,eligible,departed";
+
+/// What was read of an audit's input so far, where no line was refused.
+///
+/// A contract sees the record `AuditSaid`.
+#[derive(Drop)]
+pub struct AuditDraft {
+    pub(crate) draft: Draft,
+    pub(crate) place: Place,
+    // From `report` on one entry a request.
+    pub(crate) levels: Vec<Option<Levels>>,
+    pub(crate) rows: Vec<HopRow>,
+}
+
+impl Model for AuditDraft {
+    ghost use Rattle.scenario_reader.specs.AuditKept.{IsAuditDraft, levels_given};
+    ghost use Rattle.scenario_reader.specs.AuditReading.{AuditSaid, audit_said};
+
+    ghost Value = { AuditSaid };
+
+    ghost view = { λ d. audit_said d.draft d.place (levels_given d.levels.items) d.rows.items };
+
+    ghost invariant = { λ d. IsAuditDraft (audit_said d.draft d.place (levels_given d.levels.items) d.rows.items) };
+}
+
+impl AuditDraft {
+    /// Before the first line. An `Err` comes only for want of memory.
+    pub fn new(alloc: Global) -> Result<AuditDraft, OutOfMemory>
+        ensures { IfOk result (λ draft. draft ≡ nothing_read) }
+    {
+        Ok(AuditDraft {
+            draft: Draft::new(alloc)?,
+            place: Place::Scenario,
+            levels: Vec::new(alloc),
+            rows: Vec::new(alloc),
+        })
+    }
+
+    /// Which lines are read now.
+    pub fn place(&self) -> Place
+        ensures { result ≡ self.now.place }
+    {
+        self.place
+    }
+
+    /// Judges the line of this number, and adds what it says where it isn't refused.
+    #[tactic(auto, unfolding(crate::specs::AuditReading::audit_line))]
+    pub fn take_line(&mut self, alloc: Global, number: u64, line: &[u8]) -> Result<(), LineFault>
+        ensures { Adds result self.new (audit_line self.old number line.now) }
+    {
+        match self.place {
+            Place::Scenario => self.take_scenario(alloc, number, line),
+            Place::Report => self.take_report(line),
+            Place::Table => self.take_row(line),
+        }
+    }
+
+    // A line of the scenario, or the line `report`.
+    fn take_scenario(&mut self, alloc: Global, number: u64, line: &[u8]) -> Result<(), LineFault>
+        requires { self.old.place ≡ place.Scenario }
+        ensures { Adds result self.new (scenario_line self.old number line.now) }
+    {
+        if self.begins_report(line) {
+            require(field_count(line) == 1, Cause::Shape)?;
+            self.begin_report(alloc)?;
+        } else {
+            let item = self.draft.judge(alloc, number, line)?;
+            self.draft.put(alloc, item)?;
+        }
+        Ok(())
+    }
+
+    // Whether a line begins with the word `report`, where a scenario may end.
+    fn begins_report(&self, line: &[u8]) -> bool
+        ensures { result ≡ begins_report self.now.said (fields_of line.now) }
+    {
+        self.draft.is_complete() && has_fields(line) && field(line, 0) == b"report".as_slice()
+    }
+
+    // From here on the lines are those of a report, and no request is known to be accepted.
+    fn begin_report(&mut self, alloc: Global) -> Result<(), OutOfMemory>
+        requires { IsTrue (is_complete self.old.said) }
+        ensures { OnOk result (self.new ≡ report_begun self.old) }
+    {
+        self.levels = no_levels(alloc, self.draft.request_count())?;
+        self.place = Place::Report;
+        Ok(())
+    }
+
+    // A line of the report, or the header of the table.
+    fn take_report(&mut self, line: &[u8]) -> Result<(), LineFault>
+        requires { self.old.place ≡ place.Report }
+        ensures { Adds result self.new (report_line self.old line.now) }
+    {
+        if line == HEADER {
+            self.place = Place::Table;
+        } else if line.starts_with(b"accept ") {
+            match self.acceptance(line) {
+                Some(told) => self.levels[told.request] = Some(told.levels),
+                None => return Err(LineFault::Refused(Cause::Accept)),
+            }
+        }
+        Ok(())
+    }
+
+    // A line of the table.
+    fn take_row(&mut self, line: &[u8]) -> Result<(), LineFault>
+        requires { self.old.place ≡ place.Table }
+        ensures { Adds result self.new (with_row self.old (row_told self.old.said line.now)) }
+    {
+        let row = self.draft.row_told(line).ok_or(Cause::Table)?;
+        self.put_row(&row)?;
+        Ok(())
+    }
+
+    // Adds a row.
+    fn put_row(&mut self, row: &HopRow) -> Result<(), OutOfMemory>
+        requires { IsSmall row.now }
+        ensures { OnOk result (self.new ≡ record self.old { rows = self.old.rows ++ row.now ∷ [] }) }
+    {
+        self.rows.push(*row)?;
+        Ok(())
+    }
+
+    /// The plan, the levels of its requests, and the rows, once the table's header was read. An `Err` comes only for want of memory.
+    pub fn into_parts(
+        self,
+        alloc: Global,
+    ) -> Result<(Plan, Vec<Option<Levels>>, Vec<HopRow>), OutOfMemory>
+        requires { self.place ≡ place.Table }
+        ensures plan { IfOk result (λ read. read.0 ≡ parts_said self.said) }
+        ensures levels { IfOk result (λ read. levels_given read.1.items ≡ self.levels) }
+        ensures rows { IfOk result (λ read. read.2.items ≡ self.rows) }
+        ensures accepted { IfOk result (λ read. AreAccepted read.0 read.1.items) }
+        ensures small { IfOk result (λ read. AreSmall read.2.items) }
+    {
+        let (plan, _schedule) = self.draft.into_plan(alloc)?;
+        Ok((plan, self.levels, self.rows))
+    }
+}
+
+// No levels of so many requests.
+fn no_levels(alloc: Global, count: usize) -> Result<Vec<Option<Levels>>, OutOfMemory>
+    ensures { IfOk result (λ levels. levels.items ≡ replicate count None) }
+{
+    let mut levels = Vec::with_capacity(alloc, count)?;
+    for _ in 0..count {
+        levels.push(None)?;
+    }
+    Ok(levels)
+}

@@ -1,0 +1,101 @@
+//! An audit's input that is read, and lines of it that are refused.
+use crate::audit::reader::read_audit;
+use crate::cause::Cause;
+use crate::reader::ReadRefusal;
+use byte_ends::MemSource;
+use std::alloc::Global;
+use std::test::Fail;
+
+// A scenario of a request over one link.
+const SCENARIO: &str = "tenet 1
+link A n1 n2 rate 1 cap 4 prop 2 buffer 100 levels 10 20 40
+caller k1
+open r1 route A contract 5 10 20 2 delay 42 rate
+rounds 30
+tail 0
+schedule
+";
+
+const HEADER: &str = "channel,packet,hop,link,size,at,eligible,departed";
+
+// How the reading of a scenario, the line `report` and this rest is refused, `None` where it isn't.
+fn refused(alloc: Global, rest: &str) -> Result<Option<ReadRefusal>, Fail> {
+    let text = format!(in alloc; "{SCENARIO}report\n{rest}")?;
+    let bytes = Vec::from_slice(alloc, text.as_bytes())?;
+    let mut source = MemSource::new(bytes, 7, Vec::new(alloc));
+    Ok(read_audit(alloc, &mut source).err())
+}
+
+#[test]
+fn levels_and_rows_are_read(rt: HostRuntime) -> Result<(), Fail> {
+    let alloc = rt.alloc();
+    let text = format!(in alloc;
+        "{SCENARIO}report\naccept r1 delay 22 levels 2\nlink A sent 1\n{HEADER}\nr1,3,1,A,2,20,21,31\n"
+    )?;
+    let bytes = Vec::from_slice(alloc, text.as_bytes())?;
+    let mut source = MemSource::new(bytes, 7, Vec::new(alloc));
+    let (plan, levels, rows) = read_audit(alloc, &mut source)?;
+    assert_eq!(rt; plan.requests().len(), 1);
+    let [given] = levels.as_slice() else {
+        return Err(Fail::from("other levels"));
+    };
+    let given = given.ok_or("no levels")?;
+    assert_eq!(rt; given.len(), 1);
+    assert_eq!(rt; given.at(1).get(), 2);
+    match rows.as_slice() {
+        [row] => {
+            assert_eq!(rt;
+                (row.chan.get(), row.number, row.hop, row.link.get()),
+                (0, 3, 1, 0)
+            );
+            assert_eq!(rt;
+                (row.size, row.at, row.eligible, row.departed),
+                (2, 20, 21, 31)
+            );
+        }
+        _ => assert!(rt; false, "other rows"),
+    }
+    Ok(())
+}
+
+// What stands after `report`, with the line that is refused and its cause.
+const BAD: [(&str, u64, Cause); 9] = [
+    ("", 9, Cause::Table),
+    ("accept r1 delay 21 levels 2\n", 9, Cause::Accept),
+    (
+        "accept r1 delay 42 levels 3\naccept r1 delay 42 levels 3\n",
+        10,
+        Cause::Accept,
+    ),
+    ("accept r2 delay 12 levels 1\n", 9, Cause::Accept),
+    ("accept r1 delay 12 levels 1 1\n", 9, Cause::Accept),
+    (
+        "channel,packet,hop,link,size,at,eligible,departed\n\n",
+        10,
+        Cause::Table,
+    ),
+    (
+        "channel,packet,hop,link,size,at,eligible,departed\nr1,3,256,A,2,20,21,31\n",
+        10,
+        Cause::Table,
+    ),
+    (
+        "channel,packet,hop,link,size,at,eligible,departed\nr1,3,1,B,2,20,21,31\n",
+        10,
+        Cause::Table,
+    ),
+    (
+        "channel,packet,hop,link,size,at,eligible,departed\nr1,3,1,A,2,20,21,31",
+        10,
+        Cause::Cut,
+    ),
+];
+
+#[test]
+fn the_first_bad_line_of_an_audit_is_refused(rt: HostRuntime) -> Result<(), Fail> {
+    for (rest, line, cause) in BAD {
+        let found = refused(rt.alloc(), rest)?;
+        assert_eq!(rt; found, Some(ReadRefusal::Refused { line, cause }));
+    }
+    Ok(())
+}

@@ -1,0 +1,127 @@
+//! The words `play --workers N`: as `play`, with the rounds of the plane made by several workers.
+ghost use Rattle.std.specs.Prelude.{◌≡◌, ◌≤◌, IfSome, map, string_bytes};
+ghost use Rattle.interleave_core.specs.Schedules.{IsActorOf};
+ghost use Rattle.link_steps.specs.Lists.{Each};
+ghost use Rattle.tenet_app.specs.Making.{number_from};
+ghost use Rattle.tenet_app.specs.Playing.{AnswersPlan, CountsRise, Plays};
+ghost use Rattle.tenet_app.specs.Working.{are_to_work, work_of, work_with_table, work_words};
+
+use crate::playing::{refuse, report};
+use crate::status::Status;
+use crate::words::{is_word, number_from};
+use byte_ends::{Sink, Source};
+use call_script::{Plan, Schedule};
+use interleave_core::PlayFault;
+use net_units::Gate;
+use plane_workers::played;
+use scenario_reader::{Cause, ReadRefusal, read_plan};
+use std::alloc::Global;
+use std::thread::Threads;
+
+// The workers at most.
+const MOST_WORKERS: u64 = 16;
+
+// Whether the words ask to play by workers, and then whether for the table of packets, and by how many.
+pub(crate) fn to_work(words: &[String]) -> Option<(bool, u32)>
+    ensures asked { result ≡ work_words (map string_bytes words.now) }
+    ensures range { IfSome result (λ work. (1 ≤ work.1) × (work.1 ≤ 16)) }
+{
+    match words {
+        [first, second, third] => {
+            if are_to_work(first.as_str(), second.as_str()) {
+                work_of(false, third.as_str())
+            } else {
+                None
+            }
+        }
+        [first, second, third, fourth] => with_table(
+            first.as_str(),
+            second.as_str(),
+            third.as_str(),
+            fourth.as_str(),
+        ),
+        _ => None,
+    }
+}
+
+// The same of four words, one of which asks for the table.
+fn with_table(first: &str, second: &str, third: &str, fourth: &str) -> Option<(bool, u32)>
+    ensures asked { result ≡ work_with_table first.now second.now third.now fourth.now }
+    ensures range { IfSome result (λ work. (1 ≤ work.1) × (work.1 ≤ 16)) }
+{
+    if is_word(first, "--packets") && are_to_work(second, third) {
+        work_of(true, fourth)
+    } else if is_word(second, "--packets") && are_to_work(first, third) {
+        work_of(true, fourth)
+    } else if is_word(fourth, "--packets") && are_to_work(first, second) {
+        work_of(true, third)
+    } else {
+        None
+    }
+}
+
+fn are_to_work(first: &str, second: &str) -> bool
+    ensures { result ≡ are_to_work first.now second.now }
+{
+    is_word(first, "play") && is_word(second, "--workers")
+}
+
+// With this number of workers, where it is one.
+fn work_of(packets: bool, number: &str) -> Option<(bool, u32)>
+    ensures asked { result ≡ work_of packets (number_from 1 16 number.now) }
+    ensures range { IfSome result (λ work. (1 ≤ work.1) × (work.1 ≤ 16)) }
+{
+    let workers = number_from(number, 1, MOST_WORKERS)?;
+    Some((packets, workers as u32))
+}
+
+/// Reads a scenario, plays its schedule by so many workers, and writes the report of its run, with the table of packets where
+/// `packets` is set: what [`play`](crate::playing::play) writes. It joins threads. The gate is called round each ask of a round.
+pub fn work<R: Threads + Sync, S: Source, K: Sink, G: Gate + Sync>(
+    rt: &R,
+    alloc: Global,
+    packets: bool,
+    workers: u32,
+    source: &mut S,
+    sink: &mut K,
+    gate: &G,
+) -> Status
+    requires { (1 ≤ workers) × (workers ≤ 16) }
+    ensures plays { Plays packets result
+        (record { left = S.left source.old; read_faults = S.faults source.old; written = K.written sink.old; write_faults = K.faults sink.old })
+        (record { left = S.left source.new; read_faults = S.faults source.new; written = K.written sink.new; write_faults = K.faults sink.new }) }
+    ensures counts { CountsRise
+        (record { left = S.left source.old; read_faults = S.faults source.old; written = K.written sink.old; write_faults = K.faults sink.old })
+        (record { left = S.left source.new; read_faults = S.faults source.new; written = K.written sink.new; write_faults = K.faults sink.new }) }
+{
+    match read_plan(alloc, source) {
+        Ok((plan, schedule)) => answer(rt, alloc, packets, workers, &plan, &schedule, sink, gate),
+        Err(ReadRefusal::Memory) => Status::Memory,
+        Err(ReadRefusal::ReadFault) => Status::ReadFault,
+        Err(ReadRefusal::TooLong { .. }) => Status::TooLong,
+        Err(ReadRefusal::Refused { line, cause }) => refuse(alloc, line, cause, sink),
+    }
+}
+
+// Plays the schedule of a plan, and writes the report of its run, or the line that asks for a step that isn't left.
+fn answer<R: Threads + Sync, K: Sink, G: Gate + Sync>(
+    rt: &R,
+    alloc: Global,
+    packets: bool,
+    workers: u32,
+    plan: &Plan,
+    schedule: &Schedule,
+    sink: &mut K,
+    gate: &G,
+) -> Status
+    requires workers { (1 ≤ workers) × (workers ≤ 16) }
+    requires actors { Each (IsActorOf plan.now) schedule.now.items }
+    ensures answers { AnswersPlan packets plan.now schedule.now result (K.written sink.old) (K.written sink.new) (K.faults sink.old) (K.faults sink.new) }
+    ensures counts { K.faults sink.old ≤ K.faults sink.new }
+{
+    match played(rt, alloc, plan, schedule, workers, gate) {
+        Ok(run) => report(alloc, packets, plan, &run, sink),
+        Err(PlayFault::Memory) => Status::Memory,
+        Err(PlayFault::Step { line, .. }) => refuse(alloc, line, Cause::Step, sink),
+    }
+}
