@@ -69,10 +69,11 @@ known() {
   awk -v name="$1" '$1 == "open" && $2 == name { found = 1 } END { exit !found }' "$work/scenario" || fail 2 "the scenario opens no $1"
 }
 
-# insert NAME STEPS: plays the requests of $work/probes just before the setup of NAME, or after all others where no NAME is given, to
-# $work/answers. Each makes at most STEPS steps. They have to be such that are denied by the destination, and so keep nothing.
+# insert NAME STEPS LIKE: plays the requests of $work/probes just before the setup of NAME, or after all others where NAME is empty, to
+# $work/answers, as requests of a caller of the group that the request LIKE is of. Each makes at most STEPS steps. Those before others have
+# to be such that are denied by the destination, and so keep nothing.
 insert() {
-  awk -v before="$1" -v steps="$2" -f "$here/network.awk" -f "$here/insert.awk" "$work/probes" "$work/report" "$work/judged" >"$work/probing" ||
+  awk -v before="$1" -v steps="$2" -v like="$3" -f "$here/network.awk" -f "$here/insert.awk" "$work/probes" "$work/report" "$work/judged" >"$work/probing" ||
     fail 2 "the schedule ends before the setup of $1"
   play "$work/probing" "$work/answers"
 }

@@ -1,7 +1,7 @@
 # insert.awk: puts requests into a scenario, just before the setup of the request `before`, or behind all others where that is empty. Read
 # after network.awk; the files are the requests as `open` lines, the report of the scenario, and the scenario. Each of these requests makes
 # at most `steps` steps. Without a schedule they stand before that line, and what comes behind it is left out. With one they are a
-# caller's, which makes its steps where the other's setup begins; the run ends with that.
+# caller's, which makes its steps where the other's setup begins; the run ends with that. They are of the group of the request `like`.
 
 FNR == 1 { file++ }
 
@@ -19,8 +19,14 @@ END {
     if ($1 == "rounds" || ($1 == "open" && $2 == before)) break
     print
   }
+  if (before == "" && caller_group != group[like]) print_caller()
   for (i = 1; i <= probes; i++) print probe[i]
   print "rounds 0\ntail 0"
+}
+
+# a caller of the group of the request `like`
+function print_caller() {
+  print "caller ask_caller" (group[like] == "" ? "" : " group " group[like])
 }
 
 # the requests as a caller's, with as many more of the first one, by other names, that the caller has a step for each that may be asked for
@@ -29,7 +35,7 @@ function put_into_schedule(    i, pads, fields) {
   for (i = 1; i < scheduled; i++) {
     $0 = scenario[i]
     if ($1 == "rounds") {
-      print "caller ask_caller"
+      print_caller()
       pads = (steps - 1) * probes
       for (k = 1; k <= probes; k++) print probe[k]
       for (k = 1; k <= pads; k++) {

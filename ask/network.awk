@@ -15,6 +15,8 @@ function least_of(a, b) {
 function read_scenario() {
   if ($1 == "tenet") version = $2
   else if ($1 == "link") read_link()
+  else if ($1 == "caller") caller_group = $3 == "group" ? $4 : ""
+  else if ($1 == "quota") read_quota()
   else if ($1 == "open") read_open()
   else if ($1 == "close") is_closed[$2] = 1
   else if ($1 == "#" && NF == 4 && $2 == "tick") note_tick()
@@ -34,9 +36,17 @@ function read_link(    i, before) {
   for (i = before + 1; i <= NF; i++) bound[$2, i - before] = $i
 }
 
+# a group's share of a link
+function read_quota(    i) {
+  split_between[$2] = split_between[$2] " " $3
+  share_buffer[$2, $3] = $5
+  for (i = 7; i <= NF; i++) share[$2, $3, i - 6] = $i
+}
+
 # an open; where it names two nodes, the report says its route
 function read_open(    i) {
   request_name[++requests] = $2
+  group[$2] = caller_group
   for (i = 4; i <= NF && $i != "contract"; i++) if ($3 == "route") route[$2, i - 3] = $i
   hops[$2] = $3 == "route" ? i - 4 : 0
   xmin[$2] = $(i + 1)
@@ -139,6 +149,16 @@ function load(link, m, w, open_only,    sum, k, name) {
   return sum
 }
 
+# the work that the held rows of a group at levels 1 to m may bring into the bound of level m of a split link, which its quota there limits
+function group_load(link, of_group, m,    sum, k, name) {
+  for (k = 1; k <= rows[link]; k++) {
+    name = row_request[link, k]
+    if (group[name] == of_group && (name, row_hop[link, k]) in level && level[name, row_hop[link, k]] <= m)
+      sum += most_in(name, bound[link, m]) * packet_ticks(name, link)
+  }
+  return sum + 0
+}
+
 # that work in the window by which the level is judged: the whole bound under tenet 1, else the least one that fits, or the first over the bound
 function judged_load(link, m, open_only,    w, next_w) {
   if (version == 1) return load(link, m, bound[link, m], open_only)
@@ -175,14 +195,28 @@ function least_first_bound(link,    w, next_w) {
   return 0
 }
 
+# the units that a held row keeps
+function kept_of(name, hop,    before) {
+  before = hop > 1 ? bound[route[name, hop - 1], level[name, hop - 1]] : 0
+  return most_in(name, before + bound[route[name, hop], level[name, hop]]) * smax[name]
+}
+
 # the units that the held rows of a link keep
-function kept_units(link,    k, name, hop, sum, before) {
+function kept_units(link,    k, name, hop, sum) {
   for (k = 1; k <= rows[link]; k++) {
     name = row_request[link, k]
     hop = row_hop[link, k]
-    if (!((name, hop) in level)) continue
-    before = hop > 1 ? bound[route[name, hop - 1], level[name, hop - 1]] : 0
-    sum += most_in(name, before + bound[link, level[name, hop]]) * smax[name]
+    if ((name, hop) in level) sum += kept_of(name, hop)
+  }
+  return sum + 0
+}
+
+# those of a group
+function group_kept(link, of_group,    k, name, hop, sum) {
+  for (k = 1; k <= rows[link]; k++) {
+    name = row_request[link, k]
+    hop = row_hop[link, k]
+    if (group[name] == of_group && (name, hop) in level) sum += kept_of(name, hop)
   }
   return sum + 0
 }

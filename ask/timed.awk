@@ -9,6 +9,8 @@ function fail(why) {
 
 $1 == "caller" || $1 == "rounds" || $1 == "tail" || $1 == "schedule" || $1 == "do" { fail("a scenario with `at` lines has no line " $1) }
 
+$1 == "group" || $1 == "quota" { fail("a scenario with `at` lines has no groups, since all its operations are one caller's") }
+
 $1 == "link" { links++ }
 
 $1 == "at" {

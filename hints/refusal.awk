@@ -69,6 +69,18 @@ function link_form(    i, next_word) {
   for (i = next_word + 1; i <= NF; i++) number(i, "the bound of level " i - next_word, 1, 1048576)
 }
 
+function quota_form(    i) {
+  name(2, "the link", "used", "link")
+  name(3, "the group", "once", "group")
+  number(5, "buffer", 0, 262144)
+  for (i = 7; i <= NF; i++) number(i, "the load of level " i - 6, 0, 1048576)
+}
+
+function caller_form() {
+  name(2, "the caller's name", "new", "caller")
+  if ($3 == "group") name(4, "the group", "used", "group")
+}
+
 function open_form(    i, from) {
   name(2, "the request's name", "new", "request")
   from = place_of_contract()
@@ -94,7 +106,9 @@ function send_form(set, label) {
 function form_of_line() {
   clear_form()
   if ($1 == "link") link_form()
-  if ($1 == "caller") name(2, "the caller's name", "new", "caller")
+  if ($1 == "group") name(2, "the group's name", "new", "group")
+  if ($1 == "quota") quota_form()
+  if ($1 == "caller") caller_form()
   if ($1 == "open") open_form()
   if ($1 == "send") send_form("own", "the request")
   if ($1 == "pour") send_form("link", "the link")
@@ -120,8 +134,8 @@ function has_cause(i,    field) {
   if (cause == "number") return kind[i] == "number" && !is_number(field)
   if (cause == "range") return kind[i] == "number" && is_number(field) && (field + 0 < least[i] || field + 0 > most[i])
   if (cause == "name") return kind[i] != "number" && !is_name(field) && !(names_in[i] == "actor" && field == "plane")
-  if (cause == "known") return kind[i] == "new" && is_known(names_in[i], field)
-  if (cause == "unknown") return kind[i] == "used" && !is_known(names_in[i], field)
+  if (cause == "known") return kind[i] == "new" && is_known(names_in[i], field) || kind[i] == "once" && ($2 SUBSEP field) in quota
+  if (cause == "unknown") return (kind[i] == "used" || kind[i] == "once") && !is_known(names_in[i], field)
   return 0
 }
 
@@ -148,6 +162,19 @@ function of_levels(    i, from) {
   }
   tell_field(from + 1, "the bound of level 1")
   print "  the largest packet, cap, takes " int(($8 + $6 - 1) / $6) " ticks at this rate, and the bound of level 1 is at least that"
+}
+
+# loads that aren't those of the link's levels, or quotas that come to more than the link has
+function of_quota(    level, blocking) {
+  if (NF - 6 != levels[$2]) return told_count(NF - 6 " loads", "link " shown($2) " has " levels[$2] " levels")
+  blocking = int((cap[$2] + rate[$2] - 1) / rate[$2])
+  for (level = 1; level <= levels[$2]; level++) if (taken[$2, level] + $(6 + level) > bound[$2, level] - blocking) {
+    tell_field(6 + level, "the load of level " level)
+    print "  with this line the quotas of that level come to " taken[$2, level] + $(6 + level) "; the bound of " bound[$2, level] " less the " blocking " ticks of the largest packet leaves " bound[$2, level] - blocking
+    return
+  }
+  tell_field(5, "buffer")
+  print "  with this line the quotas of the buffer come to " taken[$2, 0] + $5 "; the link has " buffer[$2]
 }
 
 # a number of a contract
@@ -213,7 +240,7 @@ function tell_note(    i) {
 # whether a link has too many levels, or a route too many links
 function tell_count(    count) {
   count = NF - place_of("levels")
-  if ($1 == "link" && count > 8) return told_count(count " levels", "a link has at most 8")
+  if (($1 == "link" || $1 == "quota") && count > 8) return told_count(count " levels", "a link has at most 8")
   count = place_of("contract") - 4
   if ($1 == "open" && $3 == "route" && count > 16 && count < NF - 3) return told_count("a route of " count " links", "a route has at most 16")
   return 0
@@ -224,11 +251,13 @@ function told_count(has, most) {
   return 1
 }
 
-# whether it is `best`, `pour` or `from`, and the header hasn't that word yet
+# whether it is `best`, `pour`, `from`, `group` or `quota`, and the header hasn't that word yet
 function tell_later_word() {
   if ($1 == "link" && $13 == "best") return is_later(13, 3)
   if ($1 == "pour") return is_later(1, 3)
   if ($1 == "open" && is_found()) return is_later(3, 4)
+  if ($1 == "group" || $1 == "quota") return is_later(1, 5)
+  if ($1 == "caller" && $3 == "group") return is_later(3, 5)
   return 0
 }
 
@@ -243,6 +272,8 @@ function is_later(place, since) {
 # whether a fixed word doesn't stand in its place; the first one that doesn't is told
 function tell_wrong_word(    from) {
   if ($1 == "link") return stands(5, "rate") || stands(7, "cap") || stands(9, "prop") || stands(11, "buffer") || stands($13 == "best" ? 15 : 13, "levels")
+  if ($1 == "quota") return stands(4, "buffer") || stands(6, "levels")
+  if ($1 == "caller") return version >= 5 && stands(3, "group")
   if ($1 != "open") return 0
   from = place_of("contract")
   if (from > NF) return 0
@@ -282,15 +313,15 @@ function tell_owner() {
 # ---- sentences
 
 function sentences() {
-  means["header"] = "the first line that isn't passed over is tenet 1, tenet 2, tenet 3 or tenet 4"
-  means["word"] = "this word may not stand here; the order is: the header, links, callers each with its operations, rounds, tail, schedule, do"
+  means["header"] = "the first line that isn't passed over is tenet 1, tenet 2, tenet 3, tenet 4 or tenet 5"
+  means["word"] = "this word may not stand here; the order is: the header, links, groups, quotas, callers each with its operations, rounds, tail, schedule, do"
   means["shape"] = "bytes, spaces, the number of fields or a fixed word aren't those of such a line"
   means["name"] = "a name is a letter and then letters, digits and _, at most 16 in all, and neither contract nor plane"
   means["number"] = "a number has decimal digits alone, at most 18, with no sign, point, comma or 0 in front"
-  means["known"] = "a link, a caller and a request each take a name that no other of their kind has"
-  means["unknown"] = "no link, node, request of this caller, or actor has this name above this line"
+  means["known"] = "a link, a group, a caller and a request each take a name that no other of their kind has, and a group has one quota of a link at most"
+  means["unknown"] = "no link, node, group, request of this caller, or actor has this name above this line"
   means["range"] = "the number is out of its range"
-  means["many"] = "a scenario has at most 32 links, 64 callers and 1,024 requests, and this is one more"
+  means["many"] = "a scenario has at most 32 links, 4 groups, 64 callers and 1,024 requests, and this is one more"
   means["contract"] = "a contract has XMIN at most XAVE, XAVE at most I, and I / XAVE, rounded down, at most 256"
   means["levels"] = "the bounds of a link rise, and its largest packet fits into the first"
   means["route"] = "each link of a route is another one, and begins at the node where the one before it ends; the nodes after from and to differ"
@@ -298,6 +329,7 @@ function sentences() {
   means["load"] = "the COUNTs times the hops of all sends come to at most 262,144, and the rounds and the tail times the links to at most 524,288"
   means["reach"] = "no route of at most 16 links leads from the first node to the second"
   means["best"] = "a pour wants a link with best"
+  means["quota"] = "a quota has a load for each level of its link, and the quotas of a link leave room for its largest packet within each bound and fit its buffer"
   means["end"] = "the input ended before its tail line"
   means["cut"] = "the input ended inside this line: its line feed is missing"
   means["step"] = "this do line asks for a step of an actor that has none left at that point of the schedule; operations on a denied request take no steps"
@@ -305,7 +337,9 @@ function sentences() {
 
 function forms_of_lines() {
   usual["link"] = "link NAME NODE NODE rate R cap C prop P buffer U" (version >= 3 ? ", with or without best K, and then" : "") " levels D1 .. Dn"
-  usual["caller"] = "caller NAME"
+  usual["group"] = "group NAME"
+  usual["quota"] = "quota LINK GROUP buffer U levels Q1 .. Qn"
+  usual["caller"] = "caller NAME" (version >= 5 ? ", or caller NAME group GROUP" : "")
   usual["open"] = "open NAME route LINK1 .. LINKh contract XMIN XAVE I SMAX delay D rate, or with jitter J for rate, or under tenet 4 with from NODE1 to NODE2 for the route"
   usual["send"] = "send NAME COUNT GAP SIZE"
   usual["close"] = "close NAME"
@@ -335,6 +369,7 @@ function tell() {
   else if (cause == "word") of_word()
   else if (cause == "closed") tell_field(2, "the request")
   else if (cause == "best") tell_field(2, "the link")
+  else if (cause == "quota") of_quota()
   else if (cause == "step") of_step()
   else if (cause == "load") of_load()
   else of_form()
@@ -350,6 +385,16 @@ NR == at {
   exit
 }
 
+# the numbers of a link
+function keep_numbers(    i, from) {
+  from = place_of("levels")
+  rate[$2] = $6
+  cap[$2] = $8
+  buffer[$2] = $12
+  levels[$2] = NF - from
+  for (i = from + 1; i <= NF; i++) bound[$2, i - from] = $i
+}
+
 $1 == "tenet" { version = $2 }
 
 $1 == "link" {
@@ -359,6 +404,15 @@ $1 == "link" {
   ends[$2] = $4
   known["node", $3] = 1
   known["node", $4] = 1
+  keep_numbers()
+}
+
+$1 == "group" { known["group", $2] = 1 }
+
+$1 == "quota" {
+  quota[$2, $3] = 1
+  taken[$2, 0] += $5
+  for (i = 7; i <= NF; i++) taken[$2, i - 6] += $i
 }
 
 $1 == "caller" {

@@ -1,0 +1,129 @@
+# Explains a line of an audit's input that is refused after its line `report`, for ./tenet: awk -v at=LINE -v cause=CAUSE -f audit.awk INPUT
+# prints the line, the field where it can be told, and a sentence on the cause, which is `accept` or `table`. It decides nothing: the
+# program has refused the line, and this only looks for what to show.
+
+function is_number(field) {
+  return field ~ /^(0|[1-9][0-9]*)$/ && length(field) <= 18
+}
+
+# a text of which only what can be seen is shown, and no more than 160 of it
+function shown(text) {
+  gsub(/\t/, "\\t", text)
+  gsub(/\r/, "\\r", text)
+  gsub(/[^ -~]/, "?", text)
+  return length(text) > 160 ? substr(text, 1, 160) " .." : text
+}
+
+function tell_field(place, label, text) {
+  print "  field " place ", " label ": " shown(text)
+}
+
+# ---- accept NAME delay SUM levels L1 .. Lh
+
+# the levels of a line, one of its link for each hop, and their sum; whether one of these was told to be wrong
+function tell_levels(    hop, link, sum) {
+  if (!($2 in hops)) return 0
+  if (NF - 5 != hops[$2]) {
+    print "  it has " NF - 5 " levels, and the route of " $2 " has " hops[$2] " links"
+    return 1
+  }
+  for (hop = 1; hop <= hops[$2]; hop++) {
+    link = route[$2, hop]
+    if (!is_number($(hop + 5)) || $(hop + 5) < 1 || $(hop + 5) + 0 > levels[link]) {
+      tell_field(hop + 5, "the level at link " link ", which has levels 1 to " levels[link], $(hop + 5))
+      return 1
+    }
+    sum += bound[link, $(hop + 5) + 0] + prop[link]
+  }
+  if ($4 != sum) {
+    tell_field(4, "the sum", $4)
+    print "  the bounds of these levels and the propagations come to " sum
+    return 1
+  }
+  return 0
+}
+
+function of_accept() {
+  if ($0 ~ /\r$/) print "  it ends with a carriage return: tr -d '\\r' takes them out"
+  else if ($0 ~ /  / || $0 ~ / $/) print "  it has a space too many: exactly one stands between two fields"
+  else if (NF < 6 || $3 != "delay" || $5 != "levels") print "  its form is: accept NAME delay SUM levels L1 .. Lh"
+  else if (!($2 in delay)) tell_field(2, "the request, which the scenario doesn't open", $2)
+  else if ($2 in accepted) {
+    tell_field(2, "the request", $2)
+    print "  line " accepted[$2] " has told its levels"
+  } else if (!is_number($4)) tell_field(4, "the sum, which has to be a number", $4)
+  else if (!tell_levels()) tell_bounds()
+}
+
+# the sum and the last bound are within what was asked for
+function tell_bounds() {
+  if ($4 + 0 > delay[$2]) {
+    tell_field(4, "the sum", $4)
+    print "  the delay that " $2 " asks for is " delay[$2]
+  } else if ($2 in jitter) print "  the last link's bound is over the jitter that " $2 " asks for, " jitter[$2]
+}
+
+# ---- a row of the table
+
+# (the limit is a text, since not each awk prints so large a number whole)
+function number_of_row(place, label, limit) {
+  if (is_number(cell[place]) && cell[place] + 0 < limit + 0) return 0
+  tell_field(place, label ", which has to be a number below " limit, cell[place])
+  return 1
+}
+
+function of_row(    count) {
+  if ($0 == "") print "  it is empty; each line after the header is a row"
+  else if ($0 ~ /\r$/) print "  it ends with a carriage return: tr -d '\\r' takes them out"
+  else if ($0 ~ /"/) print "  it has a quote; no field of a table needs one"
+  else if ($0 ~ /[^!-~]/) print "  it has a space, a tab or a byte that isn't a printable one of ASCII"
+  else if ((count = split($0, cell, ",")) != 8) print "  it has " count " fields; its form is: CHANNEL,PACKET,HOP,LINK,SIZE,AT,ELIGIBLE,DEPARTED"
+  else if (!(cell[1] in delay)) tell_field(1, "the channel, which is no request of the scenario", cell[1])
+  else if (!(cell[4] in levels)) tell_field(4, "the link, which the scenario doesn't have", cell[4])
+  else if (number_of_row(2, "the packet", "1099511627776") || number_of_row(3, "the hop", "256") || number_of_row(5, "the size", "4294967296")) return
+  else if (number_of_row(6, "at", "1099511627776") || number_of_row(7, "eligible", "1099511627776")) return
+  else number_of_row(8, "departed", "1099511627776")
+}
+
+# ---- sentences
+
+function sentence() {
+  if (cause == "accept") return "an accept line is that of a report for this scenario: its request, the sum, and a level for each link, within what was asked for; each request has at most one"
+  return "after its header, channel,packet,hop,link,size,at,eligible,departed, a table has one row a line"
+}
+
+NR == at {
+  print "tenet: line " at " is refused: " shown($0)
+  if (cause == "accept") of_accept()
+  else of_row()
+  print "  " cause ": " sentence()
+  told = 1
+  exit
+}
+
+$0 == "report" { reported = 1 }
+
+reported && $1 == "accept" { accepted[$2] = NR }
+
+reported { next }
+
+$1 == "link" {
+  prop[$2] = $10
+  for (i = 13; i <= NF && $i != "levels"; i++) { }
+  levels[$2] = NF - i
+  for (level = 1; level <= levels[$2]; level++) bound[$2, level] = $(i + level)
+}
+
+$1 == "open" {
+  for (i = 4; i <= NF && $i != "contract"; i++) if ($3 == "route") route[$2, i - 3] = $i
+  if ($3 == "route") hops[$2] = i - 4
+  delay[$2] = $(i + 6)
+  if ($(i + 7) == "jitter") jitter[$2] = $(i + 8)
+}
+
+END {
+  if (!told) {
+    print "tenet: line " at " is missing"
+    print "  " cause ": the input ended before the header of its table, channel,packet,hop,link,size,at,eligible,departed"
+  }
+}
