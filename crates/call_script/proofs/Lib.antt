@@ -12,3 +12,4 @@ pub mod OwnerFacts
 pub mod OneLinkFacts
 pub mod Growing
 pub mod QuotaGrowth
+mod WorkedRules
