@@ -153,3 +153,10 @@ fn a_link_without_an_offer_is_no_hop(rt: HostRuntime) -> Result<(), Fail> {
     assert_eq!(rt; rows[0], row(&only, 0)?);
     Ok(())
 }
+
+#[test]
+fn a_run_without_departures_has_no_rows(rt: HostRuntime) -> Result<(), Fail> {
+    let rows = rows_of_steps(rt.alloc(), &[offer(1, 0)?])?;
+    assert!(rt; rows.as_slice().is_empty());
+    Ok(())
+}
