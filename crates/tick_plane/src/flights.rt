@@ -50,11 +50,12 @@ impl Flights {
         })
     }
 
-    // Makes room for `more` more flights at least. Where there is that room already it takes no memory. An `Err` changes
+    // Makes room for `more` more flights at least. Where there is that room already it does nothing. An `Err` changes
     // nothing.
     pub(crate) fn reserve(&mut self, more: usize) -> Result<(), OutOfMemory>
         ensures room { OnOk result (more ≤ self.new.spare) }
         ensures had_room { more ≤ self.old.spare → IsOk result }
+        ensures nothing { more ≤ self.old.spare → self.new ≡ self.old }
         ensures grows { self.old.spare ≤ self.new.spare }
         ensures kept { self.new ≡ record self.old { spare = self.new.spare } }
         ensures err { OnErr result (self.new ≡ self.old) }

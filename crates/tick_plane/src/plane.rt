@@ -59,11 +59,13 @@ impl Plane {
         })
     }
 
-    /// Makes room for one flight of each link that hasn't made its tick in this round. Where there is that room already it
-    /// takes no memory. An `Err`, which comes for want of memory alone, changes nothing.
+    /// Makes room for one flight of each link that hasn't made its tick in this round. Where there is that room already, as
+    /// in the rest of a round in which this was answered Ok, it does nothing. An `Err`, which comes for want of memory alone,
+    /// changes nothing.
     pub fn ready(&mut self) -> Result<(), OutOfMemory>
         ensures room { OnOk result (self.new.links - self.new.at.ticked ≤ self.new.spare) }
         ensures had_room { self.old.links - self.old.at.ticked ≤ self.old.spare → IsOk result }
+        ensures nothing { self.old.links - self.old.at.ticked ≤ self.old.spare → self.new ≡ self.old }
         ensures grows { self.old.spare ≤ self.new.spare }
         ensures kept { self.new ≡ record self.old { spare = self.new.spare } }
         ensures err { OnErr result (self.new ≡ self.old) }
@@ -94,7 +96,7 @@ impl Plane {
     }
 
     /// Takes the reply to the next ask. An ask has to be left, and `ready` has to have made room in this round, so it takes
-    /// no memory. A packet that leaves with it is due at its next link after this round. A reply that isn't one of the ask's is
+    /// no memory; there is that room for the rest of the round. A packet that leaves with it is due at its next link after this round. A reply that isn't one of the ask's is
     /// answered with the ask, and changes nothing: to an arrive a packet is taken, or refused as full or as stray; to a tick
     /// the tick is made.
     pub fn take(&mut self, reply: Reply) -> Result<(), Unexpected>
@@ -105,7 +107,7 @@ impl Plane {
         ensures taken { OnOk result (self.new.at ≡ plane_after self.old.links reply self.old.at) }
         ensures links { self.new.links ≡ self.old.links }
         ensures rounds { self.new.rounds ≡ self.old.rounds }
-        ensures room { 1 ≤ self.new.at.ticked → self.new.links - self.new.at.ticked ≤ self.new.spare }
+        ensures room { self.new.at.round ≡ self.old.at.round → self.new.links - self.new.at.ticked ≤ self.new.spare }
         ensures unexpected { IfErr result (λ odd. (odd.reply ≡ reply) × (option_map (λ to. to.1) (plane_ask self.old.rounds self.old.at) ≡ Some odd.ask)) }
         ensures unchanged { OnErr result (self.new ≡ self.old) }
     {
@@ -234,160 +236,5 @@ pub(crate) fn link_of(number: u32) -> LinkNo
     match LinkNo::new(number as u8) {
         Some(link) => link,
         None => unreachable!(),
-    }
-}
-
-#[cfg(test)]
-mod tests {
-    use super::*;
-    use link_steps::Packet;
-    use net_units::ChanNo;
-    use std::process::Abort;
-    use std::test::Fail;
-
-    // the reply to a tick in which this packet left
-    fn ticked(clock: u64, sent: Option<Sent>) -> Reply {
-        Reply::Ticked {
-            clock,
-            full: 0,
-            sent,
-            best_sent: false,
-            best_lost: false,
-        }
-    }
-
-    // whether a packet that leaves with the reply is due after the round
-    fn is_later(reply: &Reply, round: u64) -> bool
-        ensures { IsTrue result → IsDueLater round reply.now }
-    {
-        match reply {
-            Reply::Ticked {
-                sent: Some(sent),
-                ..
-            } => round < sent.arrives,
-            _ => true,
-        }
-    }
-
-    // the plane asks this link for this, and gets this reply
-    fn asks(
-        rt: &impl Abort,
-        plane: &mut Plane,
-        link: u8,
-        ask: Ask,
-        reply: Reply,
-    ) -> Result<(), Fail> {
-        plane.ready()?;
-        match plane.next_ask() {
-            Some((to, next)) => {
-                assert_eq!(rt; (to.get(), next), (link, ask));
-                assert!(rt; is_later(&reply, plane.round()));
-                assert_eq!(rt; plane.take(reply), Ok(()));
-                Ok(())
-            }
-            None => Err(Fail::from("no ask is left")),
-        }
-    }
-
-    #[test]
-    fn a_round_of_one_link_is_a_tick(rt: HostRuntime) -> Result<(), Fail> {
-        let mut plane = Plane::new(rt.alloc(), 1, 1)?;
-        asks(&rt, &mut plane, 0, Ask::Tick, ticked(0, None))?;
-        assert_eq!(rt; plane.next_ask(), None);
-        Ok(())
-    }
-
-    #[test]
-    fn a_reply_of_another_ask_changes_nothing(rt: HostRuntime) -> Result<(), Fail> {
-        let mut plane = Plane::new(rt.alloc(), 1, 1)?;
-        let odd = Unexpected {
-            ask: Ask::Tick,
-            reply: Reply::Denied,
-        };
-        plane.ready()?;
-        match plane.next_ask() {
-            Some(_) => assert_eq!(rt; plane.take(Reply::Denied), Err(odd)),
-            None => assert!(rt; false, "a tick is next"),
-        }
-        asks(&rt, &mut plane, 0, Ask::Tick, ticked(0, None))
-    }
-
-    // a packet that leaves link 0 in the first round and reaches link 1 in the third
-    fn crossing() -> Result<Sent, Fail> {
-        let packet = Packet {
-            chan: ChanNo::new(7).ok_or("a channel")?,
-            number: 1,
-            size: 2,
-            due: 12,
-        };
-        Ok(Sent {
-            packet,
-            at: 0,
-            eligible: 0,
-            arrives: 2,
-            next: LinkNo::new(1),
-        })
-    }
-
-    #[test]
-    fn a_packet_arrives_before_the_ticks_of_its_round(rt: HostRuntime) -> Result<(), Fail> {
-        let sent = crossing()?;
-        let packet = sent.packet;
-        let mut plane = Plane::new(rt.alloc(), 2, 3)?;
-        asks(&rt, &mut plane, 0, Ask::Tick, ticked(0, Some(sent)))?;
-        asks(&rt, &mut plane, 1, Ask::Tick, ticked(0, None))?;
-        asks(&rt, &mut plane, 0, Ask::Tick, ticked(1, None))?;
-        asks(&rt, &mut plane, 1, Ask::Tick, ticked(1, None))?;
-        let taken = Reply::Taken {
-            clock: 2,
-            eligible: 2,
-        };
-        asks(&rt, &mut plane, 1, Ask::Arrive { packet }, taken)?;
-        asks(&rt, &mut plane, 0, Ask::Tick, ticked(2, None))?;
-        asks(&rt, &mut plane, 1, Ask::Tick, ticked(2, None))?;
-        assert_eq!(rt; plane.next_ask(), None);
-        Ok(())
-    }
-
-    // the ask at this place goes to this link, and is this one
-    fn is_left(
-        rt: &impl Abort,
-        rest: &[(LinkNo, Ask)],
-        place: usize,
-        link: u8,
-        ask: Ask,
-    ) -> Result<(), Fail> {
-        match rest.get(place) {
-            Some((to, next)) => {
-                assert_eq!(rt; (to.get(), *next), (link, ask));
-                Ok(())
-            }
-            None => Err(Fail::from("no ask is left")),
-        }
-    }
-
-    // what is left for link 1 as the second round begins, and what is left in the third
-    #[test]
-    fn what_is_left_is_known_before_it_is_asked(rt: HostRuntime) -> Result<(), Fail> {
-        let sent = crossing()?;
-        let packet = sent.packet;
-        let to = LinkNo::new(1).ok_or("a link")?;
-        let mut plane = Plane::new(rt.alloc(), 2, 3)?;
-        asks(&rt, &mut plane, 0, Ask::Tick, ticked(0, Some(sent)))?;
-        asks(&rt, &mut plane, 1, Ask::Tick, ticked(0, None))?;
-        let mut left = Vec::new(rt.alloc());
-        let window = plane.window(rt.alloc(), 3)?;
-        window.asks(rt.alloc(), to, &mut left)?;
-        assert_eq!(rt;
-            left.as_slice(),
-            [Ask::Tick, Ask::Arrive { packet }, Ask::Tick].as_slice()
-        );
-        asks(&rt, &mut plane, 0, Ask::Tick, ticked(1, None))?;
-        asks(&rt, &mut plane, 1, Ask::Tick, ticked(1, None))?;
-        let rest = plane.rest(rt.alloc())?;
-        assert_eq!(rt; rest.len(), 3);
-        is_left(&rt, &rest, 0, 1, Ask::Arrive { packet })?;
-        is_left(&rt, &rest, 1, 0, Ask::Tick)?;
-        is_left(&rt, &rest, 2, 1, Ask::Tick)
     }
 }

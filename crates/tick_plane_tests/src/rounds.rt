@@ -1,0 +1,170 @@
+//! Rounds worked by hand: what the plane asks, in turn, and what is left before it is asked.
+ghost use Rattle.std.specs.Prelude.{IsTrue};
+ghost use Rattle.tick_plane.specs.Planes.{IsDueLater};
+
+use link_steps::{Ask, Packet, Reply, Sent, Unexpected};
+use net_units::{ChanNo, LinkNo};
+use std::process::Abort;
+use std::test::Fail;
+use tick_plane::Plane;
+
+// What a link is asked, and what it replies.
+type Step = (u8, Ask, Reply);
+
+// A tick of this link, with the packet that leaves in it.
+fn tick(link: u8, clock: u64, sent: Option<Sent>) -> Step {
+    let reply = Reply::Ticked {
+        clock,
+        full: 0,
+        sent,
+        best_sent: false,
+        best_lost: false,
+    };
+    (link, Ask::Tick, reply)
+}
+
+// Whether a packet that leaves with the reply is due after the round.
+fn is_later(reply: &Reply, round: u64) -> bool
+    ensures { IsTrue result → IsDueLater round reply.now }
+{
+    match reply {
+        Reply::Ticked {
+            sent: Some(sent),
+            ..
+        } => round < sent.arrives,
+        _ => true,
+    }
+}
+
+// The plane asks this next, and gets this reply.
+fn asks(rt: &impl Abort, plane: &mut Plane, step: &Step) -> Result<(), Fail> {
+    let (link, ask, reply) = *step;
+    plane.ready()?;
+    match plane.next_ask() {
+        Some((to, next)) => {
+            assert_eq!(rt; (to.get(), next), (link, ask));
+            assert!(rt; is_later(&reply, plane.round()));
+            assert_eq!(rt; plane.take(reply), Ok(()));
+            Ok(())
+        }
+        None => Err(Fail::from("no ask is left")),
+    }
+}
+
+// The plane asks these in turn.
+fn asks_in_turn(rt: &impl Abort, plane: &mut Plane, steps: &[Step]) -> Result<(), Fail> {
+    for step in steps {
+        asks(rt, plane, step)?;
+    }
+    Ok(())
+}
+
+#[test]
+fn a_round_of_one_link_is_a_tick(rt: HostRuntime) -> Result<(), Fail> {
+    let mut plane = Plane::new(rt.alloc(), 1, 1)?;
+    asks(&rt, &mut plane, &tick(0, 0, None))?;
+    assert_eq!(rt; plane.next_ask(), None);
+    Ok(())
+}
+
+#[test]
+fn a_reply_of_another_ask_changes_nothing(rt: HostRuntime) -> Result<(), Fail> {
+    let mut plane = Plane::new(rt.alloc(), 1, 1)?;
+    let odd = Unexpected {
+        ask: Ask::Tick,
+        reply: Reply::Denied,
+    };
+    plane.ready()?;
+    match plane.next_ask() {
+        Some(_) => assert_eq!(rt; plane.take(Reply::Denied), Err(odd)),
+        None => assert!(rt; false, "a tick is next"),
+    }
+    asks(&rt, &mut plane, &tick(0, 0, None))
+}
+
+// A packet that leaves link 0 in the first round and reaches link 1 in the third.
+fn crossing() -> Result<Sent, Fail> {
+    let packet = Packet {
+        chan: ChanNo::new(7).ok_or("a channel")?,
+        number: 1,
+        size: 2,
+        due: 12,
+    };
+    Ok(Sent {
+        packet,
+        at: 0,
+        eligible: 0,
+        arrives: 2,
+        next: LinkNo::new(1),
+    })
+}
+
+#[test]
+fn a_packet_arrives_before_the_ticks_of_its_round(rt: HostRuntime) -> Result<(), Fail> {
+    let sent = crossing()?;
+    let packet = sent.packet;
+    let taken = Reply::Taken {
+        clock: 2,
+        eligible: 2,
+    };
+    let steps = [
+        tick(0, 0, Some(sent)),
+        tick(1, 0, None),
+        tick(0, 1, None),
+        tick(1, 1, None),
+        (1, Ask::Arrive { packet }, taken),
+        tick(0, 2, None),
+        tick(1, 2, None),
+    ];
+    let mut plane = Plane::new(rt.alloc(), 2, 3)?;
+    asks_in_turn(&rt, &mut plane, &steps)?;
+    assert_eq!(rt; plane.next_ask(), None);
+    Ok(())
+}
+
+// What a window of three rounds asks of link 1 once the first round is made.
+#[test]
+fn a_window_has_the_arrivals_of_its_rounds(rt: HostRuntime) -> Result<(), Fail> {
+    let sent = crossing()?;
+    let packet = sent.packet;
+    let mut plane = Plane::new(rt.alloc(), 2, 3)?;
+    asks_in_turn(&rt, &mut plane, &[tick(0, 0, Some(sent)), tick(1, 0, None)])?;
+    let mut left = Vec::new(rt.alloc());
+    let window = plane.window(rt.alloc(), 3)?;
+    window.asks(rt.alloc(), LinkNo::new(1).ok_or("a link")?, &mut left)?;
+    assert_eq!(rt;
+        left.as_slice(),
+        [Ask::Tick, Ask::Arrive { packet }, Ask::Tick].as_slice()
+    );
+    Ok(())
+}
+
+// What is left once two rounds are made.
+#[test]
+fn what_is_left_is_known_before_it_is_asked(rt: HostRuntime) -> Result<(), Fail> {
+    let sent = crossing()?;
+    let packet = sent.packet;
+    let steps = [
+        tick(0, 0, Some(sent)),
+        tick(1, 0, None),
+        tick(0, 1, None),
+        tick(1, 1, None),
+    ];
+    let mut plane = Plane::new(rt.alloc(), 2, 3)?;
+    asks_in_turn(&rt, &mut plane, &steps)?;
+    let rest = plane.rest(rt.alloc())?;
+    let (first, second) = (
+        LinkNo::new(0).ok_or("a link")?,
+        LinkNo::new(1).ok_or("a link")?,
+    );
+    assert_eq!(rt;
+        rest.as_slice(),
+        [
+            (second, Ask::Arrive { packet }),
+            (first, Ask::Tick),
+            (second, Ask::Tick),
+        ]
+        .as_slice()
+    );
+    Ok(())
+}
