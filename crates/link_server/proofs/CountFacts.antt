@@ -1,5 +1,5 @@
 -- What a packet more, and one less, make of the counts.
-use Rattle.std.proofs.Common.{◌≡◌, ℕ, zero, suc, ◌+◌, ◌<◌, ◌≤◌, Bool, true, false, List, [], ◌∷◌, ◌++◌, length, get_or, set, take, drop, ⊎_elim, refl, sym, ap, ◌∙◌, arith}
+use Rattle.std.proofs.Common.{◌≡◌, ℕ, zero, suc, ◌+◌, ◌<◌, ◌≤◌, Bool, true, false, List, [], ◌∷◌, ◌++◌, length, get_or, set, ⊎_elim, refl, sym, ap, ◌∙◌, arith}
 use Rattle.std.proofs.lemmas.Bool.{cases_Bool, eq-eqb, eqb-true, ne_eqb}
 use Rattle.std.proofs.lemmas.List.{length-map}
 use Rattle.std.proofs.lemmas.List.Edits.{length-remove}
@@ -232,19 +232,3 @@ one-counted counts items i packet are inside is =
     let own = sym (ap (λ p. one_of p.lead packet.lead) is) ∙ one-own packet.lead in
     let was = are.each packet.lead in
     omega (arith, gone, own, was)
-
--- those before a place, and those from it on
-length-parts : (test : Arrival → Bool) (items : List HeldPacket) (i : ℕ) → length (filter test (take i (here_in items))) + length (filter test (here_in (drop i items))) ≡ length (filter test (here_in items))
-length-parts test [] zero = refl
-length-parts test [] (suc i) = refl
-length-parts test (q ∷ items) zero =
-    let none : length (filter test (take 0 (here_in (q ∷ items)))) ≡ 0 = refl in
-    let all : length (filter test (here_in (drop 0 (q ∷ items)))) ≡ length (filter test (here_in (q ∷ items))) = refl in
-    omega (arith, none, all)
-length-parts test (q ∷ items) (suc i) =
-    let rest = length-parts test items i in
-    ⊎_elim (λ (yes : test (arrival_in q) ≡ true). rw yes (omega (arith, rest))) (λ (no : test (arrival_in q) ≡ false). rw no rest) (cases_Bool (test (arrival_in q)))
-
-pub held-parts : (lead : ℕ) (items : List HeldPacket) (i : ℕ) → held_packets lead (take i (here_in items)) + held_packets lead (here_in (drop i items)) ≡ held_packets lead (here_in items)
-unfolding held_packets
-held-parts lead items i = length-parts (has_lead lead) items i

@@ -8,7 +8,7 @@ use Rattle.link_steps.specs.Lists.{Each}
 use Rattle.tick_calendar.specs.Calendar.{Entry, TakesDue, key_at, without_place}
 use Rattle.link_server.specs.declared.line.Rank.{Rank}
 use Rattle.link_server.specs.Keys.{rank_at, ranks_at, queues_at, key_of, keys_of, times, held_at, IsUnderTick, AreKeyed, AreInOrder}
-use Rattle.link_server.specs.Line.{AreAfter}
+use Rattle.link_server.specs.Line.{AreAfter, AreFrom}
 use Rattle.link_server.specs.Queues.{joined, pushed}
 use Rattle.link_server.specs.Rank.{HasLevel}
 use Rattle.link_server.proofs.KeyFacts.{keyed-moved, times-append, under-tick}
@@ -28,6 +28,9 @@ none-due entries (Some place) none = absurd (cc)
 
 pub all-after : (slots : List (Option Rank)) (entries : List Entry) (tick : ℕ) → Each (IsUnderTick slots) entries → All (λ entry. tick < entry.0) entries → AreAfter tick (ranks_at slots (keys_of entries))
 all-after slots entries tick under after = under-tick slots (λ t. tick < t) entries under (each-of (λ entry. tick < entry.0) entries after)
+
+pub all-from-tick : (slots : List (Option Rank)) (entries : List Entry) (tick : ℕ) → Each (IsUnderTick slots) entries → All (λ entry. tick ≤ entry.0) entries → AreFrom tick (ranks_at slots (keys_of entries))
+all-from-tick slots entries tick under from = under-tick slots (λ t. tick ≤ t) entries under (each-of (λ entry. tick ≤ entry.0) entries from)
 
 -- ---- where one is
 

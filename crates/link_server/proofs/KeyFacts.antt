@@ -1,7 +1,7 @@
 -- Each key has its rank: as one comes, goes on to a queue, or leaves.
 use Rattle.std.proofs.Common.{◌≡◌, ℕ, if◌then◌else◌, ◌+◌, ◌<◌, ◌≤◌, Bool, true, false, nat_eq, List, [], ◌∷◌, ◌++◌, Option, Some, None, is_some, count_by, get_or, length, refl, sym, ap, ◌∙◌, subst, arith, inl, inr, cond}
 use Rattle.std.proofs.lemmas.Bool.{cases_Bool, eq-eqb, eqb-false, eqb-true, ne_eqb}
-use Rattle.std.proofs.lemmas.List.{map-append, length-append, length-map}
+use Rattle.std.proofs.lemmas.List.{append-nil, map-append, length-append, length-map}
 use Rattle.std.proofs.lemmas.List.Recursion.{is_sum_by}
 use Rattle.std.proofs.lemmas.List.Sorted.{sum_by-IsPermutation, length_permutation}
 use Rattle.std.specs.List.{sum_by}
@@ -13,7 +13,7 @@ use Rattle.tick_calendar.specs.Calendar.{Entry}
 use Rattle.link_server.specs.declared.line.Rank.{Rank}
 use Rattle.link_server.specs.Keys.{rank_told, rank_at, ranks_at, queues_at, key_of, keys_of, keys_in, times, held_at, IsUnderTick, AreKeyed}
 use Rattle.link_server.specs.Queues.{joined, first_of, after_first, pushed}
-use Rattle.link_server.proofs.QueueFacts.{Each-parts, comes-before, moved-between, joined-first, joined-map}
+use Rattle.link_server.proofs.QueueFacts.{Each-parts, comes-before, moved-between, joined-first, joined-map, pushed-map}
 
 -- ---- how often a key is among others
 
@@ -139,6 +139,24 @@ keyed-moved slots before after queues tick key place inside keyed = record {
   moved : IsPermutation (keys_in (before ++ (tick, key) ∷ after) queues) (keys_in (before ++ after) (pushed queues place key))
   moved =
       rw (map-append key_of before ((tick, key) ∷ after), map-append key_of before after) (moved-between (keys_of before) (keys_of after) queues place key inside)
+
+-- ---- a key comes into a queue
+
+module _ (old new : Slab Rank) (later : List Entry) (queues : List (List ℕ)) (key place : ℕ) (rank : Rank) where
+  pub keyed-ready : place < length queues → AreKeyed old.slots later queues → get old key ≡ None → Updates old new key (Some rank) → count_by is_some new.slots ≡ count_by is_some old.slots + 1 → AreKeyed new.slots later (pushed queues place key)
+  keyed-ready inside keyed none updates more =
+      subst (λ entries. AreKeyed new.slots entries (pushed queues place key)) (append-nil later)
+      (keyed-moved new.slots later [] queues rank.eligible key place inside (keyed-came old new later queues key rank keyed none updates more))
+
+  pub ranks-ready : AreKeyed old.slots later queues → get old key ≡ None → Updates old new key (Some rank)
+      → (ranks_at new.slots (keys_of later) ≡ ranks_at old.slots (keys_of later)) × (queues_at new.slots (pushed queues place key) ≡ pushed (queues_at old.slots queues) place rank)
+  ranks-ready keyed none updates =
+      let apart = none-held old.slots later queues key keyed (held-none old key none) in (
+        same-ranks old new key (Some rank) updates (keys_of later) apart.0,
+        pushed-map (rank_at new.slots) queues place key
+            ∙ ap (pushed (queues_at new.slots queues) place) (own-rank old new key rank updates)
+            ∙ ap (λ qs. pushed qs place rank) (same-queues old new key (Some rank) updates queues apart.1),
+      )
 
 -- ---- a key leaves
 

@@ -19,6 +19,7 @@ pub mod StoodFacts
 pub mod ExpiryFacts
 pub mod SourceFacts
 pub mod SourceRows
+pub mod OwnPackets
 pub mod LineFacts
 pub mod CountFacts
 pub mod ServingFacts

@@ -9,12 +9,13 @@ use Rattle.std.specs.List.Sorted.{IsPermutation}
 use Rattle.std.specs.Prelude.{filter, find}
 use Rattle.link_steps.specs.Kept.{is_eligible_by, is_other, start_at}
 use Rattle.link_steps.specs.Lists.{Each}
+use Rattle.link_steps.specs.Quiet.{IsEligibleFrom}
 use Rattle.link_steps.specs.Service.{Arrival, Start, goes_before, sooner, first_in_line}
 use Rattle.link_steps.proofs.ListFacts.{Each-append, Each-if, Each-both, Each-filter, filter-none}
 use Rattle.link_steps.proofs.ServiceFacts.{first_in_line-fact}
 use Rattle.link_server.specs.declared.line.Rank.{Rank}
 use Rattle.link_server.specs.InLine.{is_rank_of, IsIn, AreIn, AreRising, HasRank, IsStale}
-use Rattle.link_server.specs.Line.{AreAfter, IsBehind, IsNext}
+use Rattle.link_server.specs.Line.{AreAfter, AreFrom, IsBehind, IsNext}
 use Rattle.link_server.specs.Rank.{stands_before}
 use Rattle.link_server.specs.Sound.{has_arrival_number}
 use Rattle.link_server.proofs.ServingFacts.{IsDue, are-due}
@@ -82,6 +83,18 @@ any-after tick p (r ∷ ranks) after any =
       | inl is ↦ (let same = tick-told p r is in let late = after.0 in omega (arith, same, late))
       | inr fails ↦ any-after tick p ranks after.1 (sym (ap (λ b. b || list_any (is_rank_of p) ranks) fails) ∙ any)
     ]
+
+any-from : (until : ℕ) (p : Arrival) (ranks : List Rank) → AreFrom until ranks → list_any (is_rank_of p) ranks ≡ true → until ≤ p.eligible
+any-from until p [] from any = absurd (true≢false (sym any))
+any-from until p (r ∷ ranks) from any =
+    elim (cases_Bool (is_rank_of p r)) [
+      | inl is ↦ (let same = tick-told p r is in let late = from.0 in omega (arith, same, late))
+      | inr fails ↦ any-from until p ranks from.1 (sym (ap (λ b. b || list_any (is_rank_of p) ranks) fails) ∙ any)
+    ]
+
+-- where no rank is before a tick, no packet is eligible before it
+pub none-before : (until : ℕ) (ranks : List Rank) (here : List Arrival) → AreFrom until ranks → AreIn ranks None here → Each (IsEligibleFrom until) here
+none-before until ranks here from are = Each-if (IsIn ranks None) (IsEligibleFrom until) here (λ p there. any-from until p ranks from (there refl)) are
 
 pub none-first : (tick : ℕ) (ranks : List Rank) (here : List Arrival) → AreAfter tick ranks → AreIn ranks None here → None ≡ first_in_line (filter (is_eligible_by tick) here)
 unfolding first_in_line

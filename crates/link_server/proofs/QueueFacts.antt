@@ -80,6 +80,12 @@ module _ {X : Type 0} where
   pub comes-before : (xs : List X) (x : X) (more : List X) → IsPermutation (x ∷ (xs ++ more)) ((xs ++ x ∷ []) ++ more)
   comes-before xs x more = rw (append_assoc xs (x ∷ []) more) (IsPermutation-sym _ _ (IsPermutation-middle xs x more))
 
+  -- it comes into one of the queues
+  pub comes-into : (xs : List X) (queues : List (List X)) (place : ℕ) (x : X) → place < length queues → IsPermutation (x ∷ (xs ++ joined queues)) (xs ++ joined (pushed queues place x))
+  comes-into xs queues place x inside =
+      IsPermutation-trans (x ∷ (xs ++ joined queues)) (xs ++ x ∷ joined queues) (xs ++ joined (pushed queues place x)) (IsPermutation-sym _ _ (IsPermutation-middle xs x (joined queues)))
+      (IsPermutation-append_right xs _ _ (joined-pushed queues place x inside))
+
   -- ---- the first
 
   pub joined-first : (queues : List (List X)) (x : X) → first_of queues ≡ Some x → joined queues ≡ x ∷ joined (after_first queues)

@@ -2,6 +2,7 @@
 use Rattle.std.proofs.Common.{◌≡◌, ℕ, zero, suc, ◌+◌, ◌-◌, ◌<◌, ◌≤◌, Bool, false, ◌&&◌, ◌||◌, nat_lt, nat_eq, List, [], ◌∷◌, ◌++◌, Some, sym, ◌∙◌, subst, arith, inl, inr}
 use Rattle.std.proofs.lemmas.Bool.{cases_lt}
 use Rattle.std.proofs.lemmas.Bool.Decides.{nat_tests}
+use Rattle.std.proofs.lemmas.List.{append-nil}
 use Rattle.std.proofs.lemmas.List.Sorted.{IsPermutation-middle}
 use Rattle.std.proofs.lemmas.Option.{same_Some}
 use Rattle.std.specs.List.Sorted.{IsPermutation}
@@ -87,6 +88,14 @@ order-moved before after queues until newest r order earliest least due =
       later_newest = Each-append (IsUpTo newest) before after newer.0 newer.1.1;
       ready_newest = Each-pushed (IsUpTo newest) queues (r.level - 1) r newer.1.0 order.ready_newest;
     }
+
+-- ---- one comes that is eligible before all that aren't ready
+
+pub order-ready : (later : List Rank) (queues : List (List Rank)) (until newest : ℕ) (r : Rank) → AreInOrder later queues until newest → r.eligible ≡ until → AreAfter until later → newest < r.place → HasLevel r → AreInOrder later (pushed queues (r.level - 1) r) until r.place
+order-ready later queues until newest r order at after above level =
+    subst (λ (ranks : List Rank). AreInOrder ranks (pushed queues (r.level - 1) r) until r.place) (append-nil later)
+    (order-moved later [] queues until r.place r (order-came later queues until newest r order (omega (arith, at)) above level)
+    (subst (λ tick. Each (λ s. tick < s.eligible) later) (sym at) after) tt (omega (arith, at)))
 
 -- ---- the first of the queues is taken out
 

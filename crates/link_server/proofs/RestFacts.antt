@@ -1,21 +1,24 @@
 -- Where the calendars have no entry before a tick, and no packet starts or departs before it, the link rests until it.
-use Rattle.std.proofs.Common.{◌≡◌, ℕ, zero, suc, ◌+◌, ◌^◌, ◌<◌, ◌≤◌, Bool, true, false, not, ◌&&◌, List, [], ◌∷◌, length, map, get_or, All, Option, Some, None, ⊎_elim, refl, sym, ap, ◌∙◌, subst, arith, nat_eq, nat_le}
+use Rattle.std.proofs.Common.{◌≡◌, ℕ, zero, suc, ◌+◌, ◌<◌, ◌≤◌, Bool, true, false, ◌&&◌, List, [], ◌∷◌, map, get_or, All, Option, Some, None, ⊎_elim, refl, sym, ◌∙◌, subst, arith, nat_eq}
 use Rattle.std.proofs.lemmas.Bool.{cases_Bool, lt-leb}
 use Rattle.std.proofs.lemmas.List.Folds.{list_any_none}
 use Rattle.link_steps.specs.declared.asks.Ask.TheVariants.{Tick}
 use Rattle.link_steps.specs.declared.shape.LinkShape.{LinkShape}
-use Rattle.link_steps.specs.Kept.{HasContract, HasContracts, Kept, KeptRow, kept_stays, kept_after, kept_reply}
+use Rattle.link_steps.specs.Kept.{HasContracts, Kept, KeptRow, kept_stays, kept_after, kept_reply}
 use Rattle.link_steps.specs.Lists.{Each}
-use Rattle.link_steps.specs.Rows.{SourcePacket, planned_from}
+use Rattle.link_steps.specs.Rows.{SourcePacket}
 use Rattle.link_steps.specs.Service.{Arrival, Start}
 use Rattle.link_steps.proofs.ListFacts.{Each-if}
-use Rattle.link_steps.specs.Split.{whole}
 use Rattle.net_units.specs.Numbers.{channel_number}
 use Rattle.tick_calendar.specs.Calendar.{Entry, Schedule}
 use Rattle.link_server.specs.declared.served_row.ServedRow.{ServedRow}
+use Rattle.link_server.specs.declared.packets.Packets.{Packets}
+use Rattle.link_server.specs.Account.{account}
 use Rattle.link_server.specs.Holds.{AreListed, IsListed, tells_end}
+use Rattle.link_server.specs.Packets.{here_in, on_in}
 use Rattle.link_server.specs.Plans.{ArePlanned, IsTold}
 use Rattle.link_server.specs.Planned.{IsPlannedFrom, left_in}
+use Rattle.link_server.specs.Resting.{RestsFromClock}
 use Rattle.link_server.specs.Rows.{row_in}
 use Rattle.link_server.specs.Sound.{IsSound}
 use Rattle.link_server.specs.Stood.{IsStood}
@@ -50,13 +53,27 @@ listed-stays bounds clock until entries row later listed t from before =
     absurd (let f : false ≡ true = sym (list_any_none (tells_end bounds t row) entries (λ k d inside. not-told bounds t until row (get_or entries k d) (later k d inside) before)) ∙ listed.told t from ends in cc))
     (cases_Bool (kept_stays bounds t row))
 
-pub rows-rest : (bounds : List ℕ) (clock until : ℕ) (holds plans : Schedule) (rows : List ServedRow) → All (λ entry. until ≤ entry.0) holds.entries → All (λ entry. until ≤ entry.0) plans.entries
+rows-rest : (bounds : List ℕ) (clock until : ℕ) (holds plans : Schedule) (rows : List ServedRow) → All (λ entry. until ≤ entry.0) holds.entries → All (λ entry. until ≤ entry.0) plans.entries
     → Each (IsListed bounds clock holds.entries) (map row_in rows) → Each (IsTold plans.entries) (map row_in rows) → Each (RowRests bounds clock until) (map row_in rows)
 rows-rest bounds clock until holds plans [] held planned listed told = tt
 rows-rest bounds clock until holds plans (row ∷ rows) held planned listed told = (
   record { plans = told-rests until plans.entries row planned told.0; stays = listed-stays bounds clock until holds.entries (row_in row) held listed.0 },
   rows-rest bounds clock until holds plans rows held planned listed.1 told.1,
 )
+
+-- so the account rests, where no packet starts or departs before either
+pub rests-by : (shape : LinkShape) (clock until : ℕ) (holds plans : Schedule) (packets : Packets) (rows : List ServedRow) → All (λ entry. until ≤ entry.0) holds.entries → All (λ entry. until ≤ entry.0) plans.entries
+    → AreListed shape.bounds clock holds (map row_in rows) → ArePlanned clock plans (map row_in rows) → Each (IsPlannedFrom until) (left_in packets.best) → ServiceRests shape.rate until (here_in packets.here.items) (on_in packets.on)
+    → RestsUntil shape until (account clock packets rows)
+rests-by shape clock until holds plans packets rows held planned listed told best service = record {
+  rows = rows-rest shape.bounds clock until holds plans rows held planned listed.listed told.told;
+  best = best;
+  service = service;
+}
+
+-- nothing is said of a tick that the clock has reached
+pub due-now : (shape : LinkShape) (k : Kept) → RestsFromClock shape 0 k
+due-now shape k = λ before. absurd (omega (arith, before))
 
 -- what is later than one tick is later than an earlier one
 pub all-from : (until least : ℕ) (entries : List Entry) → until ≤ least → All (λ entry. least ≤ entry.0) entries → All (λ entry. until ≤ entry.0) entries

@@ -28,3 +28,4 @@ pub mod Ready
 pub mod LineProp
 pub mod KeyedList
 pub mod KeyedLends
+pub mod Resting

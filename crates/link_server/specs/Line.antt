@@ -29,6 +29,13 @@ IsAfter tick rank = tick < rank.eligible
 abbrev pub AreAfter : ℕ → List Rank → Type 0
 AreAfter tick ranks = Each (IsAfter tick) ranks
 
+-- none is before the tick
+abbrev pub IsFrom : ℕ → Rank → Type 0
+IsFrom tick rank = tick ≤ rank.eligible
+
+abbrev pub AreFrom : ℕ → List Rank → Type 0
+AreFrom tick ranks = Each (IsFrom tick) ranks
+
 -- one that is eligible by the tick doesn't go before this one
 abbrev pub IsBehind : ℕ → Rank → Rank → Type 0
 IsBehind tick first rank = rank.eligible ≤ tick → stands_before rank first ≡ false

@@ -10,6 +10,7 @@ use crate::expiry::{expire, put_hold};
 use crate::link_state::LinkState;
 use crate::planned::Planned;
 use crate::plans::put_plan;
+use crate::resting::next_due;
 use crate::rows::{place_at_hop, place_of};
 use crate::served_row::busy_with;
 use crate::sources::take_source_packets;
@@ -38,6 +39,7 @@ impl LinkState {
         if let Some(refusal) = self.rows[place].too_big(size) {
             return Reply::Refused(refusal);
         }
+        self.due = 0;
         self.rows[place].plan(Planned {
             tick: self.clock,
             gap,
@@ -64,6 +66,7 @@ impl LinkState {
         }
         let count = self.rows[place].count_at_release(upstream);
         let cancelled = self.rows[place].cancelled_at_release(upstream);
+        self.due = 0;
         self.rows[place].close(count);
         let bounds = self.shape.bounds;
         put_hold(&mut self.holds, &self.rows[place], &bounds, self.clock);
@@ -90,10 +93,11 @@ impl LinkState {
         if let Some(refusal) = self.rows[place].full(&bounds, held) {
             return Reply::Refused(refusal);
         }
+        self.due = 0;
         let clock = self.clock;
         let number = self.packets.taken + 1;
         let taken = self.rows[place].take(packet.size, packet.due, number, clock);
-        self.packets.push(taken);
+        self.packets.push(taken, clock);
         put_hold(&mut self.holds, &self.rows[place], &bounds, clock);
         Reply::Taken {
             clock,
@@ -120,6 +124,7 @@ impl LinkState {
                 smax: u64::from(self.shape.cap),
             });
         }
+        self.due = 0;
         self.packets.best = Planned {
             tick: self.clock,
             gap,
@@ -129,11 +134,11 @@ impl LinkState {
         Reply::Planned { clock: self.clock }
     }
 
-    // Makes a tick: rows whose hold has ended expire, the source packets that are planned for it arrive, then the
-    // best-effort packet, and the link serves the packets here. It never wants memory; it answers as a step does, so that the
-    // reply is written where the caller reads it and not copied there.
+    // Makes a tick in which something may fall due: rows whose hold has ended expire, the source packets that are planned for it
+    // arrive, then the best-effort packet, and the link serves the packets here. It never wants memory; it answers as a step
+    // does, so that the reply is written where the caller reads it and not copied there.
     #[inline(never)]
-    pub(crate) fn tick(&mut self) -> Result<Reply, OutOfMemory>
+    pub(crate) fn make_tick(&mut self) -> Result<Reply, OutOfMemory>
         requires early { self.old.clock < 2 ^ 61 }
         ensures made { IsOk result }
         ensures shape { self.new.shape ≡ self.old.shape }
@@ -164,6 +169,7 @@ impl LinkState {
         let best_lost = self.packets.take_best(fits, &shape, clock);
         let left = self.packets.serve(&shape, clock);
         self.clock += 1;
+        self.due = next_due(&self.packets, &self.holds, &self.plans.calendar, &shape);
         Ok(Reply::Ticked {
             clock,
             full,

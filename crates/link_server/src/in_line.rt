@@ -1,9 +1,8 @@
 //! Which of the packets at a link are whose, and which of them is served first.
-ghost use Rattle.std.specs.Prelude.{◌≡◌, ◌+◌, ◌≤◌, Some, None, IfSome, IfNone, filter, length, drop};
+ghost use Rattle.std.specs.Prelude.{◌≡◌, ◌+◌, ◌≤◌, true, Some, None, IfSome, IfNone, filter, length};
 ghost use Rattle.std.specs.Option.{option_map};
 ghost use Rattle.std.specs.Vec.{vec_capacity};
 ghost use Rattle.link_steps.specs.BestEffort.{is_best};
-ghost use Rattle.link_steps.specs.Buffer.{held_packets};
 ghost use Rattle.link_steps.specs.Kept.{is_eligible_by, is_other, start_at, waits_here};
 ghost use Rattle.link_steps.specs.Service.{first_in_line};
 ghost use Rattle.link_server.specs.Packets.{arrival_in, start_in, here_in};
@@ -18,20 +17,6 @@ use crate::keyed_list::KeyedList;
 use crate::lead_count::Count;
 use crate::line::{Line, Rank};
 use net_units::Bounds;
-
-// How many of these packets, from this place on, are of the reservation whose first packet had this number.
-pub(crate) fn held_from(packets: &KeyedList<HeldPacket>, from: usize, lead: u64) -> usize
-    requires { from ≤ length packets.now.items }
-    ensures { result ≡ held_packets lead (here_in (drop from packets.now.items)) }
-{
-    let mut held = 0;
-    for place in from..packets.len() {
-        if packets[place].lead == lead {
-            held += 1;
-        }
-    }
-    held
-}
 
 // How many of these packets are best-effort packets.
 pub(crate) fn best_here(packets: &KeyedList<HeldPacket>, bounds: &Bounds) -> usize
@@ -112,11 +97,21 @@ fn is_rank_of(packet: &HeldPacket, rank: &Rank) -> bool
     rank.place == packet.place && rank.eligible == packet.eligible && rank.level == packet.level
 }
 
+// Whether the packet of this arrival number can stand at the front alone, as where packets leave in the order in which they came.
+fn is_first(packets: &KeyedList<HeldPacket>, place: u64) -> bool
+    ensures { result ≡ true → PartsAt place packets.now.items 0 }
+{
+    packets.len() > 0 && place <= packets[0].place
+}
+
 // Where the packet of this arrival number stands, if it is here: all before it have lower ones, and no other has a lower one.
 fn place_in(packets: &KeyedList<HeldPacket>, place: u64) -> usize
     requires { AreRising 0 (here_in packets.now.items) }
     ensures { PartsAt place packets.now.items result }
 {
+    if is_first(packets, place) {
+        return 0;
+    }
     let mut low = 0;
     let mut high = packets.len();
     while low < high {

@@ -32,6 +32,3 @@ mod sources;
 
 pub use held_row::HeldRow;
 pub use link_state::LinkState;
-
-#[cfg(test)]
-mod tests;

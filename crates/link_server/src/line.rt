@@ -43,7 +43,7 @@ pub(crate) struct Line {
 }
 
 impl Line {
-    ghost use Rattle.link_server.specs.Line.{ranks_in, later_in, ready_in, room_in, AreAfter, IsNext};
+    ghost use Rattle.link_server.specs.Line.{ranks_in, later_in, ready_in, room_in, AreAfter, AreFrom, IsNext};
 
     // Nobody in line, and no room.
     pub(crate) fn new(alloc: Global) -> Result<Line, OutOfMemory>
@@ -60,6 +60,16 @@ impl Line {
             newest: 0,
             room: 0,
         })
+    }
+
+    // A tick before which none in line is eligible. Those that are ready are eligible already.
+    pub(crate) fn rests_until(&self) -> u64
+        ensures { AreFrom result (ranks_in self.now) }
+    {
+        if !self.ready.is_empty() {
+            return 0;
+        }
+        self.later.rests_until()
     }
 
     // Makes room for `room` ranks in all. Where there is that room already it takes no memory.
@@ -99,9 +109,31 @@ impl Line {
         Ok(())
     }
 
-    // Puts a packet in line, the newest of all, that isn't eligible before the link last looked. There is room for it, so it
-    // takes no memory.
-    pub(crate) fn push(&mut self, rank: &Rank)
+    // Puts a packet in line, the newest of all, that isn't eligible before the tick of the clock. There is room for it, so it takes
+    // no memory.
+    pub(crate) fn push(&mut self, rank: &Rank, clock: u64)
+        requires room { length (ranks_in self.old) < room_in self.old }
+        requires least { 1 ≤ rank.now.level }
+        requires most { rank.now.level ≤ 9 }
+        requires on { self.old.until ≤ clock }
+        requires eligible { clock ≤ rank.now.eligible }
+        requires newest { self.old.newest < rank.now.place }
+        ensures ranks { IsPermutation (rank.now ∷ ranks_in self.old) (ranks_in self.new) }
+        ensures room { room_in self.old ≤ room_in self.new }
+        ensures until { self.new.until ≤ clock }
+        ensures newest { self.new.newest ≡ rank.now.place }
+    {
+        if rank.eligible > clock {
+            self.push_later(rank);
+            return;
+        }
+        // those that were eligible before it stand before it
+        self.look(clock);
+        self.push_ready(rank);
+    }
+
+    // The same of one that may be eligible later than the link last looked.
+    fn push_later(&mut self, rank: &Rank)
         requires room { length (ranks_in self.old) < room_in self.old }
         requires least { 1 ≤ rank.now.level }
         requires most { rank.now.level ≤ 9 }
@@ -114,6 +146,24 @@ impl Line {
     {
         let key = self.ranks.insert_reserved(*rank) as u32;
         self.later.put(rank.eligible, key);
+        self.newest = rank.place;
+    }
+
+    // The same of one that is eligible in the tick in which the link last looked, and before all that aren't ready.
+    fn push_ready(&mut self, rank: &Rank)
+        requires room { length (ranks_in self.old) < room_in self.old }
+        requires least { 1 ≤ rank.now.level }
+        requires most { rank.now.level ≤ 9 }
+        requires eligible { rank.now.eligible ≡ self.old.until }
+        requires after { AreAfter self.old.until (later_in self.old) }
+        requires newest { self.old.newest < rank.now.place }
+        ensures ranks { IsPermutation (rank.now ∷ ranks_in self.old) (ranks_in self.new) }
+        ensures room { room_in self.old ≤ room_in self.new }
+        ensures until { self.new.until ≡ self.old.until }
+        ensures newest { self.new.newest ≡ rank.now.place }
+    {
+        let key = self.ranks.insert_reserved(*rank) as u32;
+        self.ready.push(rank.level, key);
         self.newest = rank.place;
     }
 

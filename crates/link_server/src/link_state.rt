@@ -10,6 +10,7 @@ ghost use Rattle.link_server.specs.Index.{channels_in, IsIndex, IsIndex-prop};
 ghost use Rattle.link_server.specs.Keeping.{IsKeeping, IsKeeping-prop};
 ghost use Rattle.link_server.specs.Rows.{reservation_in, row_in, summed, AreWithin};
 ghost use Rattle.link_server.specs.Plans.{ArePlanned, ArePlanned-prop};
+ghost use Rattle.link_server.specs.Resting.{RestsFromClock, RestsFromClock-prop};
 ghost use Rattle.link_server.specs.Sound.{IsSound};
 ghost use Rattle.link_server.specs.SoundProp.{IsSound-prop};
 ghost use Rattle.link_server.specs.Stood.{IsStood, IsStood-prop};
@@ -48,6 +49,8 @@ pub struct LinkState {
     // How many packets there is room for at least: those of channels that are here, one in each free slot, one more a
     // row, and the best-effort packets that may be here.
     pub(crate) room: u64,
+    // Nothing falls due before this tick.
+    pub(crate) due: u64,
     ghost admitted: { AreAdmitted sums },
     ghost same_server: { sums.server ≡ server_of shape },
     ghost same_rows: { sums.rows ≡ map summed rows.items },
@@ -61,6 +64,7 @@ pub struct LinkState {
     ghost roomy: { room ≤ packets.room },
     ghost looked: { packets.line.until ≤ clock },
     ghost stood: { IsStood shape (account clock packets rows.items) } by { IsStood-prop shape (account clock packets rows.items) },
+    ghost rests: { RestsFromClock shape due (account clock packets rows.items) } by { RestsFromClock-prop shape due (account clock packets rows.items) },
 }
 
 impl LinkState {
@@ -96,6 +100,7 @@ impl LinkState {
             keeping: Keeping::new(shape.buffer),
             packets,
             room: u64::from(places),
+            due: 0,
         })
     }
 

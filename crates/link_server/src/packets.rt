@@ -11,7 +11,7 @@ ghost use Rattle.link_server.specs.SoundProp.{AreNumbered-prop};
 use crate::best_effort::best_packet;
 use crate::counts::{count_of, raise};
 use crate::held_packet::{HeldPacket, Running};
-use crate::in_line::{best_here, best_here_but, held_from, start_next, take_out};
+use crate::in_line::{best_here, best_here_but, start_next, take_out};
 use crate::keyed_list::KeyedList;
 use crate::lead_count::Count;
 use crate::line::{Line, Rank};
@@ -57,10 +57,10 @@ pub(crate) struct Left {
 }
 
 impl Packets {
-    ghost use Rattle.std.specs.Prelude.{take};
     ghost use Rattle.link_steps.specs.BestEffort.{best_packet, best_step};
     ghost use Rattle.link_steps.specs.Buffer.{held_packets};
     ghost use Rattle.link_steps.specs.Kept.{served, departs, best_departs, still_on, still_here, waits_here};
+    ghost use Rattle.link_steps.specs.Quiet.{ServiceRests};
     ghost use Rattle.link_steps.specs.Rows.{is_for, left_at};
     ghost use Rattle.link_steps.specs.Sources.{source_step, taken_by, dropped_by};
     ghost use Rattle.link_server.specs.Planned.{left_in, IsPlannedAhead};
@@ -107,24 +107,26 @@ impl Packets {
         Ok(())
     }
 
-    // Takes a packet, after those that are here, which isn't eligible before the link last looked. It takes no memory.
-    pub(crate) fn push(&mut self, packet: HeldPacket)
+    // Takes a packet, after those that are here, which isn't eligible before the tick of the clock. It takes no memory.
+    pub(crate) fn push(&mut self, packet: HeldPacket, clock: u64)
         requires room { length self.old.here.items < self.old.room }
         requires next { packet.place ≡ self.old.taken + 1 }
-        requires eligible { self.old.line.until ≤ packet.eligible }
+        requires looked { self.old.line.until ≤ clock }
+        requires eligible { clock ≤ packet.eligible }
         requires countable { self.old.taken + 1 < 2 ^ 64 }
         ensures taken { self.new.taken ≡ self.old.taken + 1 }
         ensures here { self.new.here.items ≡ self.old.here.items ++ packet ∷ [] }
         ensures on { self.new.on ≡ self.old.on }
         ensures best { self.new.best ≡ self.old.best }
         ensures room { self.new.room ≡ self.old.room }
-        ensures looked { self.new.line.until ≡ self.old.line.until }
+        ensures looked { self.new.line.until ≤ clock }
     {
-        self.line.push(&Rank {
+        let rank = Rank {
             level: packet.level,
             eligible: packet.eligible,
             place: packet.place,
-        });
+        };
+        self.line.push(&rank, clock);
         raise(&mut self.counts, packet.lead);
         self.here.push(packet);
         self.taken += 1;
@@ -135,14 +137,6 @@ impl Packets {
         ensures { result ≡ held_packets lead (here_in self.now.here.items) }
     {
         count_of(&self.counts, lead)
-    }
-
-    // How many of the first `before` packets here are. It looks at those after them alone.
-    pub(crate) fn held_before(&self, before: usize, lead: u64) -> u64
-        requires { before ≤ length self.now.here.items }
-        ensures { result ≡ held_packets lead (take before (here_in self.now.here.items)) }
-    {
-        self.held(lead) - held_from(&self.here, before, lead) as u64
     }
 
     // The packet that occupies the link in this tick: the one that did, or else the first in line of those here.
@@ -167,6 +161,23 @@ impl Packets {
         let packet = start_next(&mut self.line, &self.here, tick)?;
         self.on = Some(Running { packet, tick });
         self.on
+    }
+
+    // A tick before which no packet starts or departs.
+    pub(crate) fn rests_until(&self, rate: u32) -> u64
+        requires { 1 ≤ rate }
+        ensures { ServiceRests rate result (here_in self.now.here.items) (on_in self.now.on) }
+    {
+        match &self.on {
+            Some(running) => running.leaves_at(rate) - 1,
+            None => {
+                if self.here.len() == 0 {
+                    u64::MAX
+                } else {
+                    self.line.rests_until()
+                }
+            }
+        }
     }
 
     // Whether the best-effort packet that is planned for this tick has a place. Where none is planned it looks at no packet.
@@ -204,7 +215,7 @@ impl Packets {
         ensures best { left_in self.new.best ≡ left_at (clock + 1) (left_in self.old.best) }
         ensures on { self.new.on ≡ self.old.on }
         ensures room { self.new.room ≡ self.old.room }
-        ensures looked { self.new.line.until ≡ self.old.line.until }
+        ensures looked { self.new.line.until ≤ clock }
     {
         let Some(size) = self.best.take_at(clock) else {
             return false;
@@ -213,7 +224,7 @@ impl Packets {
             return true;
         }
         let place = self.taken + 1;
-        self.push(best_packet(&shape.bounds, place, size, clock));
+        self.push(best_packet(&shape.bounds, place, size, clock), clock);
         false
     }
 

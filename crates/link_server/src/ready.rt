@@ -1,5 +1,5 @@
 //! The keys of the packets that are ready to start, in a queue for each level.
-ghost use Rattle.std.specs.Prelude.{◌≡◌, ◌+◌, ◌-◌, ◌<◌, ◌≤◌, ◌∷◌, ◌++◌, [], length, replicate, IfOk, OnOk};
+ghost use Rattle.std.specs.Prelude.{◌≡◌, ◌+◌, ◌-◌, ◌<◌, ◌≤◌, ◌∷◌, ◌++◌, [], true, length, replicate, IfOk, OnOk};
 ghost use Rattle.std.specs.VecDeque.{deque_capacity};
 ghost use Rattle.link_server.specs.Queues.{joined};
 
@@ -47,6 +47,13 @@ impl Ready {
         self.ninth.reserve(room.saturating_sub(self.ninth.len()))?;
         self.room = self.room.max(room);
         Ok(())
+    }
+
+    // Whether no key is ready.
+    pub(crate) fn is_empty(&self) -> bool
+        ensures { result ≡ true → joined (queues_of self.now) ≡ [] }
+    {
+        self.levels.is_empty() && self.ninth.is_empty()
     }
 
     // Puts a key at the end of the queue of its level. There is room for it, so it takes no memory.

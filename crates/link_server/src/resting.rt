@@ -1,41 +1,36 @@
 //! A link rests while nothing falls due in it: its ticks then change its clock alone.
-ghost use Rattle.std.specs.Prelude.{◌≡◌, ℕ, ◌+◌, ◌^◌, ◌<◌, ◌≤◌, List};
+ghost use Rattle.std.specs.Prelude.{◌≡◌, ℕ, ◌+◌, ◌^◌, ◌<◌, ◌≤◌, suc, List, All, IfOk, IsOk};
 ghost use Rattle.link_steps.specs.declared.asks.Ask.TheVariants.{Tick as AskTick};
+ghost use Rattle.link_steps.specs.Kept.{kept_reply, kept_after};
+ghost use Rattle.link_steps.specs.Lists.{Each};
 ghost use Rattle.link_steps.specs.Replies.{reply_to};
 ghost use Rattle.link_steps.specs.Split.{whole};
 ghost use Rattle.link_steps.specs.declared.replies.Entry.{Entry};
 ghost use Rattle.link_server.specs.Packets.{here_in, on_in};
+ghost use Rattle.link_server.specs.Planned.{left_in};
 ghost use Rattle.link_server.specs.State.{LinkStands, kept_in};
-ghost use Rattle.link_steps.specs.Quiet.{RestsUntil, ServiceRests, later_by, quiet_reply, quiet_ticks};
+ghost use Rattle.link_steps.specs.Quiet.{IsPlannedFrom, RestsUntil, ServiceRests, later_by, quiet_reply, quiet_ticks};
 
 use crate::link_state::LinkState;
+use crate::packets::Packets;
+use link_steps::{LinkShape, Reply};
+use net_units::OutOfMemory;
+use tick_calendar::Calendar;
 
 impl LinkState {
     /// A tick before which nothing falls due: no row's hold ends, no packet is planned, and none starts or departs.
     pub fn rests_until(&self) -> u64
         ensures { RestsUntil self.now.shape result (kept_in self.now) }
     {
-        let service = self.service_rests();
-        let best = self.packets.best.rests_until();
-        let holds = self.holds.rests_until();
-        let plans = self.plans.calendar.rests_until();
-        service.min(best).min(holds).min(plans)
-    }
-
-    // A tick before which no packet starts or departs.
-    fn service_rests(&self) -> u64
-        ensures { ServiceRests self.now.shape.rate result (here_in self.now.packets.here.items) (on_in self.now.packets.on) }
-    {
-        match &self.packets.on {
-            Some(running) => running.leaves_at(self.shape.rate) - 1,
-            None => {
-                if self.packets.here.len() == 0 {
-                    u64::MAX
-                } else {
-                    0
-                }
-            }
+        if self.clock < self.due {
+            return self.due;
         }
+        next_due(
+            &self.packets,
+            &self.holds,
+            &self.plans.calendar,
+            &self.shape,
+        )
     }
 
     /// Makes this many ticks, all before one until which it rests.
@@ -50,4 +45,59 @@ impl LinkState {
     {
         self.clock += ticks;
     }
+
+    // Makes a tick. Where nothing falls due it looks at nothing but the tick until which the link rests.
+    pub(crate) fn tick(&mut self) -> Result<Reply, OutOfMemory>
+        requires early { self.old.clock < 2 ^ 61 }
+        ensures made { IsOk result }
+        ensures shape { self.new.shape ≡ self.old.shape }
+        ensures clock { self.new.clock ≡ suc self.old.clock }
+        ensures reply { IfOk result (λ reply. reply ≡ kept_reply (whole self.old.shape) (kept_in self.old) AskTick) }
+        ensures kept { IfOk result (λ reply. kept_in self.new ≡ kept_after self.old.shape (kept_in self.old) AskTick reply) }
+    {
+        if self.clock < self.due {
+            return Ok(self.rest_once());
+        }
+        self.make_tick()
+    }
+
+    // Makes a tick in which nothing falls due.
+    fn rest_once(&mut self) -> Reply
+        requires rests { self.old.clock < self.old.due }
+        requires early { self.old.clock < 2 ^ 61 }
+        ensures shape { self.new.shape ≡ self.old.shape }
+        ensures clock { self.new.clock ≡ suc self.old.clock }
+        ensures reply { result ≡ kept_reply (whole self.old.shape) (kept_in self.old) AskTick }
+        ensures kept { kept_in self.new ≡ kept_after self.old.shape (kept_in self.old) AskTick result }
+    {
+        let clock = self.clock;
+        self.rest(1);
+        Reply::Ticked {
+            clock,
+            full: 0,
+            sent: None,
+            best_sent: false,
+            best_lost: false,
+        }
+    }
+}
+
+// A tick before which nothing falls due at a link of this shape with these packets, by the calendars of the holds and of the rows'
+// plans.
+pub(crate) fn next_due(
+    packets: &Packets,
+    holds: &Calendar,
+    plans: &Calendar,
+    shape: &LinkShape,
+) -> u64
+    ensures service { ServiceRests shape.now.rate result (here_in packets.now.here.items) (on_in packets.now.on) }
+    ensures best { Each (IsPlannedFrom result) (left_in packets.now.best) }
+    ensures holds { All (λ entry. result ≤ entry.0) holds.now.entries }
+    ensures plans { All (λ entry. result ≤ entry.0) plans.now.entries }
+{
+    let service = packets.rests_until(shape.rate);
+    let best = packets.best.rests_until();
+    let held = holds.rests_until();
+    let planned = plans.rests_until();
+    service.min(best).min(held).min(planned)
 }

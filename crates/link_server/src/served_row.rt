@@ -1,7 +1,8 @@
 //! A row of a link: a reservation that is held, its regulator, its planned packets, and the units that it keeps.
 ghost use Rattle.std.specs.Prelude.{◌≡◌, ◌+◌, ◌^◌, ◌<◌, ◌≤◌, suc, true, nat_lt, find, IfNone, IfSome, IfOk, length};
 ghost use Rattle.net_units.specs.Limits.{most_bound};
-ghost use Rattle.traffic_contract.specs.Contract.{IsContract};
+ghost use Rattle.net_units.specs.Numbers.{level_number};
+ghost use Rattle.traffic_contract.specs.Contract.{IsContract, most_in};
 ghost use Rattle.traffic_contract.specs.Eligible.{newest};
 ghost use Rattle.link_steps.specs.Buffer.{units_for};
 ghost use Rattle.link_steps.specs.Refusals.{busy};
@@ -48,6 +49,10 @@ pub(crate) struct ServedRow {
     pub(crate) reach: Level,
     pub(crate) up_reach: u64,
     pub(crate) up_bound: u64,
+    // The time that its packets may be here, and its slots for that: a slot is looked for with each packet, and they are told by two
+    // divisions.
+    pub(crate) stay: u64,
+    pub(crate) slots: u64,
     pub(crate) count: u64,
     // The arrival number of its first packet, or 0 before it, and how many it has taken.
     pub(crate) lead: u64,
@@ -62,6 +67,8 @@ pub(crate) struct ServedRow {
     ghost regulates: { regulator.contract ≡ contract },
     ghost controls: { regulator.kind ≡ kind },
     ghost newest: { last ≡ newest regulator.recent },
+    ghost has_slots: { slots ≡ most_in contract stay },
+    ghost slots_most: { slots < 2 ^ 22 },
 }
 
 impl ServedRow {
@@ -103,6 +110,8 @@ impl ServedRow {
             reach: offer.reach,
             up_reach: wanted.up_reach,
             up_bound: 0,
+            stay: 0,
+            slots: wanted.contract.bound(0),
             count: 0,
             lead: 0,
             taken: 0,
@@ -146,14 +155,18 @@ impl ServedRow {
         })
     }
 
-    // Commits it at a level, with the bound allotted at the hop before.
-    pub(crate) fn commit(&mut self, level: Level, up_bound: u64)
-        requires { up_bound ≤ most_bound }
+    // Commits it at a level of the link, with the bound allotted at the hop before.
+    pub(crate) fn commit(&mut self, level: Level, up_bound: u64, bounds: &Bounds)
+        requires bound { up_bound ≤ most_bound }
+        requires within { level_number level ≤ length bounds.now }
         ensures { row_in self.new ≡ kept_relaxed level up_bound (row_in self.old) }
     {
+        let stay = up_bound + u64::from(bounds.at(level));
         self.phase = Phase::Committed;
         self.level = level;
         self.up_bound = up_bound;
+        self.stay = stay;
+        self.slots = self.contract.bound(stay);
     }
 
     // The refusal of an ask that wants a committed reservation.
@@ -285,7 +298,11 @@ impl ServedRow {
         ensures value { result ≡ slots_of bounds.now (reservation_in self.now) }
         ensures small { result < 2 ^ 22 }
     {
-        self.contract.bound(self.stay(bounds))
+        let stay = self.stay(bounds);
+        if stay == self.stay {
+            return self.slots;
+        }
+        self.contract.bound(stay)
     }
 
     // Takes its next packet in this tick, with `place`, the next arrival number of the link. The packet is due at the

@@ -139,6 +139,7 @@ impl LinkState {
     {
         let row = ServedRow::new(self.alloc, wanted, offer)?;
         self.make_room(&row)?;
+        self.due = 0;
         let bounds = self.shape.bounds;
         self.keeping.hold(&row, &bounds);
         let place = self.rows.len() as u32;
@@ -194,10 +195,11 @@ impl LinkState {
         if let Some(refusal) = self.rows[place].unfit(level, up_bound) {
             return Reply::Refused(refusal);
         }
+        self.due = 0;
         let bounds = self.shape.bounds;
         self.keeping.give_back(&self.rows[place], &bounds);
         self.sums.move_to(chan.get(), level);
-        self.rows[place].commit(level, up_bound);
+        self.rows[place].commit(level, up_bound, &bounds);
         self.keeping.hold(&self.rows[place], &bounds);
         Reply::Relaxed { clock: self.clock }
     }
@@ -215,6 +217,7 @@ impl LinkState {
         if let Some(refusal) = self.rows[place].not_tentative() {
             return Reply::Refused(refusal);
         }
+        self.due = 0;
         let bounds = self.shape.bounds;
         self.keeping.give_back(&self.rows[place], &bounds);
         self.sums.remove(chan.get());

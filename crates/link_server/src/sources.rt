@@ -1,12 +1,15 @@
 //! The sources' part of a tick: the packets that are planned for it arrive.
 ghost use Rattle.std.specs.Prelude.{◌≡◌, ◌+◌, ◌^◌, ◌<◌, ◌≤◌, ◌++◌, suc, if◌then◌else◌, All, length, map, take};
 ghost use Rattle.std.specs.Vec.{vec_capacity};
+ghost use Rattle.link_steps.specs.Buffer.{held_packets};
 ghost use Rattle.link_steps.specs.Kept.{kept_packet, kept_after_step};
+ghost use Rattle.link_steps.specs.Lists.{Each};
 ghost use Rattle.link_steps.specs.Sources.{taken_by, dropped_by};
 ghost use Rattle.link_server.specs.Packets.{here_in};
 ghost use Rattle.link_server.specs.Index.{channels_in, IsIndex};
 ghost use Rattle.link_server.specs.Plans.{ArePlanned, AreCalled};
 ghost use Rattle.link_server.specs.Rows.{row_in, summed, IsWithinLevels, AreWithin};
+ghost use Rattle.link_server.specs.Sound.{HaveOwnLeads};
 ghost use Rattle.link_server.specs.Sources.{step_in, brought_by, served_rows_after, lost_by_rows, IsReady, AreReady};
 
 use crate::keyed_list::KeyedList;
@@ -34,6 +37,8 @@ pub(crate) fn take_source_packets(
     requires few { length rows.old.items < 2 ^ 32 }
     requires ready { AreReady clock rows.old.items }
     requires within { AreWithin (length bounds.now) rows.old.items }
+    requires apart { HaveOwnLeads (map row_in rows.old.items) }
+    requires leads { Each (λ row. row.lead ≤ packets.old.taken) (map row_in rows.old.items) }
     requires looked { packets.old.line.until ≤ clock }
     requires room { length packets.old.here.items + length (brought_by bounds.now (here_in packets.old.here.items) clock packets.old.taken rows.old.items) ≤ packets.old.room }
     requires numbers { packets.old.taken + length (brought_by bounds.now (here_in packets.old.here.items) clock packets.old.taken rows.old.items) < 2 ^ 64 }
@@ -44,7 +49,7 @@ pub(crate) fn take_source_packets(
     ensures on { packets.new.on ≡ packets.old.on }
     ensures best { packets.new.best ≡ packets.old.best }
     ensures room { packets.new.room ≡ packets.old.room }
-    ensures looked { packets.new.line.until ≡ packets.old.line.until }
+    ensures looked { packets.new.line.until ≤ clock }
     ensures summed { map summed rows.new.items ≡ map summed rows.old.items }
     ensures levels { AreWithin (length bounds.now) rows.new.items }
     ensures planned { ArePlanned clock plans.new.calendar (map row_in rows.new.items) }
@@ -77,6 +82,8 @@ fn take_turns(
     requires few { length rows.old.items < 2 ^ 32 }
     requires ready { AreReady clock rows.old.items }
     requires within { AreWithin (length bounds.now) rows.old.items }
+    requires apart { HaveOwnLeads (map row_in rows.old.items) }
+    requires leads { Each (λ row. row.lead ≤ packets.old.taken) (map row_in rows.old.items) }
     requires looked { packets.old.line.until ≤ clock }
     requires room { length packets.old.here.items + length (brought_by bounds.now (here_in packets.old.here.items) clock packets.old.taken rows.old.items) ≤ packets.old.room }
     requires numbers { packets.old.taken + length (brought_by bounds.now (here_in packets.old.here.items) clock packets.old.taken rows.old.items) < 2 ^ 64 }
@@ -87,7 +94,7 @@ fn take_turns(
     ensures on { packets.new.on ≡ packets.old.on }
     ensures best { packets.new.best ≡ packets.old.best }
     ensures room { packets.new.room ≡ packets.old.room }
-    ensures looked { packets.new.line.until ≡ packets.old.line.until }
+    ensures looked { packets.new.line.until ≤ clock }
     ensures summed { map summed rows.new.items ≡ map summed rows.old.items }
     ensures levels { AreWithin (length bounds.now) rows.new.items }
     ensures planned { ArePlanned clock calendar.new (map row_in rows.new.items) }
@@ -104,7 +111,8 @@ fn take_turns(
 }
 
 // The row takes the packet that is planned for this tick, if there is one. It answers whether that found no slot free,
-// and so was dropped. Only the first `before` packets, those that were here as the tick began, hold slots.
+// and so was dropped. Only the first `before` packets, those that were here as the tick began, hold slots: all of the row's are
+// among them.
 fn take_source_packet(
     row: &mut ServedRow,
     packets: &mut Packets,
@@ -117,6 +125,7 @@ fn take_source_packet(
     requires within { IsWithinLevels (length bounds.now) row.old }
     requires looked { packets.old.line.until ≤ clock }
     requires before { before ≤ length packets.old.here.items }
+    requires held { held_packets row.old.lead (here_in packets.old.here.items) ≡ held_packets row.old.lead (take before (here_in packets.old.here.items)) }
     requires room { length packets.old.here.items + taken_by (step_in bounds.now (take before (here_in packets.old.here.items)) clock row.old) ≤ packets.old.room }
     requires numbers { packets.old.taken + taken_by (step_in bounds.now (take before (here_in packets.old.here.items)) clock row.old) < 2 ^ 64 }
     ensures lost { (if result then 1 else 0) ≡ dropped_by (step_in bounds.now (take before (here_in packets.old.here.items)) clock row.old) }
@@ -126,15 +135,15 @@ fn take_source_packet(
     ensures on { packets.new.on ≡ packets.old.on }
     ensures best { packets.new.best ≡ packets.old.best }
     ensures room { packets.new.room ≡ packets.old.room }
-    ensures looked { packets.new.line.until ≡ packets.old.line.until }
+    ensures looked { packets.new.line.until ≤ clock }
 {
     let Some(size) = row.next_planned(clock) else {
         return false;
     };
-    if !row.has_slot(bounds, packets.held_before(before, row.lead)) {
+    if !row.has_slot(bounds, packets.held(row.lead)) {
         return true;
     }
     let packet = row.take(size, 0, packets.taken + 1, clock);
-    packets.push(packet);
+    packets.push(packet, clock);
     false
 }

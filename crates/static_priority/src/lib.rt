@@ -1,7 +1,7 @@
 //! The queues of a link's static-priority scheduler: one a level, first come first served.
 #![tactic(auto)]
 
-ghost use Rattle.std.specs.Prelude.{◌≡◌, ℕ, ◌+◌, ◌-◌, ◌<◌, ◌≤◌, ◌↔◌, [], length, IsOk, OnOk, OnErr, IfOk, IsNone, IfSome, IfNone, is_some, if◌then◌else◌, All, map, replicate};
+ghost use Rattle.std.specs.Prelude.{◌≡◌, ℕ, ◌+◌, ◌-◌, ◌<◌, ◌≤◌, ◌↔◌, [], length, IsTrue, IsOk, OnOk, OnErr, IfOk, IsNone, IfSome, IfNone, is_some, if◌then◌else◌, All, map, replicate};
 ghost use Rattle.std.specs.List.{AllWithin, HoldsAt};
 ghost use Rattle.std.specs.VecDeque.{deque_len};
 ghost use Rattle.net_units.specs.Numbers.{level_number};
@@ -81,6 +81,13 @@ impl LevelQueues {
         self.waiting += 1;
     }
 
+    /// Whether no key waits.
+    pub fn is_empty(&self) -> bool
+        ensures { IsTrue result ↔ All (λ queue. queue ≡ []) self.now.queues }
+    {
+        self.waiting == 0
+    }
+
     /// Takes the head of the least level whose queue isn't empty, with that level. None comes exactly where
     /// all are empty. It takes no memory.
     pub fn pick(&mut self) -> Option<(Level, u32)>
@@ -144,13 +151,16 @@ mod tests {
         let second = Level::new(2).ok_or("a level")?;
         let mut queues = LevelQueues::new(rt.alloc(), 2)?;
         queues.reserve(3)?;
+        assert!(rt; queues.is_empty());
         queues.push(second, 7);
+        assert!(rt; !queues.is_empty());
         queues.push(least, 8);
         queues.push(second, 9);
         assert_eq!(rt; queues.pick(), Some((least, 8)));
         assert_eq!(rt; queues.pick(), Some((second, 7)));
         assert_eq!(rt; queues.pick(), Some((second, 9)));
         assert_eq!(rt; queues.pick(), None);
+        assert!(rt; queues.is_empty());
         Ok(())
     }
 

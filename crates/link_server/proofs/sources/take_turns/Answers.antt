@@ -1,9 +1,10 @@
 -- Each turn adds to what the rows before it have done.
-use Rattle.std.proofs.Common.{◌≡◌, ◌+◌, ◌++◌, ◌≤◌, suc, length, get_or, set, take, drop, refl, sym, ap, ◌∙◌, subst, arith}
+use Rattle.std.proofs.Common.{◌≡◌, ◌+◌, ◌++◌, ◌<◌, ◌≤◌, suc, length, get_or, set, take, drop, refl, sym, ap, ◌∙◌, subst, arith}
 use Rattle.std.proofs.Math.Seq.{map-set_same}
 use Rattle.std.specs.Prelude.{if◌then◌else◌}
 use Rattle.std.proofs.lemmas.List.{get_or_past, length-map, length-append, length-set, get_or-set_same, take_all}
 use Rattle.std.proofs.lemmas.List.Elements.{All-set}
+use Rattle.link_steps.specs.Buffer.{held_packets}
 use Rattle.link_steps.specs.Kept.{kept_packet, kept_after_step}
 use Rattle.link_steps.specs.Sources.{taken_by, dropped_by}
 use Rattle.link_steps.proofs.ListFacts.{Each-if}
@@ -12,7 +13,9 @@ use Rattle.link_server.specs.Planned.{IsPlannedFrom, IsPlannedAhead}
 use Rattle.link_server.specs.Plans.{IsTold, idle_count}
 use Rattle.link_server.specs.Rows.{row_in, summed, IsWithinLevels}
 use Rattle.link_server.specs.Sources.{step_in, brought_by, IsReady}
-use Rattle.link_server.proofs.SourceRows.{StandsStepped, one-stepped, all-stepped, ready-now, packets-now, lost-more, lost-same, front-same, front-within, terms-stepped}
+use Rattle.link_server.specs.declared.served_row.ServedRow.{ServedRow}
+use Rattle.link_server.proofs.OwnPackets.{still-held}
+use Rattle.link_server.proofs.SourceRows.{StandsStepped, same-row, one-stepped, all-stepped, ready-now, packets-now, lost-more, lost-same, front-same, front-within, terms-stepped}
 use Rattle.link_server.proofs.SourceTurns.{first-turn, next-turn, turn-inside, turn-due, stepped-later, told-after, room-after, all-turned}
 use Rattle.link_server.proofs.SumsFacts.{summed-same, within-same}
 use Rattle.link_server.proofs.sources.take_turns.Goals as goal
@@ -33,7 +36,7 @@ loop-place-init c =
       on = refl;
       best = refl;
       room = refl;
-      looked = refl;
+      looked = c.requires.looked;
       summed = refl;
       levels = c.requires.within;
     }
@@ -53,6 +56,17 @@ take_source_packet-requires-clause-within c =
     subst (IsWithinLevels (length c.args.bounds.now)) (sym c.index_mut.ensures.value)
     (c.loop-place.invariant.levels (get_or c.args.turns.now c.loop-place.place-index 0) c.index_mut.result.now
     (turn-inside c.args.turns.now c.args.rows.now.items c.loop-place.rows.items c.loop-place.place-index c.requires.called.rising c.loop-place.invariant.long c.loop-place-test.true))
+
+pub take_source_packet-requires-clause-held : goal.take_source_packet-requires-clause-held
+take_source_packet-requires-clause-held c =
+    let was = here_in c.args.packets.now.here.items in
+    let place = get_or c.args.turns.now c.loop-place.place-index 0 in
+    let stepped = turn-due c.args.bounds.now was c.args.clock c.args.packets.now.taken c.args.turns.now c.args.rows.now.items c.loop-place.place-index c.loop-place.rows.items (here_in c.loop-place.packets.here.items) c.loop-place.packets.taken c.loop-place.lost c.loop-place-test.true c.loop-place.invariant.stepped in
+    let inside = turn-inside c.args.turns.now c.args.rows.now.items c.loop-place.rows.items c.loop-place.place-index c.requires.called.rising c.loop-place.invariant.long c.loop-place-test.true in
+    let row : c.index_mut.result.now ≡ get_or c.args.rows.now.items place c.index_mut.result.now = c.index_mut.ensures.value ∙ same-row c.args.rows.now.items place c.loop-place.rows.items c.index_mut.result.now stepped.after in
+    subst (λ (r : ServedRow). held_packets r.lead (here_in c.loop-place.packets.here.items) ≡ held_packets r.lead (take c.len-before.result (here_in c.loop-place.packets.here.items))) (sym row)
+    (still-held c.args.bounds.now was c.args.clock c.args.packets.now.taken c.args.rows.now.items place c.loop-place.rows.items (here_in c.loop-place.packets.here.items) c.loop-place.packets.taken c.loop-place.lost c.index_mut.result.now stepped c.requires.apart c.requires.leads (subst (λ n. place < n) c.loop-place.invariant.long inside)
+    ∙ ap (held_packets (get_or c.args.rows.now.items place c.index_mut.result.now).lead) (sym c.loop-place.invariant.front))
 
 pub take_source_packet-requires-clause-room : goal.take_source_packet-requires-clause-room
 take_source_packet-requires-clause-room c =
@@ -163,7 +177,7 @@ loop-place-preserved c =
       on = c.take_source_packet.ensures.on ∙ c.loop-place.invariant.on;
       best = c.take_source_packet.ensures.best ∙ c.loop-place.invariant.best;
       room = c.take_source_packet.ensures.room ∙ c.loop-place.invariant.room;
-      looked = c.take_source_packet.ensures.looked ∙ c.loop-place.invariant.looked;
+      looked = c.take_source_packet.ensures.looked;
       summed =
           map-set_same summed c.loop-place.rows.items place new c.index_mut.result.now (summed-same new row terms)
           ∙ c.loop-place.invariant.summed;

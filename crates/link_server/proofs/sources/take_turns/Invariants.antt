@@ -20,7 +20,7 @@ invariant-loop-place l = record {
   on : l.packets.on ≡ l.fn.packets.on;
   best : l.packets.best ≡ l.fn.packets.best;
   room : l.packets.room ≡ l.fn.packets.room;
-  looked : l.packets.line.until ≡ l.fn.packets.line.until;
+  looked : l.packets.line.until ≤ l.clock;
   summed : map summed l.rows.items ≡ map summed l.fn.rows.items;
   levels : AreWithin (length l.bounds) l.rows.items;
 }

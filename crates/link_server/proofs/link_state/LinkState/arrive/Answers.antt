@@ -37,6 +37,7 @@ use Rattle.link_server.proofs.SoundTaking.{sound-arrive}
 use Rattle.link_server.proofs.StoodFacts.{all-ready, newest-stood, still-stood}
 use Rattle.link_steps.specs.declared.replies.Phase.TheVariants.{Closing}
 use Rattle.link_steps.specs.Reservation.{is_phase}
+use Rattle.link_server.proofs.RestFacts.{due-now}
 use Rattle.link_server.proofs.link_state.LinkState.arrive.Goals as goal
 use Rattle.link_server.proofs.link_state.LinkState.arrive.Goals.{In-Some, After-take-taken, After-push, After-index-4}
 
@@ -119,8 +120,7 @@ pub push-requires-clause-eligible : goal.push-requires-clause-eligible
 push-requires-clause-eligible c =
     let own = ap (λ p. p.eligible) c.take-taken.ensures.packet in
     let from = eligible-from (reservation_in c.index_mut.result.now) (row_in c.index_mut.result.now).recent c.args.self.now.clock c.args.packet.now.due in
-    let looked = c.args.self.now.looked in
-    omega (arith, own, from, looked)
+    omega (arith, own, from)
 
 -- what is kept is the account's
 kept : (c : After-push) → IsPlaceOf c.args.packet.now.chan c.args.self.now.rows.items c.in-Some.place
@@ -196,8 +196,9 @@ invariant_of-self-2 c =
           (same-idle (row_in c.take-taken.new.self) (row_in (get_or c.args.self.now.rows.items c.in-Some.place c.index_mut.result.now)) (ap (λ row. row.left) same) (ap (λ row. is_phase row.terms.phase Closing) same));
       turns = (let turns = c.args.self.now.turns in let long = length-set c.args.self.now.rows.items c.in-Some.place c.take-taken.new.self in omega (arith, turns, long));
       roomy = omega (arith, roomy, c.push.ensures.room);
-      looked = (let looked = c.args.self.now.looked in omega (arith, looked, c.push.ensures.looked));
+      looked = c.push.ensures.looked;
       stood = still-stood c.args.self.now (Arrive c.args.packet.now) (Taken c.args.self.now.clock c.take-taken.result.eligible) _ c.requires.fits (replied (goal.at.invariant_of-self-2 c).After-take-taken place) (kept (goal.at.invariant_of-self-2 c).After-push place);
+      rests = due-now _ _;
     }
 
 pub returns-clause-reply : goal.returns-clause-reply

@@ -23,6 +23,7 @@ use Rattle.link_steps.specs.Kept.{kept_reply}
 use Rattle.link_steps.specs.Split.{whole}
 use Rattle.std.proofs.lemmas.List.Edits.{length-remove}
 use Rattle.link_server.proofs.PlansRows.{planned-removed}
+use Rattle.link_server.proofs.RestFacts.{due-now}
 use Rattle.link_server.proofs.link_state.LinkState.deny.Goals as goal
 use Rattle.link_server.proofs.link_state.LinkState.deny.Goals.{After-take_row}
 
@@ -86,6 +87,7 @@ invariant_of-self-2 c =
       roomy = c.args.self.now.roomy;
       looked = c.args.self.now.looked;
       stood = still-stood c.args.self.now (Deny c.args.chan) Denied _ tt (denied (goal.at.invariant_of-self-2 c).After-take_row) kept;
+      rests = due-now _ _;
     }
 
 pub returns-clause-reply : goal.returns-clause-reply

@@ -36,6 +36,7 @@ use Rattle.link_server.proofs.PlansRows.{planned-pushed}
 use Rattle.link_server.specs.Stood.{IsStood}
 use Rattle.link_server.proofs.StepFacts.{rows-have}
 use Rattle.link_server.proofs.StoodFacts.{rows-few, stood-offered}
+use Rattle.link_server.proofs.RestFacts.{due-now}
 use Rattle.link_server.proofs.link_state.LinkState.hold.Goals as goal
 use Rattle.link_server.proofs.link_state.LinkState.hold.Goals.{After-add}
 
@@ -141,6 +142,7 @@ invariant_of-self c =
       roomy = c.make_room.new.self.roomy;
       looked = c.make_room.new.self.looked;
       stood = subst (IsStood c.make_room.new.self.shape) (sym (kept (goal.at.invariant_of-self c).After-add)) (stood-offered c.make_room.new.self.shape (kept_in c.make_room.new.self) c.args.wanted.now c.args.offer.now (rows-have c.make_room.new.self.rows.items) c.requires.fits may c.make_room.new.self.stood);
+      rests = due-now _ _;
     }
 
 pub returns-clause-kept : goal.returns-clause-kept

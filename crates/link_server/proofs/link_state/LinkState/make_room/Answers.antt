@@ -14,6 +14,7 @@ use Rattle.link_server.proofs.KeepingFacts.{keeping-places}
 use Rattle.link_server.proofs.PlansRows.{planned-reserved}
 use Rattle.link_server.proofs.RoomFacts.{most_places-are}
 use Rattle.link_server.proofs.SoundSetup.{sound-larger}
+use Rattle.link_server.specs.Resting.{RestsFromClock}
 use Rattle.link_server.specs.Stood.{IsStood}
 use Rattle.link_server.proofs.link_state.LinkState.make_room.Goals as goal
 
@@ -38,6 +39,7 @@ invariant_of-self-2 c =
       roomy = omega (arith, c.max-self.ensures, grows, roomy, taken, c.len.ensures, ap length c.reserve-3.ensures.here);
       looked = (let looked = c.args.self.now.looked in omega (arith, looked, c.reserve-3.ensures.looked));
       stood = subst (IsStood c.args.self.now.shape) (sym same) c.args.self.now.stood;
+      rests = subst (RestsFromClock c.args.self.now.shape c.args.self.now.due) (sym same) c.args.self.now.rests;
     }
 
 pub invariant_of-self-in-Break-branch-3 : goal.invariant_of-self-in-Break-branch-3
@@ -59,6 +61,7 @@ invariant_of-self-in-Break-branch-3 c =
       roomy = omega (arith, grows, roomy);
       looked = (let looked = c.args.self.now.looked in omega (arith, looked, c.reserve-3.ensures.looked));
       stood = subst (IsStood c.args.self.now.shape) (sym same) c.args.self.now.stood;
+      rests = subst (RestsFromClock c.args.self.now.shape c.args.self.now.due) (sym same) c.args.self.now.rests;
     }
 
 pub invariant_of-self-in-Break-branch-4 : goal.invariant_of-self-in-Break-branch-4
@@ -80,6 +83,7 @@ invariant_of-self-in-Break-branch-4 c =
       roomy = omega (arith, grows, roomy);
       looked = (let looked = c.args.self.now.looked in omega (arith, looked, c.reserve-3.ensures.looked));
       stood = subst (IsStood c.args.self.now.shape) (sym same) c.args.self.now.stood;
+      rests = subst (RestsFromClock c.args.self.now.shape c.args.self.now.due) (sym same) c.args.self.now.rests;
     }
 
 pub invariant_of-self-in-Break-branch-5 : goal.invariant_of-self-in-Break-branch-5
@@ -101,6 +105,7 @@ invariant_of-self-in-Break-branch-5 c =
       roomy = omega (arith, grows, roomy);
       looked = (let looked = c.args.self.now.looked in omega (arith, looked, c.reserve-3.ensures.looked));
       stood = subst (IsStood c.args.self.now.shape) (sym same) c.args.self.now.stood;
+      rests = subst (RestsFromClock c.args.self.now.shape c.args.self.now.due) (sym same) c.args.self.now.rests;
     }
 
 pub invariant_of-self-in-Break-branch-6 : goal.invariant_of-self-in-Break-branch-6
@@ -122,6 +127,7 @@ invariant_of-self-in-Break-branch-6 c =
       roomy = omega (arith, grows, roomy);
       looked = (let looked = c.args.self.now.looked in omega (arith, looked, c.reserve-3.ensures.looked));
       stood = subst (IsStood c.args.self.now.shape) (sym same) c.args.self.now.stood;
+      rests = subst (RestsFromClock c.args.self.now.shape c.args.self.now.due) (sym same) c.args.self.now.rests;
     }
 
 pub returns-clause-packets_fit : goal.returns-clause-packets_fit

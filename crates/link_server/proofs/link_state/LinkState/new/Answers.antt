@@ -6,6 +6,7 @@ use Rattle.link_server.specs.Sound.{IsSound}
 use Rattle.link_server.specs.Stood.{IsStood}
 use Rattle.link_server.proofs.StoodFacts.{nothing-stood}
 use Rattle.link_server.proofs.AccountFacts.{account-nothing}
+use Rattle.link_server.proofs.RestFacts.{due-now}
 use Rattle.link_server.proofs.SoundSetup.{nothing-sound}
 use Rattle.link_server.proofs.link_state.LinkState.new.Goals as goal
 
@@ -20,6 +21,9 @@ invariant_of-result-clause-stood c =
     subst (IsStood c.args.shape)
     (sym (account-nothing c.reserve.new.self c.new-3.result.items (c.reserve.ensures.taken ∙ c.in_ok-packets.ensures.taken) (c.reserve.ensures.here ∙ c.in_ok-packets.ensures.here) (c.reserve.ensures.on ∙ c.in_ok-packets.ensures.on) (ap left_in c.reserve.ensures.best ∙ c.in_ok-packets.ensures.best) (ap (λ rows. rows.items) c.new-3.ensures)))
     (nothing-stood c.args.shape)
+
+pub invariant_of-result-clause-rests : goal.invariant_of-result-clause-rests
+invariant_of-result-clause-rests c = due-now _ _
 
 pub returns-clause-stands : goal.returns-clause-stands
 returns-clause-stands c =

@@ -8,6 +8,7 @@ use Rattle.link_server.proofs.SoundSetup.{sound-pour}
 use Rattle.link_server.proofs.PourFacts.{pour-busy, pour-big, pour-planned, pour-same, pour-kept}
 use Rattle.link_server.proofs.StoodFacts.{still-stood}
 use Rattle.link_steps.specs.declared.asks.Ask.TheVariants.{Pour}
+use Rattle.link_server.proofs.RestFacts.{due-now}
 use Rattle.link_server.proofs.link_state.LinkState.pour.Goals as goal
 
 pub returns-in-Some-clause-reply : goal.returns-in-Some-clause-reply
@@ -32,9 +33,40 @@ returns-clause-kept c = pour-kept c.args.self.now.shape c.args.self.now.clock c.
 
 pub invariant_of-self-2 : goal.invariant_of-self-2
 invariant_of-self-2 c =
+    let packets = c.args.self.now.packets in
+    record {
+      numbered = packets.numbered;
+      ranked = packets.ranked;
+      few = packets.few;
+      fits = packets.fits;
+      holds = packets.holds;
+      lines_up = packets.lines_up;
+      counts_are = packets.counts_are;
+      counts_fit = packets.counts_fit;
+      latest = packets.latest;
+      counts_sorted = packets.counts_sorted;
+    }
+
+pub invariant_of-self-3 : goal.invariant_of-self-3
+invariant_of-self-3 c =
     let planned = pour-planned c.args.self.now.shape c.args.self.now.clock c.args.self.now.packets c.args.self.now.rows.items c.args.count c.args.gap c.args.size c.in_default.ensures c.if-size-self.false in
     let kept = pour-kept c.args.self.now.shape c.args.self.now.clock c.args.self.now.packets c.args.self.now.rows.items c.args.count c.args.gap c.args.size c.args.self.now.clock c.in_default.ensures in
     let sound = subst (IsSound c.args.self.now.shape c.args.self.now.room) (sym kept) (sound-pour c.args.self.now.shape c.args.self.now.room (kept_in c.args.self.now) c.args.count c.args.gap c.args.size (Planned c.args.self.now.clock) c.requires.fits c.args.self.now.sound planned) in
     let stood = still-stood c.args.self.now (Pour c.args.count c.args.gap c.args.size) (Planned c.args.self.now.clock) _ (c.requires.some, c.requires.fits) planned kept in
     let l = c.args.self.now in
-    ((l.packets.numbered, (l.packets.ranked, (l.packets.few, (l.packets.fits, (l.packets.holds, (l.packets.lines_up, (l.packets.counts_are, (l.packets.counts_fit, (l.packets.latest, (l.packets.counts_sorted, tt)))))))))), (l.admitted, (l.same_server, (l.same_rows, (l.within, (l.indexed, (l.listed, (l.keeps, (sound, (l.planned, (l.turns, (l.roomy, (l.looked, (stood, tt))))))))))))))
+    record {
+      admitted = l.admitted;
+      same_server = l.same_server;
+      same_rows = l.same_rows;
+      within = l.within;
+      indexed = l.indexed;
+      listed = l.listed;
+      keeps = l.keeps;
+      sound = sound;
+      planned = l.planned;
+      turns = l.turns;
+      roomy = l.roomy;
+      looked = l.looked;
+      stood = stood;
+      rests = due-now _ _;
+    }

@@ -30,6 +30,7 @@ use Rattle.link_server.proofs.AnswerFacts.{relax-absent, relax-phase, relax-unfi
 use Rattle.link_server.proofs.StoodFacts.{still-stood}
 use Rattle.link_steps.specs.declared.asks.Ask.TheVariants.{Relax}
 use Rattle.link_server.proofs.KeepingFacts.{row-held, row-places, keeps-changed, relaxed-share, relaxed-units, places-few}
+use Rattle.link_server.proofs.RestFacts.{due-now}
 use Rattle.link_server.proofs.link_state.LinkState.relax.Goals as goal
 use Rattle.link_server.proofs.link_state.LinkState.relax.Goals.{In-Some, After-commit}
 
@@ -180,6 +181,7 @@ invariant_of-self-2 c =
       roomy = c.args.self.now.roomy;
       looked = c.args.self.now.looked;
       stood = still-stood c.args.self.now (Relax c.args.chan c.args.level c.args.up_bound) (Relaxed c.args.self.now.clock) _ c.requires.fits reply kept;
+      rests = due-now _ _;
     }
 
 pub returns-clause-reply : goal.returns-clause-reply

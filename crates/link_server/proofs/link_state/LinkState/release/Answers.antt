@@ -33,6 +33,7 @@ use Rattle.link_server.proofs.PlansRows.{planned-set, closing-idle}
 use Rattle.link_server.proofs.PlaceFacts.{at-place}
 use Rattle.link_server.proofs.SoundSetup.{sound-release}
 use Rattle.link_server.proofs.StoodFacts.{all-ready, still-stood}
+use Rattle.link_server.proofs.RestFacts.{due-now}
 use Rattle.link_server.proofs.link_state.LinkState.release.Goals as goal
 use Rattle.link_server.proofs.link_state.LinkState.release.Goals.{In-Some, After-close, After-index-4}
 
@@ -137,6 +138,7 @@ invariant_of-self-2 c =
       roomy = c.args.self.now.roomy;
       looked = c.args.self.now.looked;
       stood = still-stood c.args.self.now (Release c.args.chan c.args.upstream) (Closing c.count_at_release-count.result c.cancelled_at_release-cancelled.result) _ tt (replied close place) (kept close place);
+      rests = due-now _ _;
     }
 
 pub returns-clause-reply : goal.returns-clause-reply

@@ -1,13 +1,12 @@
 -- A link that rests keeps all it kept, but for its clock.
-use Rattle.std.proofs.Common.{ℕ, ◌+◌, List, arith, map}
-use Rattle.link_steps.specs.declared.replies.Entry.{Entry}
+use Rattle.std.proofs.Common.{◌+◌, arith, map}
 use Rattle.link_steps.specs.Split.{whole}
 use Rattle.link_server.specs.Rows.{row_in}
-use Rattle.link_server.specs.State.{LinkStands, kept_in}
+use Rattle.link_server.specs.State.{kept_in}
 use Rattle.link_server.proofs.PlansRows.{planned-later}
 use Rattle.link_server.proofs.RestFacts.{later-sound, later-stood, listed-later}
 use Rattle.link_server.proofs.StepFacts.{rows-have}
-use Rattle.link_steps.proofs.QuietFacts.{quiet-ticks}
+use Rattle.link_steps.proofs.QuietFacts.{later-rests, quiet-ticks}
 use Rattle.link_server.proofs.link_state.LinkState.rest.Goals as goal
 
 pub invariant_of-self : goal.invariant_of-self
@@ -28,6 +27,7 @@ invariant_of-self c =
       roomy = link.roomy;
       looked = (let looked = link.looked in omega (arith, looked));
       stood = later-stood link.shape rests.0 c.args.ticks (kept_in link) (rows-have link.rows.items) rests.1.0 rests.1.1 link.stood;
+      rests = λ before. later-rests link.shape link.due c.args.ticks (kept_in link) (link.rests (omega (arith, before)));
     }
 
 pub returns-clause-made : goal.returns-clause-made

@@ -27,6 +27,7 @@ use Rattle.link_server.proofs.PlanFacts.{none-left}
 use Rattle.link_server.proofs.PlansRows.{planned-put, idle-one, idle-room, plan-ahead}
 use Rattle.link_server.proofs.StoodFacts.{still-stood}
 use Rattle.link_steps.specs.declared.asks.Ask.TheVariants.{Submit}
+use Rattle.link_server.proofs.RestFacts.{due-now}
 use Rattle.link_server.proofs.link_state.LinkState.submit.Goals as goal
 use Rattle.link_server.proofs.link_state.LinkState.submit.Goals.{After-index-4}
 
@@ -145,6 +146,7 @@ invariant_of-self-2 c =
       roomy = c.args.self.now.roomy;
       looked = c.args.self.now.looked;
       stood = still-stood c.args.self.now (Submit c.args.chan c.args.count c.args.gap c.args.size) (Planned c.args.self.now.clock) _ c.requires.fits reply kept;
+      rests = due-now _ _;
     }
 
 pub returns-clause-reply : goal.returns-clause-reply

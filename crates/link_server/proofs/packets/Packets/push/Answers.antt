@@ -24,6 +24,7 @@ push-requires c =
       room = omega (arith, few, room, c.requires.room);
       least = c.args.packet.has_level;
       most = c.args.packet.has_most;
+      on = c.requires.looked;
       eligible = c.requires.eligible;
       newest = omega (arith, latest, c.requires.next);
     }

@@ -1,5 +1,5 @@
 -- The packets that are planned and left begin with the next one.
-use Rattle.std.proofs.Common.{◌≡◌, zero, sym, subst, arith}
+use Rattle.std.proofs.Common.{sym, subst, arith}
 use Rattle.link_steps.specs.Lists.{Each}
 use Rattle.link_steps.specs.Rows.{planned_from}
 use Rattle.link_server.specs.Planned.{IsPlannedFrom}

@@ -8,7 +8,7 @@ ghost use Rattle.link_steps.specs.Legal.{AskFits, SubmitFits};
 ghost use Rattle.link_steps.specs.Shape.{IsShapeOf};
 
 use super::ticked;
-use crate::LinkState;
+use link_server::LinkState;
 use link_steps::{Ask, LinkShape, LinkStep, Reply};
 use net_units::limits::{MOST_BOUND, MOST_GAP, MOST_PACKETS, MOST_SIZE};
 use net_units::{Bounds, LinkNo};

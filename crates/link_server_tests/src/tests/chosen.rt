@@ -1,7 +1,7 @@
 //! A worked reserve at a chosen level, and what a caller sees of the rows held.
 use super::history::{step, three_levels};
 use super::{chan, level, offer, reserve, voice};
-use crate::{HeldRow, LinkState};
+use link_server::{HeldRow, LinkState};
 use link_steps::{Ask, Phase, Reply};
 use net_units::Kind;
 use std::alloc::Global;

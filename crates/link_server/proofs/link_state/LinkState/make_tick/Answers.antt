@@ -1,5 +1,5 @@
 -- The parts of the tick find what a sound account leaves to count on, and together make what the account says.
-use Rattle.std.proofs.Common.{◌≡◌, ◌+◌, length, map, sym, ap, ◌∙◌, subst, refl, arith}
+use Rattle.std.proofs.Common.{◌≡◌, ◌+◌, ◌≤◌, length, map, sym, ap, ◌∙◌, subst, refl, arith}
 use Rattle.std.proofs.lemmas.List.{length-map, length-append}
 use Rattle.std.specs.Prelude.{find}
 use Rattle.link_steps.specs.Rows.{is_for, left_at}
@@ -14,24 +14,28 @@ use Rattle.link_server.proofs.SoundSources.{from_best}
 use Rattle.link_steps.specs.declared.replies.Reply.TheVariants.{Ticked}
 use Rattle.link_steps.specs.declared.asks.Ask.TheVariants.{Tick}
 use Rattle.link_steps.specs.Kept.{kept_stays, from_sources, kept_reply, kept_after}
+use Rattle.link_steps.specs.Lists.{Each}
 use Rattle.link_steps.specs.Split.{whole}
+use Rattle.link_steps.proofs.ListFacts.{Each-filter, Each-if}
 use Rattle.link_server.specs.Account.{account}
 use Rattle.link_server.specs.Packets.{arrival_in, here_in, on_in}
 use Rattle.link_server.specs.Rows.{reservation_in, row_in, summed}
 use Rattle.link_server.specs.Plans.{ArePlanned}
 use Rattle.link_server.specs.Serving.{CanServe}
 use Rattle.link_server.specs.Keeping.{IsKeeping}
-use Rattle.link_server.specs.Sound.{IsSound}
+use Rattle.link_server.specs.Sound.{HaveOwnLeads, IsSoundRow, IsSound}
 use Rattle.link_server.specs.State.{kept_in}
 use Rattle.link_server.proofs.PlansRows.{planned-left, planned-later}
 use Rattle.link_server.proofs.SoundNumbers.{sources-room, best-room, brought-room, ahead-from, brought-small}
 use Rattle.link_server.proofs.KeepingFacts.{reservations-after}
+use Rattle.link_server.proofs.RestFacts.{rests-by}
+use Rattle.link_server.proofs.SoundRows.{AreApart-filter}
 use Rattle.link_server.proofs.SoundServes.{sound-serves}
 use Rattle.link_server.proofs.SoundTick.{sound-tick}
 use Rattle.link_server.proofs.StoodFacts.{all-ready, rows-few, room-small, still-stood}
 use Rattle.link_server.proofs.TickFacts.{brought-is, present-is, taken-is, occupies-is, tick-replied, tick-kept}
-use Rattle.link_server.proofs.link_state.LinkState.tick.Goals as goal
-use Rattle.link_server.proofs.link_state.LinkState.tick.Goals.{After-serve-left}
+use Rattle.link_server.proofs.link_state.LinkState.make_tick.Goals as goal
+use Rattle.link_server.proofs.link_state.LinkState.make_tick.Goals.{After-serve-left}
 
 pub expire-requires-clause-ready : goal.expire-requires-clause-ready
 expire-requires-clause-ready c = all-ready c.args.self.now c.requires.early
@@ -45,6 +49,18 @@ pub take_source_packets-full-requires-clause-turns : goal.take_source_packets-fu
 take_source_packets-full-requires-clause-turns c =
     let turns = c.args.self.now.turns in
     omega (arith, turns, c.expire.ensures.few)
+
+pub take_source_packets-full-requires-clause-apart : goal.take_source_packets-full-requires-clause-apart
+take_source_packets-full-requires-clause-apart c =
+    subst HaveOwnLeads (sym c.expire.ensures.rows) (AreApart-filter (kept_stays c.args.self.now.shape.bounds c.args.self.now.clock) (kept_in c.args.self.now).rows c.args.self.now.sound.apart)
+
+pub take_source_packets-full-requires-clause-leads : goal.take_source_packets-full-requires-clause-leads
+take_source_packets-full-requires-clause-leads c =
+    let levels = length c.args.self.now.shape.bounds in
+    let taken = c.args.self.now.packets.taken in
+    subst (Each (λ row. row.lead ≤ taken)) (sym c.expire.ensures.rows)
+    (Each-filter (λ row. row.lead ≤ taken) (kept_stays c.args.self.now.shape.bounds c.args.self.now.clock) (kept_in c.args.self.now).rows
+    (Each-if (IsSoundRow levels c.args.self.now.clock taken) (λ row. row.lead ≤ taken) (kept_in c.args.self.now).rows (λ row sound. sound.lead_most) c.args.self.now.sound.rows))
 
 pub best_fits-fits-requires : goal.best_fits-fits-requires
 best_fits-fits-requires c = record { ahead = ahead-from c.args.self.now.clock c.args.self.now.clock (left_in c.args.self.now.packets.best) (omega arith) c.args.self.now.sound.best_ahead }
@@ -130,14 +146,16 @@ invariant_of-self c =
     let first = c.take_source_packets-full.ensures.room in
     let second = c.serve-left.ensures.room in
     let third = c.take_best-best_lost.ensures.room in
+    let listed =
+    subst (AreListed c.args.self.now.shape.bounds (c.args.self.now.clock + 1) c.expire.new.holds) (sym c.take_source_packets-full.ensures.rows)
+    (listed-stepped c.args.self.now.shape.bounds (here_in c.args.self.now.packets.here.items) c.args.self.now.clock (c.args.self.now.clock + 1) c.args.self.now.packets.taken c.expire.new.holds (map row_in c.expire.new.rows.items) (omega arith) c.expire.ensures.listed) in
+    let planned = planned-later c.args.self.now.clock (c.args.self.now.clock + 1) c.take_source_packets-full.new.plans.calendar (map row_in c.take_source_packets-full.new.rows.items) (omega arith) c.take_source_packets-full.ensures.planned in
     record {
       admitted = c.expire.ensures.admitted;
       same_server = c.expire.ensures.server ∙ c.args.self.now.same_server;
       same_rows = c.expire.ensures.same ∙ sym c.take_source_packets-full.ensures.summed;
       within = c.take_source_packets-full.ensures.levels;
-      listed =
-          subst (AreListed c.args.self.now.shape.bounds (c.args.self.now.clock + 1) c.expire.new.holds) (sym c.take_source_packets-full.ensures.rows)
-          (listed-stepped c.args.self.now.shape.bounds (here_in c.args.self.now.packets.here.items) c.args.self.now.clock (c.args.self.now.clock + 1) c.args.self.now.packets.taken c.expire.new.holds (map row_in c.expire.new.rows.items) (omega arith) c.expire.ensures.listed);
+      listed = listed;
       indexed =
           index-summed c.expire.new.index.places.items c.expire.new.rows.items c.take_source_packets-full.new.rows.items c.expire.ensures.indexed c.take_source_packets-full.ensures.summed;
       keeps =
@@ -145,8 +163,7 @@ invariant_of-self c =
           (sym (reservations-after c.args.self.now.shape.bounds (here_in c.args.self.now.packets.here.items) c.args.self.now.clock c.args.self.now.packets.taken c.expire.new.rows.items c.take_source_packets-full.new.rows.items c.take_source_packets-full.ensures.rows))
           (subst (λ buffer. IsKeeping buffer c.args.self.now.shape.bounds c.expire.new.keeping (map reservation_in c.expire.new.rows.items)) c.args.self.now.keeps.whole c.expire.ensures.keeps);
       sound = subst (IsSound c.args.self.now.shape c.args.self.now.room) (sym after) (sound-tick c.args.self.now.shape c.args.self.now.room (kept_in c.args.self.now) (Ticked c.args.self.now.clock c.take_source_packets-full.result c.serve-left.result.sent c.serve-left.result.best_sent c.take_best-best_lost.result) c.args.self.now.sound);
-      planned =
-          planned-later c.args.self.now.clock (c.args.self.now.clock + 1) c.take_source_packets-full.new.plans.calendar (map row_in c.take_source_packets-full.new.rows.items) (omega arith) c.take_source_packets-full.ensures.planned;
+      planned = planned;
       turns =
           (let turns = c.args.self.now.turns in
           let as_many = ap length c.take_source_packets-full.ensures.summed in
@@ -156,6 +173,8 @@ invariant_of-self c =
       roomy = omega (arith, roomy, first, second, third);
       looked = omega (arith, c.serve-left.ensures.looked);
       stood = still-stood c.args.self.now Tick (Ticked c.args.self.now.clock c.take_source_packets-full.result c.serve-left.result.sent c.serve-left.result.best_sent c.take_best-best_lost.result) _ tt (replied (goal.at.invariant_of-self c).After-serve-left) after;
+      rests = λ _.
+          rests-by c.args.self.now.shape (c.args.self.now.clock + 1) c.next_due-self.result c.expire.new.holds c.take_source_packets-full.new.plans.calendar c.serve-left.new.self c.take_source_packets-full.new.rows.items c.next_due-self.ensures.holds c.next_due-self.ensures.plans listed planned c.next_due-self.ensures.best c.next_due-self.ensures.service;
     }
 
 pub returns-clause-reply : goal.returns-clause-reply
