@@ -1,7 +1,9 @@
 //! A link that does its work, ask by ask.
 ghost use Rattle.link_steps.specs.Legal.{AskFits};
 
+use crate::split::split_of;
 use crate::work::{Made, Work};
+use link_quota::QuotaLink;
 use link_server::LinkState;
 use link_steps::{Ask, LinkStep, Reply};
 use net_units::{ChanNo, Kind, Level, OutOfMemory};
@@ -9,14 +11,28 @@ use std::alloc::Global;
 
 /// What a new link makes of the work with so many channels. None where it has no memory for a row.
 pub fn work_through(alloc: Global, work: &Work, channels: u32) -> Option<Made> {
-    let mut link = LinkState::new(alloc, work.shape()?).ok()?;
+    let link = LinkState::new(alloc, work.shape()?).ok()?;
+    make(link, work, channels)
+}
+
+/// What one makes of it that is split, where one group has all channels and all that the link can carry.
+pub fn work_through_split(alloc: Global, work: &Work, channels: u32) -> Option<Made> {
+    let shape = work.shape()?;
+    let split = split_of(alloc, &shape, channels)?;
+    let link = QuotaLink::new(alloc, shape, split).ok()?;
+    make(link, work, channels)
+}
+
+// What the link makes of it.
+fn make<L: LinkStep>(link: L, work: &Work, channels: u32) -> Option<Made> {
+    let mut link = link;
     let accepted = open_all(&mut link, work, channels)?;
     let departed = make_ticks(&mut link, work.ticks())?;
     Some(Made { accepted, departed })
 }
 
 // Opens the channels, and lets them send. It answers how many the link accepts.
-fn open_all(link: &mut LinkState, work: &Work, channels: u32) -> Option<u64> {
+fn open_all<L: LinkStep>(link: &mut L, work: &Work, channels: u32) -> Option<u64> {
     let mut accepted = 0_u64;
     for number in 0..channels {
         let chan = ChanNo::new(number)?;
@@ -34,10 +50,11 @@ fn open_all(link: &mut LinkState, work: &Work, channels: u32) -> Option<u64> {
 }
 
 // Makes so many ticks. It answers how many packets depart.
-fn make_ticks(link: &mut LinkState, ticks: u32) -> Option<u64> {
+fn make_ticks<L: LinkStep>(link: &mut L, ticks: u32) -> Option<u64> {
+    let tick = Ask::Tick;
     let mut departed = 0_u64;
     for _ in 0..ticks {
-        match step(link, &Ask::Tick) {
+        match step(link, &tick) {
             Ok(Reply::Ticked { sent: Some(_), .. }) => departed = departed.saturating_add(1),
             Ok(_) => {}
             Err(_) => return None,
@@ -47,9 +64,10 @@ fn make_ticks(link: &mut LinkState, ticks: u32) -> Option<u64> {
 }
 
 // One step; an `Err` where it has no memory, or the clock is past the range of a step. It answers what the link answers as it
-// stands, since a reply that is copied once more takes as long as a tick of an idle link.
-fn step(link: &mut LinkState, ask: &Ask) -> Result<Reply, OutOfMemory>
-    requires { AskFits link.old.shape ask.now }
+// stands, and is made where it is called, since a reply that is copied once more takes longer than a tick of an idle link.
+#[inline(always)]
+fn step<L: LinkStep>(link: &mut L, ask: &Ask) -> Result<Reply, OutOfMemory>
+    requires { AskFits (L.link_of link.old).shape ask.now }
 {
     if link.clock() >= 1 << 61 {
         return Err(OutOfMemory);
@@ -58,7 +76,7 @@ fn step(link: &mut LinkState, ask: &Ask) -> Result<Reply, OutOfMemory>
 }
 
 // Reserves and relaxes a channel at the only hop of its route. It answers whether the link has offered a level.
-fn open(link: &mut LinkState, work: &Work, chan: ChanNo) -> Option<bool> {
+fn open<L: LinkStep>(link: &mut L, work: &Work, chan: ChanNo) -> Option<bool> {
     let contract = work.contract()?;
     // `smax` tells that the four numbers are a contract's, as the ask wants.
     let _smax = contract.smax();
@@ -79,7 +97,7 @@ fn open(link: &mut LinkState, work: &Work, chan: ChanNo) -> Option<bool> {
 }
 
 // Commits it at a level of the link.
-fn relax(link: &mut LinkState, chan: ChanNo, level: Level) -> Option<Reply> {
+fn relax<L: LinkStep>(link: &mut L, chan: ChanNo, level: Level) -> Option<Reply> {
     if level.get() > link.shape().bounds.len() {
         return None;
     }
@@ -96,7 +114,7 @@ fn relax(link: &mut LinkState, chan: ChanNo, level: Level) -> Option<Reply> {
 }
 
 // Plans the packets that its source sends, if any.
-fn send(link: &mut LinkState, work: &Work, chan: ChanNo) -> Option<()> {
+fn send<L: LinkStep>(link: &mut L, work: &Work, chan: ChanNo) -> Option<()> {
     let ask = match work {
         Work::Voice => Ask::Submit {
             chan,

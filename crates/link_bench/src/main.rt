@@ -1,14 +1,15 @@
 //! A benchmark of one link alone, without a network and without a record of what it does: `link_bench WORK CHANNELS TIMES`
 //! gives new links the work of this name, one after the other, and prints how many channels they accepted and how many packets
-//! departed. `bench/link` times it.
+//! departed; `link_bench split WORK CHANNELS TIMES` gives it links that are split, for one group. `bench/link` times it.
 #![tactic(auto)]
 
 ghost use Rattle.std.specs.Prelude.{◌≤◌, IfOk, IfSome};
 
 pub mod link;
+pub mod split;
 pub mod work;
 
-use link::work_through;
+use link::{work_through, work_through_split};
 use std::alloc::Global;
 use std::process::ExitCode;
 use std::rt::Env;
@@ -23,6 +24,7 @@ const MOST_TIMES: u64 = 1_000_000;
 // What the words after the program's name ask for.
 #[derive(Clone, Copy)]
 struct Words {
+    split: bool,
     work: Work,
     channels: u32,
     times: u64,
@@ -42,12 +44,18 @@ fn main(rt: HostRuntime) -> ExitCode {
     }
 }
 
-// The work, the number of channels, and that of links, where these are the words after the program's name.
+// The work, the number of channels, and that of links, where these are the words after the program's name; before them may
+// stand that the links are split.
 fn read_words(rt: &(impl Env + AllocGlobal)) -> io::Result<Option<Words>> {
+    let mut split = false;
     let mut work = None;
     let mut numbers = (0, 0);
     let mut count = 0_u64;
     for word in env::args(rt)?.skip(1) {
+        if count == 0 && !split && word.as_str() == "split" {
+            split = true;
+            continue;
+        }
         if count == 0 {
             work = Work::named(&word);
         } else {
@@ -61,6 +69,7 @@ fn read_words(rt: &(impl Env + AllocGlobal)) -> io::Result<Option<Words>> {
     match work {
         Some(work) if count == 3 && numbers.0 <= MOST_CHANNELS && numbers.1 <= MOST_TIMES => Ok(
             Some(Words {
+                split,
                 work,
                 channels: numbers.0 as u32,
                 times: numbers.1,
@@ -74,7 +83,11 @@ fn read_words(rt: &(impl Env + AllocGlobal)) -> io::Result<Option<Words>> {
 fn work_times(alloc: Global, words: &Words) -> Option<Made> {
     let mut made = Made::default();
     for _ in 0..words.times {
-        let by_one = work_through(alloc, &words.work, words.channels)?;
+        let by_one = if words.split {
+            work_through_split(alloc, &words.work, words.channels)?
+        } else {
+            work_through(alloc, &words.work, words.channels)?
+        };
         made = made.and(&by_one);
     }
     Some(made)

@@ -1,6 +1,6 @@
 -- In every legal history of a split link in which a group loses no packet, the group's rows and the replies to its asks are
 -- those that its asks and the ticks alone make. So two histories with the same of these tell the group the same.
-use Rattle.std.proofs.Common.{◌≡◌, ℕ, suc, ◌⊎◌, inl, inr, Bool, true, false, cond, List, [], ◌∷◌, ◌++◌, map, length, Option, Some, None, refl, sym, ap, ◌∙◌, subst}
+use Rattle.std.proofs.Common.{◌≡◌, ℕ, suc, ◌⊎◌, inl, inr, Bool, true, false, List, [], ◌∷◌, map, length, Option, Some, None, refl, sym, ap, ◌∙◌, subst}
 use Rattle.std.proofs.lemmas.Bool.{cases_Bool}
 use Rattle.std.specs.Prelude.{filter, find}
 use Rattle.std.specs.Option.{option_map}
@@ -12,16 +12,15 @@ use Rattle.link_steps.specs.declared.replies.Entry.{Entry}
 use Rattle.link_steps.specs.declared.replies.Refusal.TheVariants.{Full}
 use Rattle.link_steps.specs.declared.replies.Reply.{Reply}
 use Rattle.link_steps.specs.declared.replies.Reply.TheVariants as Is
-use Rattle.link_steps.specs.declared.shape.LinkShape.{LinkShape}
 use Rattle.link_steps.specs.Hold.{stays}
 use Rattle.link_steps.specs.Legal.{IsLegal, IsLegalAfter}
-use Rattle.link_steps.specs.Lists.{Each, change_first}
+use Rattle.link_steps.specs.Lists.{change_first}
 use Rattle.link_steps.specs.Replies.{relax_reply, deny_reply, submit_to, release_to, reply_at, reply_to}
 use Rattle.link_steps.specs.Reservation.{tentative}
-use Rattle.link_steps.specs.Rows.{Row, row_terms, new_row}
+use Rattle.link_steps.specs.Rows.{Row, new_row}
 use Rattle.link_steps.specs.Scan.{Scan, clock_of, clock_with, is_row_of, is_row_at_hop, names_first_hop, relax_row, plan_row, close_row, arrived_row, with_arrival, after, scan_of}
 use Rattle.link_steps.specs.Split.{Link, is_split, is_in}
-use Rattle.link_quota.specs.Isolation.{GroupsAreIsolated, is_of_group, concerns, asks_of, told_to, LosesNone, LosesNothing, DropsNone}
+use Rattle.link_quota.specs.Isolation.{GroupsAreIsolated, is_of_group, concerns, asks_of, told_to, LosesNone, LosesNothing}
 use Rattle.link_quota.proofs.Alone.{ticks_in, own_after, own_ticked, own_arriving, own_arrived, own_arrive, own_reply, alone_rows, and_told, alone_told}
 use Rattle.link_quota.proofs.AloneSteps.{own-changed, others-changed, own-taken, others-taken, own-new, others-new, own-tick, own-terms, own-reserve, own-submit, own-release, own-arrives}
 use Rattle.link_quota.proofs.OwnRows.{own_row, own_rows, row-in, hop-of, own-found}

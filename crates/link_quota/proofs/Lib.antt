@@ -11,3 +11,4 @@ pub mod BestFacts
 pub mod RoomFacts
 pub mod HeldFacts
 pub mod StepFacts
+pub mod RestFacts

@@ -1,6 +1,6 @@
 -- The best level of a contract in a group, from the running numbers of the group and its quota: the least level from which on
 -- the load, with the contract's work, is within the quota.
-use Rattle.std.specs.Prelude.{◌≡◌, ℕ, ◌+◌, ◌-◌, ◌<◌, ◌≤◌, suc, nat_le, Bool, true, false, Option, List, length, slice_index}
+use Rattle.std.specs.Prelude.{◌≡◌, ℕ, ◌+◌, ◌-◌, ◌<◌, ◌≤◌, suc, nat_le, Bool, true, false, Option, length, slice_index}
 use Rattle.net_units.specs.LevelBounds.{bound_at}
 use Rattle.traffic_contract.specs.Admission.{work_in, first_level}
 use Rattle.traffic_contract.specs.Contract.{Traffic}

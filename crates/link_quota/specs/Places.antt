@@ -3,7 +3,7 @@
 use Rattle.std.specs.Prelude.{◌≡◌, ◌≢◌, ℕ, ◌+◌, ◌-◌, ◌^◌, ◌<◌, ◌≤◌, true, false, if◌then◌else◌, Option, Some, None}
 use Rattle.std.specs.Prelude.{List, length, slice_get, slice_index}
 use Rattle.link_steps.specs.declared.quota.Quota.{Quota}
-use Rattle.link_steps.specs.Split.{Split, Link, is_in, quota_part}
+use Rattle.link_steps.specs.Split.{Link, is_in}
 use Rattle.link_server.specs.declared.held_row.HeldRow.{HeldRow}
 use Rattle.link_quota.specs.declared.share.Share.{Share}
 use Rattle.traffic_contract.specs.Admission.{total}

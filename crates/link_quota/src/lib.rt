@@ -7,10 +7,8 @@ mod groups;
 pub mod laws;
 mod offer;
 pub mod quota_link;
+mod resting;
 mod share;
 
 pub use any_link::AnyLink;
 pub use quota_link::QuotaLink;
-
-#[cfg(test)]
-mod tests;

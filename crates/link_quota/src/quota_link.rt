@@ -2,6 +2,7 @@
 ghost use Rattle.std.specs.Prelude.{◌≡◌, ◌^◌, ◌<◌, ◌≤◌, ◌∷◌, [], List, length, map, IfOk, OnErr, IsOk};
 ghost use Rattle.link_steps.specs.Split.{Link, SplitFits};
 ghost use Rattle.link_server.specs.Held.{reservations_held};
+ghost use Rattle.link_server.specs.Resting.{RestsFromClock, RestsFromClock-prop};
 ghost use Rattle.link_server.specs.State.{kept_in};
 ghost use Rattle.link_quota.specs.Shares.{AreShares, AreShares-prop};
 ghost use Rattle.link_quota.specs.Stood.{IsLegallyStood, IsLegallyStood-prop, SplitFits-prop};
@@ -29,9 +30,12 @@ pub struct QuotaLink {
     pub(crate) split: Split,
     // What the rows of each group that has a quota hold together, in the order of the quotas.
     pub(crate) shares: Vec<Share>,
+    // Nothing falls due in the link inside before this tick.
+    pub(crate) due: u64,
     ghost fits: { SplitFits (record { shape = link.shape; split = split }) } by { SplitFits-prop (record { shape = link.shape; split = split }) },
     ghost shared: { AreShares (record { shape = link.shape; split = split }) (reservations_held link) shares.items } by { AreShares-prop (record { shape = link.shape; split = split }) (reservations_held link) shares.items },
     ghost stood: { IsLegallyStood (record { shape = link.shape; split = split }) (kept_in link) } by { IsLegallyStood-prop (record { shape = link.shape; split = split }) (kept_in link) },
+    ghost rests: { RestsFromClock link.shape due (kept_in link) } by { RestsFromClock-prop link.shape due (kept_in link) },
 }
 
 impl QuotaLink {
@@ -70,6 +74,7 @@ impl QuotaLink {
             link,
             split,
             shares,
+            due: 0,
         })
     }
 
@@ -148,6 +153,7 @@ impl QuotaLink {
         ensures ticked { IfOk result (λ _. self.new.link.clock ≡ clock_with ask.now self.old.link.clock) }
         ensures stopped { OnErr result (self.new.link.clock ≡ self.old.link.clock) }
     {
+        self.due = 0;
         self.link.step(ask)
     }
 
@@ -177,6 +183,7 @@ impl QuotaLink {
         match self.offer(*chan, contract, *delay, *up_reach) {
             Err(refusal) => Ok(Reply::Refused(refusal)),
             Ok(level) => {
+                self.due = 0;
                 let reply = self.link.reserve_at(ask, level)?;
                 let shape = self.link.shape();
                 let row = self.link.held_of(*chan);
@@ -199,6 +206,7 @@ impl QuotaLink {
         ensures ticked { IfOk result (λ _. self.new.link.clock ≡ clock_with ask.now self.old.link.clock) }
         ensures stopped { OnErr result (self.new.link.clock ≡ self.old.link.clock) }
     {
+        self.due = 0;
         let before = self.link.held_of(chan);
         let reply = self.link.step(ask)?;
         let shape = self.link.shape();
@@ -207,7 +215,7 @@ impl QuotaLink {
         Ok(reply)
     }
 
-    // Makes a tick. Rows may expire in it.
+    // Makes a tick, and looks first until when nothing falls due.
     fn tick(&mut self, ask: &Ask) -> Result<Reply, OutOfMemory>
         requires fits { AskFits self.old.link.shape ask.now }
         requires early { self.old.link.clock < 2 ^ 61 }
@@ -220,12 +228,34 @@ impl QuotaLink {
         ensures ticked { IfOk result (λ _. self.new.link.clock ≡ clock_with ask.now self.old.link.clock) }
         ensures stopped { OnErr result (self.new.link.clock ≡ self.old.link.clock) }
     {
+        self.due = self.link.rests_until();
+        if self.link.clock() < self.due {
+            return Ok(self.rest_once());
+        }
+        self.make_tick(ask)
+    }
+
+    // Makes a tick in which something may fall due. Rows may expire in it. It answers what the link inside answers as it stands,
+    // since each copy of a reply takes as long as a part of the tick.
+    fn make_tick(&mut self, ask: &Ask) -> Result<Reply, OutOfMemory>
+        requires fits { AskFits self.old.link.shape ask.now }
+        requires early { self.old.link.clock < 2 ^ 61 }
+        requires splits { is_split self.old.split ≡ true }
+        requires ticks { ask.now ≡ Tick }
+        ensures shape { self.new.link.shape ≡ self.old.link.shape }
+        ensures split { self.new.split ≡ self.old.split }
+        ensures goes { IfOk result (λ reply. GoesOn (rules_of self.old) (kept_in self.old.link) (kept_in self.new.link) ask.now reply) }
+        ensures memory { OnErr result ((h : List Entry) → QuotaStands self.old h → QuotaStands self.new h) }
+        ensures ticked { IfOk result (λ _. self.new.link.clock ≡ clock_with ask.now self.old.link.clock) }
+        ensures stopped { OnErr result (self.new.link.clock ≡ self.old.link.clock) }
+    {
+        self.due = 0;
         let before = self.link.rows_held();
-        let reply = self.link.step(ask)?;
+        let reply = self.link.step(ask);
         if self.link.rows_held() < before {
             count_anew(&mut self.shares, &self.split, &self.link);
         }
-        Ok(reply)
+        reply
     }
 
     // Answers an ask that carries packets.
@@ -240,11 +270,32 @@ impl QuotaLink {
         ensures ticked { IfOk result (λ _. self.new.link.clock ≡ clock_with ask.now self.old.link.clock) }
         ensures stopped { OnErr result (self.new.link.clock ≡ self.old.link.clock) }
     {
+        self.due = 0;
         self.link.step(ask)
     }
 
-    // Answers any ask.
+    // Answers any ask. Most are ticks in which nothing falls due: one waits for none of what the others need, and is made where it
+    // is called, since to copy its reply once more takes longer than all of it.
+    #[inline(always)]
     fn answer(&mut self, ask: &Ask) -> Result<Reply, OutOfMemory>
+        requires fits { AskFits self.old.link.shape ask.now }
+        requires early { self.old.link.clock < 2 ^ 61 }
+        ensures shape { self.new.link.shape ≡ self.old.link.shape }
+        ensures split { self.new.split ≡ self.old.split }
+        ensures goes { IfOk result (λ reply. GoesOn (rules_of self.old) (kept_in self.old.link) (kept_in self.new.link) ask.now reply) }
+        ensures memory { OnErr result ((h : List Entry) → QuotaStands self.old h → QuotaStands self.new h) }
+        ensures ticked { IfOk result (λ _. self.new.link.clock ≡ clock_with ask.now self.old.link.clock) }
+        ensures stopped { OnErr result (self.new.link.clock ≡ self.old.link.clock) }
+    {
+        match ask {
+            Ask::Tick if self.link.clock() < self.due => Ok(self.rest_once()),
+            _ => self.make_step(ask),
+        }
+    }
+
+    // Answers an ask by which something may fall due.
+    #[inline(never)]
+    fn make_step(&mut self, ask: &Ask) -> Result<Reply, OutOfMemory>
         requires fits { AskFits self.old.link.shape ask.now }
         requires early { self.old.link.clock < 2 ^ 61 }
         ensures shape { self.new.link.shape ≡ self.old.link.shape }
@@ -294,6 +345,7 @@ impl LinkStep for QuotaLink {
     ///
     /// Where the history is legal the next one has the hop guarantee (`guaranteed`): after each of its entries the held
     /// rows, of all groups together, pass the admission test, and each packet leaves in time.
+    #[inline(always)]
     fn step(&mut self, ask: &Ask) -> Result<Reply, OutOfMemory>
         requires fits { AskFits self.old.link.shape ask.now }
         requires early { self.old.link.clock < 2 ^ 61 }

@@ -1,5 +1,5 @@
 //! Generated lists of asks: a link replies to each as one that is plain lists does.
-ghost use Rattle.std.specs.Prelude.{◌<◌, IfOk};
+ghost use Rattle.std.specs.Prelude.{◌^◌, ◌<◌, IfOk};
 ghost use Rattle.traffic_contract.specs.Contract.{IsContract};
 ghost use Rattle.link_steps.specs.Legal.{AskFits, SubmitFits};
 ghost use Rattle.link_steps.specs.declared.shape.LinkShape.{LinkShape as Shape};
@@ -7,7 +7,7 @@ ghost use Rattle.link_steps.specs.declared.shape.LinkShape.{LinkShape as Shape};
 use super::plain::PlainLink;
 use super::{open, step};
 use link_server::LinkState;
-use link_steps::{Ask, LinkStep, Packet};
+use link_steps::{Ask, LinkStep, Packet, Reply};
 use net_units::{ChanNo, Kind, Level};
 use std::test::Fail;
 use traffic_contract::Contract;
@@ -141,8 +141,45 @@ fn pour(link: &LinkState, count: u64, gap: u64, size: u32) -> Result<Ask, Fail>
     Ok(Ask::Pour { count, gap, size })
 }
 
+// Makes the ticks before the next one in which something falls due in the link, but at most so many, in one stride. It answers how
+// many they are.
+fn rest(link: &mut LinkState, most: u64) -> Result<u64, Fail>
+    requires { most < 2 ^ 32 }
+{
+    let clock = link.clock();
+    if clock >= 1 << 60 {
+        return Err(Fail::from("the clock is too late for a step"));
+    }
+    let until = link.rests_until();
+    if until <= clock {
+        return Ok(0);
+    }
+    let ticks = (until - clock).min(most);
+    link.rest(ticks);
+    Ok(ticks)
+}
+
+// Whether the plain lists have so many quiet ticks, from this one on.
+fn are_quiet(plain: &mut PlainLink, clock: u64, ticks: u64) -> Result<bool, Fail> {
+    for tick in 0..ticks {
+        let quiet = Reply::Ticked {
+            clock: clock.wrapping_add(tick),
+            full: 0,
+            sent: None,
+            best_sent: false,
+            best_lost: false,
+        };
+        if plain.answer(&Ask::Tick)? != quiet {
+            return Ok(false);
+        }
+    }
+    Ok(true)
+}
+
+// In four of five lists the link makes ticks in strides, too.
 #[test]
 fn a_link_replies_as_plain_lists_do(rt: HostRuntime) -> Result<(), Fail> {
+    let mut rested = 0_u64;
     for list in 0..LISTS {
         let buffer = if list % 2 == 0 { 20 } else { 100 };
         let mut link = open(rt.alloc(), buffer)?;
@@ -153,7 +190,15 @@ fn a_link_replies_as_plain_lists_do(rt: HostRuntime) -> Result<(), Fail> {
             let ask = ask(&link, number)?;
             let reply = step(&mut link, &ask)?;
             assert_eq!(rt; reply, plain.answer(&ask)?, "list {list}, ask {turn}");
+            let clock = link.clock();
+            let ticks = rest(&mut link, list % 5)?;
+            assert!(rt;
+                are_quiet(&mut plain, clock, ticks)?,
+                "list {list}, ask {turn}"
+            );
+            rested = rested.wrapping_add(ticks);
         }
     }
+    assert!(rt; rested > LISTS);
     Ok(())
 }

@@ -1,15 +1,12 @@
 -- A new link holds no rows.
 use Rattle.std.proofs.lemmas.List.{length_push}
 use Rattle.link_quota.specs.declared.share.Share.{Share}
-use Rattle.std.proofs.Common.{◌≡◌, ◌∙◌, List, [], ◌∷◌, ◌++◌, ◌+◌, length, map, sym, ap, subst, arith}
-use Rattle.link_steps.specs.Rows.{row_terms}
-use Rattle.link_steps.specs.Scan.{scan_of}
+use Rattle.std.proofs.Common.{◌≡◌, ◌∙◌, List, [], ◌∷◌, ◌++◌, ◌+◌, length, sym, ap, subst, arith}
 use Rattle.link_server.specs.State.{kept_in}
-use Rattle.link_server.specs.Held.{reservations_held}
-use Rattle.link_server.proofs.ChosenFacts.{terms-stand}
 use Rattle.link_quota.specs.Shares.{AreShares}
 use Rattle.link_quota.proofs.AnewFacts.{AreNoneTo, none-push, shares-none}
 use Rattle.link_quota.proofs.QuotaFacts.{stood-new, held-new}
+use Rattle.link_server.proofs.RestFacts.{due-now}
 use Rattle.link_quota.proofs.quota_link.QuotaLink.new.Goals as goal
 
 pub invariant_of-result : goal.invariant_of-result
@@ -26,6 +23,7 @@ invariant_of-result c =
           subst (λ held. AreShares (record { shape = c.in_ok-link.link.shape; split = c.args.split }) held c.loop.shares.items) (sym (held-new c.in_ok-link.link stands))
           (shares-none (record { shape = c.in_ok-link.link.shape; split = c.args.split }) c.loop.shares.items c.loop.index (omega (arith, long)) (omega (arith, long, past, end, quotas)) c.loop.invariant.1);
       stood = stood-new (record { shape = c.in_ok-link.link.shape; split = c.args.split }) (kept_in c.in_ok-link.link) stands;
+      rests = due-now c.in_ok-link.link.shape (kept_in c.in_ok-link.link);
     }
 
 pub loop-preserved : goal.loop-preserved

@@ -1,5 +1,5 @@
 -- The rules are tried in their order, over the reservations held and the room of the group.
-use Rattle.std.proofs.Common.{◌≡◌, ◌+◌, ◌-◌, ◌≤◌, true, false, Some, None, sym, ap, ◌∙◌, subst, length, arith}
+use Rattle.std.proofs.Common.{◌≡◌, ◌-◌, ◌≤◌, true, Some, None, sym, ap, ◌∙◌, subst, length, arith}
 use Rattle.std.proofs.lemmas.Bool.{le-leb, lt-leb}
 use Rattle.std.specs.Prelude.{find, nat_le}
 use Rattle.net_units.specs.Numbers.{level_number}
@@ -10,10 +10,8 @@ use Rattle.link_steps.specs.Buffer.{need_of}
 use Rattle.link_steps.specs.Levels.{level_of}
 use Rattle.link_steps.specs.Replies.{reserve_reply, reserve_reply_in}
 use Rattle.link_steps.specs.Reservation.{is_of}
-use Rattle.link_steps.specs.Split.{group_of}
 use Rattle.link_steps.proofs.LevelFacts.{level_of-level}
-use Rattle.link_steps.proofs.SplitFacts.{AreWithin}
-use Rattle.link_server.specs.Held.{reservations_held, seen_of}
+use Rattle.link_server.specs.Held.{reservations_held}
 use Rattle.link_server.specs.State.{kept_in}
 use Rattle.std.specs.List.{slice_index}
 use Rattle.link_quota.specs.Best.{best_of, load_of}

@@ -1,29 +1,26 @@
 -- The reply is by the room of the group, and the new row is held in the group's share.
-use Rattle.std.proofs.Common.{◌≡◌, ◌^◌, ◌<◌, List, ◌∷◌, length, Some, None, refl, sym, ap, ◌∙◌, subst, arith}
-use Rattle.std.specs.Prelude.{IfSome, find}
+use Rattle.std.proofs.Common.{◌≡◌, List, ◌∷◌, None, refl, sym, ap, ◌∙◌, subst}
 use Rattle.net_units.specs.Numbers.{level_number}
 use Rattle.net_units.specs.LevelBounds.{reach_of}
-use Rattle.link_steps.specs.declared.asks.Ask.TheVariants.{Reserve}
 use Rattle.link_steps.specs.declared.replies.Entry.{Entry}
 use Rattle.link_steps.specs.declared.replies.Reply.TheVariants.{Offer, Refused}
 use Rattle.link_steps.specs.Kept.{StandsFor}
 use Rattle.link_steps.specs.Levels.{level_of}
-use Rattle.link_steps.specs.Replies.{reserve_reply, reply_to}
-use Rattle.link_steps.specs.Reservation.{is_of}
-use Rattle.link_steps.specs.Split.{Link, SplitFits}
+use Rattle.link_steps.specs.Split.{SplitFits}
 use Rattle.std.specs.Option.{option_map}
 use Rattle.link_steps.specs.Scan.{scan_of}
 use Rattle.link_server.specs.Held.{reservations_held, seen, seen_of, reach_at}
 use Rattle.link_quota.proofs.RowChanges.{IsSetupOf, OffersNew}
-use Rattle.link_server.specs.State.{kept_in, LinkStands}
-use Rattle.link_quota.specs.Places.{HavePart, AreSmall, AreChangedBy}
+use Rattle.link_server.specs.State.{kept_in}
+use Rattle.link_quota.specs.Places.{AreSmall, AreChangedBy}
 use Rattle.link_quota.specs.Shares.{AreShares}
-use Rattle.link_quota.specs.State.{rules_of, QuotaStands}
+use Rattle.link_quota.specs.State.{rules_of}
 use Rattle.link_quota.specs.Steps.{GoesOn}
 use Rattle.link_quota.specs.Stood.{IsLegallyStood}
 use Rattle.link_quota.specs.declared.share.Share.{Share}
 use Rattle.link_quota.proofs.QuotaFacts.{stood-goes, stood-same, shares-kept, shares-setup, reserve-legal, refused-enters, offer-may-be, offers-new, offered-none}
 use Rattle.link_quota.proofs.StepFacts.{on-err, written-back, small-after, small-shares}
+use Rattle.link_server.proofs.RestFacts.{due-now}
 use Rattle.link_quota.proofs.quota_link.QuotaLink.reserve.Goals as goal
 use Rattle.link_quota.proofs.quota_link.QuotaLink.reserve.Goals.{In-Ok, In_ok-reply-in-Ok, In_err-reply-in-Ok}
 
@@ -55,6 +52,7 @@ invariant_of-self c =
           (shares-kept (rules_of c.args.self.now) (kept_in c.args.self.now.link) (kept_in c.reserve_at.new.self) c.args.self.now.shares.items same c.args.self.now.stood c.args.self.now.shared);
       stood = subst (λ s. IsLegallyStood (record { shape = s; split = c.args.self.now.split }) (kept_in c.reserve_at.new.self)) (sym shape)
           (stood-same (rules_of c.args.self.now) (kept_in c.args.self.now.link) (kept_in c.reserve_at.new.self) same c.args.self.now.stood);
+      rests = due-now c.reserve_at.new.self.shape (kept_in c.reserve_at.new.self);
     }
 
 -- ---- offered
@@ -107,4 +105,5 @@ invariant_of-self-in-Ok c =
           (λ h stands. subst (λ reply. OffersNew c.args.ask.now reply (scan_of c.args.self.now.link.shape h).rows) (sym c.in_ok-reply-in-Ok.ensures.offered) (offers-new (rules_of c.args.self.now) (kept_in c.args.self.now.link) c.in-Reserve.chan c.in-Reserve.contract c.in-Reserve.kind c.in-Reserve.delay c.in-Reserve.up_reach c.in-Reserve.first c.in-Reserve.next c.args.ask.now c.in-Ok.level _ c.in-Reserve.is none h stands))
           c.args.self.now.stood c.args.self.now.shared changed));
       stood = subst (λ s. IsLegallyStood (record { shape = s; split = c.args.self.now.split }) (kept_in c.reserve_at.new.self)) (sym same) (stood here.In_ok-reply-in-Ok);
+      rests = due-now c.reserve_at.new.self.shape (kept_in c.reserve_at.new.self);
     }

@@ -1,5 +1,5 @@
 -- The channel's row before is given back, and the one after is held.
-use Rattle.std.proofs.Common.{◌≡◌, ◌^◌, ◌<◌, List, length, sym, ap, ◌∙◌, subst, arith}
+use Rattle.std.proofs.Common.{◌≡◌, List, sym, ap, ◌∙◌, subst}
 use Rattle.std.specs.Prelude.{IfSome}
 use Rattle.link_steps.specs.Split.{Link, SplitFits}
 use Rattle.link_server.specs.Held.{reservations_held, seen_of}
@@ -12,6 +12,7 @@ use Rattle.link_quota.specs.Stood.{IsLegallyStood}
 use Rattle.link_quota.specs.declared.share.Share.{Share}
 use Rattle.link_quota.proofs.QuotaFacts.{goes-on, stood-goes, shares-setup}
 use Rattle.link_quota.proofs.StepFacts.{written-back, settling-other, settling-setup, settling-new, part-before, small-after, small-shares}
+use Rattle.link_server.proofs.RestFacts.{due-now}
 use Rattle.link_quota.proofs.quota_link.QuotaLink.settle.Goals as goal
 use Rattle.link_quota.proofs.quota_link.QuotaLink.settle.Goals.{In_ok-reply, After-shape-shape, After-held_of-after}
 
@@ -70,4 +71,5 @@ invariant_of-self-2 c =
           (subst (λ s. AreShares (record { shape = s; split = c.args.self.now.split }) (reservations_held c.step.new.self) c.change_row.new.shares) (sym same)
           (shares-setup (rules_of c.args.self.now) (kept_in c.args.self.now.link) (kept_in c.step.new.self) c.args.ask.now c.in_ok-reply.reply c.args.chan c.args.self.now.shares.items c.change_row.new.shares c.args.self.now.fits (goes here.In_ok-reply) (settling-setup c.args.chan c.args.ask.now c.requires.settles) (λ h stands. settling-new c.args.chan c.args.ask.now c.in_ok-reply.reply _ c.requires.settles) c.args.self.now.stood c.args.self.now.shared changed));
       stood = subst (λ s. IsLegallyStood (record { shape = s; split = c.args.self.now.split }) (kept_in c.step.new.self)) (sym same) (stood here.In_ok-reply);
+      rests = due-now c.step.new.self.shape (kept_in c.step.new.self);
     }

@@ -1,5 +1,5 @@
 -- There are no quotas, and so no shares.
-use Rattle.std.proofs.Common.{◌≡◌, sym, ap, subst}
+use Rattle.std.proofs.Common.{sym, ap, subst}
 use Rattle.link_steps.specs.Split.{Link, SplitFits}
 use Rattle.link_server.specs.Held.{reservations_held}
 use Rattle.link_server.specs.State.{kept_in}
@@ -8,6 +8,7 @@ use Rattle.link_quota.specs.State.{rules_of}
 use Rattle.link_quota.specs.Stood.{IsLegallyStood}
 use Rattle.link_quota.proofs.QuotaFacts.{shares-unsplit}
 use Rattle.link_quota.proofs.StepFacts.{goes-all-unsplit, same-shape, stood-all}
+use Rattle.link_server.proofs.RestFacts.{due-now}
 use Rattle.link_quota.proofs.quota_link.QuotaLink.whole.Goals as goal
 
 pub returns-clause-goes : goal.returns-clause-goes
@@ -25,4 +26,5 @@ invariant_of-self c =
           (shares-unsplit (rules_of c.args.self.now) (reservations_held c.args.self.now.link) (reservations_held c.step.new.self) c.args.self.now.shares.items c.requires.whole c.args.self.now.shared);
       stood = subst (λ s. IsLegallyStood (record { shape = s; split = c.args.self.now.split }) (kept_in c.step.new.self)) (sym shape)
           (stood-all (rules_of c.args.self.now) (kept_in c.args.self.now.link) (kept_in c.step.new.self) c.args.ask.now c.step.result goes same c.args.self.now.stood);
+      rests = due-now c.step.new.self.shape (kept_in c.step.new.self);
     }

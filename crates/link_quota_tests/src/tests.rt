@@ -6,7 +6,7 @@ ghost use Rattle.std.specs.Prelude.{◌≡◌, ◌<◌, ◌≤◌, IsTrue};
 ghost use Rattle.net_units.specs.Limits.{most_channels};
 ghost use Rattle.link_steps.specs.Legal.{AskFits};
 
-use crate::{AnyLink, QuotaLink};
+use link_quota::{AnyLink, QuotaLink};
 use link_steps::{Ask, LinkShape, LinkStep, Quota, Refusal, Reply, Split};
 use net_units::limits::MOST_BOUND;
 use net_units::{Bounds, ChanNo, Kind, Level, LinkNo};

@@ -1,0 +1,75 @@
+-- Where rows have expired the shares are counted anew, and elsewhere no reservation changes.
+use Rattle.std.proofs.Common.{◌≡◌, List, sym, ap, ◌∙◌, subst, arith}
+use Rattle.std.specs.Prelude.{IfOk, OnErr}
+use Rattle.link_steps.specs.declared.replies.Entry.{Entry}
+use Rattle.link_steps.specs.Kept.{StandsFor}
+use Rattle.link_steps.specs.Split.{Link, SplitFits}
+use Rattle.link_server.specs.Held.{reservations_held}
+use Rattle.link_server.specs.State.{kept_in}
+use Rattle.link_quota.specs.Places.{AreFew}
+use Rattle.link_quota.specs.Shares.{AreShares}
+use Rattle.link_quota.specs.State.{rules_of}
+use Rattle.link_quota.specs.Steps.{GoesOn}
+use Rattle.link_quota.specs.Stood.{IsLegallyStood}
+use Rattle.link_quota.specs.declared.share.Share.{Share}
+use Rattle.link_quota.proofs.QuotaFacts.{stood-within, few-held}
+use Rattle.link_quota.proofs.StepFacts.{written-back, tick-other, goes-all, same-shape, stood-all, ticked-all}
+use Rattle.link_server.proofs.RestFacts.{due-now}
+use Rattle.link_quota.proofs.quota_link.QuotaLink.make_tick.Goals as goal
+use Rattle.link_quota.proofs.quota_link.QuotaLink.make_tick.Goals.{After-rows_held}
+
+same : (c : After-rows_held) → c.step-reply.new.self.shape ≡ c.args.self.now.link.shape
+same c = ap (λ (l : Link). l.shape) c.step-reply.ensures.same
+
+goes : (c : After-rows_held) → IfOk c.step-reply.result (GoesOn (rules_of c.args.self.now) (kept_in c.args.self.now.link) (kept_in c.step-reply.new.self) c.args.ask.now)
+goes c =
+    goes-all c.args.self.now.split c.args.self.now.link c.step-reply.new.self c.args.ask.now c.step-reply.result (tick-other c.args.ask.now c.requires.ticks) c.requires.fits (same c) c.step-reply.ensures.legal c.step-reply.ensures.entered
+
+kept-same : (c : After-rows_held) → OnErr c.step-reply.result ((h : List Entry) → StandsFor c.args.self.now.link.shape (kept_in c.args.self.now.link) h → StandsFor c.args.self.now.link.shape (kept_in c.step-reply.new.self) h)
+kept-same c = same-shape c.args.self.now.link c.step-reply.new.self c.step-reply.result (same c) c.step-reply.ensures.memory
+
+stood : (c : After-rows_held) → IsLegallyStood (rules_of c.args.self.now) (kept_in c.step-reply.new.self)
+stood c = stood-all (rules_of c.args.self.now) (kept_in c.args.self.now.link) (kept_in c.step-reply.new.self) c.args.ask.now c.step-reply.result (goes c) (kept-same c) c.args.self.now.stood
+
+pub count_anew-requires-clause-few : goal.count_anew-requires-clause-few
+count_anew-requires-clause-few c =
+    let here = goal.at.count_anew-requires-clause-few c in
+    subst (λ s. AreFew (record { shape = s; split = c.args.self.now.split }) (reservations_held c.step-reply.new.self)) (sym (same here.After-rows_held))
+    (few-held (rules_of c.args.self.now) (reservations_held c.step-reply.new.self) (stood-within (rules_of c.args.self.now) (kept_in c.step-reply.new.self) c.args.self.now.fits c.requires.splits (stood here.After-rows_held)))
+
+pub returns-then-rows_held-before-clause-goes : goal.returns-then-rows_held-before-clause-goes
+returns-then-rows_held-before-clause-goes c = goes (goal.at.returns-then-rows_held-before-clause-goes c).After-rows_held
+
+pub returns-else-rows_held-before-clause-goes : goal.returns-else-rows_held-before-clause-goes
+returns-else-rows_held-before-clause-goes c = goes (goal.at.returns-else-rows_held-before-clause-goes c).After-rows_held
+
+pub invariant_of-self : goal.invariant_of-self
+invariant_of-self c =
+    let here = goal.at.invariant_of-self c in
+    let shape = same here.After-rows_held in
+    let counted = c.count_anew.ensures in
+    let before = c.args.self.now.shared.long in
+    let long = counted.long in
+    let back = written-back c.args.self.now.shares.items c.count_anew.new.shares c.args.self.now.shares.len (long ∙ sym before) (sym c.args.self.now.shares.ok.0) in
+    record {
+      fits = subst (λ s. SplitFits (record { shape = s; split = c.args.self.now.split })) (sym shape) c.args.self.now.fits;
+      shared = subst (λ (items : List Share). AreShares (record { shape = c.step-reply.new.self.shape; split = c.args.self.now.split }) (reservations_held c.step-reply.new.self) items) (sym back) counted;
+      stood = subst (λ s. IsLegallyStood (record { shape = s; split = c.args.self.now.split }) (kept_in c.step-reply.new.self)) (sym shape) (stood here.After-rows_held);
+      rests = due-now c.step-reply.new.self.shape (kept_in c.step-reply.new.self);
+    }
+
+pub invariant_of-self-else-rows_held-before : goal.invariant_of-self-else-rows_held-before
+invariant_of-self-else-rows_held-before c =
+    let here = goal.at.invariant_of-self-else-rows_held-before c in
+    let shape = same here.After-rows_held in
+    let was = c.rows_held-before.ensures.count in
+    let now = c.rows_held.ensures.count in
+    let most = c.if-rows_held-before.false in
+    let ticked = subst (λ ask. IfOk c.step-reply.result (GoesOn (rules_of c.args.self.now) (kept_in c.args.self.now.link) (kept_in c.step-reply.new.self) ask)) c.requires.ticks (goes here.After-rows_held) in
+    record {
+      fits = subst (λ s. SplitFits (record { shape = s; split = c.args.self.now.split })) (sym shape) c.args.self.now.fits;
+      shared = subst (λ s. AreShares (record { shape = s; split = c.args.self.now.split }) (reservations_held c.step-reply.new.self) c.args.self.now.shares.items) (sym shape)
+          (ticked-all (rules_of c.args.self.now) (kept_in c.args.self.now.link) (kept_in c.step-reply.new.self) c.step-reply.result c.args.self.now.shares.items ticked (kept-same here.After-rows_held) (omega (arith, was, now, most)) c.args.self.now.stood c.args.self.now.shared);
+      stood = subst (λ s. IsLegallyStood (record { shape = s; split = c.args.self.now.split }) (kept_in c.step-reply.new.self)) (sym shape) (stood here.After-rows_held);
+      rests = due-now c.step-reply.new.self.shape (kept_in c.step-reply.new.self);
+    }
