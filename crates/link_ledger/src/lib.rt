@@ -13,7 +13,7 @@ pub mod home;
 pub mod locked;
 pub mod pass;
 
-pub use entries::{Entry, Journal, OwnEntry};
+pub use entries::{Entries, Entry, Journal, OwnEntry};
 pub use home::Home;
 pub use locked::{LockedLink, StepFault};
 pub use pass::Pass;

@@ -10,7 +10,7 @@ ghost use Rattle.link_ledger.specs.Owners.{OwnsAsk, NextBelow};
 ghost use Rattle.link_ledger.specs.Own.{DrewOneAtMost};
 ghost use Rattle.link_ledger.specs.Tokens.{IsLink, shape_at, OwnsAt, ActedAt, Steps};
 
-use crate::entries::{Journal, OwnEntry};
+use crate::entries::{Entries, Journal, OwnEntry};
 use crate::held::Held;
 use crate::home::Home;
 use crate::pass::Pass;
@@ -77,8 +77,8 @@ impl<L: LinkStep + Send, H: Home> LockedLink<L, H> {
     pub fn into_journal(self) -> (Journal, LinkSeat)
         ensures link { result.0.link ≡ result.1.link }
         ensures table { link_table result.1 ≡ H.table }
-        ensures marks { marks_in result.0.entries.items ≡ list_of result.1 }
-        ensures journal { (rules : Link) × IsLink H.links (seat_link result.1) rules × IsLegalJournal rules (map done_in result.0.entries.items) × IsOrdered H.owners (length H.links) (record { number = seat_link result.1; rules = rules; entries = result.0.entries.items; list = list_of result.1; seen = (link_view result.1).seen; table = link_table result.1 }) }
+        ensures marks { marks_in result.0.entries ≡ list_of result.1 }
+        ensures journal { (rules : Link) × IsLink H.links (seat_link result.1) rules × IsLegalJournal rules (map done_in result.0.entries) × IsOrdered H.owners (length H.links) (record { number = seat_link result.1; rules = rules; entries = result.0.entries; list = list_of result.1; seen = (link_view result.1).seen; table = link_table result.1 }) }
     {
         let LockedLink {
             held,
@@ -88,7 +88,7 @@ impl<L: LinkStep + Send, H: Home> LockedLink<L, H> {
         let (entries, seat) = held.into_inner().into_parts();
         let journal = Journal {
             link: seat.link(),
-            entries,
+            entries: Entries::new(entries),
         };
         (journal, seat)
     }

@@ -29,7 +29,7 @@ fn main(rt: HostRuntime) -> ExitCode {
     let made = if threads == 0 {
         plain_ticks(alloc, ticks)
     } else {
-        ticked(&rt, alloc, threads, ticks).map(|journal| journal.entries.len())
+        ticked(&rt, alloc, threads, ticks).map(|journal| journal.entries.as_slice().len())
     };
     let Some(made) = made else {
         return ExitCode::FAILURE;

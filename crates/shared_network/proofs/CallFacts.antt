@@ -1,17 +1,16 @@
 -- A setup goes on with each step: its entries are what it asks, and fewer asks are left.
-use Rattle.std.proofs.Common.{◌≡◌, ℕ, zero, suc, ◌+◌, ◌-◌, ◌<◌, ◌≤◌, true, false, cond, List, [], ◌∷◌, ◌++◌, length, map, Option, Some, None, refl, sym, ap, ◌∙◌, subst, ⊎_elim, arith}
+use Rattle.std.proofs.Common.{◌≡◌, ℕ, zero, suc, ◌+◌, ◌-◌, ◌<◌, ◌≤◌, true, false, List, [], ◌∷◌, ◌++◌, length, map, Option, Some, None, refl, sym, ap, ◌∙◌, subst, arith}
 use Rattle.std.proofs.lemmas.Bool.{cond_both}
 use Rattle.std.proofs.lemmas.List.{append_assoc, append-nil, length-append, map-append, length_push}
 use Rattle.std.proofs.lemmas.Option.{same_Some, slice_get_within}
 use Rattle.std.specs.List.{slice_get}
-use Rattle.std.specs.Prelude.{nat_eq, nat_lt}
+use Rattle.std.specs.Prelude.{nat_lt}
 use Rattle.atomic_table.specs.Seated.{TableId}
 use Rattle.net_units.specs.Numbers.{channel_number, link_number, level_number}
 use Rattle.net_units.specs.declared.numbers.ActorNo.{ActorNo}
-use Rattle.net_units.specs.declared.numbers.ChanNo.{ChanNo}
 use Rattle.net_units.specs.declared.numbers.LinkNo.{LinkNo}
 use Rattle.hop_reservation.specs.Offers.{AreLevels, next_bound}
-use Rattle.hop_reservation.specs.Routes.{IsRoute, link_of}
+use Rattle.hop_reservation.specs.Routes.{IsRoute}
 use Rattle.hop_reservation.specs.declared.route.Hop.{Hop}
 use Rattle.link_steps.specs.Lists.{Each}
 use Rattle.link_steps.specs.Split.{Link, SplitFits}
@@ -40,15 +39,12 @@ use Rattle.shared_network.specs.Calls.{Follows, reply_in}
 use Rattle.shared_network.specs.Ready.{MayStep, PassGoesOn}
 use Rattle.shared_network.proofs.StepFacts.{drawn-own}
 use Rattle.shared_network.proofs.SetupGoes.{SetupRows, SetupGoes}
-use Rattle.std.proofs.lemmas.Bool.{ne_eqb, cases_eq}
 use Rattle.std.specs.Option.{option_map}
 use Rattle.std.specs.Prelude.{Result, Ok, Err, IsOk, OnOk}
 use Rattle.std.specs.Result.{is_err}
 use Rattle.net_units.specs.LevelBounds.{are_bounds}
 use Rattle.traffic_contract.specs.Contract.{IsContract}
-use Rattle.link_steps.specs.Reservation.{tentative, committed}
-use Rattle.link_steps.specs.declared.asks.Ask.TheVariants.{Reserve, Relax, Deny, Submit, Release, Arrive, Tick, Pour}
-use Rattle.link_steps.proofs.ListFacts.{Each-filter}
+use Rattle.link_steps.proofs.ListFacts.{Each-append, Each-if}
 use Rattle.relaxation.specs.Laws.{HaveBounds}
 use Rattle.setup_protocol.specs.Laws.{AsksHop, is_accepted}
 use Rattle.setup_protocol.specs.Setup.{Outcome, Accepts, Denies, asked, hop_link, reach_after, settled_in}
@@ -57,13 +53,15 @@ use Rattle.setup_protocol.proofs.ProgressFacts.{progress-advances, progress-none
 use Rattle.channel_laws.specs.Asks.{IsOff}
 use Rattle.link_steps.proofs.ListParts.{Each-at}
 use Rattle.link_ledger.specs.Owners.{OwnsAsk, NextBelow, IsBelow}
-use Rattle.shared_network.specs.Calls.{HasNone, IsCommitted, IsEstablished, hold_at}
+use Rattle.shared_network.specs.Calls.{HasNone, IsEstablished, hold_at}
 use Rattle.setup_protocol.specs.Hops.{IsHopOf, RequestFits}
-use Rattle.shared_network.specs.Holds.{Hold, Free, Holds, Untold, reserved, hold_relaxed, denied, hold_with, hold_from, hold_of}
-use Rattle.shared_network.specs.Sight.{FitsAt, IsSend}
+use Rattle.shared_network.specs.Holds.{Free, Holds, hold_of}
+use Rattle.shared_network.specs.Sight.{FitsAt}
 use Rattle.shared_network.proofs.HoldSteps.{AnswersOf, answers}
+use Rattle.shared_network.proofs.ContractFacts.{ReservesOn, IsOn, off-reserves, held-on}
+use Rattle.shared_network.proofs.StillHolds.{none-hold}
 use Rattle.net_units.proofs.NumberFacts.{same-link}
-use Rattle.shared_network.proofs.SetupGoes.{hold-elsewhere, hold-here, setup-goes}
+use Rattle.shared_network.proofs.SetupGoes.{setup-goes}
 use Rattle.setup_protocol.proofs.HopHolds.{HopStands, IsComm}
 use Rattle.setup_protocol.proofs.HopAsks.{of-setup}
 
@@ -73,6 +71,12 @@ pub follows-more : (next : List Reply → Option (LinkNo × Ask)) (replies : Lis
 unfolding Follows
 follows-more next replies [] e follows asks = (ap next (sym (append-nil replies)) ∙ asks, tt)
 follows-more next replies (o ∷ entries) e follows asks = (follows.0, follows-more next (replies ++ o.reply ∷ []) entries e follows.1 (ap next (append_assoc replies (o.reply ∷ []) (map reply_in entries)) ∙ asks))
+
+-- what holds of each ask of a protocol holds of these entries
+pub each-follows : (P : Ask → Type 0) (next : List Reply → Option (LinkNo × Ask)) (replies : List Reply) (entries : List OwnEntry) → ((rs : List Reply) (to : LinkNo) (ask : Ask) → next rs ≡ Some (to, ask) → P ask) → Follows next replies entries → Each (λ (e : OwnEntry). P e.ask) entries
+unfolding Follows
+each-follows P next replies [] all follows = tt
+each-follows P next replies (e ∷ entries) all follows = (all replies e.link e.ask follows.0, each-follows P next (replies ++ e.reply ∷ []) entries all follows.1)
 
 -- ---- how many asks are left
 
@@ -141,25 +145,6 @@ pub record SettingUp (table : TableId) (owners : List ActorNo) (links : List Lin
   pub few : length entries + setup_left setup ≤ 32
 
 -- ---- at the beginning
-
--- an entry that names another channel, or none, tells nothing
-off-hold : (c : ℕ) (hold : Hold) (ask : Ask) (reply : Reply) → IsOff c ask → hold_with c hold ask reply ≡ hold
-off-hold c hold (Reserve chan contract kind delay up_reach first next) reply off = ap (λ b. cond b (reserved hold (λ level reach. tentative chan contract kind first next up_reach level reach) reply) hold) (ne_eqb (channel_number chan) c off)
-off-hold c hold (Relax chan level up_bound) reply off = ap (λ b. cond b (hold_relaxed hold (committed level up_bound) reply) hold) (ne_eqb (channel_number chan) c off)
-off-hold c hold (Deny chan) reply off = ap (λ b. cond b (denied hold reply) hold) (ne_eqb (channel_number chan) c off)
-off-hold c hold (Submit chan count gap size) reply off = refl
-off-hold c hold (Release chan upstream) reply off = ap (λ b. cond b Untold hold) (ne_eqb (channel_number chan) c off)
-off-hold c hold (Arrive packet) reply off = refl
-off-hold c hold Tick reply off = refl
-off-hold c hold (Pour count gap size) reply off = refl
-
-pub none-from : (c : ℕ) (hold : Hold) (own : List OwnEntry) → Each (λ (e : OwnEntry). IsOff c e.ask) own → hold_from c hold own ≡ hold
-unfolding hold_from
-none-from c hold [] off = refl
-none-from c hold (e ∷ own) off = ap (λ h. hold_from c h own) (off-hold c hold e.ask e.reply off.0) ∙ none-from c hold own off.1
-
-pub none-hold : (chan : ChanNo) (hop : Hop) (own : List OwnEntry) → HasNone chan own → hold_at chan hop own ≡ Free
-none-hold chan hop own none = none-from (channel_number chan) Free (own_at (link_of hop) own) (Each-filter (λ (e : OwnEntry). IsOff (channel_number chan) e.ask) (λ (e : OwnEntry). nat_eq (link_number e.link) (link_of hop)) own none)
 
 pub have-bounds : (links : List Link) (hops : List Hop) → Each (IsHopOf links) hops → HaveBounds hops
 unfolding HaveBounds
@@ -286,14 +271,29 @@ settled-is (Undoing left deny) outcome is = absurd (let clash : Some outcome ≡
 settled-is (Relaxing left levels) outcome is = absurd (let clash : Some outcome ≡ None = is in cc)
 settled-is (Settled own) outcome is = ap Settled (same_Some own outcome (sym is))
 
+-- each reserve of the channel names the request's contract
+setup-reserves : (table : TableId) (owners : List ActorNo) (links : List Link) (request : Request) (pass0 pass : Token) (setup : Setup) → HasNone request.chan pass0.own → SettingUp table owners links request pass0 pass setup → Each (λ (e : OwnEntry). ReservesOn (channel_number request.chan) request.contract e.ask) pass.own
+setup-reserves table owners links request pass0 pass setup none so =
+    let c : ℕ = channel_number request.chan in
+    let P : Ask → Type 0 = ReservesOn c request.contract in
+    subst (Each (λ (e : OwnEntry). P e.ask)) (sym so.own)
+    (Each-append (λ (e : OwnEntry). P e.ask) pass0.own so.entries (Each-if (λ (e : OwnEntry). IsOff c e.ask) (λ (e : OwnEntry). P e.ask) pass0.own (λ e off. off-reserves c request.contract e.ask off) none)
+    (each-follows P (next_ask request) [] so.entries (λ rs to ask same. of-setup P request (progress_of request rs) to ask (λ offers reach same. refl) tt (λ levels place. tt) same) so.follows))
+
 -- an accepted channel is established
-pub setup-established : (table : TableId) (owners : List ActorNo) (links : List Link) (request : Request) (pass0 pass : Token) (setup : Setup) (outcome : Outcome) → SettingUp table owners links request pass0 pass setup → Some outcome ≡ settled_in (progress_in setup) → is_accepted outcome ≡ true → IsEstablished request pass.own
-setup-established table owners links request pass0 pass setup (Denies deny) so is accepted = absurd (let clash : false ≡ true = accepted in cc)
-setup-established table owners links request pass0 pass setup (Accepts levels delay) so is accepted = λ i hop found.
+pub setup-established : (table : TableId) (owners : List ActorNo) (links : List Link) (request : Request) (pass0 pass : Token) (setup : Setup) (outcome : Outcome) → HasNone request.chan pass0.own → SettingUp table owners links request pass0 pass setup → Some outcome ≡ settled_in (progress_in setup) → is_accepted outcome ≡ true → IsEstablished request pass.own
+setup-established table owners links request pass0 pass setup (Denies deny) none so is accepted = absurd (let clash : false ≡ true = accepted in cc)
+setup-established table owners links request pass0 pass setup (Accepts levels delay) none so is accepted = λ i hop found.
     (let at_end : progress_of request (map reply_in so.entries) ≡ Settled (Accepts levels delay) = ap (λ (r : Request). progress_of r (map reply_in so.entries)) (sym so.request_is) ∙ sym so.stands ∙ settled-is (progress_in setup) (Accepts levels delay) is in
     let stands = subst (λ p. HopStands Free Holds request (offers_in (map reply_in so.entries)) p i (hold_at request.chan hop pass.own)) at_end (so.rows.stands.hops i (record { hop = hop; stands = found })) in
     let comm : IsComm Holds request levels i (hold_at request.chan hop pass.own) = stands.tail (omega arith) in
-    record { terms = comm.terms; is = comm.is; phase = comm.phase; first_is = comm.first })
+    record {
+      terms = comm.terms;
+      is = comm.is;
+      phase = comm.phase;
+      first_is = comm.first;
+      contract_is = subst (IsOn request.contract) comm.is (held-on request.chan request.contract hop pass.own (setup-reserves table owners links request pass0 pass setup none so));
+    })
 
 -- an answer that is Ok is no Err
 pub ok-no-err : {T E : Type 0} (r : Result T E) → IsOk r → true ≡ is_err r → ⊥
@@ -303,27 +303,6 @@ ok-no-err (Err x) ok err = absurd (let clash : false ≡ true = ok in cc)
 pub on-ok : {T E P : Type 0} (r : Result T E) → IsOk r → OnOk r P → P
 on-ok (Ok x) ok p = p
 on-ok (Err x) ok p = absurd (let clash : false ≡ true = ok in cc)
-
--- ---- sends
-
-send-hold : (c : ℕ) (hold : Hold) (ask : Ask) (reply : Reply) → IsSend ask → hold_with c hold ask reply ≡ hold
-send-hold c hold (Submit chan count gap size) reply send = refl
-send-hold c hold (Pour count gap size) reply send = refl
-send-hold c hold (Reserve chan contract kind delay up_reach first next) reply send = absurd send
-send-hold c hold (Relax chan level up_bound) reply send = absurd send
-send-hold c hold (Deny chan) reply send = absurd send
-send-hold c hold (Release chan upstream) reply send = absurd send
-send-hold c hold (Arrive packet) reply send = absurd send
-send-hold c hold Tick reply send = absurd send
-
--- a send leaves what each link holds
-sent-hold : (chan : ChanNo) (hop : Hop) (own : List OwnEntry) (e : OwnEntry) → IsSend e.ask → hold_at chan hop (own ++ e ∷ []) ≡ hold_at chan hop own
-sent-hold chan hop own e send =
-    ⊎_elim (λ on. hold-here chan hop own e on ∙ send-hold (channel_number chan) (hold_at chan hop own) e.ask e.reply send) (λ off. hold-elsewhere chan hop own e off) (cases_eq (link_number e.link) (link_of hop))
-
-pub sent-established : (links : List Link) (link : LinkNo) (ask : Ask) (pass pass' : Token) (reply : Reply) → Steps links (link_number link) ask pass pass' reply → IsSend ask → (request : Request) → IsEstablished request pass.own → IsEstablished request pass'.own
-sent-established links link ask pass pass' reply steps send request was = λ i hop found.
-    subst (IsCommitted (nat_eq i 0)) (sym (ap (hold_at request.chan hop) steps.own ∙ sent-hold request.chan hop pass.own steps.entry (subst IsSend (sym steps.acted.ask_is) send))) (was i hop found)
 
 -- ---- how many stamps are drawn
 

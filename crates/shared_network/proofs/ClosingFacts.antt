@@ -124,7 +124,7 @@ module _ (table : TableId) (owners : List ActorNo) (links : List Link) (passes :
       let long = numbered-length number_of journals (length links) settled.numbers in
       let at_journal = stands-at journals l (omega (arith, below, long)) in
       let journal : Journal = at_journal.0 in
-      let entries : List Entry = journal.entries.items in
+      let entries : List Entry = journal.entries in
       let there = settled-at l journal at_journal.1 in
       let knew = may.knows l link at_link.1 in
       let placed = each_has (IsAtPlace pass.actor pass.view) e pass.own may.exact.placed has in
@@ -141,10 +141,10 @@ module _ (table : TableId) (owners : List ActorNo) (links : List Link) (passes :
       record { journal = journal; found = at_journal.1; least = placed.least; here = at_entry ∙ ap (λ z. Some z) (sym own.2 ∙ ap (own_entry pass.actor) same) }
 
   -- the entry at a place of a journal was asked by a pass
-  of-one : (l k : ℕ) (journal : Journal) (x : Entry) → slice_get journals l ≡ Some journal → slice_get journal.entries.items k ≡ Some x → IsOfOne passes l k x
+  of-one : (l k : ℕ) (journal : Journal) (x : Entry) → slice_get journals l ≡ Some journal → slice_get journal.entries k ≡ Some x → IsOfOne passes l k x
   of-one l k journal x at_journal at_entry =
       let there = settled-at l journal at_journal in
-      let entries : List Entry = journal.entries.items in
+      let entries : List Entry = journal.entries in
       let at_mark = mapped-at mark_in entries k x at_entry in
       let drawn : Has (drawn_for l (mark_in x)) v.drawn = subst (λ n. Has (drawn_for n (mark_in x)) v.drawn) there.1 (there.0.drawn (mark_in x) (get-has (marks_in entries) k (mark_in x) at_mark)) in
       let it = drew-it passes (drawn_for l (mark_in x)) (subst (Has (drawn_for l (mark_in x))) so.drawn drawn) in
@@ -156,7 +156,7 @@ module _ (table : TableId) (owners : List ActorNo) (links : List Link) (passes :
       let in_place : (j : ℕ) (pass : Token) (o : OwnEntry) → slice_get passes j ≡ Some pass → Has o pass.own → link_number o.link ≡ l → (1 ≤ o.place) × (slice_get entries (o.place - 1) ≡ Some (own_entry pass.actor o)) = λ j pass o found has on.
       (let stands = stands-in j pass o found has in
       let journal_is : stands.journal ≡ journal = same_Some stands.journal journal (sym stands.found ∙ ap (slice_get journals) on ∙ at_journal) in
-      (stands.least, ap (λ (y : Journal). slice_get y.entries.items (o.place - 1)) (sym journal_is) ∙ stands.here)) in
+      (stands.least, ap (λ (y : Journal). slice_get y.entries (o.place - 1)) (sym journal_is) ∙ stands.here)) in
       let stands = in_place it.index it.pass e it.found own.1 link in
       let least = stands.0 in
       let place : e.place - 1 ≡ k = place-told 0 (marks_in entries) (e.place - 1) k (own_mark it.pass.actor e) (mark_in x) there.0.rises (mapped-at mark_in entries (e.place - 1) (own_entry it.pass.actor e) stands.1) at_mark (ap (λ (m : Mark). m.stamp) mark) in
@@ -179,19 +179,19 @@ module _ (table : TableId) (owners : List ActorNo) (links : List Link) (passes :
       }
 
   -- no stamp stands in two journals
-  stamps-apart : (k l : ℕ) (one other : Journal) (x y : Entry) → k ≢ l → slice_get journals k ≡ Some one → slice_get journals l ≡ Some other → Has x one.entries.items → Has y other.entries.items → x.stamp ≢ y.stamp
+  stamps-apart : (k l : ℕ) (one other : Journal) (x y : Entry) → k ≢ l → slice_get journals k ≡ Some one → slice_get journals l ≡ Some other → Has x one.entries → Has y other.entries → x.stamp ≢ y.stamp
   stamps-apart k l one other x y apart at_one at_other has_one has_other same =
       let there = settled-at k one at_one in
       let that = settled-at l other at_other in
-      let drawn_one : Has (drawn_for k (mark_in x)) v.drawn = subst (λ n. Has (drawn_for n (mark_in x)) v.drawn) there.1 (there.0.drawn (mark_in x) (map-has mark_in one.entries.items x has_one)) in
-      let drawn_other : Has (drawn_for l (mark_in y)) v.drawn = subst (λ n. Has (drawn_for n (mark_in y)) v.drawn) that.1 (that.0.drawn (mark_in y) (map-has mark_in other.entries.items y has_other)) in
+      let drawn_one : Has (drawn_for k (mark_in x)) v.drawn = subst (λ n. Has (drawn_for n (mark_in x)) v.drawn) there.1 (there.0.drawn (mark_in x) (map-has mark_in one.entries x has_one)) in
+      let drawn_other : Has (drawn_for l (mark_in y)) v.drawn = subst (λ n. Has (drawn_for n (mark_in y)) v.drawn) that.1 (that.0.drawn (mark_in y) (map-has mark_in other.entries y has_other)) in
       apart (ap (λ (d : Drawn). d.link) (drawn-once v.drawn (drawn_for k (mark_in x)) (drawn_for l (mark_in y)) so.once drawn_one drawn_other same))
 
   pub closed-told : IsClosed links passes journals
   closed-told = record {
     numbers = settled.numbers;
     legal = λ l link journal is found. (let there = settled-at l journal found in there.0.legal link (ap (λ k. slice_get links k) there.1 ∙ is));
-    rises = Each-if (IsSettled links v) (λ (journal : Journal). StampsRise (marks_in journal.entries.items)) journals (λ journal is. is.rises) settled.settled;
+    rises = Each-if (IsSettled links v) (λ (journal : Journal). StampsRise (marks_in journal.entries)) journals (λ journal is. is.rises) settled.settled;
     apart = stamps-apart;
     stands = has_each (λ (pass : Token). Each (StandsIn journals pass.actor) pass.own) passes (λ pass has. (let at = has-get passes pass has in has_each (StandsIn journals pass.actor) pass.own (λ e own. stands-in at.0 pass e at.1 own)));
     of_one = of-one;

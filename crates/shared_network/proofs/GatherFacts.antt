@@ -113,13 +113,13 @@ pub stays-first : (v : View) → StaysGathered v v
 stays-first v = record { drawn = refl; actors = refl; among = refl; knows = λ l _. refl }
 
 -- a link's seat is joined, and its journal told
-pub settled-next : (links : List Link) (v0 v v' k : View) (l : ℕ) (journal : Journal) (rules : Link) → StaysGathered v0 v → ((a : ℕ) → a < v0.among → Has a v0.actors) → number_of journal ≡ l → Settled l v k v' → marks_in journal.entries.items ≡ known_of l k → IsLink links l rules → IsLegalJournal rules (map done_in journal.entries.items)
+pub settled-next : (links : List Link) (v0 v v' k : View) (l : ℕ) (journal : Journal) (rules : Link) → StaysGathered v0 v → ((a : ℕ) → a < v0.among → Has a v0.actors) → number_of journal ≡ l → Settled l v k v' → marks_in journal.entries ≡ known_of l k → IsLink links l rules → IsLegalJournal rules (map done_in journal.entries)
     → IsSettled links v0 journal × StaysGathered v0 v'
 settled-next links v0 v v' k l journal rules stays acts number joined marks is_link legal = (
   record {
-    legal = λ link found. subst (λ (x : Link). IsLegalJournal x (map done_in journal.entries.items)) (same_Some rules link (sym is_link ∙ ap (λ j. slice_get links j) (sym number) ∙ found)) legal;
+    legal = λ link found. subst (λ (x : Link). IsLegalJournal x (map done_in journal.entries)) (same_Some rules link (sym is_link ∙ ap (λ j. slice_get links j) (sym number) ∙ found)) legal;
     rises = subst StampsRise (sym marks) joined.rises;
-    begins = subst (λ j. IsPrefix (known_of j v0) (marks_in journal.entries.items)) (sym number) (subst (IsPrefix (known_of l v0)) (sym marks) (subst (λ ms. IsPrefix ms (known_of l k)) (stays.knows l joined.new) joined.begins));
+    begins = subst (λ j. IsPrefix (known_of j v0) (marks_in journal.entries)) (sym number) (subst (IsPrefix (known_of l v0)) (sym marks) (subst (λ ms. IsPrefix ms (known_of l k)) (stays.knows l joined.new) joined.begins));
     drawn = λ m has. subst (λ j. Has (drawn_for j m) v0.drawn) (sym number) (subst (Has (drawn_for l m)) stays.drawn (joined.all all m (subst (Has m) marks has)));
   },
   record {

@@ -131,7 +131,7 @@ module _ (shape : LinkShape) (chan : ChanNo) (t : ℕ) (scan : Scan) (differ : D
 -- ---- entries of others
 
 -- whoever isn't the owner names another channel, or none
-off-ask : (owners : List ActorNo) (a b : ActorNo) (chan : ChanNo) (ask : Ask) → IsOwner owners a chan → actor_number b ≢ actor_number a → OwnsAsk owners b ask → IsOff (channel_number chan) ask
+pub off-ask : (owners : List ActorNo) (a b : ActorNo) (chan : ChanNo) (ask : Ask) → IsOwner owners a chan → actor_number b ≢ actor_number a → OwnsAsk owners b ask → IsOff (channel_number chan) ask
 off-ask owners a b chan ask owner other = by-ask ask where
   apart : (own : ChanNo) → IsOwner owners b own → channel_number own ≢ channel_number chan
   apart own by_b same = other (ap actor_number (same_Some b a (sym by_b ∙ ap (slice_get owners) same ∙ owner)))

@@ -1,18 +1,23 @@
 -- A step at a link, and what the link holds of the channels of the pass's actor: before it, as the own entries tell; the reply
--- is the one of the rules for that; and after it, as the own entries with the new one tell.
-use Rattle.std.proofs.Common.{◌≡◌, ℕ, List, [], ◌∷◌, ◌++◌, length, refl, sym, ap, ◌∙◌, subst, inl}
+-- is the one of the rules for that; and after it, as the own entries with the new one tell. Where these submit nothing on a
+-- channel, its first submit is planned.
+use Rattle.std.proofs.Common.{◌≡◌, ◌≤◌, ℕ, true, List, [], ◌∷◌, ◌++◌, length, Option, refl, sym, ap, ◌∙◌, subst, inl}
+use Rattle.std.specs.Prelude.{nat_eq}
 use Rattle.atomic_table.specs.Seated.{TableId}
-use Rattle.net_units.specs.Numbers.{actor_number, channel_number}
+use Rattle.net_units.specs.Numbers.{actor_number, channel_number, link_number}
 use Rattle.net_units.specs.declared.numbers.ActorNo.{ActorNo}
 use Rattle.net_units.specs.declared.numbers.ChanNo.{ChanNo}
 use Rattle.link_steps.specs.Admissible.{MayAnswer, IsAdmissible}
 use Rattle.link_steps.specs.Legal.{IsLegal}
 use Rattle.link_steps.specs.Lists.{Each}
 use Rattle.link_steps.specs.Replies.{reply_at, reply_to}
+use Rattle.link_steps.specs.Reservation.{Reservation}
 use Rattle.link_steps.specs.Scan.{Scan, clock_of, scan_of}
 use Rattle.link_steps.specs.Split.{Link, SplitFits}
 use Rattle.link_steps.specs.declared.asks.Ask.{Ask}
+use Rattle.link_steps.specs.declared.asks.Ask.TheVariants.{Submit, Release}
 use Rattle.link_steps.specs.declared.replies.Entry.{Entry as Done}
+use Rattle.link_steps.specs.declared.replies.Phase.TheVariants.{Committed}
 use Rattle.link_steps.specs.declared.replies.Reply.{Reply}
 use Rattle.link_steps.proofs.LegalAdmissible.{legal-admissible}
 use Rattle.link_steps.proofs.LegalChannels.{legal-channels}
@@ -20,8 +25,12 @@ use Rattle.step_stamp.specs.Lists.{Has}
 use Rattle.step_stamp.specs.Marks.{StampsRise, marks_of}
 use Rattle.step_stamp.specs.Views.{known_of}
 use Rattle.step_stamp.specs.declared.marks.Mark.{Mark}
+use Rattle.channel_laws.specs.Asks.{MayReplyTo}
 use Rattle.channel_laws.specs.Laws.{held_after}
+use Rattle.channel_laws.specs.Unsent.{IsUnsent, NoneSent, IsPlanned, FewCancelled}
+use Rattle.channel_laws.proofs.EntryLaws.{packets-may-move}
 use Rattle.channel_laws.specs.Reservations.{held_by}
+use Rattle.link_steps.proofs.ListFacts.{Each-append, Each-filter, Each-map}
 use Rattle.link_steps.proofs.ListParts.{Each-at, Each-parts}
 use Rattle.link_ledger.specs.Journals.{marks_in, done_in, history_in, journal_of}
 use Rattle.link_ledger.specs.Order.{AreInOrder}
@@ -31,9 +40,11 @@ use Rattle.link_ledger.specs.Tokens.{Token, Steps}
 use Rattle.link_ledger.specs.declared.entries.OwnEntry.{OwnEntry}
 use Rattle.link_ledger.proofs.JournalFacts.{past_after, history-more, journal-told}
 use Rattle.link_ledger.proofs.OwnFacts.{one_at, rest_none}
-use Rattle.shared_network.specs.Holds.{Hold, Free, hold_with, hold_of, IsHeld}
+use Rattle.shared_network.specs.Holds.{Hold, Free, Holds, hold_with, hold_of, IsHeld}
 use Rattle.shared_network.specs.Ready.{MayStep}
+use Rattle.shared_network.specs.Shifts.{NoneSubmitted}
 use Rattle.shared_network.proofs.HoldFacts.{hold-more, held-next, held-rest, off-marks, past-parts, history-told}
+use Rattle.shared_network.proofs.UnsentMarks.{AreUnsent, owner-unsent, others-unsent, history-unsent}
 
 -- the reply is that of the rules where the link holds this
 pub record AnswersOf (link : Link) (chan : ChanNo) (hold : Hold) (ask : Ask) (reply : Reply) : Type 0 where
@@ -112,3 +123,27 @@ module _ (table : TableId) (owners : List ActorNo) (links : List Link) (l : ℕ)
         reply_is = steps.acted.reply ∙ ap (reply_to steps.link h) (sym steps.acted.ask_is);
         may = admissible.1.answered;
       }
+
+  -- where no own entry submits on a channel, nothing in the link's history does
+  none-sent : (chan : ChanNo) → IsOwner owners a chan → NoneSubmitted chan pass.own → NoneSent (channel_number chan) (history_in steps.entries)
+  none-sent chan owner unsent =
+      let c : ℕ = channel_number chan in
+      let own : AreUnsent c (marks_of (actor_number a) known) =
+      subst (AreUnsent c) (sym (may.exact.known l)) (Each-map (λ (m : Mark). IsUnsent c m.ask) (own_mark a) (own_at l pass.own) (Each-filter (λ (x : OwnEntry). IsUnsent c x.ask) (λ (x : OwnEntry). nat_eq (link_number x.link) l) pass.own unsent)) in
+      let knew : AreUnsent c known = owner-unsent owners a chan known owner (may.knows l steps.link steps.is_link).order.owned own in
+      history-unsent c steps.entries (subst (AreUnsent c) whole (Each-append (λ (m : Mark). IsUnsent c m.ask) known rest knew (others-unsent owners a chan rest owner none owned)))
+
+  -- so where it is committed at its first hop, packets within its contract are planned
+  pub planned : (chan : ChanNo) (terms : Reservation) (count gap size : ℕ) → IsOwner owners a chan → NoneSubmitted chan pass.own → hold_of (channel_number chan) (own_at l pass.own) ≡ Holds terms → terms.first ≡ true → terms.phase ≡ Committed → size ≤ terms.contract.smax → ask ≡ Submit chan count gap size → IsPlanned reply
+  planned chan terms count gap size owner unsent is first phase small asked =
+      let h : List Done = history_in steps.entries in
+      let held = subst (λ x. IsHeld x (held_after steps.link.shape chan h)) is (hold-before chan owner) in
+      subst IsPlanned (sym (sym steps.reply_is ∙ steps.acted.reply ∙ ap (reply_to steps.link h) asked)) (packets-may-move.joins steps.link h chan terms count gap size held.0 first phase (none-sent chan owner unsent) small)
+
+  -- and a release cancels no more packets than one submit may plan
+  pub cancels-few : (chan : ChanNo) (upstream : Option ℕ) → ask ≡ Release chan upstream → FewCancelled reply
+  unfolding IsAdmissible
+  cancels-few chan upstream asked =
+      let h : List Done = history_in steps.entries in
+      let admissible : IsAdmissible steps.link.shape (done_in (own_entry a e) ∷ h) = subst (IsAdmissible steps.link.shape) more (legal-admissible steps.link (history_in (steps.entries ++ own_entry a e ∷ [])) fits steps.acted.legal) in
+      packets-may-move.leaves steps.link.shape h chan upstream reply admissible.0 (subst (λ (x : Ask × Reply). MayReplyTo steps.link.shape h x.0 x.1) (λ i. ((steps.acted.ask_is ∙ asked) i, steps.reply_is i)) admissible.1.answered)

@@ -7,7 +7,13 @@ mod ClosingFacts
 pub mod PermutedFacts
 mod NumberOrder
 mod HoldFacts
+mod UnsentMarks
 mod HoldSteps
+pub mod StillHolds
+mod ContractFacts
+mod MoveSteps
+mod ShiftFacts
+pub mod SubmittedFacts
 mod SetupGoes
 mod CallFacts
 mod TeardownFacts
@@ -16,4 +22,4 @@ mod OwnRounds
 mod RoundTicks
 mod RoundSteps
 mod OtherChannels
-mod WorkedFacts
+pub mod WorkedFacts

@@ -1,55 +1,46 @@
 -- Entries that don't name a channel leave it as it was: one that was established is so, and one that no entry names has none. The
--- entries of a setup and of a teardown name their own channel alone.
-use Rattle.std.proofs.Common.{◌≡◌, ◌≢◌, ℕ, List, [], ◌∷◌, ◌++◌, length, Option, Some, refl, sym, ap, ◌∙◌, subst}
-use Rattle.std.proofs.lemmas.List.Elements.{filter-append}
+-- entries of a setup and of a teardown name their own channel alone, and those of a move two.
+use Rattle.std.proofs.Common.{◌≡◌, ◌≢◌, ℕ, List, [], ◌∷◌, ◌++◌, length, Option, Some, None, sym, ◌∙◌, subst}
 use Rattle.std.specs.List.{slice_get}
-use Rattle.std.specs.Prelude.{nat_eq}
 use Rattle.net_units.specs.Numbers.{channel_number, link_number}
 use Rattle.net_units.specs.declared.numbers.ChanNo.{ChanNo}
 use Rattle.net_units.specs.declared.numbers.LinkNo.{LinkNo}
-use Rattle.hop_reservation.specs.Routes.{link_of}
-use Rattle.hop_reservation.specs.declared.route.Hop.{Hop}
+use Rattle.traffic_contract.specs.Contract.{Traffic}
 use Rattle.link_steps.specs.Lists.{Each}
 use Rattle.link_steps.specs.declared.asks.Ask.{Ask}
 use Rattle.link_steps.specs.declared.asks.Ask.TheVariants.{Release}
 use Rattle.link_steps.specs.declared.replies.Reply.{Reply}
-use Rattle.link_steps.proofs.ListFacts.{Each-append, Each-filter}
+use Rattle.link_steps.specs.Split.{Link}
+use Rattle.link_steps.proofs.ListFacts.{Each-append}
 use Rattle.setup_protocol.specs.Setup.{next_ask, progress_of}
 use Rattle.setup_protocol.specs.Teardown.{first_count, next_release}
 use Rattle.setup_protocol.specs.declared.request.Request.{Request}
-use Rattle.channel_laws.specs.Asks.{IsOff}
-use Rattle.link_ledger.specs.Own.{own_at}
-use Rattle.link_ledger.specs.declared.entries.OwnEntry.{OwnEntry}
-use Rattle.shared_network.specs.Calls.{HasNone, Follows, IsCommitted, IsEstablished, OthersStay, hold_at}
-use Rattle.shared_network.specs.Holds.{Hold, Free, hold_with, hold_from, hold_of}
-use Rattle.shared_network.proofs.CallFacts.{none-from}
 use Rattle.setup_protocol.proofs.HopAsks.{of-hop, of-setup}
+use Rattle.channel_laws.specs.Asks.{IsOff}
+use Rattle.channel_move.specs.Moving.{Move, next_of_move}
+use Rattle.channel_move.proofs.MoveFacts.{MoveAsks, AsksFirst, AsksSubmit, AsksRest, move-asks, move-ask-is}
+use Rattle.link_ledger.specs.declared.entries.OwnEntry.{OwnEntry}
+use Rattle.link_ledger.specs.Tokens.{Token, Steps}
+use Rattle.shared_network.specs.Calls.{HasNone, Follows, HoldsRoute, IsEstablished, OthersStay, hold_at}
+use Rattle.shared_network.specs.Holds.{Free, Holds}
+use Rattle.shared_network.specs.Sight.{IsSend}
+use Rattle.shared_network.proofs.CallFacts.{each-follows}
+use Rattle.shared_network.proofs.StillHolds.{IsStill, none-still, none-hold, send-still, route-stays}
 
 -- ---- entries that don't name it
 
-hold-append : (c : ℕ) (hold : Hold) (xs ys : List OwnEntry) → hold_from c hold (xs ++ ys) ≡ hold_from c (hold_from c hold xs) ys
-unfolding hold_from
-hold-append c hold [] ys = refl
-hold-append c hold (x ∷ xs) ys = hold-append c (hold_with c hold x.ask x.reply) xs ys
-
-off-stays : (chan : ChanNo) (hop : Hop) (own entries : List OwnEntry) → HasNone chan entries → hold_at chan hop (own ++ entries) ≡ hold_at chan hop own
-off-stays chan hop own entries none =
-    ap (hold_of (channel_number chan)) (filter-append (λ (e : OwnEntry). nat_eq (link_number e.link) (link_of hop)) own entries)
-    ∙ hold-append (channel_number chan) Free (own_at (link_of hop) own) (own_at (link_of hop) entries)
-    ∙ none-from (channel_number chan) (hold_at chan hop own) (own_at (link_of hop) entries) (Each-filter (λ (e : OwnEntry). IsOff (channel_number chan) e.ask) (λ (e : OwnEntry). nat_eq (link_number e.link) (link_of hop)) entries none)
-
 pub established-stays : (request : Request) (own own' entries : List OwnEntry) → own' ≡ own ++ entries → HasNone request.chan entries → IsEstablished request own → IsEstablished request own'
-established-stays request own own' entries is none was = λ i hop found. subst (IsCommitted (nat_eq i 0)) (sym (ap (hold_at request.chan hop) is ∙ off-stays request.chan hop own entries none)) (was i hop found)
+established-stays request own own' entries is none was = route-stays request.chan request.route request.contract own own' entries is (none-still request.chan entries none) was
 
 pub unopened-stays : (chan : ChanNo) (own own' entries : List OwnEntry) → own' ≡ own ++ entries → HasNone chan entries → HasNone chan own → HasNone chan own'
 unopened-stays chan own own' entries is none was = subst (HasNone chan) (sym is) (Each-append (λ (e : OwnEntry). IsOff (channel_number chan) e.ask) own entries was none)
 
--- ---- entries that follow a protocol
+-- a send leaves what each link holds
+pub sent-established : (links : List Link) (link : LinkNo) (ask : Ask) (pass pass' : Token) (reply : Reply) → Steps links (link_number link) ask pass pass' reply → IsSend ask → (request : Request) → IsEstablished request pass.own → IsEstablished request pass'.own
+sent-established links link ask pass pass' reply steps send request was =
+    route-stays request.chan request.route request.contract pass.own pass'.own (steps.entry ∷ []) steps.own (send-still (channel_number request.chan) steps.entry.ask (subst IsSend (sym steps.acted.ask_is) send), tt) was
 
-each-follows : (P : Ask → Type 0) (next : List Reply → Option (LinkNo × Ask)) (replies : List Reply) (entries : List OwnEntry) → ((rs : List Reply) (to : LinkNo) (ask : Ask) → next rs ≡ Some (to, ask) → P ask) → Follows next replies entries → Each (λ (e : OwnEntry). P e.ask) entries
-unfolding Follows
-each-follows P next replies [] all follows = tt
-each-follows P next replies (e ∷ entries) all follows = (all replies e.link e.ask follows.0, each-follows P next (replies ++ e.reply ∷ []) entries all follows.1)
+-- ---- entries that follow a protocol
 
 others-stay : (chan : ChanNo) (own own' entries : List OwnEntry) → own' ≡ own ++ entries → ((c : ℕ) → channel_number chan ≢ c → Each (λ (e : OwnEntry). IsOff c e.ask) entries) → OthersStay chan own own'
 others-stay chan own own' entries is off = record {
@@ -64,3 +55,28 @@ setup-others request own own' entries is follows =
 pub teardown-others : (request : Request) (own own' entries : List OwnEntry) → own' ≡ own ++ entries → Follows (next_release request.chan request.route) [] entries → OthersStay request.chan own own'
 teardown-others request own own' entries is follows =
     others-stay request.chan own own' entries is (λ c apart. each-follows (IsOff c) (next_release request.chan request.route) [] entries (λ rs to ask same. of-hop (IsOff c) (slice_get request.route (length rs)) (λ hop. Release request.chan (first_count rs)) to ask (λ hop. apart) same) follows)
+
+-- ---- a move
+
+-- the entries of a move leave each channel but the one that is left: they submit on the one that is joined, which holds its
+-- route, alone
+move-off : (move : Move) (own : List OwnEntry) (contract : Traffic) (c : ℕ) (replies : List Reply) (to : LinkNo) (ask : Ask) → HoldsRoute move.joining move.joining_route contract own → c ≢ channel_number move.leaving → Each (λ (e : OwnEntry). IsOff c e.ask) own → next_of_move move replies ≡ Some (to, ask) → IsOff c ask
+move-off move own contract c replies to ask holds apart none same = by (move-asks move replies to ask same) where
+  release : (upstream : Option ℕ) → ask ≡ Release move.leaving upstream → IsOff c ask
+  release upstream is = subst (IsOff c) (sym is) (λ e. apart (sym e))
+
+  by : MoveAsks move replies to ask → IsOff c ask
+  by (AsksFirst first at is) = release None is
+  by (AsksSubmit first one some at is) = subst (IsOff c) (sym is) (λ e.
+      (let free : hold_at move.joining at.hop own ≡ Free = none-hold move.joining at.hop own (subst (λ n. Each (λ (x : OwnEntry). IsOff n x.ask) own) (sym e) none) in
+      let clash : Free ≡ Holds (holds 0 at.hop at.stands).terms = sym free ∙ (holds 0 at.hop at.stands).is in
+      cc))
+  by (AsksRest told made stage at is) = release (Some told.kept) is
+
+pub move-others : (move : Move) (own own' entries : List OwnEntry) (contract : Traffic) → own' ≡ own ++ entries → HoldsRoute move.joining move.joining_route contract own → Follows (next_of_move move) [] entries → OthersStay move.leaving own own'
+move-others move own own' entries contract is holds follows = record {
+  established = λ other apart was. route-stays other.chan other.route other.contract own own' entries is
+      (each-follows (IsStill (channel_number other.chan)) (next_of_move move) [] entries (λ rs to ask same. move-ask-is (IsStill (channel_number other.chan)) move rs to ask (λ upstream e. apart (sym e)) (λ count. tt) same) follows) was;
+  unopened = λ other apart none. unopened-stays other own own' entries is
+      (each-follows (IsOff (channel_number other)) (next_of_move move) [] entries (λ rs to ask same. move-off move own contract (channel_number other) rs to ask holds apart none same) follows) none;
+}

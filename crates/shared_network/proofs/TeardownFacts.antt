@@ -52,7 +52,7 @@ pub record TearingDown (table : TableId) (owners : List ActorNo) (links : List L
   pub chan_is : teardown.chan ≡ request.chan
   pub route_is : teardown.route ≡ request.route
   pub releases : Releases teardown (map reply_in entries)
-  pub holds : (i : ℕ) (hop : Hop) → slice_get request.route i ≡ Some hop → length entries ≤ i → IsCommitted (nat_eq i 0) (hold_at request.chan hop pass'.own)
+  pub holds : (i : ℕ) (hop : Hop) → slice_get request.route i ≡ Some hop → length entries ≤ i → IsCommitted request.contract (nat_eq i 0) (hold_at request.chan hop pass'.own)
   pub goes : PassGoesOn table owners links pass pass'
   pub same : IsSamePass pass pass'
   pub count_is : count ≡ first_count (map reply_in entries)
@@ -162,7 +162,7 @@ module _ (table : TableId) (owners : List ActorNo) (links : List Link) (request 
             releases = subst (Releases teardown') (sym told) releases;
             holds = λ i hop found from.
                 (let other : link_number e.link ≢ link_of hop = λ is. (let index = index-apart request.route i (length replies) hop hop-asked.hop so.route found hop-asked.stands (sym is ∙ on) in let same = many in omega (arith, index, same, from, more)) in
-                subst (IsCommitted (nat_eq i 0)) (sym (ap (hold_at request.chan hop) steps.own ∙ hold-elsewhere request.chan hop pass.own e other)) (so.holds i hop found (omega (arith, from, more))));
+                subst (IsCommitted request.contract (nat_eq i 0)) (sym (ap (hold_at request.chan hop) steps.own ∙ hold-elsewhere request.chan hop pass.own e other)) (so.holds i hop found (omega (arith, from, more))));
             goes = record { may_step = goes.may_step; among = goes.among ∙ so.goes.among };
             same = record { actor = same.actor ∙ so.same.actor; table = same.table ∙ so.same.table; has_seat = same.has_seat };
             count_is = count_is ∙ ap (λ c. Some (unwrap_or c (told_count reply))) so.count_is ∙ first-more replies reply ∙ ap first_count (sym told);

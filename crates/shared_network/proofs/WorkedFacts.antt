@@ -1,6 +1,6 @@
--- The worked networks meet what their calls require: their links aren't split, each request has one hop over one of them, and each
--- actor owns the channel of its number.
-use Rattle.std.proofs.Common.{◌≡◌, ℕ, ◌<◌, Option, Some, None, List, [], ◌∷◌, length, map, sym, ap, ◌∙◌, subst, arith}
+-- The worked networks meet what their calls require: each request has one hop over one of their links, and each actor owns the
+-- channels that it asks for.
+use Rattle.std.proofs.Common.{◌≡◌, ◌≤◌, ℕ, ◌<◌, Option, Some, None, List, [], ◌∷◌, length, map, refl, sym, ap, ◌∙◌, subst, arith}
 use Rattle.std.proofs.lemmas.Option.{same_Some, slice_get-map}
 use Rattle.std.specs.List.{slice_get}
 use Rattle.std.specs.Option.{option_map}
@@ -8,12 +8,14 @@ use Rattle.atomic_table.specs.Seated.{TableId}
 use Rattle.net_units.specs.Numbers.{actor_number, channel_number}
 use Rattle.net_units.specs.declared.numbers.ActorNo.{ActorNo}
 use Rattle.net_units.specs.declared.numbers.ChanNo.{ChanNo}
+use Rattle.net_units.specs.declared.numbers.LinkNo.{LinkNo}
 use Rattle.hop_reservation.specs.declared.route.Hop.{Hop}
 use Rattle.link_steps.specs.Lists.{Each}
-use Rattle.link_steps.specs.Split.{Link, SplitFits, whole}
-use Rattle.link_steps.specs.declared.shape.LinkShape.{LinkShape}
-use Rattle.link_steps.proofs.LegalAdmissible.{whole-fits}
-use Rattle.link_steps.proofs.ListFacts.{Each-from, Each-if, Each-map}
+use Rattle.link_steps.specs.Split.{Link}
+use Rattle.link_steps.specs.declared.asks.Ask.TheVariants.{Submit}
+use Rattle.link_steps.specs.declared.replies.Reply.{Reply}
+use Rattle.link_steps.proofs.ListFacts.{Each-if}
+use Rattle.setup_protocol.specs.Setup.{Outcome}
 use Rattle.setup_protocol.specs.declared.request.Request.{Request}
 use Rattle.step_stamp.specs.Lists.{up_to}
 use Rattle.step_stamp.specs.Opening.{AreLinks, ArePasses}
@@ -23,32 +25,32 @@ use Rattle.step_stamp.specs.declared.seats.PassSeat.{PassSeat}
 use Rattle.tick_plane.specs.Kept.{KeptPlane}
 use Rattle.tick_plane.specs.Planes.{plane_start, plane_of}
 use Rattle.link_ledger.specs.Owners.{IsOwner}
-use Rattle.link_ledger.specs.Tokens.{Token, IsLink}
+use Rattle.link_ledger.specs.Tokens.{Token, IsLink, stamps_drawn}
 use Rattle.link_ledger.specs.declared.entries.OwnEntry.{OwnEntry}
-use Rattle.shared_network.specs.Calls.{HasNone, Follows}
+use Rattle.shared_network.specs.Added.{Adds}
+use Rattle.shared_network.specs.Calls.{HasNone, Follows, IsEstablished, SetsUp}
+use Rattle.shared_network.specs.Shifts.{NoneSubmitted, WerePlanned}
+use Rattle.shared_network.proofs.SubmittedFacts.{unsent-stays, none-planned, setup-unsent, one-unsent, one-planned}
 use Rattle.setup_protocol.specs.Hops.{IsHopOf}
 use Rattle.shared_network.specs.Gathering.{AreAll}
 use Rattle.shared_network.specs.Planes.{IsPlanes}
 use Rattle.shared_network.specs.Ready.{MayStep, IsNew}
-use Rattle.shared_network.specs.Worked.{IsWorkedLink, IsOverLink, IsJob}
+use Rattle.shared_network.specs.Worked.{IsWorkedLink, IsOverLink, IsJob, MayPlan, MayMove}
 use Rattle.shared_network.proofs.LinkNumbers.{numbered-at, numbered-length}
 use Rattle.net_units.proofs.NumberFacts.{same-actor}
 
-pub whole-splits : {X : Type 0} (shape : X → LinkShape) (xs : List X) (links : List Link) → map (λ x. whole (shape x)) xs ≡ links → Each SplitFits links
-whole-splits shape xs links are = subst (Each SplitFits) are (Each-map SplitFits (λ x. whole (shape x)) xs (Each-from (λ x. SplitFits (whole (shape x))) xs (λ x. whole-fits (shape x))))
-
-pub over-hops : (links : List Link) (l : ℕ) (shape : LinkShape) (route : List Hop) → IsLink links l (whole shape) → IsWorkedLink shape → Each (IsOverLink l) route → Each (IsHopOf links) route
-over-hops links l shape route is worked over =
-    Each-if (IsOverLink l) (IsHopOf links) route (λ hop on. record { link = whole shape; linked = subst (λ n. IsLink links n (whole shape)) (sym on.link_is) is; bounds = on.bounds ∙ sym worked.bounds; prop = on.prop ∙ sym worked.prop }) over
+pub over-hops : (links : List Link) (l : ℕ) (link : Link) (route : List Hop) → IsLink links l link → IsWorkedLink link.shape → Each (IsOverLink l) route → Each (IsHopOf links) route
+over-hops links l link route is worked over =
+    Each-if (IsOverLink l) (IsHopOf links) route (λ hop on. record { link = link; linked = subst (λ n. IsLink links n link) (sym on.link_is) is; bounds = on.bounds ∙ sym worked.bounds; prop = on.prop ∙ sym worked.prop }) over
 
 numbered-owner : (k : ℕ) (found : Option ActorNo) (actor : ActorNo) → option_map (λ (a : ActorNo). actor_number a) found ≡ Some k → actor_number actor ≡ k → found ≡ Some actor
 numbered-owner k None actor is at = absurd (let clash : None ≡ Some k = is in cc)
 numbered-owner k (Some owner) actor is at = ap Some (same-actor owner actor (same_Some (actor_number owner) k is ∙ sym at))
 
--- the owner of the channel of a number has that number
-pub owner-is : (owners : List ActorNo) (k : ℕ) (actor : ActorNo) (chan : ChanNo) → slice_get (map (λ (a : ActorNo). actor_number a) owners) k ≡ Some k → actor_number actor ≡ k → channel_number chan ≡ k → IsOwner owners actor chan
-owner-is owners k actor chan numbered at is =
-    ap (slice_get owners) is ∙ numbered-owner k (slice_get owners k) actor (sym (slice_get-map (λ (a : ActorNo). actor_number a) owners k) ∙ numbered) at
+-- the owner of the channel of a number, by the owner's number
+pub owner-is : (owners : List ActorNo) (k n : ℕ) (actor : ActorNo) (chan : ChanNo) → slice_get (map (λ (a : ActorNo). actor_number a) owners) k ≡ Some n → actor_number actor ≡ n → channel_number chan ≡ k → IsOwner owners actor chan
+owner-is owners k n actor chan numbered at is =
+    ap (slice_get owners) is ∙ numbered-owner n (slice_get owners k) actor (sym (slice_get-map (λ (a : ActorNo). actor_number a) owners k) ∙ numbered) at
 
 pub one-all : (table : TableId) (owners : List ActorNo) (links : List Link) (pass : Token) → MayStep table owners links pass → pass.view.among ≡ 1 → actor_number pass.actor ≡ 0 → AreAll table owners links (pass ∷ [])
 unfolding up_to
@@ -83,11 +85,45 @@ module _ (table : TableId) (owners : List ActorNo) (links : List Link) (n : ℕ)
   second-actor are some = numbered-at (λ (p : Token). actor_number p.actor) passes n 1 second (are ∙ ap up_to (numbered-length seat_actor seats n of.numbers)) some (ap (λ ps. slice_get ps 1) (sym split))
 
 -- a new pass may set up the channel of its number over the link of its number
-pub new-job : (table : TableId) (owners : List ActorNo) (links : List Link) (n k : ℕ) (pass : Token) (request : Request) (shape : LinkShape) → IsNew table owners links n pass → slice_get (map (λ (a : ActorNo). actor_number a) owners) k ≡ Some k → actor_number pass.actor ≡ k → channel_number request.chan ≡ k → IsLink links k (whole shape) → IsWorkedLink shape → Each (IsOverLink k) request.route → IsJob table owners links pass request
-new-job table owners links n k pass request shape new numbered actor chan is worked over = record {
+pub new-job : (table : TableId) (owners : List ActorNo) (links : List Link) (n k : ℕ) (pass : Token) (request : Request) (link : Link) → IsNew table owners links n pass → slice_get (map (λ (a : ActorNo). actor_number a) owners) k ≡ Some k → actor_number pass.actor ≡ k → channel_number request.chan ≡ k → IsLink links k link → IsWorkedLink link.shape → Each (IsOverLink k) request.route → IsJob table owners links pass request
+new-job table owners links n k pass request link new numbered actor chan is worked over = record {
   may_step = new.may_step;
   drawn = new.drawn;
-  owned = owner-is owners k pass.actor request.chan numbered actor chan;
+  owned = owner-is owners k k pass.actor request.chan numbered actor chan;
   new = subst (HasNone request.chan) (sym new.own) tt;
-  hops = over-hops links k shape request.route is worked over;
+  hops = over-hops links k link request.route is worked over;
 }
+
+-- ---- a move
+
+-- both channels are set up with the pass, and packets of the first are planned
+module _ (table : TableId) (owners : List ActorNo) (links : List Link) (left joined : Request) (pass0 pass1 pass2 pass3 : Token) (one two : Outcome) (to : LinkNo) (count : ℕ) (reply : Reply) (may : MayPlan table owners links pass0 left joined) (first : SetsUp left pass0 pass1 one) (second : SetsUp joined pass1 pass2 two) (sent : Adds pass2 pass3 (record { link = to; ask = Submit left.chan count 10 2; reply = reply } ∷ [])) where
+  -- nothing is submitted before
+  unsent-before : (chan : ChanNo) → NoneSubmitted chan pass2.own
+  unsent-before chan =
+      unsent-stays chan pass1.own pass2.own second.entries second.own (setup-unsent joined (channel_number chan) second.entries second.follows)
+      (unsent-stays chan pass0.own pass1.own first.entries first.own (setup-unsent left (channel_number chan) first.entries first.follows) (subst (NoneSubmitted chan) (sym may.new.own) tt))
+
+  unsent-joined : NoneSubmitted joined.chan pass3.own
+  unsent-joined = unsent-stays joined.chan pass2.own pass3.own sent.entries sent.own (one-unsent (channel_number joined.chan) sent.entries _ sent.are (λ same. may.apart (sym same))) (unsent-before joined.chan)
+
+  planned-left : WerePlanned left.chan 10 2 pass3.own
+  planned-left =
+      one-planned left.chan count 10 2 pass2.own pass3.own sent.entries _ sent.own sent.are refl
+      (λ p same. absurd (let clash : None ≡ Some p = sym (none-planned left.chan pass2.own (unsent-before left.chan)) ∙ same in cc))
+
+  pub may-move : MayStep table owners links pass3 → stamps_drawn pass3 ≤ 65 → pass3.actor ≡ pass0.actor → IsEstablished left pass3.own → IsEstablished joined pass3.own → MayMove table owners links pass3 left joined
+  may-move may_step few actor left_open joined_open = record {
+    may_step = may_step;
+    few = few;
+    owned_left = subst (λ (a : ActorNo). IsOwner owners a left.chan) (sym actor) may.owned_left;
+    owned_joined = subst (λ (a : ActorNo). IsOwner owners a joined.chan) (sym actor) may.owned_joined;
+    hops_left = may.hops_left;
+    hops_joined = may.hops_joined;
+    apart = may.apart;
+    small = may.small;
+    left_open = left_open;
+    joined_open = joined_open;
+    unsent = unsent-joined;
+    planned = planned-left;
+  }

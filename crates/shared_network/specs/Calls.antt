@@ -8,6 +8,7 @@ use Rattle.net_units.specs.declared.numbers.ChanNo.{ChanNo}
 use Rattle.net_units.specs.declared.numbers.LinkNo.{LinkNo}
 use Rattle.hop_reservation.specs.Routes.{link_of}
 use Rattle.hop_reservation.specs.declared.route.Hop.{Hop}
+use Rattle.traffic_contract.specs.Contract.{Traffic}
 use Rattle.link_steps.specs.Lists.{Each}
 use Rattle.link_steps.specs.Reservation.{Reservation}
 use Rattle.link_steps.specs.declared.asks.Ask.{Ask}
@@ -51,17 +52,22 @@ pub record SetsUp (request : Request) (pass pass' : Token) (outcome : Outcome) :
 abbrev pub hold_at : ChanNo → Hop → List OwnEntry → Hold
 hold_at chan hop own = hold_of (channel_number chan) (own_at (link_of hop) own)
 
--- the reservation is committed, at the first hop or at a later one
-pub record IsCommitted (first : Bool) (hold : Hold) : Type 0 where
+-- the reservation is committed, on this contract, at the first hop or at a later one
+pub record IsCommitted (contract : Traffic) (first : Bool) (hold : Hold) : Type 0 where
   pub terms : Reservation
   pub is : hold ≡ Holds terms
   pub phase : terms.phase ≡ Committed
   pub first_is : terms.first ≡ first
+  pub contract_is : terms.contract ≡ contract
 
--- the pass's setup of the request was accepted, and it hasn't torn the channel down: by its own entries, each hop of the route
--- has committed a reservation of the channel and wasn't asked to release it
+-- by the own entries each hop of the route has committed a reservation of the channel on this contract, and wasn't asked to
+-- release it
+abbrev pub HoldsRoute : ChanNo → List Hop → Traffic → List OwnEntry → Type 0
+HoldsRoute chan route contract own = (i : ℕ) (hop : Hop) → slice_get route i ≡ Some hop → IsCommitted contract (nat_eq i 0) (hold_at chan hop own)
+
+-- the pass's setup of the request was accepted, and it has neither torn the channel down nor moved its packets off it
 abbrev pub IsEstablished : Request → List OwnEntry → Type 0
-IsEstablished request own = (i : ℕ) (hop : Hop) → slice_get request.route i ≡ Some hop → IsCommitted (nat_eq i 0) (hold_at request.chan hop own)
+IsEstablished request own = HoldsRoute request.chan request.route request.contract own
 
 -- a teardown has released all hops, and the first has told this count
 pub record TearsDown (request : Request) (pass pass' : Token) (count : ℕ) : Type 0 where

@@ -26,7 +26,7 @@ pub record StandsIn (journals : List Journal) (actor : ActorNo) (e : OwnEntry) :
   pub journal : Journal
   pub found : slice_get journals (link_number e.link) ≡ Some journal
   pub least : 1 ≤ e.place
-  pub here : slice_get journal.entries.items (e.place - 1) ≡ Some (own_entry actor e)
+  pub here : slice_get journal.entries (e.place - 1) ≡ Some (own_entry actor e)
 
 -- the entry at place k + 1 of the journal of link l is the own entry of exactly one of the passes, and has its actor
 pub record IsOfOne (passes : List Token) (l k : ℕ) (x : Entry) : Type 0 where
@@ -42,11 +42,11 @@ pub record IsOfOne (passes : List Token) (l k : ℕ) (x : Entry) : Type 0 where
 
 pub record IsClosed (links : List Link) (passes : List Token) (journals : List Journal) : Type 0 where
   pub numbers : map number_of journals ≡ up_to (length links)
-  pub legal : (l : ℕ) (link : Link) (journal : Journal) → IsLink links l link → slice_get journals l ≡ Some journal → IsLegalJournal link (map done_in journal.entries.items)
-  pub rises : Each (λ (journal : Journal). StampsRise (marks_in journal.entries.items)) journals
-  pub apart : (k l : ℕ) (one other : Journal) (x y : Entry) → k ≢ l → slice_get journals k ≡ Some one → slice_get journals l ≡ Some other → Has x one.entries.items → Has y other.entries.items → x.stamp ≢ y.stamp
+  pub legal : (l : ℕ) (link : Link) (journal : Journal) → IsLink links l link → slice_get journals l ≡ Some journal → IsLegalJournal link (map done_in journal.entries)
+  pub rises : Each (λ (journal : Journal). StampsRise (marks_in journal.entries)) journals
+  pub apart : (k l : ℕ) (one other : Journal) (x y : Entry) → k ≢ l → slice_get journals k ≡ Some one → slice_get journals l ≡ Some other → Has x one.entries → Has y other.entries → x.stamp ≢ y.stamp
   pub stands : Each (λ (pass : Token). Each (StandsIn journals pass.actor) pass.own) passes
-  pub of_one : (l k : ℕ) (journal : Journal) (x : Entry) → slice_get journals l ≡ Some journal → slice_get journal.entries.items k ≡ Some x → IsOfOne passes l k x
+  pub of_one : (l k : ℕ) (journal : Journal) (x : Entry) → slice_get journals l ≡ Some journal → slice_get journal.entries k ≡ Some x → IsOfOne passes l k x
   pub in_order : Each (λ (pass : Token). StampsRise (map (own_mark pass.actor) pass.own)) passes
 
 -- what a pass keeps when it gives its seat up: its actor and its own entries

@@ -50,10 +50,10 @@ pub record AreGathered (actors : ℕ) (passes : List Token) (v : View) : Type 0 
 
 -- a link's seat was joined into this view: what it knew begins the journal, and all marks there were drawn
 pub record IsSettled (links : List Link) (v : View) (journal : Journal) : Type 0 where
-  pub legal : (link : Link) → IsLink links (number_of journal) link → IsLegalJournal link (map done_in journal.entries.items)
-  pub rises : StampsRise (marks_in journal.entries.items)
-  pub begins : IsPrefix (known_of (number_of journal) v) (marks_in journal.entries.items)
-  pub drawn : (m : Mark) → Has m (marks_in journal.entries.items) → Has (drawn_for (number_of journal) m) v.drawn
+  pub legal : (link : Link) → IsLink links (number_of journal) link → IsLegalJournal link (map done_in journal.entries)
+  pub rises : StampsRise (marks_in journal.entries)
+  pub begins : IsPrefix (known_of (number_of journal) v) (marks_in journal.entries)
+  pub drawn : (m : Mark) → Has m (marks_in journal.entries) → Has (drawn_for (number_of journal) m) v.drawn
 
 -- its link is one of so many
 abbrev pub IsBelow : ℕ → Journal → Type 0

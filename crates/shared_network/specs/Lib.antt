@@ -2,6 +2,7 @@ pub mod Sight
 pub mod Ready
 pub mod Added
 pub mod Calls
+pub mod Shifts
 pub mod Closing
 pub mod Gathering
 pub mod Holds

@@ -67,7 +67,8 @@ impl<L: LinkStep + Send, H: Home> Network<L, H> {
 
     /// Releases an established channel at all hops of its route, in their order, and answers the count of packets that the
     /// first hop has taken or still takes. The pass's actor owns the channel, this pass's setup of the request was accepted,
-    /// and it hasn't torn it down (`established`). Each other channel of the pass stays as it was. It may wait for each link.
+    /// and it has neither torn it down nor moved its packets off it (`established`). Each other channel of the pass stays as it
+    /// was. It may wait for each link.
     ///
     /// The pass has its seat, isn't spent (`pass`) and has drawn fewer than 2^40 - 64 stamps. After want of memory it is
     /// spent, the steps made so far stand in the journals and among its own entries (`stand`), and nothing further is claimed of

@@ -11,16 +11,97 @@ use link_ledger::{Home, Journal, LockedLink, Pass};
 use link_steps::LinkStep;
 use net_units::OutOfMemory;
 use std::alloc::Global;
+use std::marker::Model;
 use step_stamp::{PassSeat, Stamps};
+
+/// Journals in their order.
+///
+/// A contract sees the list of them.
+#[derive(Drop)]
+pub struct Journals {
+    journals: Vec<Journal>,
+}
+
+impl Model for Journals {
+    ghost use Rattle.std.specs.Prelude.{List};
+    ghost use Rattle.link_ledger.specs.declared.entries.Journal.{Journal};
+
+    ghost Value = { List Journal };
+
+    ghost view = { λ j. j.journals.items };
+}
+
+impl Journals {
+    /// These journals.
+    pub fn new(items: Vec<Journal>) -> Journals
+        ensures { result ≡ items.items }
+    {
+        Journals { journals: items }
+    }
+
+    /// The journals.
+    pub fn as_slice(&self) -> &[Journal]
+        ensures { result.now ≡ self.now }
+    {
+        self.journals.as_slice()
+    }
+
+    /// The journals, without taking memory.
+    pub fn into_vec(self) -> Vec<Journal>
+        ensures { result.items ≡ self }
+    {
+        self.journals
+    }
+}
+
+/// Passes in their order.
+///
+/// A contract sees the list of them.
+#[derive(Drop)]
+pub struct Passes {
+    passes: Vec<Pass>,
+}
+
+impl Model for Passes {
+    ghost use Rattle.std.specs.Prelude.{List};
+    ghost use Rattle.link_ledger.specs.Tokens.{Token};
+
+    ghost Value = { List Token };
+
+    ghost view = { λ p. p.passes.items };
+}
+
+impl Passes {
+    /// These passes.
+    pub fn new(items: Vec<Pass>) -> Passes
+        ensures { result ≡ items.items }
+    {
+        Passes { passes: items }
+    }
+
+    /// The passes.
+    pub fn as_slice(&self) -> &[Pass]
+        ensures { result.now ≡ self.now }
+    {
+        self.passes.as_slice()
+    }
+
+    /// The passes, without taking memory.
+    pub fn into_vec(self) -> Vec<Pass>
+        ensures { result.items ≡ self }
+    {
+        self.passes
+    }
+}
 
 /// What is left of a network: the journals of its links, in their order, and the passes, each with its own entries and
 /// without its seat.
 #[derive(Drop)]
 pub struct Closed {
     /// The journal of each link.
-    pub journals: Vec<Journal>,
+    pub journals: Journals,
     /// The passes.
-    pub passes: Vec<Pass>,
+    pub passes: Passes,
 }
 
 /// Memory ran out before the network was closed.
@@ -29,7 +110,7 @@ pub struct CloseFault<L: LinkStep, H: Home> {
     /// The network as it was.
     pub network: Network<L, H>,
     /// The passes as they were.
-    pub passes: Vec<Pass>,
+    pub passes: Passes,
 }
 
 // The memory that closing takes.
@@ -48,20 +129,23 @@ impl<L: LinkStep + Send, H: Home> Network<L, H> {
     /// It takes its memory before it changes anything. Want of memory hands all back as it was (`fault`), and nothing else does.
     pub fn close(self, alloc: Global, passes: Vec<Pass>) -> Result<Closed, CloseFault<L, H>>
         requires all { AreAll H.table H.owners H.links passes.items }
-        ensures closed { IfOk result (λ closed. IsClosed H.links passes.items closed.journals.items) }
-        ensures passes { IfOk result (λ closed. HaveGivenUp passes.items closed.passes.items) }
-        ensures fault { IfErr result (λ fault. (fault.network ≡ self) × (fault.passes ≡ passes)) }
+        ensures closed { IfOk result (λ closed. IsClosed H.links passes.items closed.journals) }
+        ensures passes { IfOk result (λ closed. HaveGivenUp passes.items closed.passes) }
+        ensures fault { IfErr result (λ fault. (fault.network ≡ self) × (fault.passes ≡ passes.items)) }
     {
         let Ok(room) = Room::new(alloc, self.links.len(), passes.len()) else {
             return Err(CloseFault {
                 network: self,
-                passes,
+                passes: Passes::new(passes),
             });
         };
         let Network { stamps, links } = self;
         let (seat, passes) = gather::<H>(&stamps, passes, room.passes);
         let journals = settle(&stamps, seat, links, room.journals);
-        Ok(Closed { journals, passes })
+        Ok(Closed {
+            journals: Journals::new(journals),
+            passes: Passes::new(passes),
+        })
     }
 }
 

@@ -40,7 +40,7 @@ impl<L: LinkStep + Send, H: Home> Network<L, H> {
         ensures made { IfOk result (λ reply. MakesRound plane.old plane.new pass.old pass.new reply) }
         ensures later { OnOk result (AddsAbove (last_seen pass.old) pass.old pass.new) }
         ensures planes { OnOk result (IsPlanes (length H.links) plane.new pass.new.own) }
-        ensures room { OnOk result (1 ≤ plane.new.at.ticked → plane.new.links - plane.new.at.ticked ≤ plane.new.spare) }
+        ensures room { OnOk result (plane.new.at.round ≡ plane.old.at.round → plane.new.links - plane.new.at.ticked ≤ plane.new.spare) }
         ensures established { OnOk result ((request : Request) → IsEstablished request pass.old.own → IsEstablished request pass.new.own) }
         ensures unopened { OnOk result ((chan : ChanNo) → HasNone chan pass.old.own → HasNone chan pass.new.own) }
         ensures drew { OnOk result (stamps_drawn pass.new ≡ stamps_drawn pass.old + 1) }

@@ -2,6 +2,7 @@ use Rattle.std.proofs.Common.{length, sym, ◌∙◌, subst, arith}
 use Rattle.net_units.specs.Numbers.{link_number}
 use Rattle.step_stamp.specs.Lists.{Has}
 use Rattle.step_stamp.specs.Seats.{pass_view}
+use Rattle.shared_network.specs.Closing.{IsClosed}
 use Rattle.shared_network.proofs.ClosingFacts.{closed-told}
 use Rattle.shared_network.proofs.GatherFacts.{up_to-has}
 use Rattle.shared_network.proofs.LinkNumbers.{numbered-length}
@@ -20,4 +21,5 @@ settle-journals-requires-clause-room g c κs within = (let room = c.in-Ok.ensure
 
 pub returns-clause-closed : goal.returns-clause-closed
 returns-clause-closed g c =
-    closed-told g.H.Home.table g.H.Home.owners g.H.Home.links c.args.passes.items (pass_view c.gather-seat.result.0) c.settle-journals.result.items c.requires.all c.gather-seat.ensures.gathered c.settle-journals.ensures
+    subst (IsClosed g.H.Home.links c.args.passes.items) (sym c.new-2.ensures)
+    (closed-told g.H.Home.table g.H.Home.owners g.H.Home.links c.args.passes.items (pass_view c.gather-seat.result.0) c.settle-journals.result.items c.requires.all c.gather-seat.ensures.gathered c.settle-journals.ensures)

@@ -57,7 +57,7 @@ loop-link-preserved g c =
     setting-next _ _ _ _ _ _ _ so c.in-Some.link c.in-Some.ask asks _ c.in_ok-reply.reply c.in_ok-reply.ensures.splits c.requires.owned c.in_ok-reply.ensures.made c.in_ok-reply.ensures.ready c.in_ok-reply.ensures.same c.take.new.self c.take.ensures.request stands
 
 pub returns-clause-established : goal.returns-clause-established
-returns-clause-established g c = setup-established _ _ _ _ _ _ _ _ c.loop-link.invariant c.in-Some-verdict.ensures.value
+returns-clause-established g c = setup-established _ _ _ _ _ _ _ _ c.requires.new c.loop-link.invariant c.in-Some-verdict.ensures.value
 
 pub returns-clause-drew : goal.returns-clause-drew
 returns-clause-drew g c =

@@ -2,9 +2,8 @@ use Rattle.std.proofs.Common.{[], ◌∷◌, sym, subst}
 use Rattle.std.proofs.lemmas.Result.{IfOk-weaker}
 use Rattle.net_units.specs.Numbers.{channel_number}
 use Rattle.channel_laws.specs.Asks.{IsOff}
-use Rattle.shared_network.proofs.CallFacts.{sent-established}
 use Rattle.shared_network.proofs.LinkNumbers.{ok-then}
-use Rattle.shared_network.proofs.OtherChannels.{unopened-stays}
+use Rattle.shared_network.proofs.OtherChannels.{sent-established, unopened-stays}
 use Rattle.shared_network.proofs.StepFacts.{adds-one}
 use Rattle.shared_network.proofs.network.Network.submit.Goals as goal
 

@@ -1,0 +1,51 @@
+-- Marks in which nothing is submitted on a channel: those of its owner tell it, since nobody else asks for the channel.
+use Rattle.std.proofs.Common.{◌≡◌, ℕ, eqb, true, false, cond, List, [], ◌∷◌, map, refl}
+use Rattle.std.proofs.lemmas.Bool.{eqb-false}
+use Rattle.net_units.specs.Numbers.{actor_number, channel_number}
+use Rattle.net_units.specs.declared.numbers.ActorNo.{ActorNo}
+use Rattle.net_units.specs.declared.numbers.ChanNo.{ChanNo}
+use Rattle.link_steps.specs.Lists.{Each}
+use Rattle.link_steps.specs.declared.asks.Ask.{Ask}
+use Rattle.link_steps.specs.declared.asks.Ask.TheVariants.{Reserve, Relax, Deny, Submit, Release, Arrive, Tick, Pour}
+use Rattle.link_steps.specs.declared.replies.Entry.{Entry as Done}
+use Rattle.link_steps.proofs.ListFacts.{Each-if, Each-map, Each-mapped}
+use Rattle.link_steps.proofs.ListParts.{Each-reverse}
+use Rattle.step_stamp.specs.Marks.{marks_of}
+use Rattle.step_stamp.specs.declared.marks.Mark.{Mark}
+use Rattle.channel_laws.specs.Asks.{IsOff}
+use Rattle.channel_laws.specs.Unsent.{IsUnsent, NoneSent}
+use Rattle.link_ledger.specs.Journals.{mark_in, done_in, marks_in, history_in}
+use Rattle.link_ledger.specs.Owners.{OwnsAsk, IsOwner}
+use Rattle.link_ledger.specs.declared.entries.Entry.{Entry}
+use Rattle.shared_network.proofs.HoldFacts.{off-ask, off-marks}
+
+abbrev pub AreUnsent : ℕ → List Mark → Type 0
+AreUnsent c ms = Each (λ (m : Mark). IsUnsent c m.ask) ms
+
+-- an ask that names another channel, or none, submits nothing on it
+pub off-unsent : (c : ℕ) (ask : Ask) → IsOff c ask → IsUnsent c ask
+off-unsent c (Reserve chan contract kind delay up_reach first next) off = tt
+off-unsent c (Relax chan level up_bound) off = tt
+off-unsent c (Deny chan) off = tt
+off-unsent c (Submit chan count gap size) off = off
+off-unsent c (Release chan upstream) off = tt
+off-unsent c (Arrive packet) off = tt
+off-unsent c Tick off = tt
+off-unsent c (Pour count gap size) off = tt
+
+pub owner-unsent : (owners : List ActorNo) (a : ActorNo) (chan : ChanNo) (ms : List Mark) → IsOwner owners a chan → Each (λ (m : Mark). OwnsAsk owners m.actor m.ask) ms → AreUnsent (channel_number chan) (marks_of (actor_number a) ms) → AreUnsent (channel_number chan) ms
+owner-unsent owners a chan [] owner owned each = tt
+owner-unsent owners a chan (m ∷ ms) owner owned each =
+    elim (eqb (actor_number m.actor) (actor_number a)) as (λ b. eqb (actor_number m.actor) (actor_number a) ≡ b → AreUnsent (channel_number chan) (cond b (m ∷ marks_of (actor_number a) ms) (marks_of (actor_number a) ms)) → AreUnsent (channel_number chan) (m ∷ ms)) [
+      | true ↦ λ on is. (is.0, owner-unsent owners a chan ms owner owned.1 is.1)
+      | false ↦ λ off is. (off-unsent (channel_number chan) m.ask (off-ask owners a m.actor chan m.ask owner (eqb-false (actor_number m.actor) (actor_number a) off) owned.0), owner-unsent owners a chan ms owner owned.1 is)
+    ] refl each
+
+-- marks without one of the owner
+pub others-unsent : (owners : List ActorNo) (a : ActorNo) (chan : ChanNo) (ms : List Mark) → IsOwner owners a chan → marks_of (actor_number a) ms ≡ [] → Each (λ (m : Mark). OwnsAsk owners m.actor m.ask) ms → AreUnsent (channel_number chan) ms
+others-unsent owners a chan ms owner none owned = Each-if (λ (m : Mark). IsOff (channel_number chan) m.ask) (λ (m : Mark). IsUnsent (channel_number chan) m.ask) ms (λ m off. off-unsent (channel_number chan) m.ask off) (off-marks owners a chan ms owner none owned)
+
+-- the history of entries with such marks
+pub history-unsent : (c : ℕ) (entries : List Entry) → AreUnsent c (marks_in entries) → NoneSent c (history_in entries)
+history-unsent c entries unsent =
+    Each-reverse (λ (d : Done). IsUnsent c d.ask) (map done_in entries) (Each-map (λ (d : Done). IsUnsent c d.ask) done_in entries (Each-mapped (λ (m : Mark). IsUnsent c m.ask) mark_in entries unsent))

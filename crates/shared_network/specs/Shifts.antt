@@ -1,0 +1,71 @@
+-- What a move of planned packets from one channel to another adds to the own entries of a pass, and when it may be made. The
+-- entries are exactly the asks of the move, each after the replies of those before it. Both channels have to be established
+-- over the move's routes, nothing may have been submitted on the one that is joined, and the packets are those that were
+-- planned last on the one that is left.
+use Rattle.std.specs.Prelude.{◌≡◌, ◌==◌, ℕ, ◌≤◌, if◌then◌else◌, Option, Some, None, List, [], ◌∷◌, ◌++◌, map}
+use Rattle.net_units.specs.Numbers.{channel_number}
+use Rattle.net_units.specs.declared.numbers.ChanNo.{ChanNo}
+use Rattle.hop_reservation.specs.declared.route.Hop.{Hop}
+use Rattle.traffic_contract.specs.Contract.{Traffic}
+use Rattle.link_steps.specs.Lists.{Each}
+use Rattle.link_steps.specs.declared.asks.Ask.{Ask}
+use Rattle.link_steps.specs.declared.asks.Ask.TheVariants.{Submit}
+use Rattle.link_steps.specs.declared.replies.Reply.{Reply}
+use Rattle.link_steps.specs.declared.replies.Reply.TheVariants.{Planned}
+use Rattle.channel_laws.specs.Unsent.{IsUnsent}
+use Rattle.channel_move.specs.Moving.{Move, next_of_move, shifted_of}
+use Rattle.channel_move.specs.Standing.{Moves}
+use Rattle.channel_move.specs.declared.mover.Mover.{Mover}
+use Rattle.channel_move.specs.declared.shifted.Shifted.{Shifted}
+use Rattle.link_ledger.specs.Tokens.{Token}
+use Rattle.link_ledger.specs.declared.entries.OwnEntry.{OwnEntry}
+use Rattle.shared_network.specs.Calls.{Follows, HoldsRoute, reply_in}
+
+-- ---- when
+
+-- a channel is established over this route, on some contract
+pub record IsOpenOver (chan : ChanNo) (route : List Hop) (own : List OwnEntry) : Type 0 where
+  pub contract : Traffic
+  pub holds : HoldsRoute chan route contract own
+
+-- and packets of this size keep its contract
+pub record TakesSize (chan : ChanNo) (route : List Hop) (size : ℕ) (own : List OwnEntry) : Type 0 where
+  pub contract : Traffic
+  pub holds : HoldsRoute chan route contract own
+  pub small : size ≤ contract.smax
+
+-- no entry submits on the channel
+abbrev pub NoneSubmitted : ChanNo → List OwnEntry → Type 0
+NoneSubmitted chan own = Each (λ (e : OwnEntry). IsUnsent (channel_number chan) e.ask) own
+
+-- the gap and the size of planned packets
+pub record Packets : Type 0 where
+  pub gap : ℕ
+  pub size : ℕ
+
+-- what one entry makes of those that were planned last on a channel
+abbrev pub planned_with : ℕ → Option Packets → Ask → Reply → Option Packets
+planned_with c last (Submit chan count gap size) (Planned clock) = if channel_number chan == c then Some (record { gap = gap; size = size }) else last
+planned_with c last _ _ = last
+
+unfoldable pub planned_after : ℕ → Option Packets → List OwnEntry → Option Packets
+planned_after c last [] = last
+planned_after c last (e ∷ own) = planned_after c (planned_with c last e.ask e.reply) own
+
+-- by the own entries, in their order
+abbrev pub last_planned : ChanNo → List OwnEntry → Option Packets
+last_planned chan own = planned_after (channel_number chan) None own
+
+-- where a submit on the channel was planned, the last one had this gap and this size
+abbrev pub WerePlanned : ChanNo → ℕ → ℕ → List OwnEntry → Type 0
+WerePlanned chan gap size own = (last : Packets) → last_planned chan own ≡ Some last → (gap ≡ last.gap) × (size ≡ last.size)
+
+-- ---- what it adds
+
+-- a move has come to this, and the mover stands at its end
+pub record Shifts (move : Move) (mover : Mover) (pass pass' : Token) (told : Shifted) : Type 0 where
+  pub entries : List OwnEntry
+  pub own : pass'.own ≡ pass.own ++ entries
+  pub follows : Follows (next_of_move move) [] entries
+  pub told_is : shifted_of move (map reply_in entries) ≡ Some told
+  pub stands : Moves mover (map reply_in entries)

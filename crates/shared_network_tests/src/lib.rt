@@ -1,0 +1,7 @@
+//! Tests of `shared_network`, in a crate of their own, so that its functions aren't proved again with them.
+#![tactic(auto)]
+
+#[cfg(test)]
+mod calls;
+#[cfg(test)]
+mod moves;
