@@ -12,4 +12,7 @@ pub mod OwnerFacts
 pub mod OneLinkFacts
 pub mod Growing
 pub mod QuotaGrowth
+pub mod ReadyFacts
+pub mod AccountFacts
+pub mod WithinFacts
 mod WorkedRules

@@ -1,22 +1,21 @@
 -- The parts of one link, one request and one caller may be planned; and the request may be accepted at the first level.
-use Rattle.std.proofs.Common.{◌≡◌, ℕ, zero, suc, ◌+◌, ◌≤◌, Option, Some, None, List, [], ◌∷◌, ◌++◌, length, map, slice_index, refl, sym, ap, ◌∙◌, subst, arith}
+use Rattle.std.proofs.Common.{◌≡◌, ℕ, zero, suc, ◌≤◌, Some, List, [], ◌∷◌, ◌++◌, length, slice_index, refl, sym, ap, ◌∙◌, subst, arith}
 use Rattle.std.proofs.lemmas.Option.{same_Some}
 use Rattle.std.specs.List.{All, slice_get}
 use Rattle.net_units.specs.Allotted.{levels_of}
 use Rattle.net_units.specs.LevelBounds.{bound_at}
-use Rattle.net_units.specs.Numbers.{link_number, channel_number, actor_number}
+use Rattle.net_units.specs.Numbers.{link_number, channel_number}
 use Rattle.net_units.specs.declared.levels.Levels.{Levels}
 use Rattle.hop_reservation.specs.Offers.{AreLevels, delay_over}
 use Rattle.hop_reservation.specs.declared.route.Hop.{Hop}
 use Rattle.setup_protocol.specs.Laws.{KeepsRequest}
 use Rattle.setup_protocol.specs.State.{HaveLevels}
-use Rattle.setup_protocol.specs.declared.request.Request.{Request}
 use Rattle.link_steps.proofs.ListFacts.{Each-if}
 use Rattle.link_steps.specs.Lists.{Each}
 use Rattle.link_steps.specs.declared.quota.Quota.{Quota}
 use Rattle.call_script.specs.Accepted.{AreAccepted}
 use Rattle.call_script.specs.OneLink.{IsThatLink, IsPerhapsSplit, IsOverIt, IsThatRequest, IsThatScript, AsksForOne, HasThatRequest}
-use Rattle.call_script.specs.Parts.{PlanParts, Opening, parts_of, parts_with, openings_in, openings_of, opening_of, FollowsLink, LeavesUnused, ArePlanned}
+use Rattle.call_script.specs.Parts.{PlanParts, Opening, parts_of, parts_with, openings_of, opening_of, FollowsLink, LeavesUnused, ArePlanned}
 use Rattle.call_script.specs.declared.entries.LinkEntry.{LinkEntry}
 use Rattle.call_script.specs.declared.entries.RequestEntry.{RequestEntry}
 use Rattle.call_script.specs.declared.entries.CallerEntry.{CallerEntry}

@@ -11,7 +11,7 @@ use Rattle.net_units.specs.Numbers.{actor_number, channel_number}
 use Rattle.hop_reservation.specs.declared.route.Hop.{Hop}
 use Rattle.link_steps.specs.Lists.{Each}
 use Rattle.setup_protocol.specs.declared.request.Request.{Request}
-use Rattle.call_script.specs.Owners.{TaskOff, SendsOnce, FullScript, OwnedFully, IsOwned, IsUnnamed, AllOwned}
+use Rattle.call_script.specs.Owners.{TaskOff, SendsOnce, UsedOnce, FullScript, OwnedFully, IsOwned, IsUnnamed, AllOwned}
 use Rattle.call_script.specs.Parts.{PlanParts, openings_in, ArePlanned}
 use Rattle.call_script.specs.Plans.{IsPlan}
 use Rattle.call_script.specs.Rules.{each_after, opens, is_opened, closes, is_unclosed, are_opened, are_there, are_unclosed, route_is_there, pour_is_there}
@@ -169,6 +169,12 @@ closed-off c n m requests above (Pour link count gap size ∷ ops) ordered below
     let split = both (is_unclosed above (Pour link count gap size)) (each_after is_unclosed (above ++ Pour link count gap size ∷ []) ops) kept in
     (tt, closed-off c n m requests (above ++ Pour link count gap size ∷ []) ops ordered below are (same-closed c above (Pour link count gap size) true refl closed) split.1)
 
+-- a request that no move is onto
+sends-used : (request : Request) (tasks : List Task) → SendsOnce request tasks → UsedOnce request tasks
+sends-used request [] sends = tt
+sends-used request (task ∷ tasks) (inl off) = inl (off.0, sends-used request tasks off.1)
+sends-used request (task ∷ tasks) (inr own) = inr (inr own)
+
 -- once it is opened, it is sent on and then closed
 opened-sends : (n m : ℕ) (requests : List Request) (request : Request) (above ops : List Op) → IsAt requests request → channel_number request.chan < m → AreNumbered m (openings_in n ops) → each_after is_unclosed above ops ≡ true → SendsOnce request (tasks_of requests ops)
 unfolding each_after tasks_of openings_in OpOff
@@ -192,7 +198,7 @@ opened-sends n m requests request above (Close chan ∷ ops) at below are kept =
           (let is = eqb-true (channel_number chan) (channel_number request.chan) same in
           let own = own-task requests request (λ r. Closes r) (channel_number chan) at is in
           let closed = any-here (closes (channel_number request.chan)) above (Close chan) [] (eq-eqb (channel_number chan) (channel_number request.chan) is) in
-          subst (λ t. SendsOnce request (with_task t (tasks_of requests ops))) (sym own) (inr (inr (refl, closed-off (channel_number request.chan) n m requests (above ++ Close chan ∷ []) ops at.ordered below are closed split.1))))
+          subst (λ t. SendsOnce request (with_task t (tasks_of requests ops))) (sym own) (inr (inr (inl (refl, closed-off (channel_number request.chan) n m requests (above ++ Close chan ∷ []) ops at.ordered below are closed split.1)))))
       | inr other ↦
           sends-with request (task_of requests (Close chan)) (tasks_of requests ops) (task-off (channel_number request.chan) requests (Close chan) at.ordered (eqb-false (channel_number chan) (channel_number request.chan) other))
           (opened-sends n m requests request (above ++ Close chan ∷ []) ops at below are split.1)
@@ -214,7 +220,7 @@ early-full n m requests request above (Open chan ∷ ops) at are none opened kep
       | inl same ↦
           (let is = eqb-true (channel_number chan) (channel_number request.chan) same in
           let own = own-task requests request (λ r. Opens r) (channel_number chan) at is in
-          subst (λ t. FullScript request (with_task t (tasks_of requests ops))) (sym own) (inr (refl, opened-sends n (suc m) requests request (above ++ Open chan ∷ []) ops at (omega (arith, number, is)) are.1 split.1)))
+          subst (λ t. FullScript request (with_task t (tasks_of requests ops))) (sym own) (inr (refl, sends-used request (tasks_of requests ops) (opened-sends n (suc m) requests request (above ++ Open chan ∷ []) ops at (omega (arith, number, is)) are.1 split.1))))
       | inr other ↦
           full-with request (task_of requests (Open chan)) (tasks_of requests ops) (task-off (channel_number request.chan) requests (Open chan) at.ordered (eqb-false (channel_number chan) (channel_number request.chan) other))
           (early-full n (suc m) requests request (above ++ Open chan ∷ []) ops at are.1 (same-opened (channel_number request.chan) above (Open chan) other none) opens'.1 split.1)

@@ -1,61 +1,42 @@
 -- A caller with one reply more. Where its task goes on, its work alone changes; where the task is over, the next one begins
 -- that takes a step.
-use Rattle.std.proofs.Common.{◌≡◌, ◌+◌, ◌-◌, ◌≤◌, ℕ, Option, Some, None, List, [], ◌∷◌, ◌++◌, length, map, drop, refl, sym, ap, ◌∙◌, subst, option_map, IsTrue, arith}
+use Rattle.std.proofs.Common.{◌≡◌, ℕ, Option, Some, None, List, [], ◌∷◌, ◌++◌, length, map, drop, refl, sym, ap, ◌∙◌, subst, option_map}
+use Rattle.std.proofs.lemmas.List.{length-map}
 use Rattle.std.proofs.lemmas.Option.{same_Some}
 use Rattle.std.specs.List.{slice_get}
-use Rattle.std.specs.Prelude.{vec_len, vec_capacity}
 use Rattle.net_units.specs.Numbers.{actor_number}
 use Rattle.net_units.specs.declared.numbers.ActorNo.{ActorNo}
 use Rattle.net_units.specs.declared.numbers.LinkNo.{LinkNo}
+use Rattle.link_steps.specs.Lists.{Each}
 use Rattle.link_steps.specs.declared.asks.Ask.{Ask}
 use Rattle.link_steps.specs.declared.replies.Reply.{Reply}
 use Rattle.setup_protocol.specs.declared.request.Request.{Request}
-use Rattle.call_script.specs.Parts.{PlanParts}
-use Rattle.call_script.specs.Scripts.{Opened, Standing, outcome_by, begun, continued, resumed, standing, task_ask}
-use Rattle.call_script.specs.Standing.{requests_of, owed_by, StandsAt, CallerStands}
+use Rattle.call_script.specs.Accounts.{AreAccounts, IsWithin}
+use Rattle.call_script.specs.Parts.{PlanParts, ArePlanned}
+use Rattle.call_script.specs.Scripts.{Learnt, Standing, begun, continued, resumed, standing, task_ask}
+use Rattle.call_script.specs.Standing.{requests_of, StandsAt, CallerStands}
 use Rattle.call_script.specs.Tasks.{request_of, script_of, tasks_of}
-use Rattle.call_script.specs.Work.{WorkStands, TurnStands, TaskGoesOn, IsFinished, opened_of, opened_among}
+use Rattle.call_script.specs.Work.{WorkStands, TurnStands, IsFinished, learnt_of}
+use Rattle.call_script.specs.declared.accounts.Account.{Account}
 use Rattle.call_script.specs.declared.actor.Actor.{Actor}
 use Rattle.call_script.specs.declared.entries.CallerEntry.{CallerEntry}
 use Rattle.call_script.specs.declared.entries.RequestEntry.{RequestEntry}
 use Rattle.call_script.specs.declared.operations.Op.{Op}
 use Rattle.call_script.specs.declared.tasks.Task.{Task}
-use Rattle.call_script.specs.declared.tasks.Task.TheVariants.{Opens, Sends, Closes}
 use Rattle.call_script.specs.declared.work.Known.{Known}
 use Rattle.call_script.specs.declared.work.Turn.{Turn}
 use Rattle.call_script.specs.declared.work.Turn.TheVariants as turn
 use Rattle.call_script.specs.declared.work.Work.{Work}
-use Rattle.call_script.specs.declared.work.Work.TheVariants as work
-use Rattle.call_script.proofs.ActorFacts.{opened-more}
-
--- ---- what a task owes
-
-owed_task : Task → ℕ
-owed_task (Opens request) = 1
-owed_task (Sends link chan count gap size) = 0
-owed_task (Closes request) = 0
-
-owed-by : (w : Work) (task : Task) (tasks : List Task) (replies : List Reply) → WorkStands w (task ∷ tasks) replies → owed_by w ≡ owed_task task
-unfolding owed_task
-owed-by (work.Opening chan setup) (Opens request) tasks replies stands = refl
-owed-by (work.Opening chan setup) (Sends link of count gap size) tasks replies stands = absurd stands
-owed-by (work.Opening chan setup) (Closes request) tasks replies stands = absurd stands
-owed-by (work.Once to ask) (Opens request) tasks replies stands = absurd stands
-owed-by (work.Once to ask) (Sends link of count gap size) tasks replies stands = refl
-owed-by (work.Once to ask) (Closes request) tasks replies stands = absurd stands
-owed-by (work.Closing teardown) (Opens request) tasks replies stands = absurd stands
-owed-by (work.Closing teardown) (Sends link of count gap size) tasks replies stands = absurd stands
-owed-by (work.Closing teardown) (Closes request) tasks replies stands = refl
-owed-by work.Idle task tasks replies stands = absurd stands
+use Rattle.call_script.proofs.WithinFacts.{TaskWithin, script-within, told-within}
 
 -- ---- where a caller stands with one reply more
 
-resumed-on : (outcomes : List Opened) (task : Task) (tasks : List Task) (replies : List Reply) (to : LinkNo) (ask : Ask) → task_ask task replies ≡ Some (to, ask)
+resumed-on : (outcomes : List Learnt) (task : Task) (tasks : List Task) (replies : List Reply) (to : LinkNo) (ask : Ask) → task_ask task replies ≡ Some (to, ask)
     → resumed outcomes (task ∷ tasks) replies ≡ record { tasks = task ∷ tasks; replies = replies; outcomes = outcomes }
 unfolding resumed
 resumed-on outcomes task tasks replies to ask asks = ap (continued outcomes task tasks replies) asks
 
-resumed-over : (outcomes own : List Opened) (task : Task) (tasks : List Task) (replies : List Reply) → IsFinished task replies own → resumed outcomes (task ∷ tasks) replies ≡ begun (own ++ outcomes) tasks
+resumed-over : (outcomes own : List Learnt) (task : Task) (tasks : List Task) (replies : List Reply) → IsFinished task replies own → resumed outcomes (task ∷ tasks) replies ≡ begun (own ++ outcomes) tasks
 unfolding resumed
 resumed-over outcomes own task tasks replies over = ap (continued outcomes task tasks replies) over.asks ∙ ap (λ new. begun (new ++ outcomes) tasks) over.tells
 
@@ -67,47 +48,44 @@ standing-more tasks replies reply = refl
 -- ---- the task under way
 
 -- it goes on
-goes-on : (requests : List Request) (ops : List Op) (actor : Actor) (w : Work) (outcomes : List Opened) (tasks : List Task) (replies : List Reply) (reply : Reply)
+goes-on : (requests : List Request) (ops : List Op) (actor : Actor) (w : Work) (outcomes : List Learnt) (tasks : List Task) (replies : List Reply) (reply : Reply)
     → StandsAt requests ops actor (record { tasks = tasks; replies = replies; outcomes = outcomes }) → TurnStands turn.On w tasks (replies ++ reply ∷ [])
     → StandsAt requests ops (record actor { work = w }) (resumed outcomes tasks (replies ++ reply ∷ []))
 goes-on requests ops actor w outcomes [] replies reply was on = absurd on
 goes-on requests ops actor w outcomes (task ∷ tasks) replies reply was on =
-    subst (StandsAt requests ops (record actor { work = w })) (sym (resumes on)) (record {
+    subst (StandsAt requests ops (record actor { work = w })) (sym (resumed-on outcomes task tasks (replies ++ reply ∷ []) on.to on.ask on.asks)) (record {
       under_way = on.stands;
       rest = was.rest;
       within = was.within;
       outcomes = was.outcomes;
-      room = room;
-    }) where
-      resumes : TaskGoesOn w task tasks (replies ++ reply ∷ []) → resumed outcomes (task ∷ tasks) (replies ++ reply ∷ []) ≡ record { tasks = task ∷ tasks; replies = replies ++ reply ∷ []; outcomes = outcomes }
-      resumes goes = resumed-on outcomes task tasks (replies ++ reply ∷ []) goes.to goes.ask goes.asks
-
-      room : length ops - actor.next + owed_by w ≤ vec_capacity actor.known - vec_len actor.known
-      room = (let same : owed_by w ≡ owed_by actor.work = owed-by w task tasks (replies ++ reply ∷ []) on.stands ∙ sym (owed-by actor.work task tasks replies was.under_way) in subst (λ n. length ops - actor.next + n ≤ vec_capacity actor.known - vec_len actor.known) (sym same) was.room)
+      accounts = was.accounts;
+    })
 
 -- it is over, with these outcomes
-is-over : (requests : List Request) (ops : List Op) (actor new : Actor) (own outcomes known : List Opened) (task : Task) (tasks : List Task) (replies : List Reply) (reply : Reply)
-    → StandsAt requests ops actor (record { tasks = task ∷ tasks; replies = replies; outcomes = outcomes }) → IsFinished task (replies ++ reply ∷ []) own → known ≡ own ++ opened_among actor.known.items
-    → StandsAt requests ops new (begun known (tasks_of requests (drop actor.next ops))) → StandsAt requests ops new (resumed outcomes (task ∷ tasks) (replies ++ reply ∷ []))
-is-over requests ops actor new own outcomes known task tasks replies reply was over same begins =
-    let all : known ≡ own ++ outcomes = same ∙ ap (λ os. own ++ os) (sym was.outcomes) in
-    subst (StandsAt requests ops new) (ap (begun known) (sym was.rest) ∙ ap (λ os. begun os tasks) all ∙ sym (resumed-over outcomes own task tasks (replies ++ reply ∷ []) over)) begins
+is-over : (requests : List Request) (ops : List Op) (actor new : Actor) (own outcomes : List Learnt) (task : Task) (tasks : List Task) (replies : List Reply) (reply : Reply)
+    → StandsAt requests ops actor (record { tasks = task ∷ tasks; replies = replies; outcomes = outcomes }) → IsFinished task (replies ++ reply ∷ []) own
+    → StandsAt requests ops new (begun (own ++ outcomes) (tasks_of requests (drop actor.next ops))) → StandsAt requests ops new (resumed outcomes (task ∷ tasks) (replies ++ reply ∷ []))
+is-over requests ops actor new own outcomes task tasks replies reply was over begins =
+    subst (StandsAt requests ops new) (ap (begun (own ++ outcomes)) (sym was.rest) ∙ sym (resumed-over outcomes own task tasks (replies ++ reply ∷ []) over)) begins
 
 -- with no outcome
-over-none : (requests : List Request) (ops : List Op) (actor new : Actor) (w : Work) (outcomes : List Opened) (tasks : List Task) (replies : List Reply) (reply : Reply)
+over-none : (requests : List Request) (ops : List Op) (actor new : Actor) (w : Work) (outcomes : List Learnt) (tasks : List Task) (replies : List Reply) (reply : Reply)
     → StandsAt requests ops actor (record { tasks = tasks; replies = replies; outcomes = outcomes }) → TurnStands turn.Over w tasks (replies ++ reply ∷ [])
-    → StandsAt requests ops new (begun (opened_among actor.known.items) (tasks_of requests (drop actor.next ops))) → StandsAt requests ops new (resumed outcomes tasks (replies ++ reply ∷ []))
+    → StandsAt requests ops new (begun outcomes (tasks_of requests (drop actor.next ops))) → StandsAt requests ops new (resumed outcomes tasks (replies ++ reply ∷ []))
 over-none requests ops actor new w outcomes [] replies reply was over begins = absurd over
-over-none requests ops actor new w outcomes (task ∷ tasks) replies reply was over begins =
-    is-over requests ops actor new [] outcomes (opened_among actor.known.items) task tasks replies reply was over refl begins
+over-none requests ops actor new w outcomes (task ∷ tasks) replies reply was over begins = is-over requests ops actor new [] outcomes task tasks replies reply was over begins
 
 -- with one
-over-one : (requests : List Request) (ops : List Op) (actor new : Actor) (w : Work) (one : Known) (outcomes : List Opened) (tasks : List Task) (replies : List Reply) (reply : Reply)
+over-one : (requests : List Request) (ops : List Op) (actor new : Actor) (w : Work) (one : Known) (outcomes : List Learnt) (tasks : List Task) (replies : List Reply) (reply : Reply)
     → StandsAt requests ops actor (record { tasks = tasks; replies = replies; outcomes = outcomes }) → TurnStands (turn.Settled one) w tasks (replies ++ reply ∷ [])
-    → StandsAt requests ops new (begun (opened_among (actor.known.items ++ one ∷ [])) (tasks_of requests (drop actor.next ops))) → StandsAt requests ops new (resumed outcomes tasks (replies ++ reply ∷ []))
+    → StandsAt requests ops new (begun (learnt_of one ∷ outcomes) (tasks_of requests (drop actor.next ops))) → StandsAt requests ops new (resumed outcomes tasks (replies ++ reply ∷ []))
 over-one requests ops actor new w one outcomes [] replies reply was over begins = absurd over
-over-one requests ops actor new w one outcomes (task ∷ tasks) replies reply was over begins =
-    is-over requests ops actor new (opened_of one ∷ []) outcomes (opened_among (actor.known.items ++ one ∷ [])) task tasks replies reply was over (opened-more actor.known.items one) begins
+over-one requests ops actor new w one outcomes (task ∷ tasks) replies reply was over begins = is-over requests ops actor new (learnt_of one ∷ []) outcomes task tasks replies reply was over begins
+
+-- what it tells is of a channel of the plan
+one-within : (count : ℕ) (w : Work) (one : Known) (tasks : List Task) (replies : List Reply) → Each (TaskWithin count) tasks → TurnStands (turn.Settled one) w tasks replies → IsWithin count (learnt_of one)
+one-within count w one [] replies each over = absurd over
+one-within count w one (task ∷ tasks) replies each over = told-within count task replies (learnt_of one) each.0 over
 
 -- ---- the caller
 
@@ -133,42 +111,61 @@ turned-on parts actor w took replies reply stands is turns =
     (goes-on (requests_of parts) stands.caller.ops actor w at.outcomes at.tasks at.replies reply stands.at (subst (λ t. TurnStands t w at.tasks (at.replies ++ reply ∷ [])) is (turns at.tasks at.replies stands.at.under_way)))
 
 -- the beginning of the next task, as it is told
-begins-here : (parts : PlanParts) (requests : List RequestEntry) (caller : CallerEntry) (ops : List Op) (new : Actor) (outcomes : List Opened) (next : ℕ) → requests ≡ parts.requests → caller.ops ≡ ops
+begins-here : (parts : PlanParts) (requests : List RequestEntry) (caller : CallerEntry) (ops : List Op) (new : Actor) (outcomes : List Learnt) (next : ℕ) → requests ≡ parts.requests → caller.ops ≡ ops
     → StandsAt (map request_of requests) ops new (begun outcomes (tasks_of (map request_of requests) (drop next ops))) → StandsAt (requests_of parts) caller.ops new (begun outcomes (tasks_of (requests_of parts) (drop next caller.ops)))
 begins-here parts requests caller ops new outcomes next same own begins =
     subst (λ os. StandsAt (requests_of parts) os new (begun outcomes (tasks_of (requests_of parts) (drop next os)))) (sym own)
     (subst (λ rs. StandsAt (map request_of rs) ops new (begun outcomes (tasks_of (map request_of rs) (drop next ops)))) same begins)
 
+-- what the beginning of the next task promises, of all outcomes that the accounts say
+abbrev pub Begins : List RequestEntry → List Op → List Account → ℕ → Actor → Type 0
+Begins requests ops accounts next new =
+    (outcomes : List Learnt) → AreAccounts accounts outcomes → length accounts ≡ length requests
+    → StandsAt (map request_of requests) ops new (begun outcomes (tasks_of (map request_of requests) (drop next ops)))
+
+-- as many as requests
+counted : (parts : PlanParts) (requests : List RequestEntry) (accounts : List Account) → requests ≡ parts.requests → length accounts ≡ length (requests_of parts) → length accounts ≡ length requests
+counted parts requests accounts same counts = counts ∙ length-map parts.requests request_of ∙ ap length (sym same)
+
 pub turned-over : (parts : PlanParts) (actor new : Actor) (w : Work) (took : Turn) (ops : List Op) (requests : List RequestEntry) (replies : List Reply) (reply : Reply) → CallerStands parts actor replies → took ≡ turn.Over
     → ((tasks : List Task) (rs : List Reply) → WorkStands actor.work tasks rs → TurnStands took w tasks (rs ++ reply ∷ [])) → option_map (λ (entry : CallerEntry). entry.ops) (slice_get parts.callers (actor_number actor.caller)) ≡ Some ops
-    → requests ≡ parts.requests → new.caller ≡ actor.caller
-    → StandsAt (map request_of requests) ops new (begun (opened_among actor.known.items) (tasks_of (map request_of requests) (drop actor.next ops))) → CallerStands parts new (reply ∷ replies)
+    → requests ≡ parts.requests → new.caller ≡ actor.caller → Begins requests ops actor.accounts.by_channel.items actor.next new → CallerStands parts new (reply ∷ replies)
 turned-over parts actor new w took ops requests replies reply stands is turns told same kept begins =
     let at : Standing = standing (script_of (requests_of parts) stands.caller) replies in
     more-stands parts actor new replies reply stands kept
     (over-none (requests_of parts) stands.caller.ops actor new w at.outcomes at.tasks at.replies reply stands.at (subst (λ t. TurnStands t w at.tasks (at.replies ++ reply ∷ [])) is (turns at.tasks at.replies stands.at.under_way))
-    (begins-here parts requests stands.caller ops new (opened_among actor.known.items) actor.next same (ops-are _ stands.caller ops told stands.found) begins))
+    (begins-here parts requests stands.caller ops new at.outcomes actor.next same (ops-are _ stands.caller ops told stands.found)
+    (begins at.outcomes stands.at.outcomes (counted parts requests actor.accounts.by_channel.items same stands.at.accounts))))
 
-pub turned-settled : (parts : PlanParts) (actor new : Actor) (w : Work) (took : Turn) (one : Known) (items : List Known) (ops : List Op) (requests : List RequestEntry) (replies : List Reply) (reply : Reply) → CallerStands parts actor replies → took ≡ turn.Settled one
+pub turned-settled : (parts : PlanParts) (actor new : Actor) (w : Work) (took : Turn) (one : Known) (accounts : List Account) (ops : List Op) (requests : List RequestEntry) (replies : List Reply) (reply : Reply) → CallerStands parts actor replies → took ≡ turn.Settled one
     → ((tasks : List Task) (rs : List Reply) → WorkStands actor.work tasks rs → TurnStands took w tasks (rs ++ reply ∷ [])) → option_map (λ (entry : CallerEntry). entry.ops) (slice_get parts.callers (actor_number actor.caller)) ≡ Some ops
-    → requests ≡ parts.requests → new.caller ≡ actor.caller → items ≡ actor.known.items ++ one ∷ []
-    → StandsAt (map request_of requests) ops new (begun (opened_among items) (tasks_of (map request_of requests) (drop actor.next ops))) → CallerStands parts new (reply ∷ replies)
-turned-settled parts actor new w took one items ops requests replies reply stands is turns told same kept pushed begins =
+    → requests ≡ parts.requests → new.caller ≡ actor.caller → length accounts ≡ length actor.accounts.by_channel.items
+    → ((outcomes : List Learnt) → AreAccounts actor.accounts.by_channel.items outcomes → AreAccounts accounts (learnt_of one ∷ outcomes)) → Begins requests ops accounts actor.next new → CallerStands parts new (reply ∷ replies)
+turned-settled parts actor new w took one accounts ops requests replies reply stands is turns told same kept counts noted begins =
     let at : Standing = standing (script_of (requests_of parts) stands.caller) replies in
     more-stands parts actor new replies reply stands kept
     (over-one (requests_of parts) stands.caller.ops actor new w one at.outcomes at.tasks at.replies reply stands.at (subst (λ t. TurnStands t w at.tasks (at.replies ++ reply ∷ [])) is (turns at.tasks at.replies stands.at.under_way))
-    (begins-here parts requests stands.caller ops new (opened_among (actor.known.items ++ one ∷ [])) actor.next same (ops-are _ stands.caller ops told stands.found)
-    (subst (λ ks. StandsAt (map request_of requests) ops new (begun (opened_among ks) (tasks_of (map request_of requests) (drop actor.next ops)))) pushed begins)))
+    (begins-here parts requests stands.caller ops new (learnt_of one ∷ at.outcomes) actor.next same (ops-are _ stands.caller ops told stands.found)
+    (begins (learnt_of one ∷ at.outcomes) (noted at.outcomes stands.at.outcomes) (counted parts requests accounts same (counts ∙ stands.at.accounts)))))
+
+-- what it has learnt then is of a channel that has an account
+pub learnt-within : (parts : PlanParts) (actor : Actor) (w : Work) (took : Turn) (one : Known) (replies : List Reply) (reply : Reply) → ArePlanned parts → CallerStands parts actor replies → took ≡ turn.Settled one
+    → ((tasks : List Task) (rs : List Reply) → WorkStands actor.work tasks rs → TurnStands took w tasks (rs ++ reply ∷ [])) → IsWithin (length actor.accounts.by_channel.items) (learnt_of one)
+learnt-within parts actor w took one replies reply planned stands is turns =
+    let at : Standing = standing (script_of (requests_of parts) stands.caller) replies in
+    subst (λ n. IsWithin n (learnt_of one)) (sym stands.at.accounts)
+    (one-within (length (requests_of parts)) w one at.tasks (at.replies ++ reply ∷ []) (script-within parts stands.caller.ops replies planned)
+    (subst (λ t. TurnStands t w at.tasks (at.replies ++ reply ∷ [])) is (turns at.tasks at.replies stands.at.under_way)))
 
 -- an actor that begins stands for no replies
-pub fresh-stands : (parts : PlanParts) (actor : Actor) (caller : ActorNo) (ops : List Op) (requests : List RequestEntry) → option_map (λ (entry : CallerEntry). entry.ops) (slice_get parts.callers (actor_number caller)) ≡ Some ops
-    → requests ≡ parts.requests → actor.caller ≡ caller → StandsAt (map request_of requests) ops actor (begun [] (tasks_of (map request_of requests) (drop 0 ops))) → CallerStands parts actor []
+pub fresh-stands : (parts : PlanParts) (actor : Actor) (caller : ActorNo) (ops : List Op) (requests : List RequestEntry) (accounts : List Account) → option_map (λ (entry : CallerEntry). entry.ops) (slice_get parts.callers (actor_number caller)) ≡ Some ops
+    → requests ≡ parts.requests → actor.caller ≡ caller → AreAccounts accounts [] → length accounts ≡ length requests → Begins requests ops accounts 0 actor → CallerStands parts actor []
 unfolding standing
-fresh-stands parts actor caller ops requests told same own begins = by (slice_get parts.callers (actor_number caller)) refl told where
+fresh-stands parts actor caller ops requests accounts told same own none counts begins = by (slice_get parts.callers (actor_number caller)) refl told where
   by : (found : Option CallerEntry) → slice_get parts.callers (actor_number caller) ≡ found → option_map (λ (entry : CallerEntry). entry.ops) found ≡ Some ops → CallerStands parts actor []
   by None is none = cc
   by (Some entry) is some = record {
     caller = entry;
     found = ap (λ c. slice_get parts.callers (actor_number c)) own ∙ is;
-    at = begins-here parts requests entry ops actor [] 0 same (same_Some entry.ops ops some) begins;
+    at = begins-here parts requests entry ops actor [] 0 same (same_Some entry.ops ops some) (begins [] none counts);
   }

@@ -1,12 +1,11 @@
 -- A loop over a list. Where the elements so far pass, those that are left decide; where one doesn't, all is decided.
-use Rattle.std.proofs.Common.{◌≡◌, Option, Some, None, ℕ, suc, ◌+◌, ◌<◌, ◌≤◌, Bool, true, false, List, [], ◌∷◌, ◌++◌, length, take, drop, get_or, refl, sym, ap, ◌∙◌, inl, inr, arith}
+use Rattle.std.proofs.Common.{◌≡◌, Option, Some, None, ℕ, suc, ◌+◌, ◌<◌, ◌≤◌, Bool, true, false, List, [], ◌∷◌, ◌++◌, length, take, drop, get_or, refl, sym, ap, ◌∙◌, arith}
 use Rattle.std.proofs.Math.Seq.{drop-cons, take-suc}
 use Rattle.std.proofs.lemmas.List.{drop_all}
 use Rattle.std.proofs.lemmas.List.Folds.{list_any-append}
 use Rattle.std.proofs.lemmas.Option.{slice_get_within, get_or_from_slice_get}
 use Rattle.std.specs.List.{list_all, list_any, slice_get}
 use Rattle.std.specs.Prelude.{cond, not, ◌||◌}
-use Rattle.net_units.specs.declared.numbers.LinkNo.{LinkNo}
 use Rattle.hop_reservation.specs.declared.route.Hop.{Hop}
 use Rattle.traffic_contract.specs.Admission.{total}
 use Rattle.call_script.specs.Rules.{each_after, hits, misses, meets, is_joined}

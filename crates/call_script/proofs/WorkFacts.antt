@@ -1,5 +1,5 @@
 -- The work of a task: at its beginning, and with one reply more.
-use Rattle.std.proofs.Common.{◌≡◌, ℕ, suc, true, ◌-◌, ◌<◌, ◌≤◌, Option, Some, None, IsSome, List, [], ◌∷◌, ◌++◌, length, refl, sym, ap, ◌∙◌, subst, inl, inr, option_map, arith}
+use Rattle.std.proofs.Common.{◌≡◌, ℕ, true, ◌-◌, ◌<◌, ◌≤◌, Option, Some, None, IsSome, List, [], ◌∷◌, ◌++◌, length, refl, sym, ap, ◌∙◌, inl, inr, option_map, arith}
 use Rattle.std.proofs.lemmas.Bool.{cases_lt}
 use Rattle.std.proofs.lemmas.Option.{slice_get_cases}
 use Rattle.std.specs.List.{slice_get}
@@ -20,9 +20,17 @@ use Rattle.setup_protocol.specs.declared.setup.State.{State}
 use Rattle.setup_protocol.specs.declared.setup.State.TheVariants as state
 use Rattle.setup_protocol.specs.declared.teardown.Teardown.{Teardown}
 use Rattle.call_script.specs.Scripts.{first_ask}
-use Rattle.call_script.specs.Work.{WorkStands, IsOpening, IsClosing, TaskGoesOn, is_under_way}
+use Rattle.channel_move.specs.Moving.{at_end, next_of_move}
+use Rattle.channel_move.specs.Stages.{ask_in, released_in, told_in}
+use Rattle.channel_move.specs.Standing.{Moves as Stands, move_of}
+use Rattle.channel_move.specs.declared.mover.Mover.{Mover}
+use Rattle.channel_move.specs.declared.shifted.Shifted.{Shifted}
+use Rattle.channel_move.specs.declared.mover.Stage.{Stage}
+use Rattle.channel_move.specs.declared.mover.Stage.TheVariants as stage
+use Rattle.channel_move.proofs.MoveFacts.{stage-asks}
+use Rattle.call_script.specs.Work.{WorkStands, IsOpening, IsClosing, IsMoving, TaskGoesOn, is_under_way}
 use Rattle.call_script.specs.declared.tasks.Task.{Task}
-use Rattle.call_script.specs.declared.tasks.Task.TheVariants.{Opens, Closes}
+use Rattle.call_script.specs.declared.tasks.Task.TheVariants.{Opens, Closes, Moves}
 use Rattle.call_script.specs.declared.work.Work.{Work}
 use Rattle.call_script.specs.declared.work.Work.TheVariants as work
 
@@ -37,6 +45,16 @@ record HasAsk (next : Option (LinkNo × Ask)) : Type 0 where
   to : LinkNo
   ask : Ask
   asks : next ≡ Some (to, ask)
+
+slice-found : (hops : List Hop) (i : ℕ) → i < length hops → (hop : Hop) × (slice_get hops i ≡ Some hop)
+slice-found hops i within =
+    elim (slice_get_cases hops i).1 [
+      | inl at ↦ (at.0, at.2)
+      | inr past ↦ absurd (omega (arith, past.0))
+    ]
+
+found-asks : (found : Option Hop) (ask : Ask) → (hop : Hop) × (found ≡ Some hop) → HasAsk (option_map (λ (hop : Hop). (hop.link, ask)) found)
+found-asks found ask at = record { to = at.0.link; ask = ask; asks = ap (option_map (λ (hop : Hop). (hop.link, ask))) at.1 }
 
 asks-hop : (hops : List Hop) (i : ℕ) (own : Hop → Ask) → i < length hops → HasAsk (asked_of (slice_get hops i) own)
 asks-hop hops i own within =
@@ -56,6 +74,7 @@ pub under-way : (at : Work) (tasks : List Task) (replies : List Reply) → WorkS
 under-way (work.Opening chan setup) tasks replies stands left = refl
 under-way (work.Once to ask) tasks replies stands left = refl
 under-way (work.Closing teardown) tasks replies stands left = refl
+under-way (work.Moving from to gap size mover) tasks replies stands left = refl
 under-way work.Idle [] replies stands left = cc
 under-way work.Idle (task ∷ tasks) replies stands left = absurd stands
 
@@ -86,6 +105,34 @@ closing-goes-on old new request tasks replies reply to ask chan route taken next
       ask = ask;
       asks = ap (λ c. next_release c request.route (replies ++ reply ∷ [])) (sym (chan ∙ was.channel)) ∙ ap (λ r. next_release new.chan r (replies ++ reply ∷ [])) (sym same) ∙ sym (next (replies ++ reply ∷ []) stands);
       stands = record { channel = chan ∙ was.channel; route = same; stands = stands; left = left };
+    }
+
+-- ---- moves
+
+-- a move that has told what was shifted, and isn't over, has an ask
+not-over : (next : Option (LinkNo × Ask)) (told : Shifted) → at_end next (Some told) ≡ None → HasAsk next
+not-over None told over = cc
+not-over (Some to) told over = record { to = to.0; ask = to.1; asks = refl }
+
+mover-asks : (mover : Mover) → released_in mover.stage < length mover.leaving_route → at_end (ask_in (move_of mover) mover.stage) (told_in mover.stage) ≡ None → HasAsk (ask_in (move_of mover) mover.stage)
+mover-asks mover left unfinished = by mover.stage left unfinished where
+  by : (at : Stage) → released_in at < length mover.leaving_route → at_end (ask_in (move_of mover) at) (told_in at) ≡ None → HasAsk (ask_in (move_of mover) at)
+  by stage.Leaving below over = found-asks (slice_get mover.leaving_route 0) _ (slice-found mover.leaving_route 0 (omega (arith, below)))
+  by (stage.Joining told) below over = not-over (ask_in (move_of mover) (stage.Joining told)) told over
+  by (stage.Releasing told made) below over = found-asks (slice_get mover.leaving_route made) _ (slice-found mover.leaving_route made below)
+
+-- the move goes on
+pub moving-goes-on : (from to : ChanNo) (gap size : ℕ) (old new : Mover) (one other : Request) (own_gap own_size : ℕ) (tasks : List Task) (replies : List Reply) (reply : Reply)
+    → move_of new ≡ move_of old → ((rs : List Reply) → Stands old rs → Stands new (rs ++ reply ∷ [])) → released_in new.stage < length new.leaving_route → at_end (ask_in (move_of new) new.stage) (told_in new.stage) ≡ None → IsMoving from to gap size old one other own_gap own_size replies
+    → TaskGoesOn (work.Moving from to gap size new) (Moves one other own_gap own_size) tasks (replies ++ reply ∷ [])
+moving-goes-on from to gap size old new one other own_gap own_size tasks replies reply same taken left unfinished was =
+    let stands = taken replies was.stands in
+    let asks = mover-asks new left unfinished in
+    record {
+      to = asks.to;
+      ask = asks.ask;
+      asks = ap (λ m. next_of_move m (replies ++ reply ∷ [])) (sym (same ∙ was.move)) ∙ sym (stage-asks (move_of new) (replies ++ reply ∷ [])) ∙ ap (ask_in (move_of new)) (sym stands) ∙ asks.asks;
+      stands = record { leaves = was.leaves; joins = was.joins; gaps = was.gaps; sizes = was.sizes; move = same ∙ was.move; stands = stands; left = left };
     }
 
 pub below-unless : (made most : ℕ) → made ≤ most → (made ≡ most → ⊥) → made < most

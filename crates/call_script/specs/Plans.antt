@@ -1,6 +1,6 @@
 -- A plan: parts that may be planned and break no rule, and whose requests have contracts and routes. Its network fits, and
 -- each of its channels has one owner.
-use Rattle.std.specs.Prelude.{◌≡◌, None, List}
+use Rattle.std.specs.Prelude.{◌≡◌, None}
 use Rattle.hop_reservation.specs.Routes.{IsRoute}
 use Rattle.link_steps.specs.Lists.{Each}
 use Rattle.traffic_contract.specs.Contract.{IsContract}

@@ -1,39 +1,31 @@
 -- A caller as it is kept: the task under way, the next operation, and what its requests came to. It stands for the replies
--- after which the rules say that a caller stands so. It has room for what the requests left to open will come to.
-use Rattle.std.specs.Prelude.{◌≡◌, ◌+◌, ◌-◌, ◌≤◌, ℕ, suc, Bool, if◌then◌else◌, Option, Some, None, IsSome, List, [], ◌∷◌, length, map, drop, vec_len, vec_capacity}
+-- after which the rules say that a caller stands so. Each request has an account.
+use Rattle.std.specs.Prelude.{◌≡◌, ◌≤◌, ℕ, if◌then◌else◌, Option, Some, None, IsSome, List, length, map, drop}
 use Rattle.std.specs.List.{slice_get}
 use Rattle.net_units.specs.Numbers.{actor_number}
 use Rattle.link_steps.specs.declared.replies.Reply.{Reply}
 use Rattle.setup_protocol.specs.declared.request.Request.{Request}
+use Rattle.call_script.specs.Accounts.{AreAccounts}
 use Rattle.call_script.specs.Parts.{PlanParts}
-use Rattle.call_script.specs.Scripts.{Opened, Standing, ask_at, standing, standing_of, takes_step}
+use Rattle.call_script.specs.Scripts.{Learnt, Standing, ask_at, standing, standing_of, takes_step, ready}
 use Rattle.call_script.specs.Tasks.{request_of, script_of, network_of, tasks_of}
-use Rattle.call_script.specs.Work.{WorkStands, opened_among}
+use Rattle.call_script.specs.Work.{WorkStands}
 use Rattle.call_script.specs.declared.actor.Actor.{Actor}
 use Rattle.call_script.specs.declared.entries.CallerEntry.{CallerEntry}
 use Rattle.call_script.specs.declared.operations.Op.{Op}
 use Rattle.call_script.specs.declared.tasks.Task.{Task}
-use Rattle.call_script.specs.declared.work.Work.{Work}
-use Rattle.call_script.specs.declared.work.Work.TheVariants as work
 
 -- the requests of a plan
 abbrev pub requests_of : PlanParts → List Request
 requests_of parts = map request_of parts.requests
-
--- how many outcomes the work has still to give
-abbrev pub owed_by : Work → ℕ
-owed_by (work.Opening chan setup) = 1
-owed_by (work.Once to ask) = 0
-owed_by (work.Closing teardown) = 0
-owed_by work.Idle = 0
 
 -- the actor, over these operations, is where a caller stands
 pub record StandsAt (requests : List Request) (ops : List Op) (actor : Actor) (at : Standing) : Type 0 where
   pub under_way : WorkStands actor.work at.tasks at.replies
   pub rest : drop 1 at.tasks ≡ tasks_of requests (drop actor.next ops)
   pub within : actor.next ≤ length ops
-  pub outcomes : at.outcomes ≡ opened_among actor.known.items
-  pub room : length ops - actor.next + owed_by actor.work ≤ vec_capacity actor.known - vec_len actor.known
+  pub outcomes : AreAccounts actor.accounts.by_channel.items at.outcomes
+  pub accounts : length actor.accounts.by_channel.items ≡ length requests
 
 -- the actor stands for the replies that its caller has got, newest first
 pub record CallerStands (parts : PlanParts) (actor : Actor) (replies : List Reply) : Type 0 where
@@ -53,6 +45,6 @@ pub record HasAskLeft (parts : PlanParts) (actor : Actor) (replies : List Reply)
 -- ---- the next task that takes a step
 
 -- the task, if it takes a step
-abbrev pub if_step : List Opened → Option Task → Option Task
+abbrev pub if_step : List Learnt → Option Task → Option Task
 if_step outcomes None = None
-if_step outcomes (Some task) = if takes_step outcomes task then Some task else None
+if_step outcomes (Some task) = if takes_step outcomes task then Some (ready outcomes task) else None

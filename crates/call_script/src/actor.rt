@@ -1,22 +1,24 @@
 //! A caller on its way through its script.
-ghost use Rattle.std.specs.Prelude.{◌≡◌, ◌↔◌, ◌+◌, ◌-◌, ◌<◌, ◌≤◌, ℕ, [], ◌∷◌, None, Some, true, List, IsTrue, IsOk, IfOk, IfErr, IfSome, IfNone, OnOk, OnErr, length, map, drop, option_map, vec_len, vec_capacity};
+ghost use Rattle.std.specs.Prelude.{◌≡◌, ◌↔◌, ◌+◌, ◌-◌, ◌<◌, ◌≤◌, ℕ, [], ◌∷◌, None, Some, true, List, IsTrue, IsOk, IfOk, IfErr, IfSome, IfNone, OnOk, OnErr, length, map, drop, option_map};
 ghost use Rattle.std.specs.List.{slice_get};
 ghost use Rattle.net_units.specs.Numbers.{actor_number, channel_number};
 ghost use Rattle.hop_reservation.specs.Routes.{IsRoute};
 ghost use Rattle.link_steps.specs.Lists.{Each};
 ghost use Rattle.link_steps.specs.declared.replies.Reply.{Reply as Replied};
 ghost use Rattle.setup_protocol.specs.State.{outcome_of};
+ghost use Rattle.call_script.specs.Accounts.{AreAccounts};
 ghost use Rattle.call_script.specs.Parts.{PlanParts};
 ghost use Rattle.call_script.specs.Plans.{HasTerms};
-ghost use Rattle.call_script.specs.Scripts.{ask_at, begun, expects, from_step, is_established, is_ready, outcome_in, takes_step};
+ghost use Rattle.call_script.specs.Scripts.{Learnt, ask_at, begun, expects, from_step, is_established, is_ready, outcome_in, ready, takes_step};
 ghost use Rattle.call_script.specs.Tasks.{request_of, send_on, task_of, tasks_of};
-ghost use Rattle.call_script.specs.Work.{WorkStands, HasRoute, accepts_in, opened_among};
+ghost use Rattle.call_script.specs.Work.{HasRoute};
 
+use crate::accounts::Accounts;
 use crate::entries::RequestEntry;
 use crate::operations::Op;
 use crate::plan::Plan;
 use crate::tasks::Task;
-use crate::work::{Known, Turn, Work};
+use crate::work::{Turn, Work};
 use link_steps::{Ask, Reply, Unexpected};
 use net_units::{ActorNo, ChanNo, LinkNo, OutOfMemory};
 use setup_protocol::{Request, Verdict};
@@ -31,12 +33,12 @@ pub struct Actor {
     // The operation after the one under way.
     pub(crate) next: usize,
     pub(crate) work: Work,
-    // What the requests opened so far came to, in their order.
-    pub(crate) known: Vec<Known>,
+    // What was learnt so far.
+    pub(crate) accounts: Accounts,
 }
 
 impl Actor {
-    ghost use Rattle.call_script.specs.Standing.{CallerStands, StandsAt, HasAskLeft, owed_by, if_step, standing_in};
+    ghost use Rattle.call_script.specs.Standing.{CallerStands, StandsAt, HasAskLeft, if_step, standing_in};
 
     /// A caller of the plan that has asked nothing yet. It takes all memory that it needs; an `Err` comes only for want of
     /// it.
@@ -45,16 +47,15 @@ impl Actor {
         ensures caller { IfOk result (λ actor. actor.caller ≡ caller) }
         ensures stands { IfOk result (λ actor. CallerStands plan.now actor []) }
     {
-        let ops = ops_of(plan, caller);
-        let mut known = Vec::new(alloc);
-        known.reserve(ops.len())?;
+        let requests = plan.requests();
+        let accounts = Accounts::new(alloc, requests.len())?;
         let mut actor = Actor {
             caller,
             next: 0,
             work: Work::Idle,
-            known,
+            accounts,
         };
-        actor.begin(plan.requests(), ops);
+        actor.begin(requests, ops_of(plan, caller));
         Ok(actor)
     }
 
@@ -70,16 +71,9 @@ impl Actor {
     /// What the request of this channel has come to by the replies taken: None while its setup has an ask left, and where
     /// this caller doesn't open it.
     pub fn verdict(&self, chan: ChanNo) -> Option<Verdict>
-        ensures known { option_map outcome_of result ≡ outcome_in chan (opened_among self.now.known.items) }
         ensures verdict { (parts : PlanParts) (replies : List Replied) → CallerStands parts self.now replies → option_map outcome_of result ≡ outcome_in chan (standing_in parts (actor_number self.now.caller) replies).outcomes }
     {
-        let mut found = None;
-        for known in &self.known {
-            if known.chan.get() == chan.get() {
-                found = Some(known.verdict);
-            }
-        }
-        found
+        self.accounts.of(chan).verdict
     }
 
     /// Takes the reply to the next ask. One that isn't a reply to it changes nothing. An ask has to be left. It takes no
@@ -93,18 +87,21 @@ impl Actor {
         ensures unchanged { OnErr result (self.new ≡ self.old) }
     {
         let ops = ops_of(plan, self.caller);
+        let requests = plan.requests();
         match self.work.take(reply) {
             Err(odd) => Err(odd),
-            Ok(Turn::On) => Ok(()),
-            Ok(Turn::Over) => {
-                self.begin(plan.requests(), ops);
-                Ok(())
-            }
-            Ok(Turn::Settled(known)) => {
-                self.known.push_reserved(known);
-                self.begin(plan.requests(), ops);
-                Ok(())
-            }
+            Ok(turn) => match &turn {
+                Turn::On => Ok(()),
+                Turn::Over => {
+                    self.begin(requests, ops);
+                    Ok(())
+                }
+                Turn::Settled(known) => {
+                    self.accounts.note(known);
+                    self.begin(requests, ops);
+                    Ok(())
+                }
+            },
         }
     }
 
@@ -112,9 +109,8 @@ impl Actor {
     fn begin(&mut self, requests: &[RequestEntry], ops: &[Op])
         requires terms { Each HasTerms requests.now }
         requires within { self.old.next ≤ length ops.now }
-        requires room { length ops.now - self.old.next ≤ vec_capacity self.old.known - vec_len self.old.known }
         ensures caller { self.new.caller ≡ self.old.caller }
-        ensures stands { StandsAt (map request_of requests.now) ops.now self.new (begun (opened_among self.old.known.items) (tasks_of (map request_of requests.now) (drop self.old.next ops.now))) }
+        ensures stands { (outcomes : List Learnt) → AreAccounts self.old.accounts.by_channel.items outcomes → length self.old.accounts.by_channel.items ≡ length requests.now → StandsAt (map request_of requests.now) ops.now self.new (begun outcomes (tasks_of (map request_of requests.now) (drop self.old.next ops.now))) }
     {
         match self.first_step(requests, ops) {
             Some(step) => {
@@ -134,8 +130,8 @@ impl Actor {
         requires within { self.now.next ≤ length ops.now }
         ensures within { IfSome result (λ step. (self.now.next ≤ step.index) × (step.index < length ops.now)) }
         ensures route { IfSome result (λ step. HasRoute step.task) }
-        ensures some { IfSome result (λ step. from_step (opened_among self.now.known.items) (tasks_of (map request_of requests.now) (drop self.now.next ops.now)) ≡ step.task ∷ tasks_of (map request_of requests.now) (drop (step.index + 1) ops.now)) }
-        ensures none { IfNone result (from_step (opened_among self.now.known.items) (tasks_of (map request_of requests.now) (drop self.now.next ops.now)) ≡ []) }
+        ensures some { IfSome result (λ step. (outcomes : List Learnt) → AreAccounts self.now.accounts.by_channel.items outcomes → from_step outcomes (tasks_of (map request_of requests.now) (drop self.now.next ops.now)) ≡ step.task ∷ tasks_of (map request_of requests.now) (drop (step.index + 1) ops.now)) }
+        ensures none { IfNone result ((outcomes : List Learnt) → AreAccounts self.now.accounts.by_channel.items outcomes → from_step outcomes (tasks_of (map request_of requests.now) (drop self.now.next ops.now)) ≡ []) }
     {
         for index in self.next..ops.len() {
             if let Some(task) = self.step_of(requests, &ops[index]) {
@@ -148,29 +144,32 @@ impl Actor {
     // The task of an operation, if it takes a step.
     fn step_of(&self, requests: &[RequestEntry], op: &Op) -> Option<Task>
         requires { Each HasTerms requests.now }
-        ensures task { result ≡ if_step (opened_among self.now.known.items) (task_of (map request_of requests.now) op.now) }
+        ensures task { (outcomes : List Learnt) → AreAccounts self.now.accounts.by_channel.items outcomes → result ≡ if_step outcomes (task_of (map request_of requests.now) op.now) }
         ensures route { IfSome result HasRoute }
     {
         match task_of(requests, op) {
-            Some(task) if self.takes_step(&task) => Some(task),
+            Some(task) if self.takes_step(&task) => Some(self.ready(task)),
             _ => None,
         }
     }
 
     // Whether a task takes a step.
     fn takes_step(&self, task: &Task) -> bool
-        ensures { result ≡ takes_step (opened_among self.now.known.items) task.now }
+        ensures { (outcomes : List Learnt) → AreAccounts self.now.accounts.by_channel.items outcomes → result ≡ takes_step outcomes task.now }
     {
         match task {
             Task::Opens(_) => true,
             Task::Sends { chan, .. } => self.is_ready(*chan),
             Task::Closes(request) => self.is_established(request.chan),
+            Task::Moves { old, new, .. } => {
+                self.is_established(old.chan) && self.is_established(new.chan)
+            }
         }
     }
 
     // Whether the packets of this channel may be sent; best-effort ones, which have none, always may.
     fn is_ready(&self, chan: Option<ChanNo>) -> bool
-        ensures { result ≡ is_ready chan (opened_among self.now.known.items) }
+        ensures { (outcomes : List Learnt) → AreAccounts self.now.accounts.by_channel.items outcomes → result ≡ is_ready chan outcomes }
     {
         match chan {
             Some(chan) => self.is_established(chan),
@@ -178,22 +177,31 @@ impl Actor {
         }
     }
 
-    // Whether the request of this channel was accepted.
-    fn is_established(&self, chan: ChanNo) -> bool
-        ensures { result ≡ is_established chan (opened_among self.now.known.items) }
+    // A task as it begins.
+    fn ready(&self, task: Task) -> Task
+        requires { HasRoute task }
+        ensures ready { (outcomes : List Learnt) → AreAccounts self.now.accounts.by_channel.items outcomes → result ≡ ready outcomes task }
+        ensures route { HasRoute result }
     {
-        accepts(self.verdict(chan))
+        match task {
+            Task::Moves { old, new, .. } => {
+                let account = self.accounts.of(old.chan);
+                Task::Moves {
+                    old,
+                    new,
+                    gap: account.gap,
+                    size: account.size,
+                }
+            }
+            other => other,
+        }
     }
-}
 
-// Whether a request has come to an established channel.
-fn accepts(found: Option<Verdict>) -> bool
-    ensures { result ≡ accepts_in (option_map outcome_of found) }
-{
-    match found {
-        Some(Verdict::Accepted { .. }) => true,
-        Some(Verdict::Denied(_)) => false,
-        None => false,
+    // Whether the request of this channel was accepted, and no move has left it.
+    fn is_established(&self, chan: ChanNo) -> bool
+        ensures { (outcomes : List Learnt) → AreAccounts self.now.accounts.by_channel.items outcomes → result ≡ is_established chan outcomes }
+    {
+        self.accounts.of(chan).established
     }
 }
 

@@ -6,6 +6,7 @@
 //! has got so far. Times are in ticks, sizes in units.
 #![tactic(auto)]
 
+pub(crate) mod accounts;
 pub mod actor;
 pub mod entries;
 pub mod laws;
@@ -27,6 +28,3 @@ pub use quotas::Quotas;
 pub use schedule::{Do, Dos, Schedule};
 pub use tasks::Task;
 pub use version::Version;
-
-#[cfg(test)]
-mod tests;

@@ -17,4 +17,11 @@ pub enum Task {
     },
     /// Release the request's channel, hop by hop.
     Closes(Request),
+    /// Move what is planned on one request's channel to that of another. The packets have this size, one each gap.
+    Moves {
+        old: Request,
+        new: Request,
+        gap: u64,
+        size: u32,
+    },
 }

@@ -28,6 +28,3 @@ pub use fault::ReportFault;
 pub use report::write_report;
 pub use schedule::write_schedule;
 pub use summary::write_summary;
-
-#[cfg(test)]
-mod tests;

@@ -22,10 +22,10 @@ use Rattle.call_script.specs.Tasks.{Network}
 use Rattle.tick_plane.specs.Planes.{next_due}
 use Rattle.run_record.specs.Runs.{part_of, replies_to}
 use Rattle.interleave_core.specs.Runs.{plane_no, plane_at, IsNext, IsRun}
-use Rattle.call_script.specs.Scripts.{Opened, standing, task_ask, first_ask, ask_at, settled_as, continued, resumed, outcome_in}
+use Rattle.call_script.specs.Scripts.{Learnt, standing, task_ask, first_ask, ask_at, settled_as, continued, resumed, outcome_in}
 use Rattle.interleave_core.proofs.CallerFacts.{StandingFits, nothing-asked}
 use Rattle.interleave_core.proofs.ChainLaw.{open-or-not, owner-now}
-use Rattle.interleave_core.proofs.FarHolds.{first-same, OwnKind, OwnOff, OwnSetup, OwnSend, OwnClose, own-kind, hop-comes, committed-comes}
+use Rattle.interleave_core.proofs.FarHolds.{first-same, OwnKind, OwnOff, OwnAside, OwnSetup, OwnSend, OwnClose, own-kind, hop-comes, committed-comes}
 use Rattle.setup_protocol.proofs.HopHolds.{IsTail, HopStands, reserved_of, View, OnWay, Back, Forth, view}
 use Rattle.interleave_core.proofs.RowsFollow.{held_at, SetupRows}
 use Rattle.interleave_core.proofs.RunCloses.{ClosesAt, run-closes, owned-once}
@@ -38,16 +38,16 @@ use Rattle.interleave_core.proofs.SetupOnce.{IsOther}
 use Rattle.interleave_core.specs.Paths.{HopAt, count_at}
 use Rattle.interleave_core.specs.Guarantee.{AcceptedIn}
 
-continued-kept : (request : Request) (outcomes : List Opened) (task : Task) (tasks : List Task) (replies : List Reply) (next : Option (LinkNo × Ask)) → IsOther (channel_number request.chan) task → outcome_in request.chan (continued outcomes task tasks replies next).outcomes ≡ outcome_in request.chan outcomes
+continued-kept : (request : Request) (outcomes : List Learnt) (task : Task) (tasks : List Task) (replies : List Reply) (next : Option (LinkNo × Ask)) → IsOther (channel_number request.chan) task → outcome_in request.chan (continued outcomes task tasks replies next).outcomes ≡ outcome_in request.chan outcomes
 continued-kept request outcomes task tasks replies (Some to) other = refl
 continued-kept request outcomes task tasks replies None other = other-outcome request task replies outcomes other
 
-resumed-kept : (request : Request) (outcomes : List Opened) (tasks : List Task) (replies : List Reply) → Each (IsOther (channel_number request.chan)) tasks → outcome_in request.chan (resumed outcomes tasks replies).outcomes ≡ outcome_in request.chan outcomes
+resumed-kept : (request : Request) (outcomes : List Learnt) (tasks : List Task) (replies : List Reply) → Each (IsOther (channel_number request.chan)) tasks → outcome_in request.chan (resumed outcomes tasks replies).outcomes ≡ outcome_in request.chan outcomes
 unfolding resumed
 resumed-kept request outcomes [] replies others = refl
 resumed-kept request outcomes (task ∷ tasks) replies others = continued-kept request outcomes task tasks replies (task_ask task replies) others.0
 
-goes-others : (network : Network) (request : Request) (run : List Done) (tasks : List Task) (replies : List Reply) (outcomes : List Opened) (outcome : Outcome) → GoesAt network request run tasks replies outcomes → outcome_in request.chan outcomes ≡ Some outcome → Each (IsOther (channel_number request.chan)) tasks
+goes-others : (network : Network) (request : Request) (run : List Done) (tasks : List Task) (replies : List Reply) (outcomes : List Learnt) (outcome : Outcome) → GoesAt network request run tasks replies outcomes → outcome_in request.chan outcomes ≡ Some outcome → Each (IsOther (channel_number request.chan)) tasks
 goes-others network request run tasks replies outcomes outcome (Before is quiet) accepted = absurd (let clash : None ≡ Some outcome = sym quiet ∙ accepted in cc)
 goes-others network request run tasks replies outcomes outcome (Under is quiet) accepted = absurd (let clash : None ≡ Some outcome = sym quiet ∙ accepted in cc)
 goes-others network request run tasks replies outcomes outcome (After levels ok others rows packets recorded) accepted = others
@@ -105,17 +105,17 @@ settles-done request replies (Back left deny upto is) done = absurd (undone left
   undone (suc n) none = none
 settles-done request replies (Forth left upto whole none is) done = relaxed-settles request replies _ left is (subst IsDone is done)
 
-continued-accepts : (request : Request) (outcomes : List Opened) (tasks : List Task) (replies : List Reply) (outcome : Outcome) (next : Option (LinkNo × Ask)) → next ≡ None → verdict_of request replies ≡ Some outcome → outcome_in request.chan (continued outcomes (Opens request) tasks replies next).outcomes ≡ Some outcome
+continued-accepts : (request : Request) (outcomes : List Learnt) (tasks : List Task) (replies : List Reply) (outcome : Outcome) (next : Option (LinkNo × Ask)) → next ≡ None → verdict_of request replies ≡ Some outcome → outcome_in request.chan (continued outcomes (Opens request) tasks replies next).outcomes ≡ Some outcome
 continued-accepts request outcomes tasks replies outcome (Some to) none verdict = absurd (let clash : Some to ≡ None = none in cc)
 continued-accepts request outcomes tasks replies outcome None none verdict = ap (λ v. outcome_in request.chan (settled_as request v ++ outcomes)) verdict ∙ outcome-own request outcome outcomes
 
-resumed-accepts : (request : Request) (outcomes : List Opened) (tasks : List Task) (replies : List Reply) → (is : Settles' request replies) → outcome_in request.chan (resumed outcomes (Opens request ∷ tasks) replies).outcomes ≡ Some (Accepts is.levels is.delay)
+resumed-accepts : (request : Request) (outcomes : List Learnt) (tasks : List Task) (replies : List Reply) → (is : Settles' request replies) → outcome_in request.chan (resumed outcomes (Opens request ∷ tasks) replies).outcomes ≡ Some (Accepts is.levels is.delay)
 unfolding resumed
 resumed-accepts request outcomes tasks replies is = continued-accepts request outcomes tasks replies (Accepts is.levels is.delay) (next_ask request replies) (ap (asked request) is.is) (ap settled_in is.is)
 
 -- ---- the owner's entries
 
-setup-accepts : (network : Network) (request : Request) (owner : ℕ) (first : HopAt network request 0) (done : Done) (past : List Done) (tasks : List Task) (outcomes : List Opened) (task : Task) (rest : List Task) (replies later : List Reply) (terms : Reservation) → slice_get network.scripts owner ≡ Some tasks → actor_number done.actor ≡ owner → standing tasks (replies_to owner past) ≡ record { tasks = task ∷ rest; replies = replies; outcomes = outcomes }
+setup-accepts : (network : Network) (request : Request) (owner : ℕ) (first : HopAt network request 0) (done : Done) (past : List Done) (tasks : List Task) (outcomes : List Learnt) (task : Task) (rest : List Task) (replies later : List Reply) (terms : Reservation) → slice_get network.scripts owner ≡ Some tasks → actor_number done.actor ≡ owner → standing tasks (replies_to owner past) ≡ record { tasks = task ∷ rest; replies = replies; outcomes = outcomes }
     → later ≡ replies ++ done.reply ∷ [] → task ≡ Opens request → SetupRows network request later (done ∷ past) → held_at network request 0 first (done ∷ past) ≡ Some terms → terms.phase ≡ Ph.Committed → AcceptedIn network request owner (done ∷ past)
 setup-accepts network request owner first done past tasks outcomes task rest replies later terms found by is made own rows held phase mine there =
     let is-done = stands-done request _ _ (held_at network request 0 first (done ∷ past)) terms (rows.hops 0 first) held phase in
@@ -124,13 +124,14 @@ setup-accepts network request owner first done past tasks outcomes task rest rep
     let all : standing mine (replies_to owner (done ∷ past)) ≡ resumed outcomes (Opens request ∷ rest) later = now ∙ ap (λ t. resumed outcomes (t ∷ rest) (replies ++ done.reply ∷ [])) own ∙ ap (resumed outcomes (Opens request ∷ rest)) (sym made) in
     record { levels = settles.levels; delay = settles.delay; is = ap (λ s. outcome_in request.chan s.outcomes) all ∙ resumed-accepts request outcomes rest later settles }
 
-kind-accepts : (network : Network) (request : Request) (owner : ℕ) (first : HopAt network request 0) (done : Done) (past : List Done) (tasks : List Task) (outcomes : List Opened) (task : Task) (rest : List Task) (replies : List Reply) (terms : Reservation) → slice_get network.scripts owner ≡ Some tasks → actor_number done.actor ≡ owner → standing tasks (replies_to owner past) ≡ record { tasks = task ∷ rest; replies = replies; outcomes = outcomes } → held_at network request 0 first (done ∷ past) ≡ Some terms → terms.phase ≡ Ph.Committed → (IsMild (channel_number request.chan) done.ask → AcceptedIn network request owner (done ∷ past)) → OwnKind network request done past task replies → AcceptedIn network request owner (done ∷ past)
+kind-accepts : (network : Network) (request : Request) (owner : ℕ) (first : HopAt network request 0) (done : Done) (past : List Done) (tasks : List Task) (outcomes : List Learnt) (task : Task) (rest : List Task) (replies : List Reply) (terms : Reservation) → slice_get network.scripts owner ≡ Some tasks → actor_number done.actor ≡ owner → standing tasks (replies_to owner past) ≡ record { tasks = task ∷ rest; replies = replies; outcomes = outcomes } → held_at network request 0 first (done ∷ past) ≡ Some terms → terms.phase ≡ Ph.Committed → (IsMild (channel_number request.chan) done.ask → AcceptedIn network request owner (done ∷ past)) → OwnKind network request done past task replies → AcceptedIn network request owner (done ∷ past)
 kind-accepts network request owner first done past tasks outcomes task rest replies terms found by is held phase mild (OwnOff other off) = mild (off-mild (channel_number request.chan) done.ask off)
+kind-accepts network request owner first done past tasks outcomes task rest replies terms found by is held phase mild (OwnAside told one off) = mild (off-mild (channel_number request.chan) done.ask off)
 kind-accepts network request owner first done past tasks outcomes task rest replies terms found by is held phase mild (OwnSetup later made own rows setup) = setup-accepts network request owner first done past tasks outcomes task rest replies later terms found by is made own rows held phase
-kind-accepts network request owner first done past tasks outcomes task rest replies terms found by is held phase mild (OwnSend hop count gap size own asks) = mild (subst (IsMild (channel_number request.chan)) (sym asks) tt)
-kind-accepts network request owner first done past tasks outcomes task rest replies terms found by is held phase mild (OwnClose levels own here on asks comm) = mild (subst (IsMild (channel_number request.chan)) (sym asks) tt)
+kind-accepts network request owner first done past tasks outcomes task rest replies terms found by is held phase mild (OwnSend count gap size own asks) = mild (subst (IsMild (channel_number request.chan)) (sym asks) tt)
+kind-accepts network request owner first done past tasks outcomes task rest replies terms found by is held phase mild (OwnClose levels own k here on asks zeroth comm) = mild (subst (IsMild (channel_number request.chan)) (sym asks) tt)
 
-left-accepts : (network : Network) (request : Request) (owner : ℕ) (first : HopAt network request 0) (done : Done) (past : List Done) (tasks : List Task) (outcomes : List Opened) (left : List Task) (replies : List Reply) (terms : Reservation) → NetworkFits network → RequestFits network.links request → IsRun network past → (next : IsNext network past done) → slice_get network.scripts owner ≡ Some tasks → actor_number done.actor ≡ owner → standing tasks (replies_to owner past) ≡ record { tasks = left; replies = replies; outcomes = outcomes } → held_at network request 0 first (done ∷ past) ≡ Some terms → terms.phase ≡ Ph.Committed → (IsMild (channel_number request.chan) done.ask → AcceptedIn network request owner (done ∷ past))
+left-accepts : (network : Network) (request : Request) (owner : ℕ) (first : HopAt network request 0) (done : Done) (past : List Done) (tasks : List Task) (outcomes : List Learnt) (left : List Task) (replies : List Reply) (terms : Reservation) → NetworkFits network → RequestFits network.links request → IsRun network past → (next : IsNext network past done) → slice_get network.scripts owner ≡ Some tasks → actor_number done.actor ≡ owner → standing tasks (replies_to owner past) ≡ record { tasks = left; replies = replies; outcomes = outcomes } → held_at network request 0 first (done ∷ past) ≡ Some terms → terms.phase ≡ Ph.Committed → (IsMild (channel_number request.chan) done.ask → AcceptedIn network request owner (done ∷ past))
     → first_ask left replies ≡ Some (done.link, done.ask) → StandingFits network.links (record { tasks = left; replies = replies; outcomes = outcomes }) → GoesAt network request past left replies outcomes → ClosesAt network request past (record { tasks = left; replies = replies; outcomes = outcomes }) → AcceptedIn network request owner (done ∷ past)
 left-accepts network request owner first done past tasks outcomes [] replies terms fits sound run next found by is held phase mild asks stands goes closes = absurd (nothing-asked replies (done.link, done.ask) asks)
 left-accepts network request owner first done past tasks outcomes (task ∷ rest) replies terms fits sound run next found by is held phase mild asks stands goes closes =

@@ -25,12 +25,12 @@ use Rattle.channel_laws.specs.Channels.{channel_packets, channel_of}
 use Rattle.call_script.specs.Fits.{NetworkFits}
 use Rattle.interleave_core.specs.Hops.{packets_on, ChannelAsked}
 use Rattle.call_script.specs.declared.tasks.Task.{Task}
-use Rattle.call_script.specs.declared.tasks.Task.TheVariants.{Opens, Sends, Closes}
+use Rattle.call_script.specs.declared.tasks.Task.TheVariants.{Opens, Closes, Moves}
 use Rattle.call_script.specs.Tasks.{Network}
 use Rattle.tick_plane.specs.Planes.{next_due}
 use Rattle.run_record.specs.Runs.{part_of, replies_to}
 use Rattle.interleave_core.specs.Runs.{plane_no, plane_at, IsNext, IsRun}
-use Rattle.call_script.specs.Scripts.{Opened, Standing, task_ask, continued, resumed, standing, first_ask, ask_at}
+use Rattle.call_script.specs.Scripts.{Learnt, Standing, task_ask, continued, resumed, standing, first_ask, ask_at}
 use Rattle.interleave_core.proofs.CallerFacts.{StandingFits, nothing-asked, standing-more}
 use Rattle.channel_laws.proofs.ChannelRows.{own-count, legal-free, row-of, find-passes}
 use Rattle.channel_laws.proofs.HoldFates.{Fate, FateOpen, TellsAll, NotCommitted, held-released, released-count}
@@ -39,7 +39,6 @@ use Rattle.setup_protocol.proofs.HopHolds.{IsComm, IsTail, HopStands, reserved_o
 use Rattle.interleave_core.proofs.RowsFollow.{held_at, held-here, held-elsewhere, hop-reply, same-held}
 use Rattle.call_script.specs.Owners.{OwnedFully}
 use Rattle.interleave_core.proofs.RunCloses.{ClosesAt, AllComm, comm-later, run-closes, owned-once, head-same}
-use Rattle.call_script.specs.Owners.{TaskOff}
 use Rattle.interleave_core.proofs.RunGoes.{GoesAt, run-goes, owned-asked, tasks-off, plane-off-ask, off-standing, off-mild}
 use Rattle.interleave_core.proofs.RunLegal.{plane-next, caller-next, replies-by, replies-off, run-stands}
 use Rattle.channel_laws.specs.Reservations.{IsReleased}
@@ -47,12 +46,12 @@ use Rattle.channel_laws.proofs.SendReplies.{release-committed}
 use Rattle.channel_laws.specs.Asks.{IsOff, IsMild}
 use Rattle.channel_laws.specs.Reservations.{held_by}
 use Rattle.channel_laws.proofs.TermsAfter.{held-submitted}
-use Rattle.interleave_core.proofs.FarHolds.{hop-tells, hop-fate, first-same, hop-comes, committed-comes, Frozen, frozen-later, NoRelease, OwnKind, OwnOff, OwnSetup, OwnSend, OwnClose, own-kind}
+use Rattle.interleave_core.proofs.FarHolds.{hop-tells, hop-fate, first-same, hop-comes, committed-comes, Frozen, frozen-later, NoRelease, IsLeaving, OwnKind, OwnOff, OwnAside, OwnSetup, OwnSend, OwnClose, own-kind}
 use Rattle.interleave_core.specs.Paths.{HopAt, count_at}
 
 pub record Chain (network : Network) (request : Request) (owner : ℕ) (first : HopAt network request 0) (run : List Done) : Type 0 where
   pub fates : 1 ≤ count_at network request 0 first run → (i : ℕ) (at : HopAt network request i) → Fate (count_at network request 0 first run) (count_at network request i at run) (held_at network request i at run)
-  pub told : (tasks : List Task) → slice_get network.scripts owner ≡ Some tasks → (rest : List Task) (told : ℕ) → (standing tasks (replies_to owner run)).tasks ≡ Closes request ∷ rest → first_count (standing tasks (replies_to owner run)).replies ≡ Some told → Frozen network request first run told
+  pub told : (tasks : List Task) → slice_get network.scripts owner ≡ Some tasks → (task : Task) (rest : List Task) (told : ℕ) → (standing tasks (replies_to owner run)).tasks ≡ task ∷ rest → IsLeaving request task → first_count (standing tasks (replies_to owner run)).replies ≡ Some told → Frozen network request first run told
   pub whole : (terms : Reservation) → held_at network request 0 first run ≡ Some terms → terms.phase ≡ Ph.Committed → (levels : List ℕ) × AllComm network request levels 0 run
 
 pub open-or-not : (held : Option Reservation) → ((terms : Reservation) × (held ≡ Some terms) × (terms.phase ≡ Ph.Committed)) ⊎ NotCommitted held
@@ -126,19 +125,19 @@ first-hop-count : (network : Network) (request : Request) (first : HopAt network
 first-hop-count network request first zero at run is = same-count network request 0 at first run
 first-hop-count network request first (suc i) at run is = absurd (omega (arith, is))
 
-first-none : (replies : List Reply) → first_count replies ≡ None → length replies ≡ 0
+first-none : (replies : List Reply) → first_count replies ≡ None → replies ≡ []
 first-none [] is = refl
 first-none (reply ∷ replies) is = cc
 
 -- a release tells all that the first hop has taken
-close-tells : (network : Network) (request : Request) (first : HopAt network request 0) (done : Done) (past : List Done) (replies : List Reply) (here : HopAt network request (length replies)) → RequestFits network.links request → link_number done.link ≡ link_number here.hop.link → done.ask ≡ Release request.chan (first_count replies) → ((told : ℕ) → first_count replies ≡ Some told → Frozen network request first past told)
+close-tells : (network : Network) (request : Request) (first : HopAt network request 0) (done : Done) (past : List Done) (replies : List Reply) (k : ℕ) (here : HopAt network request k) → RequestFits network.links request → link_number done.link ≡ link_number here.hop.link → done.ask ≡ Release request.chan (first_count replies) → (replies ≡ [] → k ≡ 0) → ((told : ℕ) → first_count replies ≡ Some told → Frozen network request first past told)
     → (i : ℕ) (at : HopAt network request i) → link_number done.link ≡ link_number at.hop.link → TellsAll (channel_number request.chan) (count_at network request 0 first past) (count_at network request i at past) done.ask
-close-tells network request first done past replies here sound on is frozen i at at-link =
+close-tells network request first done past replies k here sound on is zeroth frozen i at at-link =
     subst (TellsAll (channel_number request.chan) (count_at network request 0 first past) (count_at network request i at past)) (sym is) (λ same. by-first (first_count replies) refl) where
       by-first : (upstream : Option ℕ) → first_count replies ≡ upstream → count_at network request 0 first past ≤ count_at_release upstream (count_at network request i at past)
       by-first None none =
-          (let index : i ≡ length replies = index-apart request.route i (length replies) at.hop here.hop sound.route at.stands here.stands (sym at-link ∙ on) in
-          let e = first-none replies none in
+          (let index : i ≡ k = index-apart request.route i k at.hop here.hop sound.route at.stands here.stands (sym at-link ∙ on) in
+          let e = zeroth (first-none replies none) in
           let same = first-hop-count network request first i at past (omega (arith, index, e)) in omega (arith, same))
       by-first (Some told) some = (let upto = (frozen told some).upto in omega (arith, upto))
 
@@ -208,23 +207,23 @@ first-released network request first done past levels fits asked run next on is 
       by-reply (Is.Refused refusal) same reply released = absurd (subst IsReleased same released)
 
 -- the first hop is frozen after a release
-close-frozen : (network : Network) (request : Request) (first : HopAt network request 0) (done : Done) (past : List Done) (levels : List ℕ) (replies : List Reply) (here : HopAt network request (length replies)) (told : ℕ) → NetworkFits network → ChannelAsked request past → IsRun network past → (next : IsNext network past done) → link_number done.link ≡ link_number here.hop.link → done.ask ≡ Release request.chan (first_count replies) → IsComm Some request levels (length replies) (held_at network request (length replies) here past) → ((given : ℕ) → first_count replies ≡ Some given → Frozen network request first past given)
+close-frozen : (network : Network) (request : Request) (first : HopAt network request 0) (done : Done) (past : List Done) (levels : List ℕ) (replies : List Reply) (k : ℕ) (here : HopAt network request k) (told : ℕ) → NetworkFits network → ChannelAsked request past → IsRun network past → (next : IsNext network past done) → link_number done.link ≡ link_number here.hop.link → done.ask ≡ Release request.chan (first_count replies) → (replies ≡ [] → k ≡ 0) → IsComm Some request levels k (held_at network request k here past) → ((given : ℕ) → first_count replies ≡ Some given → Frozen network request first past given)
     → first_count (replies ++ done.reply ∷ []) ≡ Some told → Frozen network request first (done ∷ past) told
-close-frozen network request first done past levels [] here told fits asked run next on is comm frozen tells =
-    let hop : here.hop ≡ first.hop = same_Some here.hop first.hop (sym here.stands ∙ first.stands) in
-    let own = first-released network request first done past levels fits asked run next (on ∙ ap link_of hop) is (subst (IsComm Some request levels 0) (same-held network request 0 0 here first past refl) comm) in
+close-frozen network request first done past levels [] k here told fits asked run next on is zeroth comm frozen tells =
+    let hop : here.hop ≡ first.hop = same_Some here.hop first.hop (sym here.stands ∙ ap (slice_get request.route) (zeroth refl) ∙ first.stands) in
+    let own = first-released network request first done past levels fits asked run next (on ∙ ap link_of hop) is (subst (λ n. IsComm Some request levels n (held_at network request 0 first past)) (zeroth refl) (subst (IsComm Some request levels k) (same-held network request k 0 here first past (zeroth refl)) comm)) in
     let given : own.count ≡ told = same_Some own.count told (ap (λ r. Some (told_count r)) (sym own.reply) ∙ tells) in
     let same = first-same network request first done past fits asked run next (λ tick. absurd (let clash : Release request.chan None ≡ Tick = sym is ∙ tick in cc)) in
     record {
       upto = (let counts = own.counts in omega (arith, counts, given, same));
       closes = λ terms held. ap (λ k. k.phase) (sym (same_Some own.terms terms (sym own.held ∙ held))) ∙ own.phase;
     }
-close-frozen network request first done past levels (reply ∷ replies) here told fits asked run next on is comm frozen tells =
+close-frozen network request first done past levels (reply ∷ replies) k here told fits asked run next on is zeroth comm frozen tells =
     frozen-later network request first done past told fits asked run next (subst (IsMild (channel_number request.chan)) (sym is) tt) (frozen told tells)
 
-close-whole : (network : Network) (request : Request) (first : HopAt network request 0) (done : Done) (past : List Done) (levels : List ℕ) (replies : List Reply) (here : HopAt network request (length replies)) → NetworkFits network → ChannelAsked request past → IsRun network past → (next : IsNext network past done) → link_number done.link ≡ link_number here.hop.link → done.ask ≡ Release request.chan (first_count replies) → IsComm Some request levels (length replies) (held_at network request (length replies) here past) → ((given : ℕ) → first_count replies ≡ Some given → Frozen network request first past given)
+close-whole : (network : Network) (request : Request) (first : HopAt network request 0) (done : Done) (past : List Done) (levels : List ℕ) (replies : List Reply) (k : ℕ) (here : HopAt network request k) → NetworkFits network → ChannelAsked request past → IsRun network past → (next : IsNext network past done) → link_number done.link ≡ link_number here.hop.link → done.ask ≡ Release request.chan (first_count replies) → (replies ≡ [] → k ≡ 0) → IsComm Some request levels k (held_at network request k here past) → ((given : ℕ) → first_count replies ≡ Some given → Frozen network request first past given)
     → (terms : Reservation) → held_at network request 0 first (done ∷ past) ≡ Some terms → terms.phase ≡ Ph.Committed → ⊥
-close-whole network request first done past levels replies here fits asked run next on is comm frozen terms held phase =
+close-whole network request first done past levels replies k here fits asked run next on is zeroth comm frozen terms held phase =
     by-first (first_count (replies ++ done.reply ∷ [])) refl where
       some-first : (rs : List Reply) → first_count (rs ++ done.reply ∷ []) ≡ None → ⊥
       some-first [] none = cc
@@ -233,83 +232,92 @@ close-whole network request first done past levels replies here fits asked run n
       by-first : (found : Option ℕ) → first_count (replies ++ done.reply ∷ []) ≡ found → ⊥
       by-first None none = some-first replies none
       by-first (Some told) some =
-          let closes = (close-frozen network request first done past levels replies here told fits asked run next on is comm frozen some).closes terms held in
+          let closes = (close-frozen network request first done past levels replies k here told fits asked run next on is zeroth comm frozen some).closes terms held in
           let clash : Ph.Committed ≡ Ph.Closing = sym phase ∙ closes in cc
 
 -- ---- what the owner's replies tell
 
-continued-told : (request : Request) (outcomes : List Opened) (task : Task) (tasks : List Task) (replies : List Reply) (next : Option (LinkNo × Ask)) (rest : List Task) (told : ℕ) → (continued outcomes task tasks replies next).tasks ≡ Closes request ∷ rest → first_count (continued outcomes task tasks replies next).replies ≡ Some told → (task ≡ Closes request) × (first_count replies ≡ Some told)
-continued-told request outcomes task tasks replies (Some to) rest told same first = (head-same task tasks (Closes request) rest same, first)
-continued-told request outcomes task tasks replies None rest told same first = absurd (let clash : None ≡ Some told = first in cc)
+continued-told : (outcomes : List Learnt) (task head : Task) (tasks : List Task) (replies : List Reply) (next : Option (LinkNo × Ask)) (rest : List Task) (told : ℕ) → (continued outcomes task tasks replies next).tasks ≡ head ∷ rest → first_count (continued outcomes task tasks replies next).replies ≡ Some told → (task ≡ head) × (first_count replies ≡ Some told)
+continued-told outcomes task head tasks replies (Some to) rest told same first = (head-same task tasks head rest same, first)
+continued-told outcomes task head tasks replies None rest told same first = absurd (let clash : None ≡ Some told = first in cc)
 
-resumed-told : (request : Request) (outcomes : List Opened) (task : Task) (tasks : List Task) (replies : List Reply) (rest : List Task) (told : ℕ) → (resumed outcomes (task ∷ tasks) replies).tasks ≡ Closes request ∷ rest → first_count (resumed outcomes (task ∷ tasks) replies).replies ≡ Some told → (task ≡ Closes request) × (first_count replies ≡ Some told)
+resumed-told : (outcomes : List Learnt) (task head : Task) (tasks : List Task) (replies : List Reply) (rest : List Task) (told : ℕ) → (resumed outcomes (task ∷ tasks) replies).tasks ≡ head ∷ rest → first_count (resumed outcomes (task ∷ tasks) replies).replies ≡ Some told → (task ≡ head) × (first_count replies ≡ Some told)
 unfolding resumed
-resumed-told request outcomes task tasks replies rest told same first = continued-told request outcomes task tasks replies (task_ask task replies) rest told same first
+resumed-told outcomes task head tasks replies rest told same first = continued-told outcomes task head tasks replies (task_ask task replies) rest told same first
 
 -- ---- one entry more
 
 off-chain : (network : Network) (request : Request) (owner : ℕ) (first : HopAt network request 0) (done : Done) (past : List Done) → NetworkFits network → RequestFits network.links request → ((run : List Done) → IsRun network run → ChannelAsked request run) → IsRun network past → (next : IsNext network past done) → actor_number done.actor ≢ owner → IsOff (channel_number request.chan) done.ask → Chain network request owner first past → Chain network request owner first (done ∷ past)
 off-chain network request owner first done past fits sound asked run next other off was = record {
   fates = fates-next network request owner first done past fits sound asked run next was (λ i at on. off-tells (channel_number request.chan) _ _ done.ask off);
-  told = λ tasks found rest told same given.
+  told = λ tasks found task rest told same leaving given.
       (let still = replies-off owner done past other in
       frozen-later network request first done past told fits (asked past run) run next (off-mild (channel_number request.chan) done.ask off)
-      (was.told tasks found rest told (subst (λ rs. (standing tasks rs).tasks ≡ Closes request ∷ rest) still same) (subst (λ rs. first_count (standing tasks rs).replies ≡ Some told) still given)));
+      (was.told tasks found task rest told (subst (λ rs. (standing tasks rs).tasks ≡ task ∷ rest) still same) leaving (subst (λ rs. first_count (standing tasks rs).replies ≡ Some told) still given)));
   whole = mild-whole network request owner first done past fits run (off-mild (channel_number request.chan) done.ask off) was (λ levels comm. comm-later network request levels 0 done past fits run off comm);
 }
 
 -- what the owner's entry leaves, by the task that asked
 record OwnLeaves (network : Network) (request : Request) (first : HopAt network request 0) (run : List Done) (done : Done) (past : List Done) (task : Task) (replies : List Reply) : Type 0 where
   tells : (i : ℕ) (at : HopAt network request i) → link_number done.link ≡ link_number at.hop.link → TellsAll (channel_number request.chan) (count_at network request 0 first past) (count_at network request i at past) done.ask
-  told : (given : ℕ) → task ≡ Closes request → first_count (replies ++ done.reply ∷ []) ≡ Some given → Frozen network request first run given
+  told : (given : ℕ) → IsLeaving request task → first_count (replies ++ done.reply ∷ []) ≡ Some given → Frozen network request first run given
   whole : (terms : Reservation) → held_at network request 0 first run ≡ Some terms → terms.phase ≡ Ph.Committed → (levels : List ℕ) × AllComm network request levels 0 run
 
-own-leaves : (network : Network) (request : Request) (owner : ℕ) (first : HopAt network request 0) (done : Done) (past : List Done) (task : Task) (replies : List Reply) → NetworkFits network → RequestFits network.links request → ((run : List Done) → IsRun network run → ChannelAsked request run) → IsRun network past → (next : IsNext network past done) → Chain network request owner first past → ((given : ℕ) → task ≡ Closes request → first_count replies ≡ Some given → Frozen network request first past given) → OwnKind network request done past task replies → OwnLeaves network request first (done ∷ past) done past task replies
+opens-stay : (request : Request) (task : Task) → task ≡ Opens request → IsLeaving request task → ⊥
+opens-stay request task own (inl closes) = (let clash : Opens request ≡ Closes request = sym own ∙ closes in cc)
+opens-stay request task own (inr moves) = (let clash : Opens request ≡ Moves request moves.new moves.gap moves.size = sym own ∙ moves.is in cc)
+
+own-leaves : (network : Network) (request : Request) (owner : ℕ) (first : HopAt network request 0) (done : Done) (past : List Done) (task : Task) (replies : List Reply) → NetworkFits network → RequestFits network.links request → ((run : List Done) → IsRun network run → ChannelAsked request run) → IsRun network past → (next : IsNext network past done) → Chain network request owner first past → ((given : ℕ) → IsLeaving request task → first_count replies ≡ Some given → Frozen network request first past given) → OwnKind network request done past task replies → OwnLeaves network request first (done ∷ past) done past task replies
 own-leaves network request owner first done past task replies fits sound asked run next was frozen (OwnOff other off) = record {
   tells = λ i at on. off-tells (channel_number request.chan) _ _ done.ask off;
-  told = λ given is some. absurd (subst (TaskOff (channel_number request.chan)) is other refl);
+  told = λ given is some. absurd (other is);
   whole = mild-whole network request owner first done past fits run (off-mild (channel_number request.chan) done.ask off) was (λ levels comm. comm-later network request levels 0 done past fits run off comm);
 }
 own-leaves network request owner first done past task replies fits sound asked run next was frozen (OwnSetup later made own rows setup) = record {
   tells = λ i at on. setup-tells (channel_number request.chan) _ _ done.ask setup;
-  told = λ given is some. absurd (let clash : Opens request ≡ Closes request = sym own ∙ is in cc);
+  told = λ given is some. absurd (opens-stay request task own is);
   whole = setup-whole network request first (done ∷ past) _ _ rows.hops;
 }
-own-leaves network request owner first done past task replies fits sound asked run next was frozen (OwnSend hop count gap size own is) = record {
+own-leaves network request owner first done past task replies fits sound asked run next was frozen (OwnSend count gap size own is) = record {
   tells = λ i at on. subst (TellsAll (channel_number request.chan) (count_at network request 0 first past) (count_at network request i at past)) (sym is) tt;
-  told = λ given closes some. absurd (let clash : Sends hop.link (Some request.chan) count gap size ≡ Closes request = sym own ∙ closes in cc);
+  told = λ given leaving some. absurd (own leaving);
   whole = mild-whole network request owner first done past fits run (subst (IsMild (channel_number request.chan)) (sym is) tt) was (λ levels comm. send-later network request done past count gap size levels is comm);
 }
-own-leaves network request owner first done past task replies fits sound asked run next was frozen (OwnClose levels own here on is comm) = record {
-  tells = close-tells network request first done past replies here sound on is (λ given some. frozen given own some);
-  told = λ given closes some. close-frozen network request first done past levels replies here given fits (asked past run) run next on is comm (λ g s. frozen g own s) some;
-  whole = λ terms held phase. absurd (close-whole network request first done past levels replies here fits (asked past run) run next on is comm (λ g s. frozen g own s) terms held phase);
+own-leaves network request owner first done past task replies fits sound asked run next was frozen (OwnClose levels leaving k here on is zeroth comm) = record {
+  tells = close-tells network request first done past replies k here sound on is zeroth (λ given some. frozen given leaving some);
+  told = λ given closes some. close-frozen network request first done past levels replies k here given fits (asked past run) run next on is zeroth comm (λ g s. frozen g leaving s) some;
+  whole = λ terms held phase. absurd (close-whole network request first done past levels replies k here fits (asked past run) run next on is zeroth comm (λ g s. frozen g leaving s) terms held phase);
+}
+own-leaves network request owner first done past task replies fits sound asked run next was frozen (OwnAside reply one off) = record {
+  tells = λ i at on. off-tells (channel_number request.chan) _ _ done.ask off;
+  told = λ given leaving some. frozen-later network request first done past given fits (asked past run) run next (off-mild (channel_number request.chan) done.ask off) (frozen given leaving (ap first_count one ∙ sym (ap (λ rs. first_count (rs ++ done.reply ∷ [])) one) ∙ some));
+  whole = mild-whole network request owner first done past fits run (off-mild (channel_number request.chan) done.ask off) was (λ levels comm. comm-later network request levels 0 done past fits run off comm);
 }
 
-resumed-at : (at : Standing) (reply : Reply) (outcomes : List Opened) (left : List Task) (replies : List Reply) → at ≡ record { tasks = left; replies = replies; outcomes = outcomes } → resumed at.outcomes at.tasks (at.replies ++ reply ∷ []) ≡ resumed outcomes left (replies ++ reply ∷ [])
+resumed-at : (at : Standing) (reply : Reply) (outcomes : List Learnt) (left : List Task) (replies : List Reply) → at ≡ record { tasks = left; replies = replies; outcomes = outcomes } → resumed at.outcomes at.tasks (at.replies ++ reply ∷ []) ≡ resumed outcomes left (replies ++ reply ∷ [])
 resumed-at at reply outcomes left replies is = ap (λ s. resumed s.outcomes s.tasks (s.replies ++ reply ∷ [])) is
 
-pub owner-now : (owner : ℕ) (done : Done) (past : List Done) (own tasks : List Task) (outcomes : List Opened) (left : List Task) (replies : List Reply) → own ≡ tasks → actor_number done.actor ≡ owner → standing tasks (replies_to owner past) ≡ record { tasks = left; replies = replies; outcomes = outcomes }
+pub owner-now : (owner : ℕ) (done : Done) (past : List Done) (own tasks : List Task) (outcomes : List Learnt) (left : List Task) (replies : List Reply) → own ≡ tasks → actor_number done.actor ≡ owner → standing tasks (replies_to owner past) ≡ record { tasks = left; replies = replies; outcomes = outcomes }
     → standing own (replies_to owner (done ∷ past)) ≡ resumed outcomes left (replies ++ done.reply ∷ [])
 owner-now owner done past own tasks outcomes left replies script by is =
     ap (λ ts. standing ts (replies_to owner (done ∷ past))) script ∙ ap (standing tasks) (replies-by owner done past by) ∙ standing-more tasks done.reply (replies_to owner past) ∙ resumed-at (standing tasks (replies_to owner past)) done.reply outcomes left replies is
 
-told-at : (request : Request) (at now : Standing) (rest : List Task) (told : ℕ) → at ≡ now → at.tasks ≡ Closes request ∷ rest → first_count at.replies ≡ Some told → (now.tasks ≡ Closes request ∷ rest) × (first_count now.replies ≡ Some told)
-told-at request at now rest told same closes first = (sym (ap (λ s. s.tasks) same) ∙ closes, sym (ap (λ s. first_count s.replies) same) ∙ first)
+told-at : (at now : Standing) (head : Task) (rest : List Task) (told : ℕ) → at ≡ now → at.tasks ≡ head ∷ rest → first_count at.replies ≡ Some told → (now.tasks ≡ head ∷ rest) × (first_count now.replies ≡ Some told)
+told-at at now head rest told same closes first = (sym (ap (λ s. s.tasks) same) ∙ closes, sym (ap (λ s. first_count s.replies) same) ∙ first)
 
-told-was : (request : Request) (at : Standing) (outcomes : List Opened) (task : Task) (rest : List Task) (replies : List Reply) (given : ℕ) → at ≡ record { tasks = task ∷ rest; replies = replies; outcomes = outcomes } → task ≡ Closes request → first_count replies ≡ Some given → (at.tasks ≡ Closes request ∷ rest) × (first_count at.replies ≡ Some given)
-told-was request at outcomes task rest replies given is same some = (ap (λ s. s.tasks) is ∙ ap (λ t. t ∷ rest) same, ap (λ s. first_count s.replies) is ∙ some)
+told-was : (at : Standing) (outcomes : List Learnt) (task : Task) (rest : List Task) (replies : List Reply) (given : ℕ) → at ≡ record { tasks = task ∷ rest; replies = replies; outcomes = outcomes } → first_count replies ≡ Some given → (at.tasks ≡ task ∷ rest) × (first_count at.replies ≡ Some given)
+told-was at outcomes task rest replies given is some = (ap (λ s. s.tasks) is, ap (λ s. first_count s.replies) is ∙ some)
 
-own-told : (network : Network) (request : Request) (owner : ℕ) (first : HopAt network request 0) (done : Done) (past : List Done) (tasks : List Task) (outcomes : List Opened) (task : Task) (rest : List Task) (replies : List Reply) → slice_get network.scripts owner ≡ Some tasks → actor_number done.actor ≡ owner
+own-told : (network : Network) (request : Request) (owner : ℕ) (first : HopAt network request 0) (done : Done) (past : List Done) (tasks : List Task) (outcomes : List Learnt) (task : Task) (rest : List Task) (replies : List Reply) → slice_get network.scripts owner ≡ Some tasks → actor_number done.actor ≡ owner
     → standing tasks (replies_to owner past) ≡ record { tasks = task ∷ rest; replies = replies; outcomes = outcomes } → OwnLeaves network request first (done ∷ past) done past task replies
-    → (own : List Task) → slice_get network.scripts owner ≡ Some own → (more : List Task) (told : ℕ) → (standing own (replies_to owner (done ∷ past))).tasks ≡ Closes request ∷ more → first_count (standing own (replies_to owner (done ∷ past))).replies ≡ Some told → Frozen network request first (done ∷ past) told
-own-told network request owner first done past tasks outcomes task rest replies found by is leaves own here more told same given =
+    → (own : List Task) → slice_get network.scripts owner ≡ Some own → (head : Task) (more : List Task) (told : ℕ) → (standing own (replies_to owner (done ∷ past))).tasks ≡ head ∷ more → IsLeaving request head → first_count (standing own (replies_to owner (done ∷ past))).replies ≡ Some told → Frozen network request first (done ∷ past) told
+own-told network request owner first done past tasks outcomes task rest replies found by is leaves own here head more told same leaving given =
     let now = owner-now owner done past own tasks outcomes (task ∷ rest) replies (same_Some own tasks (sym here ∙ found)) by is in
-    let at = told-at request _ _ more told now same given in
-    let both = resumed-told request outcomes task rest (replies ++ done.reply ∷ []) more told at.0 at.1 in
-    leaves.told told both.0 both.1
+    let at = told-at _ _ head more told now same given in
+    let both = resumed-told outcomes task head rest (replies ++ done.reply ∷ []) more told at.0 at.1 in
+    leaves.told told (subst (IsLeaving request) (sym both.0) leaving) both.1
 
-own-chain : (network : Network) (request : Request) (owner : ℕ) (first : HopAt network request 0) (done : Done) (past : List Done) (tasks : List Task) (outcomes : List Opened) (task : Task) (rest : List Task) (replies : List Reply) → NetworkFits network → RequestFits network.links request → ((run : List Done) → IsRun network run → ChannelAsked request run) → IsRun network past → (next : IsNext network past done) → slice_get network.scripts owner ≡ Some tasks → actor_number done.actor ≡ owner
+own-chain : (network : Network) (request : Request) (owner : ℕ) (first : HopAt network request 0) (done : Done) (past : List Done) (tasks : List Task) (outcomes : List Learnt) (task : Task) (rest : List Task) (replies : List Reply) → NetworkFits network → RequestFits network.links request → ((run : List Done) → IsRun network run → ChannelAsked request run) → IsRun network past → (next : IsNext network past done) → slice_get network.scripts owner ≡ Some tasks → actor_number done.actor ≡ owner
     → standing tasks (replies_to owner past) ≡ record { tasks = task ∷ rest; replies = replies; outcomes = outcomes } → OwnLeaves network request first (done ∷ past) done past task replies → Chain network request owner first past → Chain network request owner first (done ∷ past)
 own-chain network request owner first done past tasks outcomes task rest replies fits sound names run next found by is leaves was = record {
   fates = fates-next network request owner first done past fits sound names run next was leaves.tells;
@@ -317,18 +325,18 @@ own-chain network request owner first done past tasks outcomes task rest replies
   whole = leaves.whole;
 }
 
-frozen-was : (network : Network) (request : Request) (owner : ℕ) (first : HopAt network request 0) (past : List Done) (tasks : List Task) (outcomes : List Opened) (task : Task) (rest : List Task) (replies : List Reply) → slice_get network.scripts owner ≡ Some tasks
-    → standing tasks (replies_to owner past) ≡ record { tasks = task ∷ rest; replies = replies; outcomes = outcomes } → Chain network request owner first past → (given : ℕ) → task ≡ Closes request → first_count replies ≡ Some given → Frozen network request first past given
+frozen-was : (network : Network) (request : Request) (owner : ℕ) (first : HopAt network request 0) (past : List Done) (tasks : List Task) (outcomes : List Learnt) (task : Task) (rest : List Task) (replies : List Reply) → slice_get network.scripts owner ≡ Some tasks
+    → standing tasks (replies_to owner past) ≡ record { tasks = task ∷ rest; replies = replies; outcomes = outcomes } → Chain network request owner first past → (given : ℕ) → IsLeaving request task → first_count replies ≡ Some given → Frozen network request first past given
 frozen-was network request owner first past tasks outcomes task rest replies found is was given same some =
-    let both = told-was request (standing tasks (replies_to owner past)) outcomes task rest replies given is same some in was.told tasks found rest given both.0 both.1
+    let both = told-was (standing tasks (replies_to owner past)) outcomes task rest replies given is some in was.told tasks found task rest given both.0 same both.1
 
-own-some : (network : Network) (request : Request) (owner : ℕ) (first : HopAt network request 0) (done : Done) (past : List Done) (tasks : List Task) (outcomes : List Opened) (task : Task) (rest : List Task) (replies : List Reply) → NetworkFits network → RequestFits network.links request → ((run : List Done) → IsRun network run → ChannelAsked request run) → IsRun network past → (next : IsNext network past done) → slice_get network.scripts owner ≡ Some tasks → actor_number done.actor ≡ owner
+own-some : (network : Network) (request : Request) (owner : ℕ) (first : HopAt network request 0) (done : Done) (past : List Done) (tasks : List Task) (outcomes : List Learnt) (task : Task) (rest : List Task) (replies : List Reply) → NetworkFits network → RequestFits network.links request → ((run : List Done) → IsRun network run → ChannelAsked request run) → IsRun network past → (next : IsNext network past done) → slice_get network.scripts owner ≡ Some tasks → actor_number done.actor ≡ owner
     → standing tasks (replies_to owner past) ≡ record { tasks = task ∷ rest; replies = replies; outcomes = outcomes } → OwnKind network request done past task replies → Chain network request owner first past → Chain network request owner first (done ∷ past)
 own-some network request owner first done past tasks outcomes task rest replies fits sound names run next found by is kind was =
     own-chain network request owner first done past tasks outcomes task rest replies fits sound names run next found by is
     (own-leaves network request owner first done past task replies fits sound names run next was (frozen-was network request owner first past tasks outcomes task rest replies found is was) kind) was
 
-own-next : (network : Network) (request : Request) (owner : ℕ) (first : HopAt network request 0) (done : Done) (past : List Done) (tasks : List Task) (outcomes : List Opened) (left : List Task) (replies : List Reply) → NetworkFits network → RequestFits network.links request → ((run : List Done) → IsRun network run → ChannelAsked request run) → IsRun network past → (next : IsNext network past done) → slice_get network.scripts owner ≡ Some tasks → actor_number done.actor ≡ owner
+own-next : (network : Network) (request : Request) (owner : ℕ) (first : HopAt network request 0) (done : Done) (past : List Done) (tasks : List Task) (outcomes : List Learnt) (left : List Task) (replies : List Reply) → NetworkFits network → RequestFits network.links request → ((run : List Done) → IsRun network run → ChannelAsked request run) → IsRun network past → (next : IsNext network past done) → slice_get network.scripts owner ≡ Some tasks → actor_number done.actor ≡ owner
     → standing tasks (replies_to owner past) ≡ record { tasks = left; replies = replies; outcomes = outcomes } → first_ask left replies ≡ Some (done.link, done.ask) → StandingFits network.links (record { tasks = left; replies = replies; outcomes = outcomes }) → GoesAt network request past left replies outcomes → ClosesAt network request past (record { tasks = left; replies = replies; outcomes = outcomes }) → Chain network request owner first past → Chain network request owner first (done ∷ past)
 own-next network request owner first done past tasks outcomes [] replies fits sound names run next found by is asks stands goes closes was = absurd (nothing-asked replies (done.link, done.ask) asks)
 own-next network request owner first done past tasks outcomes (task ∷ rest) replies fits sound names run next found by is asks stands goes closes was =
@@ -369,7 +377,18 @@ pub run-chain : (network : Network) (request : Request) (owner : ℕ) (first : H
 unfolding IsRun part_of scan_of replies_to standing
 run-chain network request owner first [] fits sound full is = record {
   fates = λ some. absurd (omega (arith, some));
-  told = λ tasks found rest told same given. absurd (no-first tasks [] refl told given);
+  told = λ tasks found task rest told same leaving given. absurd (no-first tasks [] refl told given);
   whole = λ terms held phase. absurd (let clash : None ≡ Some terms = held in cc);
 }
 run-chain network request owner first (done ∷ past) fits sound full is = chain-next network request owner first done past fits sound full is.0 is.1 (run-chain network request owner first past fits sound full is.0)
+
+-- the first hop after a release that the owner's task asks
+pub leaves-frozen : (network : Network) (request : Request) (owner : ℕ) (first : HopAt network request 0) (done : Done) (past : List Done) (tasks : List Task) (outcomes : List Learnt) (task : Task) (rest : List Task) (replies : List Reply) (given : ℕ) → NetworkFits network → RequestFits network.links request → OwnedFully network request owner → IsRun network past → (next : IsNext network past done) → slice_get network.scripts owner ≡ Some tasks
+    → standing tasks (replies_to owner past) ≡ record { tasks = task ∷ rest; replies = replies; outcomes = outcomes } → first_ask (task ∷ rest) replies ≡ Some (done.link, done.ask) → IsLeaving request task → first_count (replies ++ done.reply ∷ []) ≡ Some given → Frozen network request first (done ∷ past) given
+leaves-frozen network request owner first done past tasks outcomes task rest replies given fits sound full run next found is asks leaving some =
+    let once = owned-once network request owner full in
+    let was = run-chain network request owner first past fits sound full run in
+    let stands = subst (StandingFits network.links) is ((run-stands network past fits run).callers owner tasks found) in
+    let goes : GoesAt network request past (task ∷ rest) replies outcomes = subst (λ s. GoesAt network request past s.tasks s.replies s.outcomes) is ((run-goes network request owner past fits sound once run).at tasks found) in
+    let closes = subst (ClosesAt network request past) is ((run-closes network request owner past fits sound full run).at tasks found) in
+    (own-leaves network request owner first done past task replies fits sound (owned-asked network request owner fits sound once) run next was (frozen-was network request owner first past tasks outcomes task rest replies found is was) (own-kind network request done past outcomes task rest replies fits sound run next stands goes asks closes)).told given leaving some

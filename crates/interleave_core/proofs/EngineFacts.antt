@@ -1,14 +1,14 @@
 -- What is known where an engine makes the step that an actor is about to make, and what it then stands for.
-use Rattle.std.proofs.Common.{◌≡◌, ◌∷◌, ℕ, List, refl, sym, subst, ◌∙◌}
+use Rattle.std.proofs.Common.{◌≡◌, ℕ, List, sym, subst, ◌∙◌}
 use Rattle.std.specs.Prelude.{Result, Ok, Err, OnErr}
-use Rattle.net_units.specs.Numbers.{link_number, actor_number}
+use Rattle.net_units.specs.Numbers.{link_number}
 use Rattle.net_units.specs.declared.numbers.ActorNo.{ActorNo}
 use Rattle.net_units.specs.declared.numbers.LinkNo.{LinkNo}
 use Rattle.link_quota.specs.declared.any_link.AnyLink.{AnyLink}
 use Rattle.link_steps.specs.declared.asks.Ask.{Ask}
 use Rattle.call_script.specs.Parts.{PlanParts}
 use Rattle.call_script.specs.Tasks.{network_of}
-use Rattle.interleave_core.specs.Standing.{EngineStands, IsAboutTo, LinksStand}
+use Rattle.interleave_core.specs.Standing.{IsAboutTo, LinksStand}
 use Rattle.interleave_core.specs.declared.engine.Engine.{Engine}
 use Rattle.interleave_core.proofs.StepFacts.{Asking}
 use Rattle.run_record.specs.declared.done.Done.{Done}

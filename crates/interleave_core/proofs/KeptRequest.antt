@@ -1,4 +1,6 @@
 -- In every run the levels of an accepted request keep what it asks for, and its delay is the sum over its route.
+use Rattle.interleave_core.proofs.RunGoes.{other-outcome}
+use Rattle.call_script.specs.Scripts.{newest}
 use Rattle.std.proofs.Common.{◌≡◌, ℕ, zero, suc, ◌-◌, ◌⊎◌, List, [], ◌∷◌, ◌++◌, length, Option, Some, None, refl, sym, ap, ◌∙◌, subst, inl, inr, arith}
 use Rattle.std.proofs.lemmas.Bool.{cases_Bool, cases_lt, eqb-true, eqb-false}
 use Rattle.std.proofs.lemmas.Option.{same_Some}
@@ -20,14 +22,14 @@ use Rattle.setup_protocol.proofs.LawFacts.{accepted-keep}
 use Rattle.run_record.specs.declared.done.Done.{Done}
 use Rattle.call_script.specs.Fits.{NetworkFits}
 use Rattle.call_script.specs.declared.tasks.Task.{Task}
-use Rattle.call_script.specs.declared.tasks.Task.TheVariants.{Opens, Sends, Closes}
+use Rattle.call_script.specs.declared.tasks.Task.TheVariants.{Opens, Sends, Closes, Moves}
 use Rattle.call_script.specs.Tasks.{Network}
 use Rattle.run_record.specs.Runs.{part_of, replies_to}
 use Rattle.interleave_core.specs.Runs.{IsNext, IsRun}
-use Rattle.call_script.specs.Scripts.{Opened, task_ask, settled_as, continued, resumed, standing, first_ask, ask_at, outcome_in}
+use Rattle.call_script.specs.Scripts.{Learnt, task_ask, settled_as, continued, resumed, standing, first_ask, ask_at, outcome_in}
 use Rattle.interleave_core.proofs.CallerFacts.{StandingFits, offers-go-on, standing-more, nothing-asked}
 use Rattle.call_script.specs.Owners.{OwnedFully}
-use Rattle.interleave_core.proofs.RunCloses.{ClosesAt, Early, Denied, Open, Closing, Over, run-closes, head-same}
+use Rattle.interleave_core.proofs.RunCloses.{ClosesAt, Early, Denied, Fresh, MovingFrom, MovingOnto, Open, Closing, Over, run-closes, head-same}
 use Rattle.call_script.specs.Owners.{TaskOff}
 use Rattle.interleave_core.proofs.RunLegal.{caller-next, replies-by, replies-off, run-stands, answered-may}
 use Rattle.channel_laws.specs.Asks.{MayReplyTo}
@@ -63,8 +65,8 @@ record OpensWith (request : Request) (task : Task) (replies : List Reply) (outco
   chan : channel_number own.chan ≡ channel_number request.chan
   verdict : verdict_of own replies ≡ Some outcome
 
-settled-comes : (request own : Request) (verdict : Option Outcome) (outcomes : List Opened) (outcome : Outcome) → outcome_in request.chan (settled_as own verdict ++ outcomes) ≡ Some outcome → (outcome_in request.chan outcomes ≡ Some outcome) ⊎ ((channel_number own.chan ≡ channel_number request.chan) × (verdict ≡ Some outcome))
-unfolding outcome_in
+settled-comes : (request own : Request) (verdict : Option Outcome) (outcomes : List Learnt) (outcome : Outcome) → outcome_in request.chan (settled_as own verdict ++ outcomes) ≡ Some outcome → (outcome_in request.chan outcomes ≡ Some outcome) ⊎ ((channel_number own.chan ≡ channel_number request.chan) × (verdict ≡ Some outcome))
+unfolding outcome_in newest
 settled-comes request own None outcomes outcome same = inl same
 settled-comes request own (Some given) outcomes outcome same =
     elim (cases_Bool (nat_eq (channel_number own.chan) (channel_number request.chan))) [
@@ -72,29 +74,38 @@ settled-comes request own (Some given) outcomes outcome same =
       | inr off ↦ (let e : outcome_in request.chan outcomes ≡ Some outcome = rw off at same in inl e)
     ]
 
-continued-comes : (request : Request) (outcomes : List Opened) (task : Task) (tasks : List Task) (replies : List Reply) (next : Option (LinkNo × Ask)) (outcome : Outcome) → outcome_in request.chan (continued outcomes task tasks replies next).outcomes ≡ Some outcome → (outcome_in request.chan outcomes ≡ Some outcome) ⊎ OpensWith request task replies outcome
+continued-comes : (request : Request) (outcomes : List Learnt) (task : Task) (tasks : List Task) (replies : List Reply) (next : Option (LinkNo × Ask)) (outcome : Outcome) → outcome_in request.chan (continued outcomes task tasks replies next).outcomes ≡ Some outcome → (outcome_in request.chan outcomes ≡ Some outcome) ⊎ OpensWith request task replies outcome
 continued-comes request outcomes task tasks replies (Some to) outcome same = inl same
 continued-comes request outcomes (Opens own) tasks replies None outcome same =
     elim (settled-comes request own (verdict_of own replies) outcomes outcome same) [
       | inl before ↦ inl before
       | inr both ↦ inr (record { own = own; is = refl; chan = both.0; verdict = both.1 })
     ]
-continued-comes request outcomes (Sends link chan count gap size) tasks replies None outcome same = inl same
+continued-comes request outcomes (Sends link chan count gap size) tasks replies None outcome same = inl (sym (other-outcome request (Sends link chan count gap size) replies outcomes tt) ∙ same)
 continued-comes request outcomes (Closes own) tasks replies None outcome same = inl same
+continued-comes request outcomes (Moves old new gap size) tasks replies None outcome same = inl (sym (other-outcome request (Moves old new gap size) replies outcomes tt) ∙ same)
 
-resumed-comes : (request : Request) (outcomes : List Opened) (task : Task) (tasks : List Task) (replies : List Reply) (outcome : Outcome) → outcome_in request.chan (resumed outcomes (task ∷ tasks) replies).outcomes ≡ Some outcome → (outcome_in request.chan outcomes ≡ Some outcome) ⊎ OpensWith request task replies outcome
+resumed-comes : (request : Request) (outcomes : List Learnt) (task : Task) (tasks : List Task) (replies : List Reply) (outcome : Outcome) → outcome_in request.chan (resumed outcomes (task ∷ tasks) replies).outcomes ≡ Some outcome → (outcome_in request.chan outcomes ≡ Some outcome) ⊎ OpensWith request task replies outcome
 unfolding resumed
 resumed-comes request outcomes task tasks replies outcome same = continued-comes request outcomes task tasks replies (task_ask task replies) outcome same
 
 -- the owner's task of the channel that opens it is the request's
-opens-own : (network : Network) (request own : Request) (run : List Done) (task : Task) (tasks : List Task) (replies : List Reply) (outcomes : List Opened) → task ≡ Opens own → channel_number own.chan ≡ channel_number request.chan → ClosesAt network request run (record { tasks = task ∷ tasks; replies = replies; outcomes = outcomes }) → task ≡ Opens request
-opens-own network request own run task tasks replies outcomes is chan (Early (inl off) none) = absurd (subst (TaskOff (channel_number request.chan)) is off.0 chan)
-opens-own network request own run task tasks replies outcomes is chan (Early (inr mine) none) = mine.0
+opens-own : (network : Network) (request own : Request) (run : List Done) (task : Task) (tasks : List Task) (replies : List Reply) (outcomes : List Learnt) → task ≡ Opens own → channel_number own.chan ≡ channel_number request.chan → ClosesAt network request run (record { tasks = task ∷ tasks; replies = replies; outcomes = outcomes }) → task ≡ Opens request
+opens-own network request own run task tasks replies outcomes is chan (Early (inl off) none unsent) = absurd (subst (TaskOff (channel_number request.chan)) is off.0 chan)
+opens-own network request own run task tasks replies outcomes is chan (Early (inr mine) none unsent) = mine.0
 opens-own network request own run task tasks replies outcomes is chan (Denied sends first none) = absurd (subst (TaskOff (channel_number request.chan)) is first chan)
+opens-own network request own run task tasks replies outcomes is chan (Fresh levels (inl off) fresh comm unsent) = absurd (subst (TaskOff (channel_number request.chan)) is off.0 chan)
+opens-own network request own run task tasks replies outcomes is chan (Fresh levels (inr (inl mine)) fresh comm unsent) = absurd (let clash : Moves mine.0.old request mine.0.gap mine.0.size ≡ Opens own = sym mine.0.is ∙ is in cc)
+opens-own network request own run task tasks replies outcomes is chan (Fresh levels (inr (inr (inl mine))) fresh comm unsent) = absurd (let clash : Sends mine.0.hop.link (Some request.chan) mine.0.count mine.0.gap mine.0.size ≡ Opens own = sym mine.0.is ∙ is in cc)
+opens-own network request own run task tasks replies outcomes is chan (Fresh levels (inr (inr (inr (inl mine)))) fresh comm unsent) = absurd (let clash : Closes request ≡ Opens own = sym mine.0 ∙ is in cc)
+opens-own network request own run task tasks replies outcomes is chan (Fresh levels (inr (inr (inr (inr mine)))) fresh comm unsent) = absurd (let clash : Moves request mine.0.new mine.0.gap mine.0.size ≡ Opens own = sym mine.0.is ∙ is in cc)
 opens-own network request own run task tasks replies outcomes is chan (Open levels (inl off) fresh comm) = absurd (subst (TaskOff (channel_number request.chan)) is off.0 chan)
 opens-own network request own run task tasks replies outcomes is chan (Open levels (inr (inl mine)) fresh comm) = absurd (let clash : Sends mine.0.hop.link (Some request.chan) mine.0.count mine.0.gap mine.0.size ≡ Opens own = sym mine.0.is ∙ is in cc)
-opens-own network request own run task tasks replies outcomes is chan (Open levels (inr (inr mine)) fresh comm) = absurd (let clash : Closes request ≡ Opens own = sym mine.0 ∙ is in cc)
+opens-own network request own run task tasks replies outcomes is chan (Open levels (inr (inr (inl mine))) fresh comm) = absurd (let clash : Closes request ≡ Opens own = sym mine.0 ∙ is in cc)
+opens-own network request own run task tasks replies outcomes is chan (Open levels (inr (inr (inr mine))) fresh comm) = absurd (let clash : Moves request mine.0.new mine.0.gap mine.0.size ≡ Opens own = sym mine.0.is ∙ is in cc)
 opens-own network request own run task tasks replies outcomes is chan (Closing levels rest same others comm) = absurd (let clash : Closes request ≡ Opens own = sym (head-same task tasks (Closes request) rest same) ∙ is in cc)
+opens-own network request own run task tasks replies outcomes is chan (MovingFrom levels new gap size rest same other closes comm) = absurd (let clash : Moves request new gap size ≡ Opens own = sym (head-same task tasks (Moves request new gap size) rest same) ∙ is in cc)
+opens-own network request own run task tasks replies outcomes is chan (MovingOnto levels old gap size rest same other sends comm unsent) = absurd (let clash : Moves old request gap size ≡ Opens own = sym (head-same task tasks (Moves old request gap size) rest same) ∙ is in cc)
 opens-own network request own run task tasks replies outcomes is chan (Over others) = absurd (subst (TaskOff (channel_number request.chan)) is others.0 chan)
 
 same-request : (a b : Request) → Opens a ≡ Opens b → a ≡ b
@@ -105,7 +116,7 @@ same-request a b same = cc
 pub record VerdictKept (network : Network) (request : Request) (owner : ℕ) (run : List Done) : Type 0 where
   pub kept : (tasks : List Task) → slice_get network.scripts owner ≡ Some tasks → (levels : List ℕ) (delay : ℕ) → outcome_in request.chan (standing tasks (replies_to owner run)).outcomes ≡ Some (Accepts levels delay) → VerdictSums request levels delay
 
-opened-keeps : (network : Network) (request : Request) (done : Done) (past : List Done) (task : Task) (tasks : List Task) (replies : List Reply) (outcomes : List Opened) (levels : List ℕ) (delay : ℕ) → RequestFits network.links request → (next : IsNext network past done) → MayReplyTo next.link.shape (part_of (link_number done.link) past) done.ask done.reply → first_ask (task ∷ tasks) replies ≡ Some (done.link, done.ask) → StandingFits network.links (record { tasks = task ∷ tasks; replies = replies; outcomes = outcomes }) → ClosesAt network request past (record { tasks = task ∷ tasks; replies = replies; outcomes = outcomes }) → OpensWith request task (replies ++ done.reply ∷ []) (Accepts levels delay) → VerdictSums request levels delay
+opened-keeps : (network : Network) (request : Request) (done : Done) (past : List Done) (task : Task) (tasks : List Task) (replies : List Reply) (outcomes : List Learnt) (levels : List ℕ) (delay : ℕ) → RequestFits network.links request → (next : IsNext network past done) → MayReplyTo next.link.shape (part_of (link_number done.link) past) done.ask done.reply → first_ask (task ∷ tasks) replies ≡ Some (done.link, done.ask) → StandingFits network.links (record { tasks = task ∷ tasks; replies = replies; outcomes = outcomes }) → ClosesAt network request past (record { tasks = task ∷ tasks; replies = replies; outcomes = outcomes }) → OpensWith request task (replies ++ done.reply ∷ []) (Accepts levels delay) → VerdictSums request levels delay
 opened-keeps network request done past task tasks replies outcomes levels delay sound next may asks stands closes opens =
     let mine = opens-own network request opens.own past task tasks replies outcomes opens.is opens.chan closes in
     let same : opens.own ≡ request = same-request opens.own request (sym opens.is ∙ mine) in
@@ -115,7 +126,7 @@ opened-keeps network request done past task tasks replies outcomes levels delay 
     let verdict = subst (λ r. verdict_of r (replies ++ done.reply ∷ []) ≡ Some (Accepts levels delay)) same opens.verdict in
     record { keeps = accepted-keep request (replies ++ done.reply ∷ []) levels delay sound.bounds are verdict; sum = sum-of request (replies ++ done.reply ∷ []) levels delay verdict }
 
-step-keeps : (network : Network) (request : Request) (done : Done) (past : List Done) (left : List Task) (replies : List Reply) (outcomes : List Opened) (levels : List ℕ) (delay : ℕ) → RequestFits network.links request → (next : IsNext network past done) → MayReplyTo next.link.shape (part_of (link_number done.link) past) done.ask done.reply → first_ask left replies ≡ Some (done.link, done.ask) → StandingFits network.links (record { tasks = left; replies = replies; outcomes = outcomes }) → ClosesAt network request past (record { tasks = left; replies = replies; outcomes = outcomes })
+step-keeps : (network : Network) (request : Request) (done : Done) (past : List Done) (left : List Task) (replies : List Reply) (outcomes : List Learnt) (levels : List ℕ) (delay : ℕ) → RequestFits network.links request → (next : IsNext network past done) → MayReplyTo next.link.shape (part_of (link_number done.link) past) done.ask done.reply → first_ask left replies ≡ Some (done.link, done.ask) → StandingFits network.links (record { tasks = left; replies = replies; outcomes = outcomes }) → ClosesAt network request past (record { tasks = left; replies = replies; outcomes = outcomes })
     → (outcome_in request.chan outcomes ≡ Some (Accepts levels delay) → VerdictSums request levels delay) → outcome_in request.chan (resumed outcomes left (replies ++ done.reply ∷ [])).outcomes ≡ Some (Accepts levels delay) → VerdictSums request levels delay
 step-keeps network request done past [] replies outcomes levels delay sound next may asks stands closes was same = absurd (nothing-asked replies (done.link, done.ask) asks)
 step-keeps network request done past (task ∷ tasks) replies outcomes levels delay sound next may asks stands closes was same =
@@ -125,7 +136,7 @@ step-keeps network request done past (task ∷ tasks) replies outcomes levels de
     ]
 
 none-yet : (request : Request) (tasks : List Task) (outcome : Outcome) → outcome_in request.chan (standing tasks []).outcomes ≡ Some outcome → ⊥
-unfolding standing outcome_in
+unfolding standing outcome_in newest
 none-yet request tasks outcome same = cc
 
 verdict-next : (network : Network) (request : Request) (owner : ℕ) (done : Done) (past : List Done) → NetworkFits network → RequestFits network.links request → OwnedFully network request owner → IsRun network past → (next : IsNext network past done) → VerdictKept network request owner past → VerdictKept network request owner (done ∷ past)

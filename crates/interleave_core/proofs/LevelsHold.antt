@@ -23,10 +23,10 @@ use Rattle.call_script.specs.Tasks.{Network}
 use Rattle.tick_plane.specs.Planes.{next_due}
 use Rattle.run_record.specs.Runs.{part_of, replies_to}
 use Rattle.interleave_core.specs.Runs.{plane_no, plane_at, IsNext, IsRun}
-use Rattle.call_script.specs.Scripts.{Opened, standing, first_ask, ask_at}
+use Rattle.call_script.specs.Scripts.{Learnt, standing, first_ask, ask_at}
 use Rattle.interleave_core.proofs.CallerFacts.{StandingFits, nothing-asked}
 use Rattle.interleave_core.proofs.ChainLaw.{is-tick, open-or-not, run-chain}
-use Rattle.interleave_core.proofs.FarHolds.{first-same, OwnKind, OwnOff, OwnSetup, OwnSend, OwnClose, own-kind}
+use Rattle.interleave_core.proofs.FarHolds.{first-same, OwnKind, OwnOff, OwnAside, OwnSetup, OwnSend, OwnClose, own-kind}
 use Rattle.channel_laws.proofs.HoldFates.{Fate, FateOpen, FateClosing, FateGone}
 use Rattle.setup_protocol.proofs.HopHolds.{IsTail, HopStands, reserved_of}
 use Rattle.interleave_core.proofs.RowsFollow.{held_at, SetupRows, AfterRows, comm-kept}
@@ -44,15 +44,16 @@ pub data EntryIs (network : Network) (request : Request) (done : Done) (past : L
 
 own-entry : (network : Network) (request : Request) (done : Done) (past : List Done) (task : Task) (replies : List Reply) → OwnKind network request done past task replies → EntryIs network request done past
 own-entry network request done past task replies (OwnOff other off) = MildOne (off-mild (channel_number request.chan) done.ask off)
+own-entry network request done past task replies (OwnAside first one off) = MildOne (off-mild (channel_number request.chan) done.ask off)
 own-entry network request done past task replies (OwnSetup later made own rows setup) =
     elim (is-tick done.ask) [
       | inl tick ↦ MildOne (subst (IsMild (channel_number request.chan)) (sym tick) tt)
       | inr other ↦ SetupOne later rows other
     ]
-own-entry network request done past task replies (OwnSend hop count gap size own is) = MildOne (subst (IsMild (channel_number request.chan)) (sym is) tt)
-own-entry network request done past task replies (OwnClose levels own here on is comm) = MildOne (subst (IsMild (channel_number request.chan)) (sym is) tt)
+own-entry network request done past task replies (OwnSend count gap size own is) = MildOne (subst (IsMild (channel_number request.chan)) (sym is) tt)
+own-entry network request done past task replies (OwnClose levels own k here on is zeroth comm) = MildOne (subst (IsMild (channel_number request.chan)) (sym is) tt)
 
-left-entry : (network : Network) (request : Request) (done : Done) (past : List Done) (outcomes : List Opened) (left : List Task) (replies : List Reply) → NetworkFits network → RequestFits network.links request → IsRun network past → (next : IsNext network past done) → first_ask left replies ≡ Some (done.link, done.ask) → StandingFits network.links (record { tasks = left; replies = replies; outcomes = outcomes }) → GoesAt network request past left replies outcomes → ClosesAt network request past (record { tasks = left; replies = replies; outcomes = outcomes }) → EntryIs network request done past
+left-entry : (network : Network) (request : Request) (done : Done) (past : List Done) (outcomes : List Learnt) (left : List Task) (replies : List Reply) → NetworkFits network → RequestFits network.links request → IsRun network past → (next : IsNext network past done) → first_ask left replies ≡ Some (done.link, done.ask) → StandingFits network.links (record { tasks = left; replies = replies; outcomes = outcomes }) → GoesAt network request past left replies outcomes → ClosesAt network request past (record { tasks = left; replies = replies; outcomes = outcomes }) → EntryIs network request done past
 left-entry network request done past outcomes [] replies fits sound run next asks stands goes closes = absurd (nothing-asked replies (done.link, done.ask) asks)
 left-entry network request done past outcomes (task ∷ rest) replies fits sound run next asks stands goes closes = own-entry network request done past task replies (own-kind network request done past outcomes task rest replies fits sound run next stands goes asks closes)
 

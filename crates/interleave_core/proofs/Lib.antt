@@ -9,6 +9,7 @@ pub mod ChannelsAt
 pub mod RowLevels
 pub mod RunGoes
 pub mod RunCloses
+pub mod SizesKept
 pub mod Replying
 pub mod VerdictHolds
 pub mod PartLaws
@@ -29,6 +30,7 @@ pub mod LegLaw
 pub mod ReadyLaw
 pub mod FarHolds
 pub mod ChainLaw
+pub mod MoveLaw
 pub mod LevelsHold
 pub mod ReadyRun
 pub mod DepartLaw
@@ -50,3 +52,7 @@ pub mod RunFronts
 pub mod OwnerVerdict
 pub mod WorkedSchedules
 mod EngineFacts
+pub mod TotalLaw
+pub mod Emptied
+pub mod MoveTotal
+mod WorkedMoves

@@ -9,7 +9,7 @@ use Rattle.net_units.specs.Numbers.{actor_number}
 use Rattle.link_quota.specs.Any.{any_rules, any_clock, AnyStands, any-clock-is}
 use Rattle.link_quota.specs.declared.any_link.AnyLink.{AnyLink}
 use Rattle.link_steps.specs.Scan.{clock_of}
-use Rattle.link_steps.specs.Split.{Link, whole}
+use Rattle.link_steps.specs.Split.{Link}
 use Rattle.link_steps.specs.declared.replies.Reply.{Reply}
 use Rattle.call_script.specs.Fits.{NetworkFits}
 use Rattle.call_script.specs.Splits.{entry_link}

@@ -1,8 +1,10 @@
 -- Every ask of a run goes to a link of the network. A caller asks hops of its routes, and links at which it pours; the plane
 -- ticks links of the network, and lets packets arrive at the next links of rows, which reserves have named.
+use Rattle.channel_move.proofs.MoveFacts.{HopAsked, MoveAsks, AsksFirst, AsksSubmit, AsksRest, move-asks}
+use Rattle.call_script.specs.Scripts.{move_between}
 use Rattle.std.proofs.Common.{◌≡◌, ℕ, suc, ◌-◌, ◌<◌, List, [], ◌∷◌, length, Option, Some, None, refl, sym, ap, ◌∙◌, subst, inl, inr, option_map, arith}
 use Rattle.std.proofs.lemmas.Bool.{cases_Bool, eqb-true, eqb-false}
-use Rattle.std.proofs.lemmas.Option.{same_Some, slice_get_cases}
+use Rattle.std.proofs.lemmas.Option.{slice_get_cases}
 use Rattle.std.specs.List.{slice_get}
 use Rattle.std.specs.Prelude.{nat_eq}
 use Rattle.net_units.specs.Numbers.{link_number, actor_number, link_at}
@@ -25,7 +27,7 @@ use Rattle.setup_protocol.specs.Hops.{IsHopOf}
 use Rattle.call_script.specs.Scripts.{packets_ask, first_ask, ask_at, script_ask, standing, task_ask}
 use Rattle.call_script.specs.Tasks.{Network}
 use Rattle.call_script.specs.declared.tasks.Task.{Task}
-use Rattle.call_script.specs.declared.tasks.Task.TheVariants.{Opens, Sends, Closes}
+use Rattle.call_script.specs.declared.tasks.Task.TheVariants.{Opens, Sends, Closes, Moves}
 use Rattle.tick_plane.specs.Planes.{Plane, is_due, next_due, ask_due, flight_in, plane_with, plane_of}
 use Rattle.tick_plane.specs.declared.flight.Flight.{Flight}
 use Rattle.run_record.specs.Runs.{replies_to, part_of}
@@ -83,6 +85,17 @@ task-there links (Sends at chan count gap size) replies to ask fits same =
       next = subst (NamesNext (NextLinked links)) once.is (packets-hold (NamesNext (NextLinked links)) chan count gap size (λ own. tt) tt);
     }
 task-there links (Closes request) replies to ask fits same = asks-hop links request.route (length replies) _ to ask fits.hops (λ hop. tt) same
+task-there links (Moves old new gap size) replies to ask fits same = by (move-asks (move_between old new gap size) replies to ask same) where
+  at-hop : (route : List Hop) (n : ℕ) (own : Ask) → Each (IsHopOf links) route → NamesNext (NextLinked links) own → HopAsked route n to → ask ≡ own → AsksThere links to ask
+  at-hop route n own hops next at is = record {
+    linked = subst (IsLinkThere links) (sym at.at) (hop-linked links at.hop (Each-at (IsHopOf links) route n at.hop hops at.stands));
+    next = subst (NamesNext (NextLinked links)) (sym is) next;
+  }
+
+  by : MoveAsks (move_between old new gap size) replies to ask → AsksThere links to ask
+  by (AsksFirst none at is) = at-hop old.route 0 _ fits.of_old.hops tt at is
+  by (AsksSubmit first one some at is) = at-hop new.route 0 _ fits.of_new.hops tt at is
+  by (AsksRest told made stage at is) = at-hop old.route made _ fits.of_old.hops tt at is
 
 tasks-there : (links : List Link) (tasks : List Task) (replies : List Reply) (to : LinkNo) (ask : Ask) → Each (TaskFits links) tasks → first_ask tasks replies ≡ Some (to, ask) → AsksThere links to ask
 tasks-there links [] replies to ask fits same = cc

@@ -1,4 +1,11 @@
 -- In every run each reply to a setup is one of its ask's.
+use Rattle.channel_move.proofs.MoveFacts.{move-ask-is}
+use Rattle.call_script.proofs.ReadyFacts.{ready-keeps}
+use Rattle.call_script.specs.Scripts.{Settles as Settled_as, newest, planned_as, moved_as, move_between, ready}
+use Rattle.channel_move.specs.Moving.{first_told}
+use Rattle.channel_move.specs.declared.shifted.Shifted.{Shifted}
+use Rattle.link_steps.specs.declared.replies.Reply.TheVariants as Is
+use Rattle.net_units.specs.declared.numbers.ChanNo.{ChanNo}
 use Rattle.std.proofs.Common.{◌≡◌, ◌≢◌, ℕ, ◌<◌, ◌≤◌, ◌⊎◌, Bool, true, false, List, [], ◌∷◌, ◌++◌, length, get_or, Option, Some, None, refl, sym, ap, ◌∙◌, subst, inl, inr, arith}
 use Rattle.std.proofs.lemmas.Bool.{cases_Bool, cases_lt, cond_both, eqb-true, eqb-false, eq-eqb, ne_eqb}
 use Rattle.std.proofs.lemmas.Option.{same_Some}
@@ -26,13 +33,13 @@ use Rattle.call_script.specs.Owners.{TaskOff}
 use Rattle.call_script.specs.Fits.{NetworkFits}
 use Rattle.interleave_core.specs.Hops.{ChannelAsked}
 use Rattle.call_script.specs.declared.tasks.Task.{Task}
-use Rattle.call_script.specs.declared.tasks.Task.TheVariants.{Opens, Sends, Closes}
+use Rattle.call_script.specs.declared.tasks.Task.TheVariants.{Opens, Sends, Closes, Moves}
 use Rattle.call_script.specs.Tasks.{Network}
 use Rattle.tick_plane.specs.declared.flight.Flight.{Flight}
 use Rattle.tick_plane.specs.Planes.{next_due, ask_due}
 use Rattle.run_record.specs.Runs.{part_of, replies_to}
 use Rattle.interleave_core.specs.Runs.{plane_no, plane_at, IsNext, IsRun}
-use Rattle.call_script.specs.Scripts.{Opened, Standing, packets_ask, task_ask, takes_step, from_step, settled_as, outcome_by, outcome_in, continued, resumed, standing, first_ask, ask_at}
+use Rattle.call_script.specs.Scripts.{Learnt, Standing, packets_ask, task_ask, takes_step, from_step, settled_as, outcome_by, outcome_in, continued, resumed, standing, first_ask, ask_at}
 use Rattle.interleave_core.proofs.CallerFacts.{OffersFit, StandingFits}
 use Rattle.hop_reservation.specs.Offers.{AreLevels}
 use Rattle.interleave_core.proofs.HopsAt.{HaveLevelsAt}
@@ -68,6 +75,7 @@ off-asked c request p to ask other same = of-setup (IsOff c) request p to ask (�
 pub task-off : (c : ℕ) (task : Task) (replies : List Reply) (to : LinkNo) (ask : Ask) → TaskOff c task → task_ask task replies ≡ Some (to, ask) → IsOff c ask
 task-off c (Opens request) replies to ask off same = off-asked c request (progress_of request replies) to ask off same
 task-off c (Sends link chan count gap size) replies to ask off same = subst (IsOff c) (once-asked link (packets_ask chan count gap size) replies to ask same).is (packets-off c chan count gap size off)
+task-off c (Moves old new gap size) replies to ask off same = move-ask-is (IsOff c) (move_between old new gap size) replies to ask (λ upstream. off.0) (λ count. off.1) same
 task-off c (Closes request) replies to ask off same = of-hop (IsOff c) (slice_get request.route (length replies)) (λ hop. Release request.chan _) to ask (λ hop. off) same
 
 pub tasks-off : (c : ℕ) (tasks : List Task) (replies : List Reply) (to : LinkNo) (ask : Ask) → Each (TaskOff c) tasks → first_ask tasks replies ≡ Some (to, ask) → IsOff c ask
@@ -152,6 +160,7 @@ mild-tasks c [] replies to ask others same = cc
 mild-tasks c (Opens request ∷ tasks) replies to ask others same = off-mild c ask (off-asked c request (progress_of request replies) to ask others.0 same)
 mild-tasks c (Sends link chan count gap size ∷ tasks) replies to ask others same =
     subst (IsMild c) (once-asked link (packets_ask chan count gap size) replies to ask same).is (packets-hold (IsMild c) chan count gap size (λ own. tt) tt)
+mild-tasks c (Moves old new gap size ∷ tasks) replies to ask others same = move-ask-is (IsMild c) (move_between old new gap size) replies to ask (λ upstream. tt) (λ count. tt) same
 mild-tasks c (Closes request ∷ tasks) replies to ask others same = mild-hop c (slice_get request.route (length replies)) to ask (Release request.chan _) tt same
 
 kept-comes : (request : Request) (levels : List ℕ) (i : ℕ) (terms : Reservation) (before : Option Reservation) → ComesOf terms before → ((old : Reservation) → before ≡ Some old → KeptTerms request levels i old) → KeptTerms request levels i terms
@@ -199,6 +208,7 @@ pub off-other : (c : ℕ) (task : Task) → TaskOff c task → IsOther c task
 off-other c (Opens request) off = off
 off-other c (Sends link chan count gap size) off = tt
 off-other c (Closes request) off = tt
+off-other c (Moves old new gap size) off = tt
 
 script-opened : (request : Request) (tasks : List Task) → ScriptOnce request tasks → OpenedOnce request tasks
 script-opened request [] once = tt
@@ -232,51 +242,71 @@ pub record IsUnder (network : Network) (request : Request) (run : List Done) (ta
   pub rows : SetupRows network request replies run
 
 -- what is recorded of it: the levels where it was accepted, and no others
-pub record Recorded (request : Request) (levels : List ℕ) (accepted : Bool) (outcomes : List Opened) : Type 0 where
+pub record Recorded (request : Request) (levels : List ℕ) (accepted : Bool) (outcomes : List Learnt) : Type 0 where
   pub is : accepted ≡ true → (delay : ℕ) × (outcome_in request.chan outcomes ≡ Some (Accepts levels delay))
   pub only : (own : List ℕ) (delay : ℕ) → outcome_in request.chan outcomes ≡ Some (Accepts own delay) → (accepted ≡ true) × (own ≡ levels)
 
-pub data GoesAt (network : Network) (request : Request) (run : List Done) (tasks : List Task) (replies : List Reply) (outcomes : List Opened) : Type 0 where
+pub data GoesAt (network : Network) (request : Request) (run : List Done) (tasks : List Task) (replies : List Reply) (outcomes : List Learnt) : Type 0 where
   Before : IsBefore network request run tasks replies → outcome_in request.chan outcomes ≡ None → GoesAt network request run tasks replies outcomes
   Under : IsUnder network request run tasks replies → outcome_in request.chan outcomes ≡ None → GoesAt network request run tasks replies outcomes
   After : (levels : List ℕ) (accepted : Bool) → Each (IsOther (channel_number request.chan)) tasks → AfterRows network request levels run → (accepted ≡ true → HaveLevelsAt network request levels run) → Recorded request levels accepted outcomes → GoesAt network request run tasks replies outcomes
 
-outcome-skip : (request r : Request) (outcome : Outcome) (outcomes : List Opened) → channel_number r.chan ≢ channel_number request.chan → outcome_in request.chan (record { chan = r.chan; outcome = outcome } ∷ outcomes) ≡ outcome_in request.chan outcomes
-unfolding outcome_in
+outcome-skip : (request r : Request) (outcome : Outcome) (outcomes : List Learnt) → channel_number r.chan ≢ channel_number request.chan → outcome_in request.chan (Settled_as r.chan outcome ∷ outcomes) ≡ outcome_in request.chan outcomes
+unfolding outcome_in newest
 outcome-skip request r outcome outcomes other = rw (ne_eqb (channel_number r.chan) (channel_number request.chan) other) refl
 
-pub outcome-own : (request : Request) (outcome : Outcome) (outcomes : List Opened) → outcome_in request.chan (record { chan = request.chan; outcome = outcome } ∷ outcomes) ≡ Some outcome
-unfolding outcome_in
+pub outcome-own : (request : Request) (outcome : Outcome) (outcomes : List Learnt) → outcome_in request.chan (Settled_as request.chan outcome ∷ outcomes) ≡ Some outcome
+unfolding outcome_in newest
 outcome-own request outcome outcomes = rw (eq-eqb (channel_number request.chan) (channel_number request.chan) refl) refl
 
 none-yet : (request : Request) → outcome_in request.chan [] ≡ None
-unfolding outcome_in
+unfolding outcome_in newest
 none-yet request = refl
 
-pub other-outcome : (request : Request) (task : Task) (replies : List Reply) (outcomes : List Opened) → IsOther (channel_number request.chan) task → outcome_in request.chan (outcome_by task replies ++ outcomes) ≡ outcome_in request.chan outcomes
+-- notes of packets say nothing of a request
+planned-outcome : (chan : ChanNo) (own : Option ChanNo) (gap size : ℕ) (replies : List Reply) (outcomes : List Learnt) → outcome_in chan (planned_as own gap size replies ++ outcomes) ≡ outcome_in chan outcomes
+unfolding outcome_in newest
+planned-outcome chan None gap size replies outcomes = refl
+planned-outcome chan (Some own) gap size [] outcomes = refl
+planned-outcome chan (Some own) gap size (Is.Planned clock ∷ replies) outcomes = refl
+planned-outcome chan (Some own) gap size (Is.Offer level reach ∷ replies) outcomes = refl
+planned-outcome chan (Some own) gap size (Is.Relaxed clock ∷ replies) outcomes = refl
+planned-outcome chan (Some own) gap size (Is.Denied ∷ replies) outcomes = refl
+planned-outcome chan (Some own) gap size (Is.Closing count cancelled ∷ replies) outcomes = refl
+planned-outcome chan (Some own) gap size (Is.Taken clock eligible ∷ replies) outcomes = refl
+planned-outcome chan (Some own) gap size (Is.Ticked clock full sent best_sent best_lost ∷ replies) outcomes = refl
+planned-outcome chan (Some own) gap size (Is.Refused refusal ∷ replies) outcomes = refl
+
+moved-outcome : (chan : ChanNo) (old new : Request) (gap size : ℕ) (told : Option Shifted) (outcomes : List Learnt) → outcome_in chan (moved_as old new gap size told ++ outcomes) ≡ outcome_in chan outcomes
+unfolding outcome_in newest
+moved-outcome chan old new gap size None outcomes = refl
+moved-outcome chan old new gap size (Some told) outcomes = refl
+
+pub other-outcome : (request : Request) (task : Task) (replies : List Reply) (outcomes : List Learnt) → IsOther (channel_number request.chan) task → outcome_in request.chan (outcome_by task replies ++ outcomes) ≡ outcome_in request.chan outcomes
 other-outcome request (Opens r) replies outcomes other = by-verdict (verdict_of r replies) where
   by-verdict : (verdict : Option Outcome) → outcome_in request.chan (settled_as r verdict ++ outcomes) ≡ outcome_in request.chan outcomes
   by-verdict None = refl
   by-verdict (Some outcome) = outcome-skip request r outcome outcomes other
-other-outcome request (Sends link chan count gap size) replies outcomes other = refl
+other-outcome request (Sends link chan count gap size) replies outcomes other = planned-outcome request.chan chan gap size replies outcomes
 other-outcome request (Closes r) replies outcomes other = refl
+other-outcome request (Moves old new gap size) replies outcomes other = moved-outcome request.chan old new gap size (first_told replies) outcomes
 
-recorded-same : (request : Request) (levels : List ℕ) (accepted : Bool) (outcomes later : List Opened) → outcome_in request.chan later ≡ outcome_in request.chan outcomes → Recorded request levels accepted outcomes → Recorded request levels accepted later
+recorded-same : (request : Request) (levels : List ℕ) (accepted : Bool) (outcomes later : List Learnt) → outcome_in request.chan later ≡ outcome_in request.chan outcomes → Recorded request levels accepted outcomes → Recorded request levels accepted later
 recorded-same request levels accepted outcomes later same recorded = record {
   is = λ ok. (let was = recorded.is ok in (was.0, same ∙ was.1));
   only = λ own delay is. recorded.only own delay (sym same ∙ is);
 }
 
-recorded-next : (request : Request) (levels : List ℕ) (accepted : Bool) (outcomes : List Opened) (task : Task) (tasks : List Task) (replies : List Reply) (next : Option (LinkNo × Ask)) → IsOther (channel_number request.chan) task → Recorded request levels accepted outcomes → Recorded request levels accepted (continued outcomes task tasks replies next).outcomes
+recorded-next : (request : Request) (levels : List ℕ) (accepted : Bool) (outcomes : List Learnt) (task : Task) (tasks : List Task) (replies : List Reply) (next : Option (LinkNo × Ask)) → IsOther (channel_number request.chan) task → Recorded request levels accepted outcomes → Recorded request levels accepted (continued outcomes task tasks replies next).outcomes
 recorded-next request levels accepted outcomes task tasks replies (Some to) other recorded = recorded
 recorded-next request levels accepted outcomes task tasks replies None other recorded = recorded-same request levels accepted outcomes (outcome_by task replies ++ outcomes) (other-outcome request task replies outcomes other) recorded
 
-recorded-resumed : (request : Request) (levels : List ℕ) (accepted : Bool) (outcomes : List Opened) (tasks : List Task) (replies : List Reply) → Each (IsOther (channel_number request.chan)) tasks → Recorded request levels accepted outcomes → Recorded request levels accepted (resumed outcomes tasks replies).outcomes
+recorded-resumed : (request : Request) (levels : List ℕ) (accepted : Bool) (outcomes : List Learnt) (tasks : List Task) (replies : List Reply) → Each (IsOther (channel_number request.chan)) tasks → Recorded request levels accepted outcomes → Recorded request levels accepted (resumed outcomes tasks replies).outcomes
 unfolding resumed
 recorded-resumed request levels accepted outcomes [] replies others recorded = recorded
 recorded-resumed request levels accepted outcomes (task ∷ tasks) replies others recorded = recorded-next request levels accepted outcomes task tasks replies (task_ask task replies) others.0 recorded
 
-recorded-settled : (network : Network) (request : Request) (replies : List Reply) (run : List Done) (outcomes : List Opened) (settles : Settles network request replies run) → outcome_in request.chan outcomes ≡ None → Recorded request settles.levels settles.accepted (outcome_by (Opens request) replies ++ outcomes)
+recorded-settled : (network : Network) (request : Request) (replies : List Reply) (run : List Done) (outcomes : List Learnt) (settles : Settles network request replies run) → outcome_in request.chan outcomes ≡ None → Recorded request settles.levels settles.accepted (outcome_by (Opens request) replies ++ outcomes)
 recorded-settled network request replies run outcomes settles quiet = by-verdict settles.accepted refl where
   here : (outcome : Outcome) → verdict_of request replies ≡ Some outcome → outcome_in request.chan (outcome_by (Opens request) replies ++ outcomes) ≡ Some outcome
   here outcome verdict = ap (λ v. outcome_in request.chan (settled_as request v ++ outcomes)) verdict ∙ outcome-own request outcome outcomes
@@ -296,31 +326,34 @@ recorded-settled network request replies run outcomes settles quiet = by-verdict
       }
 
 -- an entry that names another channel, or none
-goes-later : (network : Network) (request : Request) (done : Done) (past : List Done) (tasks : List Task) (replies : List Reply) (outcomes : List Opened) → NetworkFits network → (asked : (some : List Done) → IsRun network some → ChannelAsked request some) → IsRun network past → (next : IsNext network past done) → IsOff (channel_number request.chan) done.ask → GoesAt network request past tasks replies outcomes → GoesAt network request (done ∷ past) tasks replies outcomes
+goes-later : (network : Network) (request : Request) (done : Done) (past : List Done) (tasks : List Task) (replies : List Reply) (outcomes : List Learnt) → NetworkFits network → (asked : (some : List Done) → IsRun network some → ChannelAsked request some) → IsRun network past → (next : IsNext network past done) → IsOff (channel_number request.chan) done.ask → GoesAt network request past tasks replies outcomes → GoesAt network request (done ∷ past) tasks replies outcomes
 goes-later network request done past tasks replies outcomes fits asked run next off (Before is quiet) = Before (record { once = is.once; begun = is.begun; none = none-later network request done past fits run off is.none }) quiet
 goes-later network request done past tasks replies outcomes fits asked run next off (Under is quiet) = Under (record { rest = is.rest; is = is.is; others = is.others; rows = rows-later network request replies done past fits run off is.rows }) quiet
 goes-later network request done past tasks replies outcomes fits asked run next off (After levels accepted others rows packets recorded) = (let later = after-later network request levels done past fits run (off-mild (channel_number request.chan) done.ask off) rows in After levels accepted others later (λ is. (let was = packets is in record { count = was.count; at = levels-later network request levels done past fits (is-run network past done run next) (asked (done ∷ past) (is-run network past done run next)) later was.at })) recorded)
 
+pub ready-off : (c : ℕ) (outcomes : List Learnt) (task : Task) → TaskOff c task → TaskOff c (ready outcomes task)
+ready-off c outcomes task off = ready-keeps (TaskOff c) (λ old new gap size other_gap other_size is. is) outcomes task off
+
 -- the next task that takes a step
-before-from : (network : Network) (request : Request) (run : List Done) (outcomes : List Opened) (tasks : List Task) → ScriptOnce request tasks → NoneHeld network request run → outcome_in request.chan outcomes ≡ None → GoesAt network request run (from_step outcomes tasks) [] outcomes
+before-from : (network : Network) (request : Request) (run : List Done) (outcomes : List Learnt) (tasks : List Task) → ScriptOnce request tasks → NoneHeld network request run → outcome_in request.chan outcomes ≡ None → GoesAt network request run (from_step outcomes tasks) [] outcomes
 unfolding from_step
 before-from network request run outcomes [] once none quiet = Before (record { once = tt; begun = tt; none = none }) quiet
 before-from network request run outcomes (task ∷ tasks) (inl off) none quiet =
-    cond_both (takes_step outcomes task) (task ∷ tasks) (from_step outcomes tasks) (λ ts. GoesAt network request run ts [] outcomes)
-    (λ _. Before (record { once = inl off; begun = λ is. refl; none = none }) quiet) (λ _. before-from network request run outcomes tasks off.1 none quiet)
+    cond_both (takes_step outcomes task) (ready outcomes task ∷ tasks) (from_step outcomes tasks) (λ ts. GoesAt network request run ts [] outcomes)
+    (λ _. Before (record { once = inl (ready-off (channel_number request.chan) outcomes task off.0, off.1); begun = λ is. refl; none = none }) quiet) (λ _. before-from network request run outcomes tasks off.1 none quiet)
 before-from network request run outcomes (task ∷ tasks) (inr own) none quiet =
-    cond_both (takes_step outcomes task) (task ∷ tasks) (from_step outcomes tasks) (λ ts. GoesAt network request run ts [] outcomes)
-    (λ _. Before (record { once = inr own; begun = λ is. refl; none = none }) quiet) (λ _. After [] false (others-from (channel_number request.chan) outcomes tasks own.1) (record { kept = λ i at terms held. absurd (let clash : None ≡ Some terms = sym (none i at) ∙ held in cc) }) (λ is. cc) (record { is = λ is. cc; only = λ l d is. absurd (let clash : None ≡ Some (Accepts l d) = sym quiet ∙ is in cc) }))
+    cond_both (takes_step outcomes task) (ready outcomes task ∷ tasks) (from_step outcomes tasks) (λ ts. GoesAt network request run ts [] outcomes)
+    (λ _. Before (record { once = inr (ap (ready outcomes) own.0, own.1); begun = λ is. refl; none = none }) quiet) (λ _. After [] false (others-from (channel_number request.chan) outcomes tasks own.1) (record { kept = λ i at terms held. absurd (let clash : None ≡ Some terms = sym (none i at) ∙ held in cc) }) (λ is. cc) (record { is = λ is. cc; only = λ l d is. absurd (let clash : None ≡ Some (Accepts l d) = sym quiet ∙ is in cc) }))
 
 -- ---- one reply to the owner
 
 -- to a task of another channel before the request is opened
-off-continued : (network : Network) (request : Request) (run : List Done) (outcomes : List Opened) (task : Task) (tasks : List Task) (replies : List Reply) (next : Option (LinkNo × Ask)) → TaskOff (channel_number request.chan) task → ScriptOnce request tasks → NoneHeld network request run → outcome_in request.chan outcomes ≡ None → GoesAt network request run (continued outcomes task tasks replies next).tasks (continued outcomes task tasks replies next).replies (continued outcomes task tasks replies next).outcomes
+off-continued : (network : Network) (request : Request) (run : List Done) (outcomes : List Learnt) (task : Task) (tasks : List Task) (replies : List Reply) (next : Option (LinkNo × Ask)) → TaskOff (channel_number request.chan) task → ScriptOnce request tasks → NoneHeld network request run → outcome_in request.chan outcomes ≡ None → GoesAt network request run (continued outcomes task tasks replies next).tasks (continued outcomes task tasks replies next).replies (continued outcomes task tasks replies next).outcomes
 off-continued network request run outcomes task tasks replies (Some to) off once none quiet = Before (record { once = inl (off, once); begun = λ is. absurd (subst (TaskOff (channel_number request.chan)) is off refl); none = none }) quiet
 off-continued network request run outcomes task tasks replies None off once none quiet = before-from network request run (outcome_by task replies ++ outcomes) tasks once none (other-outcome request task replies outcomes (off-other (channel_number request.chan) task off) ∙ quiet)
 
 -- to the request's own setup
-own-continued : (network : Network) (request : Request) (run : List Done) (outcomes : List Opened) (tasks : List Task) (replies : List Reply) (next : Option (LinkNo × Ask)) → NetworkFits network → IsRun network run → ChannelAsked request run → next_ask request replies ≡ next → Each (IsOther (channel_number request.chan)) tasks → SetupRows network request replies run → outcome_in request.chan outcomes ≡ None → GoesAt network request run (continued outcomes (Opens request) tasks replies next).tasks (continued outcomes (Opens request) tasks replies next).replies (continued outcomes (Opens request) tasks replies next).outcomes
+own-continued : (network : Network) (request : Request) (run : List Done) (outcomes : List Learnt) (tasks : List Task) (replies : List Reply) (next : Option (LinkNo × Ask)) → NetworkFits network → IsRun network run → ChannelAsked request run → next_ask request replies ≡ next → Each (IsOther (channel_number request.chan)) tasks → SetupRows network request replies run → outcome_in request.chan outcomes ≡ None → GoesAt network request run (continued outcomes (Opens request) tasks replies next).tasks (continued outcomes (Opens request) tasks replies next).replies (continued outcomes (Opens request) tasks replies next).outcomes
 own-continued network request run outcomes tasks replies (Some to) fits is-run' asked is others rows quiet = Under (record { rest = tasks; is = refl; others = others; rows = rows }) quiet
 own-continued network request run outcomes tasks replies None fits is-run' asked is others rows quiet = (let settles = setup-settles network request replies run rows is in After settles.levels settles.accepted (others-from (channel_number request.chan) (outcome_by (Opens request) replies ++ outcomes) tasks others) settles.rows (λ ok. record { count = settles.whole ok; at = levels-settled network request settles.levels run fits is-run' asked (settles.comm ok) }) (recorded-settled network request replies run outcomes settles quiet))
 
@@ -328,17 +361,17 @@ record OwnerGoes (network : Network) (request : Request) (done : Done) (past : L
   goes : GoesAt network request (done ∷ past) at.tasks at.replies at.outcomes
   expected : (rest : List Task) → tasks ≡ Opens request ∷ rest → is_expected request (progress_of request replies) done.reply ≡ true
 
-offers-of : (network : Network) (request : Request) (tasks rest : List Task) (replies : List Reply) (outcomes : List Opened) → StandingFits network.links (record { tasks = tasks; replies = replies; outcomes = outcomes }) → tasks ≡ Opens request ∷ rest → AreLevels request.route (offers_in replies)
+offers-of : (network : Network) (request : Request) (tasks rest : List Task) (replies : List Reply) (outcomes : List Learnt) → StandingFits network.links (record { tasks = tasks; replies = replies; outcomes = outcomes }) → tasks ≡ Opens request ∷ rest → AreLevels request.route (offers_in replies)
 offers-of network request tasks rest replies outcomes fits is = subst (λ ts. OffersFit ts replies) is fits.offers
 
-own-goes : (network : Network) (request : Request) (done : Done) (past : List Done) (outcomes : List Opened) (rest : List Task) (replies : List Reply) → NetworkFits network → (asked : (some : List Done) → IsRun network some → ChannelAsked request some) → RequestFits network.links request → IsRun network past → (next : IsNext network past done) → StandingFits network.links (record { tasks = Opens request ∷ rest; replies = replies; outcomes = outcomes }) → Each (IsOther (channel_number request.chan)) rest → SetupRows network request replies past → outcome_in request.chan outcomes ≡ None → first_ask (Opens request ∷ rest) replies ≡ Some (done.link, done.ask)
+own-goes : (network : Network) (request : Request) (done : Done) (past : List Done) (outcomes : List Learnt) (rest : List Task) (replies : List Reply) → NetworkFits network → (asked : (some : List Done) → IsRun network some → ChannelAsked request some) → RequestFits network.links request → IsRun network past → (next : IsNext network past done) → StandingFits network.links (record { tasks = Opens request ∷ rest; replies = replies; outcomes = outcomes }) → Each (IsOther (channel_number request.chan)) rest → SetupRows network request replies past → outcome_in request.chan outcomes ≡ None → first_ask (Opens request ∷ rest) replies ≡ Some (done.link, done.ask)
     → OwnerGoes network request done past (Opens request ∷ rest) replies (resumed outcomes (Opens request ∷ rest) (replies ++ done.reply ∷ []))
 unfolding resumed
 own-goes network request done past outcomes rest replies fits asked sound run next stands others rows quiet asks =
     let goes = setup-goes network request replies done past fits sound run next stands.offers rows asks in
     record { goes = own-continued network request (done ∷ past) outcomes rest (replies ++ done.reply ∷ []) (task_ask (Opens request) (replies ++ done.reply ∷ [])) fits (is-run network past done run next) (asked (done ∷ past) (is-run network past done run next)) refl others goes.stands quiet; expected = λ more is. goes.expected }
 
-owner-before : (network : Network) (request : Request) (done : Done) (past : List Done) (outcomes : List Opened) (tasks : List Task) (replies : List Reply) → NetworkFits network → (asked : (some : List Done) → IsRun network some → ChannelAsked request some) → RequestFits network.links request → IsRun network past → (next : IsNext network past done) → StandingFits network.links (record { tasks = tasks; replies = replies; outcomes = outcomes }) → IsBefore network request past tasks replies → outcome_in request.chan outcomes ≡ None → first_ask tasks replies ≡ Some (done.link, done.ask)
+owner-before : (network : Network) (request : Request) (done : Done) (past : List Done) (outcomes : List Learnt) (tasks : List Task) (replies : List Reply) → NetworkFits network → (asked : (some : List Done) → IsRun network some → ChannelAsked request some) → RequestFits network.links request → IsRun network past → (next : IsNext network past done) → StandingFits network.links (record { tasks = tasks; replies = replies; outcomes = outcomes }) → IsBefore network request past tasks replies → outcome_in request.chan outcomes ≡ None → first_ask tasks replies ≡ Some (done.link, done.ask)
     → OwnerGoes network request done past tasks replies (resumed outcomes tasks (replies ++ done.reply ∷ []))
 unfolding resumed
 owner-before network request done past outcomes [] replies fits asked sound run next stands is quiet asks = cc
@@ -357,7 +390,7 @@ owner-before network request done past outcomes (task ∷ tasks) replies fits as
       let asks' : first_ask (Opens request ∷ tasks) replies ≡ Some (done.link, done.ask) = subst (λ t. first_ask (t ∷ tasks) replies ≡ Some (done.link, done.ask)) own.0 asks in
       subst (λ t. OwnerGoes network request done past (t ∷ tasks) replies (resumed outcomes (t ∷ tasks) (replies ++ done.reply ∷ []))) (sym own.0) (own-goes network request done past outcomes tasks replies fits asked sound run next stands' own.1 rows quiet asks')
 
-owner-goes : (network : Network) (request : Request) (done : Done) (past : List Done) (outcomes : List Opened) (tasks : List Task) (replies : List Reply) → NetworkFits network → (asked : (some : List Done) → IsRun network some → ChannelAsked request some) → RequestFits network.links request → IsRun network past → (next : IsNext network past done) → StandingFits network.links (record { tasks = tasks; replies = replies; outcomes = outcomes }) → first_ask tasks replies ≡ Some (done.link, done.ask) → GoesAt network request past tasks replies outcomes
+owner-goes : (network : Network) (request : Request) (done : Done) (past : List Done) (outcomes : List Learnt) (tasks : List Task) (replies : List Reply) → NetworkFits network → (asked : (some : List Done) → IsRun network some → ChannelAsked request some) → RequestFits network.links request → IsRun network past → (next : IsNext network past done) → StandingFits network.links (record { tasks = tasks; replies = replies; outcomes = outcomes }) → first_ask tasks replies ≡ Some (done.link, done.ask) → GoesAt network request past tasks replies outcomes
     → OwnerGoes network request done past tasks replies (resumed outcomes tasks (replies ++ done.reply ∷ []))
 owner-goes network request done past outcomes tasks replies fits asked sound run next stands asks (Before is quiet) = owner-before network request done past outcomes tasks replies fits asked sound run next stands is quiet asks
 owner-goes network request done past outcomes tasks replies fits asked sound run next stands asks (Under is quiet) =
@@ -370,16 +403,16 @@ owner-goes network request done past outcomes tasks replies fits asked sound run
 
 -- ---- other callers keep to other channels
 
-pub off-from : (c : ℕ) (outcomes : List Opened) (tasks : List Task) → Each (TaskOff c) tasks → Each (TaskOff c) (from_step outcomes tasks)
+pub off-from : (c : ℕ) (outcomes : List Learnt) (tasks : List Task) → Each (TaskOff c) tasks → Each (TaskOff c) (from_step outcomes tasks)
 unfolding from_step
 off-from c outcomes [] each = tt
-off-from c outcomes (task ∷ tasks) each = cond_both (takes_step outcomes task) (task ∷ tasks) (from_step outcomes tasks) (Each (TaskOff c)) (λ _. each) (λ _. off-from c outcomes tasks each.1)
+off-from c outcomes (task ∷ tasks) each = cond_both (takes_step outcomes task) (ready outcomes task ∷ tasks) (from_step outcomes tasks) (Each (TaskOff c)) (λ _. (ready-off c outcomes task each.0, each.1)) (λ _. off-from c outcomes tasks each.1)
 
-off-next : (c : ℕ) (outcomes : List Opened) (task : Task) (tasks : List Task) (replies : List Reply) (next : Option (LinkNo × Ask)) → Each (TaskOff c) (task ∷ tasks) → Each (TaskOff c) (continued outcomes task tasks replies next).tasks
+off-next : (c : ℕ) (outcomes : List Learnt) (task : Task) (tasks : List Task) (replies : List Reply) (next : Option (LinkNo × Ask)) → Each (TaskOff c) (task ∷ tasks) → Each (TaskOff c) (continued outcomes task tasks replies next).tasks
 off-next c outcomes task tasks replies (Some to) each = each
 off-next c outcomes task tasks replies None each = off-from c (outcome_by task replies ++ outcomes) tasks each.1
 
-off-resumed : (c : ℕ) (outcomes : List Opened) (tasks : List Task) (replies : List Reply) → Each (TaskOff c) tasks → Each (TaskOff c) (resumed outcomes tasks replies).tasks
+off-resumed : (c : ℕ) (outcomes : List Learnt) (tasks : List Task) (replies : List Reply) → Each (TaskOff c) tasks → Each (TaskOff c) (resumed outcomes tasks replies).tasks
 unfolding resumed
 off-resumed c outcomes [] replies each = tt
 off-resumed c outcomes (task ∷ tasks) replies each = off-next c outcomes task tasks replies (task_ask task replies) each

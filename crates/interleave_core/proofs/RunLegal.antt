@@ -1,7 +1,9 @@
 -- The part of a run on each link is a legal history of that link.
+use Rattle.channel_laws.proofs.FewLeft.{few-cancelled}
+use Rattle.interleave_core.proofs.CallerFacts.{IfRelease, FewShifted, few-told}
 use Rattle.std.proofs.Common.{◌≡◌, ◌≢◌, ℕ, suc, ◌+◌, ◌<◌, ◌≤◌, cond, List, [], ◌∷◌, length, Option, Some, None, refl, sym, ap, ◌∙◌, subst, inl, inr, arith, lit<}
 use Rattle.std.proofs.Math.Nat.{lt_of_le_of_lt}
-use Rattle.std.proofs.lemmas.Bool.{cases_Bool, cases_lt, cond_both, eqb-true, eqb-false, eq-eqb, ne_eqb, lt-ltb, le-ltb}
+use Rattle.std.proofs.lemmas.Bool.{cases_Bool, cond_both, eqb-true, eqb-false, eq-eqb, ne_eqb, le-ltb}
 use Rattle.std.proofs.lemmas.Option.{same_Some, slice_get_within}
 use Rattle.std.specs.List.{slice_get}
 use Rattle.std.specs.Prelude.{nat_eq, nat_lt}
@@ -27,7 +29,7 @@ use Rattle.call_script.specs.declared.tasks.Task.{Task}
 use Rattle.call_script.specs.Tasks.{Network}
 use Rattle.call_script.specs.Scripts.{standing, ask_at}
 use Rattle.tick_plane.specs.declared.flight.Flight.{Flight}
-use Rattle.tick_plane.specs.Planes.{Plane, is_due, next_due, ask_due, plane_ask, flight_in, tick_made, plane_with, plane_after, plane_of}
+use Rattle.tick_plane.specs.Planes.{Plane, is_due, next_due, ask_due, plane_ask, flight_in, plane_with, plane_after, plane_of}
 use Rattle.run_record.specs.Runs.{entry_of, replies_to, part_of}
 use Rattle.interleave_core.specs.Runs.{plane_no, plane_at, next_for, IsNext, IsRun}
 use Rattle.call_script.specs.Scripts.{script_ask}
@@ -239,9 +241,18 @@ callers-next network past done fits stands next actor tasks found =
           let own : asks.tasks ≡ tasks = same_Some asks.tasks tasks (sym asks.found ∙ ap (slice_get network.scripts) e ∙ found) in
           let asked : ask_at (standing tasks (replies_to actor past)) ≡ Some (done.link, done.ask) = subst (λ ts. ask_at (standing ts (replies_to actor past)) ≡ Some (done.link, done.ask)) own (subst (λ a. ask_at (standing asks.tasks (replies_to a past)) ≡ Some (done.link, done.ask)) e asks.asks) in
           subst (λ rs. StandingFits network.links (standing tasks rs)) (sym (replies-by actor done past e))
-          (replied-fits network.links (standing tasks (replies_to actor past)) done.reply done.link done.ask next.link (part_of (link_number done.link) past) (stands.callers actor tasks found) asked next.linked (next-may network past done fits stands next)))
+          (replied-fits network.links (standing tasks (replies_to actor past)) done.reply done.link done.ask next.link (part_of (link_number done.link) past) (stands.callers actor tasks found) asked next.linked (next-may network past done fits stands next) (if-few done.ask (next-may network past done fits stands next))))
       | inr off ↦ subst (λ rs. StandingFits network.links (standing tasks rs)) (sym (replies-off actor done past (eqb-false (actor_number done.actor) actor off))) (stands.callers actor tasks found)
-    ]
+    ] where
+      if-few : (ask : Ask) → MayReplyTo next.link.shape (part_of (link_number done.link) past) ask done.reply → IfRelease ask (FewShifted done.reply)
+      if-few (Release chan upstream) may = few-told done.reply (few-cancelled next.link.shape (part_of (link_number done.link) past) (Release chan upstream) done.reply chan upstream (part-may network past (link_number done.link) next.link fits stands next.linked) refl may)
+      if-few (Reserve chan contract kind delay up_reach first next) may = tt
+      if-few (Relax chan level up_bound) may = tt
+      if-few (Deny chan) may = tt
+      if-few (Submit chan count gap size) may = tt
+      if-few (Arrive packet) may = tt
+      if-few Tick may = tt
+      if-few (Pour count gap size) may = tt
 
 -- ---- all together
 
@@ -276,7 +287,7 @@ stands-none network fits = record {
   clocks = λ n inside. rw (le-ltb n 0 (omega arith)) refl;
   ticked = fits.some;
   flights = tt;
-  callers = λ actor tasks found. begun-fits network.links [] tasks (Each-at (Each (TaskFits network.links)) network.scripts actor tasks fits.tasks found);
+  callers = λ actor tasks found. begun-fits network.links [] tasks tt (Each-at (Each (TaskFits network.links)) network.scripts actor tasks fits.tasks found);
 }
 
 pub run-stands : (network : Network) (run : List Done) → NetworkFits network → IsRun network run → RunStands network run

@@ -1,4 +1,7 @@
 -- A request that is opened once is offered at most once at each link of its route, and nowhere else.
+use Rattle.channel_move.proofs.MoveFacts.{move-ask-is}
+use Rattle.call_script.proofs.ReadyFacts.{ready-keeps}
+use Rattle.call_script.specs.Scripts.{move_between, ready}
 use Rattle.std.proofs.Common.{◌≡◌, ◌≢◌, ℕ, suc, ◌+◌, ◌<◌, ◌≤◌, ◌⊎◌, true, false, List, [], ◌∷◌, ◌++◌, length, Option, Some, None, refl, sym, ap, ◌∙◌, subst, inl, inr, arith}
 use Rattle.std.proofs.lemmas.Bool.{cases_Bool, cases_lt, cond_both, eqb-true, eqb-false, ne_eqb}
 use Rattle.std.proofs.lemmas.List.{length_push}
@@ -25,13 +28,13 @@ use Rattle.channel_laws.specs.Channels.{HopTerms, offers_with, offers_to, Offers
 use Rattle.call_script.specs.Fits.{NetworkFits}
 use Rattle.interleave_core.specs.Hops.{terms_at, ChannelAsked}
 use Rattle.call_script.specs.declared.tasks.Task.{Task}
-use Rattle.call_script.specs.declared.tasks.Task.TheVariants.{Opens, Sends, Closes}
+use Rattle.call_script.specs.declared.tasks.Task.TheVariants.{Opens, Sends, Closes, Moves}
 use Rattle.call_script.specs.Tasks.{Network}
 use Rattle.tick_plane.specs.declared.flight.Flight.{Flight}
 use Rattle.tick_plane.specs.Planes.{next_due, ask_due}
 use Rattle.run_record.specs.Runs.{part_of, replies_to}
 use Rattle.interleave_core.specs.Runs.{plane_no, plane_at, IsNext, IsRun}
-use Rattle.call_script.specs.Scripts.{Opened, Standing, packets_ask, task_ask, takes_step, from_step, begun, outcome_by, continued, resumed, standing, first_ask, ask_at}
+use Rattle.call_script.specs.Scripts.{Learnt, Standing, packets_ask, task_ask, takes_step, from_step, begun, outcome_by, continued, resumed, standing, first_ask, ask_at}
 use Rattle.channel_laws.specs.Asks.{IsReserve}
 use Rattle.channel_laws.proofs.OfferAnswers.{offer-answers}
 use Rattle.interleave_core.proofs.CallerFacts.{undone-asks, tested-asks}
@@ -46,6 +49,7 @@ abbrev pub IsOther : ℕ → Task → Type 0
 IsOther c (Opens request) = channel_number request.chan ≢ c
 IsOther c (Sends link chan count gap size) = Unit {0}
 IsOther c (Closes request) = Unit {0}
+IsOther c (Moves old new gap size) = Unit {0}
 
 -- no task opens the channel, or one does, by this request
 abbrev pub OpenedOnce : Request → List Task → Type 0
@@ -111,6 +115,7 @@ task-other : (c : ℕ) (task : Task) (replies : List Reply) (to : LinkNo) (ask :
 task-other c (Opens request) replies to ask other same is = (let own = reserves request replies to ask same is in λ e. other (ap reserve_chan (sym own.is) ∙ e))
 task-other c (Sends link chan count gap size) replies to ask other same is =
     absurd (packets-hold (λ own. IsReserve own → ⊥) chan count gap size (λ own none. none) (λ none. none) (subst IsReserve (sym (once-asked link (packets_ask chan count gap size) replies to ask same).is) is))
+task-other c (Moves old new gap size) replies to ask other same is = absurd (move-ask-is (λ a. IsReserve a → ⊥) (move_between old new gap size) replies to ask (λ upstream no. no) (λ count no. no) same is)
 task-other c (Closes request) replies to ask other same is = absurd (subst IsReserve (asked-at request.route (length replies) (λ hop. Release request.chan _) to ask same).is is)
 
 tasks-other : (c : ℕ) (tasks : List Task) (replies : List Reply) (to : LinkNo) (ask : Ask) → Each (IsOther c) tasks → first_ask tasks replies ≡ Some (to, ask) → IsReserve ask → reserve_chan ask ≢ c
@@ -154,6 +159,7 @@ IsFresh request run [] replies = Unit {0}
 IsFresh request run (Opens r ∷ tasks) replies = (channel_number r.chan ≡ channel_number request.chan → IsUpTo request replies run) × (channel_number r.chan ≢ channel_number request.chan → NoneYet (channel_number request.chan) tasks run)
 IsFresh request run (Sends link chan count gap size ∷ tasks) replies = NoneYet (channel_number request.chan) tasks run
 IsFresh request run (Closes r ∷ tasks) replies = NoneYet (channel_number request.chan) tasks run
+IsFresh request run (Moves old new gap size ∷ tasks) replies = NoneYet (channel_number request.chan) tasks run
 
 pub record IsAhead (request : Request) (run : List Done) (at : Standing) : Type 0 where
   pub opened : OpenedOnce request at.tasks
@@ -167,11 +173,17 @@ opened-tail : (request : Request) (task : Task) (tasks : List Task) → OpenedOn
 opened-tail request task tasks (inl ahead) = ahead.1
 opened-tail request task tasks (inr own) = none-opened request tasks own.1
 
-opened-from : (request : Request) (outcomes : List Opened) (tasks : List Task) → OpenedOnce request tasks → OpenedOnce request (from_step outcomes tasks)
+no-opening : (old new request : Request) (gap size : ℕ) → Moves old new gap size ≡ Opens request → ⊥
+no-opening old new request gap size same = cc
+
+opened-from : (request : Request) (outcomes : List Learnt) (tasks : List Task) → OpenedOnce request tasks → OpenedOnce request (from_step outcomes tasks)
 unfolding from_step
 opened-from request outcomes [] opened = tt
 opened-from request outcomes (task ∷ tasks) opened =
-    cond_both (takes_step outcomes task) (task ∷ tasks) (from_step outcomes tasks) (OpenedOnce request) (λ _. opened) (λ _. opened-from request outcomes tasks (opened-tail request task tasks opened))
+    cond_both (takes_step outcomes task) (ready outcomes task ∷ tasks) (from_step outcomes tasks) (OpenedOnce request) (λ _. ready-keeps (λ t. OpenedOnce request (t ∷ tasks)) moved outcomes task opened) (λ _. opened-from request outcomes tasks (opened-tail request task tasks opened)) where
+      moved : (old new : Request) (gap size other_gap other_size : ℕ) → OpenedOnce request (Moves old new gap size ∷ tasks) → OpenedOnce request (Moves old new other_gap other_size ∷ tasks)
+      moved old new gap size other_gap other_size (inl ahead) = inl ahead
+      moved old new gap size other_gap other_size (inr own) = absurd (no-opening old new request gap size own.0)
 
 first-fresh : (request : Request) (run : List Done) (task : Task) (tasks : List Task) → NoneYet (channel_number request.chan) (task ∷ tasks) run → IsFresh request run (task ∷ tasks) []
 first-fresh request run (Opens r) tasks none = (
@@ -180,15 +192,16 @@ first-fresh request run (Opens r) tasks none = (
 )
 first-fresh request run (Sends link chan count gap size) tasks none = λ some. none (λ others. some others.1)
 first-fresh request run (Closes r) tasks none = λ some. none (λ others. some others.1)
+first-fresh request run (Moves old new gap size) tasks none = λ some. none (λ others. some others.1)
 
-fresh-from : (request : Request) (run : List Done) (outcomes : List Opened) (tasks : List Task) → NoneYet (channel_number request.chan) tasks run → IsFresh request run (from_step outcomes tasks) []
+fresh-from : (request : Request) (run : List Done) (outcomes : List Learnt) (tasks : List Task) → NoneYet (channel_number request.chan) tasks run → IsFresh request run (from_step outcomes tasks) []
 unfolding from_step
 fresh-from request run outcomes [] none = tt
 fresh-from request run outcomes (task ∷ tasks) none =
-    cond_both (takes_step outcomes task) (task ∷ tasks) (from_step outcomes tasks) (λ ts. IsFresh request run ts [])
-    (λ _. first-fresh request run task tasks none) (λ _. fresh-from request run outcomes tasks (λ some. none (λ others. some others.1)))
+    cond_both (takes_step outcomes task) (ready outcomes task ∷ tasks) (from_step outcomes tasks) (λ ts. IsFresh request run ts [])
+    (λ _. ready-keeps (λ t. IsFresh request run (t ∷ tasks) []) (λ old new gap size other_gap other_size fresh. fresh) outcomes task (first-fresh request run task tasks none)) (λ _. fresh-from request run outcomes tasks (λ some. none (λ others. some others.1)))
 
-ahead-begun : (request : Request) (run : List Done) (outcomes : List Opened) (tasks : List Task) → OpenedOnce request tasks → NoneYet (channel_number request.chan) tasks run → IsAhead request run (begun outcomes tasks)
+ahead-begun : (request : Request) (run : List Done) (outcomes : List Learnt) (tasks : List Task) → OpenedOnce request tasks → NoneYet (channel_number request.chan) tasks run → IsAhead request run (begun outcomes tasks)
 ahead-begun request run outcomes tasks opened none = record { opened = opened-from request outcomes tasks opened; fresh = fresh-from request run outcomes tasks none }
 
 -- ---- one reply to the owner
@@ -201,11 +214,13 @@ rest-fresh : (request : Request) (run : List Done) (task : Task) (tasks : List T
 rest-fresh request run (Opens r) tasks replies other fresh = fresh.1 other
 rest-fresh request run (Sends link chan count gap size) tasks replies other fresh = fresh
 rest-fresh request run (Closes r) tasks replies other fresh = fresh
+rest-fresh request run (Moves old new gap size) tasks replies other fresh = fresh
 
 other-fresh : (request : Request) (run : List Done) (task : Task) (tasks : List Task) (replies : List Reply) → IsOther (channel_number request.chan) task → NoneYet (channel_number request.chan) tasks run → IsFresh request run (task ∷ tasks) replies
 other-fresh request run (Opens r) tasks replies other none = (λ same. absurd (other same), λ _. none)
 other-fresh request run (Sends link chan count gap size) tasks replies other none = none
 other-fresh request run (Closes r) tasks replies other none = none
+other-fresh request run (Moves old new gap size) tasks replies other none = none
 
 -- an offer to the owner's own setup
 record IsOffered (request : Request) (replies : List Reply) (done : Done) (past : List Done) : Type 0 where
@@ -293,7 +308,7 @@ own-step request shape h done past task tasks replies route was (inr own) fresh 
           record { asked = asked-untouched request done past un was; fresh = back (plain-upto request replies done.reply (done ∷ past) plain); rest = none })
     ]
 
-own-continued : (request : Request) (run : List Done) (outcomes : List Opened) (task : Task) (tasks : List Task) (replies : List Reply) (next : Option (LinkNo × Ask)) → OpenedOnce request (task ∷ tasks) → IsFresh request run (task ∷ tasks) replies → NoneYet (channel_number request.chan) tasks run → IsAhead request run (continued outcomes task tasks replies next)
+own-continued : (request : Request) (run : List Done) (outcomes : List Learnt) (task : Task) (tasks : List Task) (replies : List Reply) (next : Option (LinkNo × Ask)) → OpenedOnce request (task ∷ tasks) → IsFresh request run (task ∷ tasks) replies → NoneYet (channel_number request.chan) tasks run → IsAhead request run (continued outcomes task tasks replies next)
 own-continued request run outcomes task tasks replies (Some to) opened fresh rest = record { opened = opened; fresh = fresh }
 own-continued request run outcomes task tasks replies None opened fresh rest = ahead-begun request run (outcome_by task replies ++ outcomes) tasks (opened-tail request task tasks opened) rest
 
@@ -301,7 +316,7 @@ record OwnNext (request : Request) (run : List Done) (at : Standing) : Type 0 wh
   asked : ChannelAsked request run
   ahead : IsAhead request run at
 
-own-resumed : (request : Request) (shape : LinkShape) (h : List Entry) (done : Done) (past : List Done) (outcomes : List Opened) (tasks : List Task) (replies : List Reply) → IsRoute request.route → ChannelAsked request past → OpenedOnce request tasks → IsFresh request past tasks replies → first_ask tasks replies ≡ Some (done.link, done.ask) → MayReplyTo shape h done.ask done.reply → OwnNext request (done ∷ past) (resumed outcomes tasks (replies ++ done.reply ∷ []))
+own-resumed : (request : Request) (shape : LinkShape) (h : List Entry) (done : Done) (past : List Done) (outcomes : List Learnt) (tasks : List Task) (replies : List Reply) → IsRoute request.route → ChannelAsked request past → OpenedOnce request tasks → IsFresh request past tasks replies → first_ask tasks replies ≡ Some (done.link, done.ask) → MayReplyTo shape h done.ask done.reply → OwnNext request (done ∷ past) (resumed outcomes tasks (replies ++ done.reply ∷ []))
 unfolding resumed
 own-resumed request shape h done past outcomes [] replies route was opened fresh asks answered = cc
 own-resumed request shape h done past outcomes (task ∷ tasks) replies route was opened fresh asks answered =
@@ -310,16 +325,16 @@ own-resumed request shape h done past outcomes (task ∷ tasks) replies route wa
 
 -- ---- the other actors
 
-pub others-from : (c : ℕ) (outcomes : List Opened) (tasks : List Task) → Each (IsOther c) tasks → Each (IsOther c) (from_step outcomes tasks)
+pub others-from : (c : ℕ) (outcomes : List Learnt) (tasks : List Task) → Each (IsOther c) tasks → Each (IsOther c) (from_step outcomes tasks)
 unfolding from_step
 others-from c outcomes [] each = tt
-others-from c outcomes (task ∷ tasks) each = cond_both (takes_step outcomes task) (task ∷ tasks) (from_step outcomes tasks) (Each (IsOther c)) (λ _. each) (λ _. others-from c outcomes tasks each.1)
+others-from c outcomes (task ∷ tasks) each = cond_both (takes_step outcomes task) (ready outcomes task ∷ tasks) (from_step outcomes tasks) (Each (IsOther c)) (λ _. (ready-keeps (IsOther c) (λ old new gap size other_gap other_size is. is) outcomes task each.0, each.1)) (λ _. others-from c outcomes tasks each.1)
 
-others-continued : (c : ℕ) (outcomes : List Opened) (task : Task) (tasks : List Task) (replies : List Reply) (next : Option (LinkNo × Ask)) → Each (IsOther c) (task ∷ tasks) → Each (IsOther c) (continued outcomes task tasks replies next).tasks
+others-continued : (c : ℕ) (outcomes : List Learnt) (task : Task) (tasks : List Task) (replies : List Reply) (next : Option (LinkNo × Ask)) → Each (IsOther c) (task ∷ tasks) → Each (IsOther c) (continued outcomes task tasks replies next).tasks
 others-continued c outcomes task tasks replies (Some to) each = each
 others-continued c outcomes task tasks replies None each = others-from c (outcome_by task replies ++ outcomes) tasks each.1
 
-pub others-resumed : (c : ℕ) (outcomes : List Opened) (tasks : List Task) (replies : List Reply) → Each (IsOther c) tasks → Each (IsOther c) (resumed outcomes tasks replies).tasks
+pub others-resumed : (c : ℕ) (outcomes : List Learnt) (tasks : List Task) (replies : List Reply) → Each (IsOther c) tasks → Each (IsOther c) (resumed outcomes tasks replies).tasks
 unfolding resumed
 others-resumed c outcomes [] replies each = tt
 others-resumed c outcomes (task ∷ tasks) replies each = others-continued c outcomes task tasks replies (task_ask task replies) each
@@ -344,6 +359,7 @@ fresh-later request done past (Opens r ∷ tasks) replies un fresh = (
 )
 fresh-later request done past (Sends link chan count gap size ∷ tasks) replies un fresh = none-kept (channel_number request.chan) tasks done past un fresh
 fresh-later request done past (Closes r ∷ tasks) replies un fresh = none-kept (channel_number request.chan) tasks done past un fresh
+fresh-later request done past (Moves old new gap size ∷ tasks) replies un fresh = none-kept (channel_number request.chan) tasks done past un fresh
 
 away : (network : Network) (request : Request) (owner : ℕ) (done : Done) (past : List Done) → actor_number done.actor ≢ owner → IsUntouched (channel_number request.chan) done.ask done.reply → SetupStands network request owner past → SetupStands network request owner (done ∷ past)
 away network request owner done past other un was = record {

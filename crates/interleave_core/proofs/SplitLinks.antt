@@ -1,5 +1,5 @@
 -- A link of a plan is split as the plan says, and its split fits it.
-use Rattle.std.proofs.Common.{◌≡◌, ℕ, Option, Some, None, List, [], ◌∷◌, map, refl, ap, ◌∙◌, option_map}
+use Rattle.std.proofs.Common.{◌≡◌, ℕ, Some, None, List, [], ◌∷◌, map, refl, ap, ◌∙◌, option_map}
 use Rattle.std.proofs.lemmas.Option.{same_Some, slice_get-map}
 use Rattle.std.specs.List.{slice_get}
 use Rattle.link_steps.proofs.ListParts.{Each-at}

@@ -1,6 +1,6 @@
 -- A core makes a step: what it asks meets the conditions of the link, the entry is the next of its run, and what is kept stands
 -- for the run with it.
-use Rattle.std.proofs.Common.{◌≡◌, ◌≢◌, ℕ, suc, ◌+◌, ◌<◌, ◌≤◌, Option, Some, List, [], ◌∷◌, ◌++◌, length, take, get_or, reverse, refl, sym, ap, ◌∙◌, subst, nat_le, ◌&&◌, arith}
+use Rattle.std.proofs.Common.{◌≡◌, ◌≢◌, ℕ, suc, ◌+◌, ◌<◌, ◌≤◌, Some, List, [], ◌∷◌, ◌++◌, length, take, get_or, reverse, refl, sym, ap, ◌∙◌, subst, nat_le, ◌&&◌, arith}
 use Rattle.std.proofs.lemmas.Bool.{leb-true}
 use Rattle.std.proofs.lemmas.List.{length-map, reverse-append}
 use Rattle.std.proofs.lemmas.Option.{slice_get_within}
@@ -8,11 +8,10 @@ use Rattle.std.specs.List.{slice_get}
 use Rattle.net_units.specs.Numbers.{link_number, actor_number}
 use Rattle.net_units.specs.declared.numbers.ActorNo.{ActorNo}
 use Rattle.net_units.specs.declared.numbers.LinkNo.{LinkNo}
-use Rattle.link_quota.specs.Any.{any_rules, any_clock, AnyStands}
+use Rattle.link_quota.specs.Any.{any_rules, AnyStands}
 use Rattle.link_quota.specs.declared.any_link.AnyLink.{AnyLink}
 use Rattle.link_steps.specs.Legal.{AskFits}
 use Rattle.link_steps.specs.Replies.{reply_to}
-use Rattle.link_steps.specs.Split.{whole}
 use Rattle.link_steps.specs.declared.asks.Ask.{Ask}
 use Rattle.link_steps.specs.declared.replies.Entry.{Entry}
 use Rattle.link_steps.specs.declared.replies.Reply.{Reply}

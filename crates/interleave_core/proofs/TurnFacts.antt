@@ -1,4 +1,8 @@
 -- An actor's steps come to an end: how many it has left at most falls with each step that it makes.
+use Rattle.channel_move.proofs.MoveFacts.{MoveAsks, AsksFirst, AsksSubmit, AsksRest, move-asks, rest-length}
+use Rattle.call_script.specs.Fits.{TaskFits}
+use Rattle.link_steps.specs.Lists.{Each}
+use Rattle.call_script.specs.Scripts.{move_between, last_packets, ready}
 use Rattle.std.proofs.Common.{◌≡◌, ◌≢◌, ℕ, zero, suc, ◌+◌, ◌*◌, ◌-◌, ◌<◌, ◌≤◌, Bool, Option, Some, None, IsSome, List, [], ◌∷◌, ◌++◌, length, find, refl, sym, ap, ◌∙◌, subst, inl, inr, arith}
 use Rattle.std.proofs.Math.Nat.{suc-mul}
 use Rattle.std.proofs.lemmas.Bool.{cases_Bool, cases_lt, cond_both, eqb-true, eqb-false, eq-eqb, ne_eqb}
@@ -25,10 +29,10 @@ use Rattle.setup_protocol.specs.declared.request.Request.{Request}
 use Rattle.setup_protocol.specs.declared.verdict.Deny.{Deny}
 use Rattle.setup_protocol.proofs.ProgressFacts.{progress-on_the_way, progress-tested}
 use Rattle.call_script.specs.Fits.{NetworkFits}
-use Rattle.call_script.specs.Scripts.{Opened, standing, standing_of, resumed, continued, from_step, takes_step, outcome_by, task_ask, first_ask, ask_at}
+use Rattle.call_script.specs.Scripts.{Learnt, standing, standing_of, resumed, continued, from_step, takes_step, outcome_by, task_ask, first_ask, ask_at}
 use Rattle.call_script.specs.Tasks.{Network}
 use Rattle.call_script.specs.declared.tasks.Task.{Task}
-use Rattle.call_script.specs.declared.tasks.Task.TheVariants.{Opens, Sends, Closes}
+use Rattle.call_script.specs.declared.tasks.Task.TheVariants.{Opens, Sends, Closes, Moves}
 use Rattle.interleave_core.specs.Runs.{plane_no, plane_at, next_for, IsNext, IsRun, done_at, stepped, step}
 use Rattle.interleave_core.specs.Turns.{most_steps, most_over, caller_most, plane_most, most_left, MakesOne, StepsComeToAnEnd}
 use Rattle.interleave_core.proofs.CallerFacts.{OffersFit, first-fits, StandingFits}
@@ -82,36 +86,51 @@ hop-within : (hops : List Hop) (i : ℕ) (found : Option Hop) (to : LinkNo) (ask
 hop-within hops i None to ask own is same = cc
 hop-within hops i (Some hop) to ask own is same = slice_get_within hops i hop is
 
-task-few : (task : Task) (replies : List Reply) (to : LinkNo) (ask : Ask) → OffersFit (task ∷ []) replies → task_ask task replies ≡ Some (to, ask) → length replies < most_steps task
-task-few (Opens request) replies to ask are same = setup-few request replies to ask are same
-task-few (Sends link chan count gap size) [] to ask are same = omega arith
-task-few (Sends link chan count gap size) (reply ∷ replies) to ask are same = cc
-task-few (Closes request) replies to ask are same = hop-within request.route (length replies) (slice_get request.route (length replies)) to ask _ refl same
+task-few : (links : List Link) (task : Task) (replies : List Reply) (to : LinkNo) (ask : Ask) → TaskFits links task → OffersFit (task ∷ []) replies → task_ask task replies ≡ Some (to, ask) → length replies < most_steps task
+task-few links (Opens request) replies to ask fits are same = setup-few request replies to ask are same
+task-few links (Sends link chan count gap size) [] to ask fits are same = omega arith
+task-few links (Sends link chan count gap size) (reply ∷ replies) to ask fits are same = cc
+task-few links (Closes request) replies to ask fits are same = hop-within request.route (length replies) (slice_get request.route (length replies)) to ask _ refl same
+task-few links (Moves old new gap size) replies to ask fits are same = by (move-asks (move_between old new gap size) replies to ask same) where
+  by : MoveAsks (move_between old new gap size) replies to ask → length replies < suc (length old.route)
+  by (AsksFirst none at is) = (let e : length replies ≡ 0 = ap length none in omega (arith, e))
+  by (AsksSubmit first one some at is) = (let e : length replies ≡ 1 = ap length one in let least = fits.of_old.route.least in omega (arith, e, least))
+  by (AsksRest told made stage at is) = (let few = rest-length replies told made stage in let inside = slice_get_within old.route made at.hop at.stands in omega (arith, few.0, inside))
 
-from-step-most : (outcomes : List Opened) (tasks : List Task) → most_over (from_step outcomes tasks) ≤ most_over tasks
+moves-most : (old new : Request) (gap size other_gap other_size : ℕ) → most_steps (Moves old new gap size) ≡ most_steps (Moves old new other_gap other_size)
+unfolding most_steps
+moves-most old new gap size other_gap other_size = refl
+
+ready-most : (outcomes : List Learnt) (task : Task) → most_steps (ready outcomes task) ≡ most_steps task
+ready-most outcomes (Opens request) = refl
+ready-most outcomes (Sends link chan count gap size) = refl
+ready-most outcomes (Closes request) = refl
+ready-most outcomes (Moves old new gap size) = moves-most old new (last_packets old.chan outcomes).gap (last_packets old.chan outcomes).size gap size
+
+pub from-step-most : (outcomes : List Learnt) (tasks : List Task) → most_over (from_step outcomes tasks) ≤ most_over tasks
 unfolding from_step most_over
 from-step-most outcomes [] = omega arith
 from-step-most outcomes (task ∷ tasks) =
     let rest = from-step-most outcomes tasks in
-    cond_both (takes_step outcomes task) (task ∷ tasks) (from_step outcomes tasks) (λ ts. most_over ts ≤ most_steps task + most_over tasks) (λ _. omega arith) (λ _. omega (arith, rest))
+    cond_both (takes_step outcomes task) (ready outcomes task ∷ tasks) (from_step outcomes tasks) (λ ts. most_over ts ≤ most_steps task + most_over tasks) (λ _. (let same = ready-most outcomes task in omega (arith, same))) (λ _. omega (arith, rest))
 
 -- ---- a caller with one reply more
 
-continued-fewer : (outcomes : List Opened) (task : Task) (tasks : List Task) (replies : List Reply) (reply : Reply) (next : Option (LinkNo × Ask)) → length replies < most_steps task
+continued-fewer : (outcomes : List Learnt) (task : Task) (tasks : List Task) (replies : List Reply) (reply : Reply) (next : Option (LinkNo × Ask)) → length replies < most_steps task
     → caller_most (continued outcomes task tasks (replies ++ reply ∷ []) next) < most_steps task + most_over tasks - length replies
 unfolding most_over
 continued-fewer outcomes task tasks replies reply (Some to) few = (let more = length-append replies (reply ∷ []) in omega (arith, few, more))
 continued-fewer outcomes task tasks replies reply None few = (let rest = from-step-most (outcome_by task (replies ++ reply ∷ []) ++ outcomes) tasks in omega (arith, few, rest))
 
-resumed-fewer : (outcomes : List Opened) (tasks : List Task) (replies : List Reply) (reply : Reply) (to : LinkNo) (ask : Ask) → OffersFit tasks replies → first_ask tasks replies ≡ Some (to, ask) → caller_most (resumed outcomes tasks (replies ++ reply ∷ [])) < most_over tasks - length replies
+resumed-fewer : (links : List Link) (outcomes : List Learnt) (tasks : List Task) (replies : List Reply) (reply : Reply) (to : LinkNo) (ask : Ask) → Each (TaskFits links) tasks → OffersFit tasks replies → first_ask tasks replies ≡ Some (to, ask) → caller_most (resumed outcomes tasks (replies ++ reply ∷ [])) < most_over tasks - length replies
 unfolding resumed most_over
-resumed-fewer outcomes [] replies reply to ask are same = cc
-resumed-fewer outcomes (task ∷ tasks) replies reply to ask are same =
-    continued-fewer outcomes task tasks replies reply (task_ask task (replies ++ reply ∷ [])) (task-few task replies to ask (first-fits task tasks replies are) same)
+resumed-fewer links outcomes [] replies reply to ask each are same = cc
+resumed-fewer links outcomes (task ∷ tasks) replies reply to ask each are same =
+    continued-fewer outcomes task tasks replies reply (task_ask task (replies ++ reply ∷ [])) (task-few links task replies to ask each.0 (first-fits task tasks replies are) same)
 
 standing-fewer : (links : List Link) (tasks : List Task) (reply : Reply) (before : List Reply) (to : LinkNo) (ask : Ask) → StandingFits links (standing tasks before) → ask_at (standing tasks before) ≡ Some (to, ask) → caller_most (standing tasks (reply ∷ before)) < caller_most (standing tasks before)
 unfolding standing
-standing-fewer links tasks reply before to ask fits same = resumed-fewer (standing tasks before).outcomes (standing tasks before).tasks (standing tasks before).replies reply to ask fits.offers same
+standing-fewer links tasks reply before to ask fits same = resumed-fewer links (standing tasks before).outcomes (standing tasks before).tasks (standing tasks before).replies reply to ask fits.tasks fits.offers same
 
 -- ---- the plane with one reply more
 

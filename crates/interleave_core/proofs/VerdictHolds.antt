@@ -1,4 +1,5 @@
 -- In every run what a request has come to is the verdict over the replies to its setup.
+use Rattle.call_script.specs.Scripts.{newest, ready}
 use Rattle.std.proofs.Common.{◌≡◌, ◌≢◌, ℕ, ◌≤◌, true, false, List, [], ◌∷◌, ◌++◌, length, Option, Some, None, refl, sym, ap, ◌∙◌, subst, inl, inr, arith}
 use Rattle.std.proofs.lemmas.Bool.{cases_Bool, cond_both, eqb-true, eqb-false, eq-eqb, ne_eqb}
 use Rattle.std.proofs.lemmas.Option.{same_Some}
@@ -15,7 +16,7 @@ use Rattle.setup_protocol.specs.Setup.{Outcome, Progress, Reserving, Undoing, Re
 use Rattle.setup_protocol.specs.declared.request.Request.{Request}
 use Rattle.setup_protocol.proofs.ProgressFacts.{none-settled}
 use Rattle.call_script.specs.Owners.{TaskOff}
-use Rattle.call_script.specs.Scripts.{Opened, Standing, task_ask, takes_step, from_step, begun, settled_as, outcome_by, continued, resumed, standing, first_ask, ask_at, outcome_in}
+use Rattle.call_script.specs.Scripts.{Learnt, Standing, task_ask, takes_step, from_step, begun, settled_as, outcome_by, continued, resumed, standing, first_ask, ask_at, outcome_in}
 use Rattle.call_script.specs.Tasks.{Network}
 use Rattle.call_script.specs.declared.tasks.Task.{Task}
 use Rattle.call_script.specs.declared.tasks.Task.TheVariants.{Opens}
@@ -27,7 +28,7 @@ use Rattle.run_record.specs.Runs.{replies_to}
 use Rattle.run_record.specs.declared.done.Done.{Done}
 use Rattle.tick_plane.specs.Planes.{next_due}
 use Rattle.interleave_core.proofs.RunCloses.{owned-once}
-use Rattle.interleave_core.proofs.RunGoes.{ScriptOnce, OwnedOnce, IsBegun, task-off, tasks-off, plane-off-ask, off-mild, mild-tasks, off-other, off-standing, other-outcome, outcome-own}
+use Rattle.interleave_core.proofs.RunGoes.{ready-off, ScriptOnce, OwnedOnce, IsBegun, task-off, tasks-off, plane-off-ask, off-mild, mild-tasks, off-other, off-standing, other-outcome, outcome-own}
 use Rattle.interleave_core.proofs.RunLegal.{plane-next, caller-next, replies-by, replies-off}
 use Rattle.interleave_core.proofs.SetupOnce.{IsOther, others-from, others-resumed}
 
@@ -70,7 +71,7 @@ unsettled request (Relaxing left levels) to same = refl
 unsettled request (Settled outcome) to same = cc
 
 -- what a setup that is over puts among the outcomes
-settled-outcome : (request : Request) (replies : List Reply) (outcomes : List Opened) → outcome_in request.chan outcomes ≡ None → outcome_in request.chan (outcome_by (Opens request) replies ++ outcomes) ≡ verdict_of request replies
+settled-outcome : (request : Request) (replies : List Reply) (outcomes : List Learnt) → outcome_in request.chan outcomes ≡ None → outcome_in request.chan (outcome_by (Opens request) replies ++ outcomes) ≡ verdict_of request replies
 settled-outcome request replies outcomes quiet = by-verdict (verdict_of request replies) where
   by-verdict : (verdict : Option Outcome) → outcome_in request.chan (settled_as request verdict ++ outcomes) ≡ verdict
   by-verdict None = quiet
@@ -97,44 +98,44 @@ later request done past at mild (After others same) = After others (same ∙ ap 
 
 -- ---- the next task that takes a step
 
-before-from : (request : Request) (run : List Done) (outcomes : List Opened) (tasks : List Task) → 1 ≤ length request.route → ScriptOnce request tasks → setup_replies (channel_number request.chan) run ≡ [] → outcome_in request.chan outcomes ≡ None → VerdictAt request run (begun outcomes tasks)
+before-from : (request : Request) (run : List Done) (outcomes : List Learnt) (tasks : List Task) → 1 ≤ length request.route → ScriptOnce request tasks → setup_replies (channel_number request.chan) run ≡ [] → outcome_in request.chan outcomes ≡ None → VerdictAt request run (begun outcomes tasks)
 unfolding from_step
 before-from request run outcomes [] some once none quiet = Before tt tt none quiet
 before-from request run outcomes (task ∷ tasks) some (inl off) none quiet =
-    cond_both (takes_step outcomes task) (task ∷ tasks) (from_step outcomes tasks) (λ ts. VerdictAt request run (record { tasks = ts; replies = []; outcomes = outcomes }))
-    (λ _. Before (inl off) (λ is. refl) none quiet) (λ _. before-from request run outcomes tasks some off.1 none quiet)
+    cond_both (takes_step outcomes task) (ready outcomes task ∷ tasks) (from_step outcomes tasks) (λ ts. VerdictAt request run (record { tasks = ts; replies = []; outcomes = outcomes }))
+    (λ _. Before (inl (ready-off (channel_number request.chan) outcomes task off.0, off.1)) (λ is. refl) none quiet) (λ _. before-from request run outcomes tasks some off.1 none quiet)
 before-from request run outcomes (task ∷ tasks) some (inr own) none quiet =
-    cond_both (takes_step outcomes task) (task ∷ tasks) (from_step outcomes tasks) (λ ts. VerdictAt request run (record { tasks = ts; replies = []; outcomes = outcomes }))
-    (λ _. Before (inr own) (λ is. refl) none quiet) (λ _. After (others-from (channel_number request.chan) outcomes tasks own.1) (quiet ∙ sym (ap (verdict_of request) none ∙ none-settled request some)))
+    cond_both (takes_step outcomes task) (ready outcomes task ∷ tasks) (from_step outcomes tasks) (λ ts. VerdictAt request run (record { tasks = ts; replies = []; outcomes = outcomes }))
+    (λ _. Before (inr (ap (ready outcomes) own.0, own.1)) (λ is. refl) none quiet) (λ _. After (others-from (channel_number request.chan) outcomes tasks own.1) (quiet ∙ sym (ap (verdict_of request) none ∙ none-settled request some)))
 
 -- ---- one reply to the owner
 
-other-continued : (request : Request) (run : List Done) (outcomes : List Opened) (task : Task) (tasks : List Task) (replies : List Reply) (next : Option (LinkNo × Ask)) → 1 ≤ length request.route → TaskOff (channel_number request.chan) task → ScriptOnce request tasks → setup_replies (channel_number request.chan) run ≡ [] → outcome_in request.chan outcomes ≡ None → VerdictAt request run (continued outcomes task tasks replies next)
+other-continued : (request : Request) (run : List Done) (outcomes : List Learnt) (task : Task) (tasks : List Task) (replies : List Reply) (next : Option (LinkNo × Ask)) → 1 ≤ length request.route → TaskOff (channel_number request.chan) task → ScriptOnce request tasks → setup_replies (channel_number request.chan) run ≡ [] → outcome_in request.chan outcomes ≡ None → VerdictAt request run (continued outcomes task tasks replies next)
 other-continued request run outcomes task tasks replies (Some to) some off once none quiet = Before (inl (off, once)) (λ is. absurd (subst (TaskOff (channel_number request.chan)) is off refl)) none quiet
 other-continued request run outcomes task tasks replies None some off once none quiet = before-from request run (outcome_by task replies ++ outcomes) tasks some once none (other-outcome request task replies outcomes (off-other (channel_number request.chan) task off) ∙ quiet)
 
-own-continued : (request : Request) (run : List Done) (outcomes : List Opened) (tasks : List Task) (replies : List Reply) (next : Option (LinkNo × Ask)) → next_ask request replies ≡ next → Each (IsOther (channel_number request.chan)) tasks → setup_replies (channel_number request.chan) run ≡ replies → outcome_in request.chan outcomes ≡ None → VerdictAt request run (continued outcomes (Opens request) tasks replies next)
+own-continued : (request : Request) (run : List Done) (outcomes : List Learnt) (tasks : List Task) (replies : List Reply) (next : Option (LinkNo × Ask)) → next_ask request replies ≡ next → Each (IsOther (channel_number request.chan)) tasks → setup_replies (channel_number request.chan) run ≡ replies → outcome_in request.chan outcomes ≡ None → VerdictAt request run (continued outcomes (Opens request) tasks replies next)
 own-continued request run outcomes tasks replies (Some to) is others same quiet = Under tasks refl others same (unsettled request (progress_of request replies) to is) quiet
 own-continued request run outcomes tasks replies None is others same quiet = After (others-from (channel_number request.chan) (outcome_by (Opens request) replies ++ outcomes) tasks others) (settled-outcome request replies outcomes quiet ∙ ap (verdict_of request) (sym same))
 
-after-continued : (request : Request) (run : List Done) (outcomes : List Opened) (task : Task) (tasks : List Task) (replies : List Reply) (next : Option (LinkNo × Ask)) (verdict : Option Outcome) → IsOther (channel_number request.chan) task → outcome_in request.chan outcomes ≡ verdict → outcome_in request.chan (continued outcomes task tasks replies next).outcomes ≡ verdict
+after-continued : (request : Request) (run : List Done) (outcomes : List Learnt) (task : Task) (tasks : List Task) (replies : List Reply) (next : Option (LinkNo × Ask)) (verdict : Option Outcome) → IsOther (channel_number request.chan) task → outcome_in request.chan outcomes ≡ verdict → outcome_in request.chan (continued outcomes task tasks replies next).outcomes ≡ verdict
 after-continued request run outcomes task tasks replies (Some to) verdict other same = same
 after-continued request run outcomes task tasks replies None verdict other same = other-outcome request task replies outcomes other ∙ same
 
-after-resumed : (request : Request) (run : List Done) (outcomes : List Opened) (tasks : List Task) (replies : List Reply) (verdict : Option Outcome) → Each (IsOther (channel_number request.chan)) tasks → outcome_in request.chan outcomes ≡ verdict → outcome_in request.chan (resumed outcomes tasks replies).outcomes ≡ verdict
+after-resumed : (request : Request) (run : List Done) (outcomes : List Learnt) (tasks : List Task) (replies : List Reply) (verdict : Option Outcome) → Each (IsOther (channel_number request.chan)) tasks → outcome_in request.chan outcomes ≡ verdict → outcome_in request.chan (resumed outcomes tasks replies).outcomes ≡ verdict
 unfolding resumed
 after-resumed request run outcomes [] replies verdict others same = same
 after-resumed request run outcomes (task ∷ tasks) replies verdict others same = after-continued request run outcomes task tasks replies (task_ask task replies) verdict others.0 same
 
 -- to the request's own setup
-own-resumed : (request : Request) (done : Done) (past : List Done) (outcomes : List Opened) (rest : List Task) (replies : List Reply) → Each (IsOther (channel_number request.chan)) rest → setup_replies (channel_number request.chan) past ≡ replies → outcome_in request.chan outcomes ≡ None → next_ask request replies ≡ Some (done.link, done.ask)
+own-resumed : (request : Request) (done : Done) (past : List Done) (outcomes : List Learnt) (rest : List Task) (replies : List Reply) → Each (IsOther (channel_number request.chan)) rest → setup_replies (channel_number request.chan) past ≡ replies → outcome_in request.chan outcomes ≡ None → next_ask request replies ≡ Some (done.link, done.ask)
     → VerdictAt request (done ∷ past) (resumed outcomes (Opens request ∷ rest) (replies ++ done.reply ∷ []))
 unfolding resumed
 own-resumed request done past outcomes rest replies others same quiet asks =
     own-continued request (done ∷ past) outcomes rest (replies ++ done.reply ∷ []) (next_ask request (replies ++ done.reply ∷ [])) refl others
     (replies-more (channel_number request.chan) done past (setup-ask request (progress_of request replies) done.link done.ask asks) ∙ ap (λ rs. rs ++ done.reply ∷ []) same) quiet
 
-before-resumed : (request : Request) (done : Done) (past : List Done) (outcomes : List Opened) (tasks : List Task) (replies : List Reply) → 1 ≤ length request.route → ScriptOnce request tasks → IsBegun request tasks replies → setup_replies (channel_number request.chan) past ≡ [] → outcome_in request.chan outcomes ≡ None → first_ask tasks replies ≡ Some (done.link, done.ask)
+before-resumed : (request : Request) (done : Done) (past : List Done) (outcomes : List Learnt) (tasks : List Task) (replies : List Reply) → 1 ≤ length request.route → ScriptOnce request tasks → IsBegun request tasks replies → setup_replies (channel_number request.chan) past ≡ [] → outcome_in request.chan outcomes ≡ None → first_ask tasks replies ≡ Some (done.link, done.ask)
     → VerdictAt request (done ∷ past) (resumed outcomes tasks (replies ++ done.reply ∷ []))
 unfolding resumed
 before-resumed request done past outcomes [] replies some once begun' none quiet asks = cc
@@ -146,7 +147,7 @@ before-resumed request done past outcomes (task ∷ tasks) replies some (inr own
     let asks' : next_ask request replies ≡ Some (done.link, done.ask) = subst (λ t. first_ask (t ∷ tasks) replies ≡ Some (done.link, done.ask)) own.0 asks in
     subst (λ t. VerdictAt request (done ∷ past) (resumed outcomes (t ∷ tasks) (replies ++ done.reply ∷ []))) (sym own.0) (own-resumed request done past outcomes tasks replies own.1 (none ∙ sym empty) quiet asks')
 
-owner-resumed : (request : Request) (done : Done) (past : List Done) (outcomes : List Opened) (tasks : List Task) (replies : List Reply) → 1 ≤ length request.route → first_ask tasks replies ≡ Some (done.link, done.ask) → VerdictAt request past (record { tasks = tasks; replies = replies; outcomes = outcomes })
+owner-resumed : (request : Request) (done : Done) (past : List Done) (outcomes : List Learnt) (tasks : List Task) (replies : List Reply) → 1 ≤ length request.route → first_ask tasks replies ≡ Some (done.link, done.ask) → VerdictAt request past (record { tasks = tasks; replies = replies; outcomes = outcomes })
     → VerdictAt request (done ∷ past) (resumed outcomes tasks (replies ++ done.reply ∷ []))
 owner-resumed request done past outcomes tasks replies some asks (Before once begun' none quiet) = before-resumed request done past outcomes tasks replies some once begun' none quiet asks
 owner-resumed request done past outcomes tasks replies some asks (Under rest is others same none quiet) =
@@ -189,7 +190,7 @@ verdict-next network request owner tasks past done some once found next was =
     ]
 
 pub verdict-run : (network : Network) (request : Request) (owner : ℕ) (tasks : List Task) (run : List Done) → 1 ≤ length request.route → OwnedOnce network request owner → slice_get network.scripts owner ≡ Some tasks → IsRun network run → VerdictAt request run (standing tasks (replies_to owner run))
-unfolding IsRun replies_to standing setup_replies outcome_in
+unfolding IsRun replies_to standing setup_replies outcome_in newest
 verdict-run network request owner tasks [] some once found is = before-from request [] [] tasks some (once.own tasks found) refl refl
 verdict-run network request owner tasks (done ∷ past) some once found is = verdict-next network request owner tasks past done some once found is.1 (verdict-run network request owner tasks past some once found is.0)
 

@@ -36,7 +36,7 @@ use Rattle.setup_protocol.specs.Setup.{Outcome, Accepts, Denies, offers_in, afte
 use Rattle.setup_protocol.specs.declared.request.Request.{Request}
 use Rattle.setup_protocol.specs.declared.request.Control.TheVariants.{Rate}
 use Rattle.setup_protocol.specs.declared.verdict.Deny.TheVariants.{Hop as AtHop}
-use Rattle.call_script.specs.Scripts.{Opened, standing, resumed, from_step, is_established, outcome_in}
+use Rattle.call_script.specs.Scripts.{Learnt, standing, resumed, from_step, is_established, outcome_in, newest}
 use Rattle.call_script.specs.Tasks.{Network}
 use Rattle.call_script.specs.declared.tasks.Task.{Task}
 use Rattle.call_script.specs.declared.tasks.Task.TheVariants.{Opens, Sends}
@@ -125,18 +125,18 @@ network_of shapes scripts rounds = record { links = map whole shapes; requests =
 abbrev reply_of : Done → Reply
 reply_of done = done.reply
 
-abbrev outcomes_in : Option (List Task) → ℕ → List Done → List Opened
+abbrev outcomes_in : Option (List Task) → ℕ → List Done → List Learnt
 outcomes_in None actor run = []
 outcomes_in (Some tasks) actor run = (standing tasks (replies_to actor run)).outcomes
 
 -- the replies, in the order of time
 unfoldable played : Network → List ActorNo → List Reply
-unfolding run_from next_for part_of replies_to plane_of standing resumed from_step is_established offers_in after_offers reach_after delay_over bound_at_end allotment reply_to reply_at reserve_reply room_of whole_room relax_reply deny_reply submit_reply release_reply arrive_reply sent_at best_sent_at clock_of scan_of after with_arrival after_tick with_best best_step_at best_step waiting_best change_first without_first without_expired with_sources hold_ended here_at starts_below serve_tick is_waiting first_in_line goes_before held_packets slots_of need_of kept_units free_units planned_from eligible_next step_of source_packets rows_after dropped_in work_in work_up_to load some_upto passes_up_to passes admits first_level best_level most_in first_from eligible may_follow
+unfolding run_from next_for part_of replies_to plane_of standing resumed from_step is_established newest offers_in after_offers reach_after delay_over bound_at_end allotment reply_to reply_at reserve_reply room_of whole_room relax_reply deny_reply submit_reply release_reply arrive_reply sent_at best_sent_at clock_of scan_of after with_arrival after_tick with_best best_step_at best_step waiting_best change_first without_first without_expired with_sources hold_ended here_at starts_below serve_tick is_waiting first_in_line goes_before held_packets slots_of need_of kept_units free_units planned_from eligible_next step_of source_packets rows_after dropped_in work_in work_up_to load some_upto passes_up_to passes admits first_level best_level most_in first_from eligible may_follow
 played network actors = reverse (map reply_of (run_from network [] actors))
 
 -- what a caller's request has come to
 unfoldable settled : Network → List ActorNo → ActorNo → ChanNo → Option Outcome
-unfolding run_from next_for part_of replies_to plane_of standing resumed from_step is_established outcome_in offers_in after_offers reach_after delay_over bound_at_end allotment reply_to reply_at reserve_reply room_of whole_room relax_reply deny_reply submit_reply release_reply arrive_reply sent_at best_sent_at clock_of scan_of after with_arrival after_tick with_best best_step_at best_step waiting_best change_first without_first without_expired with_sources hold_ended here_at starts_below serve_tick is_waiting first_in_line goes_before held_packets slots_of need_of kept_units free_units planned_from eligible_next step_of source_packets rows_after dropped_in work_in work_up_to load some_upto passes_up_to passes admits first_level best_level most_in first_from eligible may_follow
+unfolding run_from next_for part_of replies_to plane_of standing resumed from_step is_established outcome_in newest offers_in after_offers reach_after delay_over bound_at_end allotment reply_to reply_at reserve_reply room_of whole_room relax_reply deny_reply submit_reply release_reply arrive_reply sent_at best_sent_at clock_of scan_of after with_arrival after_tick with_best best_step_at best_step waiting_best change_first without_first without_expired with_sources hold_ended here_at starts_below serve_tick is_waiting first_in_line goes_before held_packets slots_of need_of kept_units free_units planned_from eligible_next step_of source_packets rows_after dropped_in work_in work_up_to load some_upto passes_up_to passes admits first_level best_level most_in first_from eligible may_follow
 settled network actors caller chan = outcome_in chan (outcomes_in (slice_get network.scripts (actor_number caller)) (actor_number caller) (run_from network [] actors))
 
 abbrev offer : ℕ → ℕ → Reply

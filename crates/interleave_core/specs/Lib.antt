@@ -11,6 +11,7 @@ pub mod Guarantee
 pub mod Verdicts
 pub mod Laws
 pub mod Linked
+pub mod Moves
 pub mod Standing
 pub mod Turns
 pub mod Schedules

@@ -2,7 +2,7 @@
 -- the links reply, and the steps of the others leave it as many. A caller takes at most two steps a hop to open a request, one
 -- step to send packets, and one a hop to close. The plane asks each link for one tick in each round, and a packet that
 -- leaves with a tick arrives at most once more.
-use Rattle.std.specs.Prelude.{◌≡◌, ◌≢◌, ℕ, ◌+◌, ◌*◌, ◌-◌, ◌<◌, nat_eq, if◌then◌else◌, IsSome, List, [], ◌∷◌, length}
+use Rattle.std.specs.Prelude.{suc, ◌≡◌, ◌≢◌, ℕ, ◌+◌, ◌*◌, ◌-◌, ◌<◌, nat_eq, if◌then◌else◌, IsSome, List, [], ◌∷◌, length}
 use Rattle.std.specs.List.{slice_get}
 use Rattle.net_units.specs.Numbers.{actor_number}
 use Rattle.net_units.specs.declared.numbers.ActorNo.{ActorNo}
@@ -10,7 +10,7 @@ use Rattle.call_script.specs.Fits.{NetworkFits}
 use Rattle.call_script.specs.Scripts.{Standing, standing_of}
 use Rattle.call_script.specs.Tasks.{Network}
 use Rattle.call_script.specs.declared.tasks.Task.{Task}
-use Rattle.call_script.specs.declared.tasks.Task.TheVariants.{Opens, Sends, Closes}
+use Rattle.call_script.specs.declared.tasks.Task.TheVariants.{Opens, Sends, Closes, Moves}
 use Rattle.interleave_core.specs.Runs.{plane_no, plane_at, next_for, IsRun, step}
 use Rattle.run_record.specs.Runs.{replies_to}
 use Rattle.run_record.specs.declared.done.Done.{Done}
@@ -23,6 +23,7 @@ abbrev pub most_steps : Task → ℕ
 most_steps (Opens request) = 2 * length request.route
 most_steps (Sends link chan count gap size) = 1
 most_steps (Closes request) = length request.route
+most_steps (Moves old new gap size) = suc (length old.route)
 
 unfoldable pub most_over : List Task → ℕ
 most_over [] = 0

@@ -1,5 +1,6 @@
 //! Laws of every run, each as the contract of a function that does nothing.
 ghost use Rattle.interleave_core.specs.Laws.{EveryPartIsLegal, EveryAskFits, ClocksFollowThePlane, HeldRowsPassOnEveryLink, EveryHopIsGuaranteed, NoFlightIsLate, EveryAskIsAnswered, EveryReplyIsExpected, VerdictsFollowTheReplies, AcceptedRequestsAreKept, AcceptedChannelsKeepTheirDelays, EveryRunIsGuaranteed, RunsFollowTheirActors, FittingPartsMakeARun};
+ghost use Rattle.interleave_core.specs.Moves.{EveryMoveKeeps, EveryMovePlansTheShifted, NonePlannedIsLost, NoneIsLostInAMove};
 ghost use Rattle.interleave_core.specs.Schedules.{SchedulesComeToOneEnd};
 ghost use Rattle.interleave_core.specs.Turns.{StepsComeToAnEnd};
 ghost use Rattle.interleave_core.specs.Sent.{TicksTellWhatHasLeft};
@@ -132,4 +133,27 @@ pub fn steps_come_to_an_end()
 /// What it comes to is a run of the network.
 pub fn schedules_come_to_one_end()
     ensures { SchedulesComeToOneEnd }
+{}
+
+/// Once a channel was left by a move, its first hop has taken as many packets as the move told were kept, numbered from 1 on,
+/// and takes no more.
+pub fn every_move_keeps_what_was_taken()
+    ensures { EveryMoveKeeps }
+{}
+
+/// Every packet that was planned on a channel at a link was offered by its source there, is left, or was cancelled.
+pub fn no_planned_packet_is_lost()
+    ensures { NonePlannedIsLost }
+{}
+
+/// Where each channel has one owner, the submit of a move is planned, and then the channel that it joins has exactly its packets
+/// planned.
+pub fn every_move_plans_what_was_shifted()
+    ensures { EveryMovePlansTheShifted }
+{}
+
+/// Once a channel was left by a move, the packets that its source has offered at its first hop, dropped ones included, and those
+/// that the move has told were shifted are all that its submits planned there.
+pub fn no_packet_is_lost_in_a_move()
+    ensures { NoneIsLostInAMove }
 {}

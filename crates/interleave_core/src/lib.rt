@@ -21,6 +21,3 @@ pub use links::new_link;
 pub use playing::{PlayFault, play, play_out};
 pub use refusal::CoreRefusal;
 pub use stepping::Core;
-
-#[cfg(test)]
-mod tests;

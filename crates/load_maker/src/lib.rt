@@ -14,6 +14,3 @@ pub mod turns;
 
 pub use making::made;
 pub use turns::take_turns;
-
-#[cfg(test)]
-mod tests;

@@ -22,11 +22,13 @@ use Rattle.setup_protocol.specs.Hops.{IsHopOf}
 use Rattle.setup_protocol.specs.Setup.{Progress, Reserving, Undoing, Relaxing, Settled, asked, hop_link, progress_of}
 use Rattle.setup_protocol.specs.declared.request.Request.{Request}
 use Rattle.setup_protocol.proofs.HopAsks.{asked-at}
+use Rattle.channel_move.proofs.MoveFacts.{move-ask-is}
 use Rattle.call_script.specs.Fits.{TaskFits, NetworkFits}
-use Rattle.call_script.specs.Scripts.{Opened, continued, resumed, standing, from_step, takes_step, outcome_by, first_ask, packets_ask, task_ask}
+use Rattle.call_script.specs.Scripts.{Learnt, continued, resumed, standing, from_step, takes_step, ready, outcome_by, first_ask, packets_ask, move_between, task_ask}
 use Rattle.call_script.specs.Tasks.{Network}
 use Rattle.call_script.specs.declared.tasks.Task.{Task}
-use Rattle.call_script.specs.declared.tasks.Task.TheVariants.{Opens, Sends, Closes}
+use Rattle.call_script.specs.declared.tasks.Task.TheVariants.{Opens, Sends, Closes, Moves}
+use Rattle.call_script.proofs.ReadyFacts.{ready-keeps}
 use Rattle.channel_laws.proofs.NextLinks.{NamesNext, NextsAre, after-nexts, sent-next}
 use Rattle.channel_laws.proofs.SentFacts.{sent-facts, tick-answer}
 use Rattle.tick_plane.specs.Planes.{next_due, ask_due, flight_in, plane_expects, answers_arrive}
@@ -70,6 +72,7 @@ task-spaced links gap (Sends at chan count g size) replies to ask link fits spac
     subst (NamesNext (GoesOn gap link)) once.is (packets-hold (NamesNext (GoesOn gap link)) chan count g size (λ own. tt) tt)
 task-spaced links gap (Closes request) replies to ask link fits spaced found same =
     (let at = asked-at request.route (length replies) _ to ask same in subst (NamesNext (GoesOn gap link)) (sym at.is) tt)
+task-spaced links gap (Moves old new g size) replies to ask link fits spaced found same = move-ask-is (NamesNext (GoesOn gap link)) (move_between old new g size) replies to ask (λ upstream. tt) (λ count. tt) same
 
 tasks-spaced : (links : List Link) (gap : ℕ) (tasks : List Task) (replies : List Reply) (to : LinkNo) (ask : Ask) (link : Link) → Each (TaskFits links) tasks → Each (TaskSpaced gap) tasks → slice_get links (link_number to) ≡ Some link → first_ask tasks replies ≡ Some (to, ask) → NamesNext (GoesOn gap link) ask
 tasks-spaced links gap [] replies to ask link fits spaced found same = cc
@@ -77,18 +80,19 @@ tasks-spaced links gap (task ∷ tasks) replies to ask link fits spaced found sa
 
 -- ---- the tasks that a caller has left
 
-module _ (P : Task → Type 0) where
-  from-step-each : (outcomes : List Opened) (tasks : List Task) → Each P tasks → Each P (from_step outcomes tasks)
+-- a fact of tasks that doesn't depend on the packets of a move
+module _ (P : Task → Type 0) (moves : (old new : Request) (gap size other_gap other_size : ℕ) → P (Moves old new gap size) → P (Moves old new other_gap other_size)) where
+  from-step-each : (outcomes : List Learnt) (tasks : List Task) → Each P tasks → Each P (from_step outcomes tasks)
   unfolding from_step
   from-step-each outcomes [] each = tt
   from-step-each outcomes (task ∷ tasks) each =
-      cond_both (takes_step outcomes task) (task ∷ tasks) (from_step outcomes tasks) (Each P) (λ _. each) (λ _. from-step-each outcomes tasks each.1)
+      cond_both (takes_step outcomes task) (ready outcomes task ∷ tasks) (from_step outcomes tasks) (Each P) (λ _. (ready-keeps P moves outcomes task each.0, each.1)) (λ _. from-step-each outcomes tasks each.1)
 
-  continued-each : (outcomes : List Opened) (task : Task) (tasks : List Task) (replies : List Reply) (next : Option (LinkNo × Ask)) → Each P (task ∷ tasks) → Each P (continued outcomes task tasks replies next).tasks
+  continued-each : (outcomes : List Learnt) (task : Task) (tasks : List Task) (replies : List Reply) (next : Option (LinkNo × Ask)) → Each P (task ∷ tasks) → Each P (continued outcomes task tasks replies next).tasks
   continued-each outcomes task tasks replies (Some to) each = each
   continued-each outcomes task tasks replies None each = from-step-each (outcome_by task replies ++ outcomes) tasks each.1
 
-  resumed-each : (outcomes : List Opened) (tasks : List Task) (replies : List Reply) → Each P tasks → Each P (resumed outcomes tasks replies).tasks
+  resumed-each : (outcomes : List Learnt) (tasks : List Task) (replies : List Reply) → Each P tasks → Each P (resumed outcomes tasks replies).tasks
   unfolding resumed
   resumed-each outcomes [] replies each = tt
   resumed-each outcomes (task ∷ tasks) replies each = continued-each outcomes task tasks replies (task_ask task replies) each
@@ -116,7 +120,7 @@ module _ (network : Network) (gap : ℕ) (fits : NetworkFits network) (spaced : 
             (let asks = caller-next network past done next (eqb-false (actor_number done.actor) (plane_no network) caller) in
             tasks-spaced network.links gap (standing asks.tasks (replies_to (actor_number done.actor) past)).tasks (standing asks.tasks (replies_to (actor_number done.actor) past)).replies done.link done.ask link
             ((run-stands network past fits run).callers (actor_number done.actor) asks.tasks asks.found).tasks
-            (standing-each (TaskSpaced gap) asks.tasks (replies_to (actor_number done.actor) past) (Each-at (Each (TaskSpaced gap)) network.scripts (actor_number done.actor) asks.tasks spaced asks.found)) found asks.asks)
+            (standing-each (TaskSpaced gap) (λ old new g s other_gap other_size is. is) asks.tasks (replies_to (actor_number done.actor) past) (Each-at (Each (TaskSpaced gap)) network.scripts (actor_number done.actor) asks.tasks spaced asks.found)) found asks.asks)
       ]
 
   parts-spaced : (run : List Done) → IsRun network run → PartsSpaced run

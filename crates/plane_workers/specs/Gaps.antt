@@ -8,7 +8,7 @@ use Rattle.link_steps.specs.Lists.{Each}
 use Rattle.call_script.specs.Fits.{NetworkFits}
 use Rattle.call_script.specs.Tasks.{Network}
 use Rattle.call_script.specs.declared.tasks.Task.{Task}
-use Rattle.call_script.specs.declared.tasks.Task.TheVariants.{Opens, Sends, Closes}
+use Rattle.call_script.specs.declared.tasks.Task.TheVariants.{Opens, Sends, Closes, Moves}
 use Rattle.plane_workers.specs.Windows.{KeepsGap}
 
 -- each hop from which the route goes on has a propagation of at least `gap`
@@ -19,6 +19,7 @@ abbrev pub TaskSpaced : ℕ → Task → Type 0
 TaskSpaced gap (Opens request) = IsSpaced gap request.route
 TaskSpaced gap (Sends link chan count gap' size) = Unit {0}
 TaskSpaced gap (Closes request) = Unit {0}
+TaskSpaced gap (Moves old new gap' size) = Unit {0}
 
 -- so is each route that a caller opens
 abbrev pub AreSpaced : Network → ℕ → Type 0

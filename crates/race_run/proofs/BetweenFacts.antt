@@ -15,7 +15,7 @@ use Rattle.link_ledger.specs.declared.entries.OwnEntry.{OwnEntry}
 use Rattle.shared_network.specs.Calls.{HasNone, IsEstablished, Follows, reply_in}
 use Rattle.call_script.specs.Owners.{TaskOff}
 use Rattle.call_script.specs.Parts.{PlanParts}
-use Rattle.call_script.specs.Scripts.{Opened, begun, from_step, is_established, outcome_by, standing, takes_step, task_ask}
+use Rattle.call_script.specs.Scripts.{Learnt, begun, from_step, is_established, outcome_by, standing, takes_step, ready, task_ask}
 use Rattle.call_script.specs.Standing.{requests_of}
 use Rattle.call_script.specs.Tasks.{Network, network_of, script_of, task_of, tasks_of, with_task}
 use Rattle.call_script.specs.declared.entries.CallerEntry.{CallerEntry}
@@ -98,11 +98,11 @@ here parts caller place op pass accepted at has =
 pub between-none : (network : Network) (front rest : List Task) (pass : Token) (accepted : List Bool) → StandsBetween network front rest pass accepted → StandsBetween network (front ++ []) rest pass accepted
 between-none network front rest pass accepted between = subst (λ ts. StandsBetween network ts rest pass accepted) (sym (append-nil front)) between
 
-begun-over : (outcomes : List Opened) (task : Task) (rest : List Task) → takes_step outcomes task ≡ false → begun outcomes (task ∷ rest) ≡ begun outcomes rest
+begun-over : (outcomes : List Learnt) (task : Task) (rest : List Task) → takes_step outcomes task ≡ false → begun outcomes (task ∷ rest) ≡ begun outcomes rest
 unfolding from_step
 begun-over outcomes task rest passes = rw passes refl
 
-begun-at : (outcomes : List Opened) (task : Task) (rest : List Task) → takes_step outcomes task ≡ true → begun outcomes (task ∷ rest) ≡ record { tasks = task ∷ rest; replies = []; outcomes = outcomes }
+begun-at : (outcomes : List Learnt) (task : Task) (rest : List Task) → takes_step outcomes task ≡ true → begun outcomes (task ∷ rest) ≡ record { tasks = ready outcomes task ∷ rest; replies = []; outcomes = outcomes }
 unfolding from_step
 begun-at outcomes task rest takes = rw takes refl
 
@@ -119,20 +119,20 @@ between-skipped network front task rest pass accepted between passes apart = rec
 -- ---- over one that is made
 
 -- what a task that is made leaves of the rest
-pub record Leaves (front : List Task) (task : Task) (pass pass' : Token) (outcomes : List Opened) (accepted : List Bool) : Type 0 where
+pub record Leaves (front : List Task) (task : Task) (pass pass' : Token) (outcomes : List Learnt) (accepted : List Bool) : Type 0 where
   pub known : (chan : ChanNo) → is_established chan outcomes ≡ get_or accepted (channel_number chan) false
   pub fresh : (chan : ChanNo) → TaskOff (channel_number chan) task → HasNone chan pass.own → HasNone chan pass'.own
   pub live : (request : Request) → Has (Opens request) (front ++ task ∷ []) → Each (LeavesOpen (channel_number request.chan)) (front ++ task ∷ []) → is_established request.chan outcomes ≡ true → IsEstablished request pass'.own
 
-pub between-made : (network : Network) (front : List Task) (task : Task) (rest : List Task) (pass pass' : Token) (accepted accepted' : List Bool) (entries : List OwnEntry) (between : StandsBetween network front (task ∷ rest) pass accepted) → HasTasks network pass.actor (front ++ task ∷ rest) → pass'.actor ≡ pass.actor → pass'.own ≡ pass.own ++ entries
-    → takes_step between.outcomes task ≡ true → Follows (task_ask task) [] entries → task_ask task (map reply_in entries) ≡ None → (entries ≡ [] → ⊥) → Leaves front task pass pass' (outcome_by task (map reply_in entries) ++ between.outcomes) accepted' → StandsBetween network (front ++ task ∷ []) rest pass' accepted'
-between-made network front task rest pass pass' accepted accepted' [] between tasks by own takes follows none some leaves = absurd (some refl)
-between-made network front task rest pass pass' accepted accepted' (e ∷ left) between tasks by own takes follows none some leaves =
-    let past : Past network (front ++ task ∷ rest) pass.actor pass.own (record { tasks = task ∷ rest; replies = []; outcomes = between.outcomes }) = record { asked = between.asked; stands = between.stands ∙ begun-at between.outcomes task rest takes } in
-    let made = task-made network pass.actor (front ++ task ∷ rest) between.outcomes task rest pass.own [] e left pass'.own (map reply_in (e ∷ left)) tasks past follows own refl none in
-    let mine = subst (λ a. Past network (front ++ task ∷ rest) a pass'.own (begun (outcome_by task (map reply_in (e ∷ left)) ++ between.outcomes) rest)) (sym by) made in
+pub between-made : (network : Network) (front : List Task) (task own : Task) (rest : List Task) (pass pass' : Token) (accepted accepted' : List Bool) (entries : List OwnEntry) (between : StandsBetween network front (task ∷ rest) pass accepted) → HasTasks network pass.actor (front ++ task ∷ rest) → pass'.actor ≡ pass.actor → pass'.own ≡ pass.own ++ entries
+    → takes_step between.outcomes task ≡ true → ready between.outcomes task ≡ own → Follows (task_ask own) [] entries → task_ask own (map reply_in entries) ≡ None → (entries ≡ [] → ⊥) → Leaves front task pass pass' (outcome_by own (map reply_in entries) ++ between.outcomes) accepted' → StandsBetween network (front ++ task ∷ []) rest pass' accepted'
+between-made network front task own rest pass pass' accepted accepted' [] between tasks by added takes begins follows none some leaves = absurd (some refl)
+between-made network front task own rest pass pass' accepted accepted' (e ∷ left) between tasks by added takes begins follows none some leaves =
+    let past : Past network (front ++ task ∷ rest) pass.actor pass.own (record { tasks = own ∷ rest; replies = []; outcomes = between.outcomes }) = record { asked = between.asked; stands = between.stands ∙ begun-at between.outcomes task rest takes ∙ ap (λ t. record { tasks = t ∷ rest; replies = []; outcomes = between.outcomes }) begins } in
+    let made = task-made network pass.actor (front ++ task ∷ rest) between.outcomes own rest pass.own [] e left pass'.own (map reply_in (e ∷ left)) tasks past follows added refl none in
+    let mine = subst (λ a. Past network (front ++ task ∷ rest) a pass'.own (begun (outcome_by own (map reply_in (e ∷ left)) ++ between.outcomes) rest)) (sym by) made in
     record {
-      outcomes = outcome_by task (map reply_in (e ∷ left)) ++ between.outcomes;
+      outcomes = outcome_by own (map reply_in (e ∷ left)) ++ between.outcomes;
       asked = mine.asked;
       stands = ap (λ ts. standing ts (reverse (map reply_in pass'.own))) (append_assoc front (task ∷ []) rest) ∙ mine.stands;
       known = leaves.known;

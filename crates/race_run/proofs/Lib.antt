@@ -1,5 +1,5 @@
 pub mod Lists
-mod WholeFacts
+pub mod WholeFacts
 mod MergeFacts
 pub mod TurnFacts
 mod RunFacts
@@ -18,4 +18,3 @@ mod GivenUp
 mod OpenFacts
 mod RaceFacts
 mod TailFacts
-mod WorkedFacts

@@ -156,8 +156,8 @@ unfolding places_from
 length-places n at [] = refl
 length-places n at (e ∷ entries) = ap suc (length-places n (suc at) entries)
 
-length-stamped : (journal : Journal) → length (stamped_in journal) ≡ length journal.entries.items
-length-stamped journal = length-reverse (map (stamped_on journal.link) journal.entries.items) ∙ length-map journal.entries.items (stamped_on journal.link)
+length-stamped : (journal : Journal) → length (stamped_in journal) ≡ length journal.entries
+length-stamped journal = length-reverse (map (stamped_on journal.link) journal.entries) ∙ length-map journal.entries (stamped_on journal.link)
 
 length-woven : (n : ℕ) (journals : List Journal) → length (woven_of (map stamped_in journals)) ≡ length (flat_map (λ places. places) (sources_from n journals))
 unfolding woven_of sources_from
@@ -165,9 +165,9 @@ length-woven n [] = refl
 length-woven n (journal ∷ journals) =
     let put = length-put_all (stamped_in journal) (woven_of (map stamped_in journals)) in
     let one = length-stamped journal in
-    let own = length-places n 0 journal.entries.items in
+    let own = length-places n 0 journal.entries in
     let rest = length-woven (suc n) journals in
-    let all = length-append (places_from n 0 journal.entries.items) (flat_map (λ places. places) (sources_from (suc n) journals)) in
+    let all = length-append (places_from n 0 journal.entries) (flat_map (λ places. places) (sources_from (suc n) journals)) in
     omega (arith, put, one, own, rest, all)
 
 -- ---- what stands in the merge
@@ -193,17 +193,17 @@ place-among n at (suc k) (first ∷ entries) e place found is =
     let next : at + suc k ≡ suc at + k = omega arith in
     inr (place-among n (suc at) k entries e place found (is ∙ ap (λ i. record { stamp = e.stamp; journal = n; at = i }) next))
 
-place-in-all : (n k at : ℕ) (journals : List Journal) (journal : Journal) (e : Entry) (place : Place) → slice_get journals k ≡ Some journal → slice_get journal.entries.items at ≡ Some e → place ≡ record { stamp = e.stamp; journal = n + k; at = at } → Among place (flat_map (λ places. places) (sources_from n journals))
+place-in-all : (n k at : ℕ) (journals : List Journal) (journal : Journal) (e : Entry) (place : Place) → slice_get journals k ≡ Some journal → slice_get journal.entries at ≡ Some e → place ≡ record { stamp = e.stamp; journal = n + k; at = at } → Among place (flat_map (λ places. places) (sources_from n journals))
 unfolding sources_from
 place-in-all n k at [] journal e place found here is = absurd (let clash : None ≡ Some journal = found in cc)
 place-in-all n zero at (first ∷ journals) journal e place found here is =
-    let own : slice_get first.entries.items at ≡ Some e = ap (λ (j : Journal). slice_get j.entries.items at) (same_Some first journal found) ∙ here in
+    let own : slice_get first.entries at ≡ Some e = ap (λ (j : Journal). slice_get j.entries at) (same_Some first journal found) ∙ here in
     let number : n + 0 ≡ n = omega arith in
     let from : at ≡ 0 + at = omega arith in
-    Among-left place (places_from n 0 first.entries.items) (flat_map (λ places. places) (sources_from (suc n) journals)) (place-among n 0 at first.entries.items e place own (is ∙ ap (λ i. record { stamp = e.stamp; journal = i; at = at }) number ∙ ap (λ i. record { stamp = e.stamp; journal = n; at = i }) from))
+    Among-left place (places_from n 0 first.entries) (flat_map (λ places. places) (sources_from (suc n) journals)) (place-among n 0 at first.entries e place own (is ∙ ap (λ i. record { stamp = e.stamp; journal = i; at = at }) number ∙ ap (λ i. record { stamp = e.stamp; journal = n; at = i }) from))
 place-in-all n (suc k) at (first ∷ journals) journal e place found here is =
     let number : n + suc k ≡ suc n + k = omega arith in
-    Among-right place (places_from n 0 first.entries.items) (flat_map (λ places. places) (sources_from (suc n) journals)) (place-in-all (suc n) k at journals journal e place found here (is ∙ ap (λ i. record { stamp = e.stamp; journal = i; at = at }) number))
+    Among-right place (places_from n 0 first.entries) (flat_map (λ places. places) (sources_from (suc n) journals)) (place-in-all (suc n) k at journals journal e place found here (is ∙ ap (λ i. record { stamp = e.stamp; journal = i; at = at }) number))
 
 -- what stands at a place of the merge
 there-among : (journals : List Journal) (places : List Place) (entries : List Done) (place : Place) → AreThere journals places entries → Among place places → (done : Done) × IsThere journals place done × Among (record { stamp = place.stamp; done = done }) (with_stamps places entries)
@@ -212,10 +212,10 @@ there-among journals (first ∷ places) [] place there among = absurd there
 there-among journals (first ∷ places) (done ∷ entries) place there (inl same) = (done, subst (λ (p : Place). IsThere journals p done) (sym same) there.0, inl (ap (λ (p : Place). record { stamp = p.stamp; done = done }) same))
 there-among journals (first ∷ places) (done ∷ entries) place there (inr among) = (let rest = there-among journals places entries place there.1 among in (rest.0, rest.1, inr rest.2))
 
-same-there : (journals : List Journal) (place : Place) (done : Done) (journal : Journal) (e : Entry) → IsThere journals place done → slice_get journals place.journal ≡ Some journal → slice_get journal.entries.items place.at ≡ Some e → place.stamp ≡ e.stamp → record { stamp = place.stamp; done = done } ≡ stamped_on journal.link e
+same-there : (journals : List Journal) (place : Place) (done : Done) (journal : Journal) (e : Entry) → IsThere journals place done → slice_get journals place.journal ≡ Some journal → slice_get journal.entries place.at ≡ Some e → place.stamp ≡ e.stamp → record { stamp = place.stamp; done = done } ≡ stamped_on journal.link e
 same-there journals place done journal e there found here stamp =
     let one : there.inside.journal ≡ journal = same_Some there.inside.journal journal (sym there.inside.found ∙ found) in
-    let two : there.inside.entry ≡ e = same_Some there.inside.entry e (sym there.inside.here ∙ ap (λ (j : Journal). slice_get j.entries.items place.at) one ∙ here) in
+    let two : there.inside.entry ≡ e = same_Some there.inside.entry e (sym there.inside.here ∙ ap (λ (j : Journal). slice_get j.entries place.at) one ∙ here) in
     let is : done ≡ (stamped_on journal.link e).done = there.is ∙ ap (λ (j : Journal). (stamped_on j.link there.inside.entry).done) one ∙ ap (λ (x : Entry). (stamped_on journal.link x).done) two in
     ap (λ s. record { stamp = s; done = done }) stamp ∙ ap (λ d. record { stamp = e.stamp; done = d }) is
 
@@ -224,7 +224,7 @@ weave-in journals all entries moved there z among = stands (journals-weave.stand
   stands : InOne z (map stamped_in journals) → Among z (reverse (with_stamps all entries))
   stands (StandsIn k stamped found in_it) =
       let journal = comes-from stamped_in journals k stamped found in
-      let from = among-turned_map (stamped_on journal.from.link) journal.from.entries.items z (subst (Among z) (sym journal.is) in_it) in
+      let from = among-turned_map (stamped_on journal.from.link) journal.from.entries z (subst (Among z) (sym journal.is) in_it) in
       let place : Place = record { stamp = from.from.stamp; journal = k; at = from.place } in
       let number : 0 + k ≡ k = omega arith in
       let here = place-in-all 0 k from.place journals journal.from from.from place journal.found from.found (ap (λ i. record { stamp = from.from.stamp; journal = i; at = from.place }) (sym number)) in
@@ -255,19 +255,19 @@ unfolding places_from
 places-rise n at low [] rises = tt
 places-rise n at low (e ∷ entries) rises = ((let less = rises.0 in omega (arith, less)), places-rise n (suc at) e.stamp entries rises.1)
 
-sources-sorted : (n : ℕ) (journals : List Journal) → Each (λ (journal : Journal). StampsRise (marks_in journal.entries.items)) journals → Each (λ source. IsSortedBy is_before source) (sources_from n journals)
+sources-sorted : (n : ℕ) (journals : List Journal) → Each (λ (journal : Journal). StampsRise (marks_in journal.entries)) journals → Each (λ source. IsSortedBy is_before source) (sources_from n journals)
 unfolding sources_from
 sources-sorted n [] rises = tt
-sources-sorted n (journal ∷ journals) rises = (rises-sorted 0 (places_from n 0 journal.entries.items) (places-rise n 0 0 journal.entries.items rises.0), sources-sorted (suc n) journals rises.1)
+sources-sorted n (journal ∷ journals) rises = (rises-sorted 0 (places_from n 0 journal.entries) (places-rise n 0 0 journal.entries rises.0), sources-sorted (suc n) journals rises.1)
 
 pub whole-sorted : (network : Network) (passes : List Token) (journals : List Journal) → IsWhole network passes journals → All (λ source. IsSortedBy is_before source) (sources_from 0 journals)
 whole-sorted network passes journals whole = each-all (λ source. IsSortedBy is_before source) (sources_from 0 journals) (sources-sorted 0 journals whole.closed.rises)
 
-places-inside : (all : List Journal) (n at : ℕ) (journal : Journal) (before entries : List Entry) → slice_get all n ≡ Some journal → journal.entries.items ≡ before ++ entries → at ≡ length before → Each (IsInside all) (places_from n at entries)
+places-inside : (all : List Journal) (n at : ℕ) (journal : Journal) (before entries : List Entry) → slice_get all n ≡ Some journal → journal.entries ≡ before ++ entries → at ≡ length before → Each (IsInside all) (places_from n at entries)
 unfolding places_from
 places-inside all n at journal before [] found are long = tt
 places-inside all n at journal before (e ∷ entries) found are long = (
-  record { journal = journal; found = found; entry = e; here = ap (slice_get journal.entries.items) long ∙ ap (λ es. slice_get es (length before)) are ∙ get-after before entries e },
+  record { journal = journal; found = found; entry = e; here = ap (slice_get journal.entries) long ∙ ap (λ es. slice_get es (length before)) are ∙ get-after before entries e },
   places-inside all n (suc at) journal (before ++ e ∷ []) entries found (are ∙ sym (append_assoc before (e ∷ []) entries)) (let more = length-append before (e ∷ []) in omega (arith, long, more)),
 )
 
@@ -275,8 +275,8 @@ sources-inside : (all before journals : List Journal) (n : ℕ) → all ≡ befo
 unfolding sources_from
 sources-inside all before [] n are long = tt
 sources-inside all before (journal ∷ journals) n are long =
-    Each-append (IsInside all) (places_from n 0 journal.entries.items) (flat_map (λ places. places) (sources_from (suc n) journals))
-    (places-inside all n 0 journal [] journal.entries.items (ap (slice_get all) long ∙ ap (λ js. slice_get js (length before)) are ∙ get-after before journals journal) refl refl)
+    Each-append (IsInside all) (places_from n 0 journal.entries) (flat_map (λ places. places) (sources_from (suc n) journals))
+    (places-inside all n 0 journal [] journal.entries (ap (slice_get all) long ∙ ap (λ js. slice_get js (length before)) are ∙ get-after before journals journal) refl refl)
     (sources-inside all (before ++ journal ∷ []) journals (suc n) (are ∙ sym (append_assoc before (journal ∷ []) journals)) (let more = length-append before (journal ∷ []) in omega (arith, long, more)))
 
 pub places-all-inside : (journals : List Journal) (all : List Place) → IsPermutation (places_of journals) all → All (λ place. IsInside journals place) all
@@ -291,12 +291,12 @@ places-more n at (first ∷ entries) e =
     let next : suc at + length entries ≡ at + suc (length entries) = omega arith in
     ap (λ ps. record { stamp = first.stamp; journal = n; at = at } ∷ ps) (places-more n (suc at) entries e ∙ ap (λ i. places_from n (suc at) entries ++ record { stamp = e.stamp; journal = n; at = i } ∷ []) next)
 
-pub sources-more : (n : ℕ) (journals : List Journal) (journal : Journal) → sources_from n (journals ++ journal ∷ []) ≡ sources_from n journals ++ places_from (n + length journals) 0 journal.entries.items ∷ []
+pub sources-more : (n : ℕ) (journals : List Journal) (journal : Journal) → sources_from n (journals ++ journal ∷ []) ≡ sources_from n journals ++ places_from (n + length journals) 0 journal.entries ∷ []
 unfolding sources_from
-sources-more n [] journal = (let here : n ≡ n + 0 = omega arith in ap (λ i. places_from i 0 journal.entries.items ∷ []) here)
+sources-more n [] journal = (let here : n ≡ n + 0 = omega arith in ap (λ i. places_from i 0 journal.entries ∷ []) here)
 sources-more n (first ∷ journals) journal =
     let next : suc n + length journals ≡ n + suc (length journals) = omega arith in
-    ap (λ ps. places_from n 0 first.entries.items ∷ ps) (sources-more (suc n) journals journal ∙ ap (λ i. sources_from (suc n) journals ++ places_from i 0 journal.entries.items ∷ []) next)
+    ap (λ ps. places_from n 0 first.entries ∷ ps) (sources-more (suc n) journals journal ∙ ap (λ i. sources_from (suc n) journals ++ places_from i 0 journal.entries ∷ []) next)
 
 pub there-more : (journals : List Journal) (places : List Place) (entries : List Done) (place : Place) (done : Done) → AreThere journals places entries → IsThere journals place done → AreThere journals (places ++ place ∷ []) (entries ++ done ∷ [])
 there-more journals [] [] place done there one = (one, tt)
@@ -305,10 +305,10 @@ there-more journals (next ∷ places) [] place done there one = absurd there
 there-more journals (next ∷ places) (first ∷ entries) place done there one = (there.0, there-more journals places entries place done there.1 one)
 
 -- what is read at a place stands there
-pub there-at : (journals : List Journal) (place : Place) (journal : Journal) (entries : List Entry) (entry : Entry) → IsInside journals place → journal ≡ get_or journals place.journal journal → entries ≡ journal.entries.items → entry ≡ get_or entries place.at entry → IsThere journals place (stamped_on journal.link entry).done
+pub there-at : (journals : List Journal) (place : Place) (journal : Journal) (entries : List Entry) (entry : Entry) → IsInside journals place → journal ≡ get_or journals place.journal journal → entries ≡ journal.entries → entry ≡ get_or entries place.at entry → IsThere journals place (stamped_on journal.link entry).done
 there-at journals place journal entries entry inside read items got =
     let one : journal ≡ inside.journal = read ∙ get_or_from_slice_get journals place.journal inside.journal journal inside.found in
-    let two : entry ≡ inside.entry = got ∙ ap (λ es. get_or es place.at entry) (items ∙ ap (λ (j : Journal). j.entries.items) one) ∙ get_or_from_slice_get inside.journal.entries.items place.at inside.entry entry inside.here in
+    let two : entry ≡ inside.entry = got ∙ ap (λ es. get_or es place.at entry) (items ∙ ap (λ (j : Journal). j.entries) one) ∙ get_or_from_slice_get inside.journal.entries place.at inside.entry entry inside.here in
     record { inside = inside; is = ap (λ (j : Journal). (stamped_on j.link entry).done) one ∙ ap (λ (e : Entry). (stamped_on inside.journal.link e).done) two }
 
 -- ---- step by step
@@ -332,10 +332,10 @@ places-next n entries at e items items' less is so_far now =
     now ∙ ap (λ ps. ps ++ record { stamp = e.stamp; journal = n; at = at } ∷ []) so_far ∙ ap (λ i. places_from n 0 (take at entries) ++ record { stamp = e.stamp; journal = n; at = i } ∷ []) long
     ∙ sym (places-more n 0 (take at entries) e) ∙ ap (places_from n 0) (sym (before-at entries at e less is))
 
-pub sources-next : {X : Type 0} (items_of : X → List Place) (journals : List Journal) (i : ℕ) (journal : Journal) (made made' : List X) (source : X) → i < length journals → journal ≡ get_or journals i journal → map items_of made ≡ sources_from 0 (take i journals) → items_of source ≡ places_from i 0 journal.entries.items → made' ≡ made ++ source ∷ [] → map items_of made' ≡ sources_from 0 (take (i + 1) journals)
+pub sources-next : {X : Type 0} (items_of : X → List Place) (journals : List Journal) (i : ℕ) (journal : Journal) (made made' : List X) (source : X) → i < length journals → journal ≡ get_or journals i journal → map items_of made ≡ sources_from 0 (take i journals) → items_of source ≡ places_from i 0 journal.entries → made' ≡ made ++ source ∷ [] → map items_of made' ≡ sources_from 0 (take (i + 1) journals)
 sources-next items_of journals i journal made made' source less is so_far own now =
     let long : i ≡ 0 + length (take i journals) = (let l = taken-long journals i less in omega (arith, l)) in
-    ap (map items_of) now ∙ map-append items_of made (source ∷ []) ∙ ap (λ ps. ps ++ items_of source ∷ []) so_far ∙ ap (λ ps. sources_from 0 (take i journals) ++ ps ∷ []) (own ∙ ap (λ n. places_from n 0 journal.entries.items) long)
+    ap (map items_of) now ∙ map-append items_of made (source ∷ []) ∙ ap (λ ps. ps ++ items_of source ∷ []) so_far ∙ ap (λ ps. sources_from 0 (take i journals) ++ ps ∷ []) (own ∙ ap (λ n. places_from n 0 journal.entries) long)
     ∙ sym (sources-more 0 (take i journals) journal) ∙ ap (sources_from 0) (sym (before-at journals i journal less is))
 
 pub there-next : (journals : List Journal) (places : List Place) (i : ℕ) (place : Place) (done : Done) (entries entries' : List Done) → i < length places → place ≡ get_or places i place → AreThere journals (take i places) entries → IsThere journals place done → entries' ≡ entries ++ done ∷ [] → AreThere journals (take (i + 1) places) entries'

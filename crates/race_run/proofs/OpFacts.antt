@@ -34,7 +34,7 @@ use Rattle.call_script.specs.Fits.{SendFits, TaskFits}
 use Rattle.call_script.specs.Owners.{TaskOff, FullScript}
 use Rattle.call_script.specs.Parts.{PlanParts}
 use Rattle.call_script.specs.Plans.{IsPlan}
-use Rattle.call_script.specs.Scripts.{Opened, is_established, outcome_by, settled_as, task_ask}
+use Rattle.call_script.specs.Scripts.{Learnt, Settles, newest, is_established, outcome_by, settled_as, planned_as, task_ask}
 use Rattle.call_script.specs.Standing.{requests_of}
 use Rattle.call_script.specs.Tasks.{network_of, request_of, send_on, task_for, task_of, with_task}
 use Rattle.call_script.specs.declared.entries.RequestEntry.{RequestEntry}
@@ -44,6 +44,7 @@ use Rattle.call_script.specs.declared.tasks.Task.{Task}
 use Rattle.call_script.specs.declared.tasks.Task.TheVariants.{Opens, Sends, Closes}
 use Rattle.call_script.proofs.FitFacts.{request-fits, plan-fits}
 use Rattle.call_script.proofs.OwnerFacts.{owned-by}
+use Rattle.interleave_core.proofs.RunCloses.{planned-established}
 use Rattle.race_run.specs.Callers.{StandsBetween, CallerIsAt, HasOp, IsNetworkOf, caller_of}
 use Rattle.race_run.proofs.BetweenFacts.{here, Leaves, between-none, between-skipped, between-made}
 use Rattle.race_run.proofs.ScriptFacts.{Names, AnOpen, ASend, AClose, ByClose, named-off, each-middle, each-front, has-front, opened-once, used-live}
@@ -156,12 +157,12 @@ same-open one other same = cc
 route-least : (parts : PlanParts) (c : ℕ) (entry : RequestEntry) → IsPlan parts → slice_get parts.requests c ≡ Some entry → 1 ≤ length entry.request.route
 route-least parts c entry plan found = (request-fits parts c entry plan found).route.least
 
-established-first : (chan : ChanNo) (outcome : Outcome) (outcomes : List Opened) (c : ChanNo) → channel_number chan ≡ channel_number c → is_established c (record { chan = chan; outcome = outcome } ∷ outcomes) ≡ is_accepted outcome
-unfolding is_established
+established-first : (chan : ChanNo) (outcome : Outcome) (outcomes : List Learnt) (c : ChanNo) → channel_number chan ≡ channel_number c → is_established c (Settles chan outcome ∷ outcomes) ≡ is_accepted outcome
+unfolding is_established newest
 established-first chan outcome outcomes c same = rw (eq-eqb (channel_number chan) (channel_number c) same) refl
 
-established-later : (chan : ChanNo) (outcome : Outcome) (outcomes : List Opened) (c : ChanNo) → channel_number chan ≢ channel_number c → is_established c (record { chan = chan; outcome = outcome } ∷ outcomes) ≡ is_established c outcomes
-unfolding is_established
+established-later : (chan : ChanNo) (outcome : Outcome) (outcomes : List Learnt) (c : ChanNo) → channel_number chan ≢ channel_number c → is_established c (Settles chan outcome ∷ outcomes) ≡ is_established c outcomes
+unfolding is_established newest
 established-later chan outcome outcomes c other = rw (ne_eqb (channel_number chan) (channel_number c) other) refl
 
 -- what a setup promises of the pass
@@ -180,10 +181,10 @@ open-over parts caller place chan entry pass pass' accepted outcome told plan at
     let inside : channel_number chan < length accepted = (let low = slice_get_within parts.requests (channel_number chan) entry found in let all = at.all in omega (arith, low, all)) in
     let entries = opened.made.entries in
     let ends = opened.made.verdict in
-    let outcomes : outcome_by (Opens entry.request) (map reply_in entries) ≡ record { chan = entry.request.chan; outcome = outcome } ∷ [] = ap (settled_as entry.request) ends in
+    let outcomes : outcome_by (Opens entry.request) (map reply_in entries) ≡ Settles entry.request.chan outcome ∷ [] = ap (settled_as entry.request) ends in
     let some : entries ≡ [] → ⊥ = λ none. (let early : verdict_of entry.request [] ≡ Some outcome = ap (λ es. verdict_of entry.request (map reply_in es)) (sym none) ∙ ends in let open_yet = none-settled entry.request (route-least parts (channel_number chan) entry plan found) in let clash : None ≡ Some outcome = sym open_yet ∙ early in cc) in
     h.next pass' (set accepted (channel_number chan) told) opened.by (length-set accepted (channel_number chan) told)
-    (between-made (network_of parts) h.front (Opens entry.request) h.rest pass pass' accepted (set accepted (channel_number chan) told) entries h.between h.tasks opened.by opened.made.own refl opened.made.follows (settled-none entry.request (progress_of entry.request (map reply_in entries)) outcome ends) some
+    (between-made (network_of parts) h.front (Opens entry.request) (Opens entry.request) h.rest pass pass' accepted (set accepted (channel_number chan) told) entries h.between h.tasks opened.by opened.made.own refl refl opened.made.follows (settled-none entry.request (progress_of entry.request (map reply_in entries)) outcome ends) some
     (subst (λ os. Leaves h.front (Opens entry.request) pass pass' (os ++ h.between.outcomes) (set accepted (channel_number chan) told)) (sym outcomes) (record {
       known = λ c. elim (cases_eq (channel_number entry.request.chan) (channel_number c)) [
         | inl same ↦ established-first entry.request.chan outcome h.between.outcomes c same ∙ sym is ∙ sym (set-here accepted (channel_number chan) (channel_number c) told inside (sym same ∙ number))
@@ -197,7 +198,7 @@ open-over parts caller place chan entry pass pass' accepted outcome told plan at
         | inr now ↦ last-one request now accepts
       ];
     }))) where
-      last-one : (request : Request) → Has (Opens request) (Opens entry.request ∷ []) → is_established request.chan (record { chan = entry.request.chan; outcome = outcome } ∷ (open-at parts caller place chan entry pass accepted at has found).between.outcomes) ≡ true → IsEstablished request pass'.own
+      last-one : (request : Request) → Has (Opens request) (Opens entry.request ∷ []) → is_established request.chan (Settles entry.request.chan outcome ∷ (open-at parts caller place chan entry pass accepted at has found).between.outcomes) ≡ true → IsEstablished request pass'.own
       last-one request (inr none) accepts = absurd none
       last-one request (inl same) accepts =
           (let one : entry.request ≡ request = same-open entry.request request same in
@@ -303,10 +304,10 @@ send-over parts caller place chan count gap size entry hop reply pass pass' acce
     let one : Asked = record { link = hop.link; ask = Submit entry.request.chan count gap size; reply = reply } in
     let none : task_ask task (map reply_in made.entries) ≡ None = ap (task_ask task) (one-reply made.entries one made.are) in
     h.next pass' accepted by refl
-    (between-made (network_of parts) h.front task h.rest pass pass' accepted accepted made.entries h.between h.tasks by made.own (established-told parts h.front _ pass accepted (channel_number chan) entry true plan h.between found is) (one-follows (task_ask task) made.entries one made.are refl) none (one-some made.entries one made.are) (record {
-      known = h.between.known;
+    (between-made (network_of parts) h.front task task h.rest pass pass' accepted accepted made.entries h.between h.tasks by made.own (established-told parts h.front _ pass accepted (channel_number chan) entry true plan h.between found is) refl (one-follows (task_ask task) made.entries one made.are refl) none (one-some made.entries one made.are) (record {
+      known = λ c. planned-established c (Some entry.request.chan) gap size (map reply_in made.entries) h.between.outcomes ∙ h.between.known c;
       fresh = λ c off had. unopened c off had;
-      live = λ request has each accepts. established request (h.between.live request (has-front (Opens request) h.front task has (λ same. sends-apart hop.link (Some entry.request.chan) request count gap size same)) (each-front _ h.front task each).0 accepts);
+      live = λ request has each accepts. established request (h.between.live request (has-front (Opens request) h.front task has (λ same. sends-apart hop.link (Some entry.request.chan) request count gap size same)) (each-front _ h.front task each).0 (sym (planned-established request.chan (Some entry.request.chan) gap size (map reply_in made.entries) h.between.outcomes) ∙ accepts));
     }))
 
 -- ---- closing
@@ -341,7 +342,7 @@ close-over parts caller place chan entry count pass pass' accepted plan at has f
     let none : task_ask task (map reply_in torn.entries) ≡ None = ap (λ found. asked_of found (λ hop. Release entry.request.chan (first_count (map reply_in torn.entries)))) (slice_get_past entry.request.route (length (map reply_in torn.entries)) (omega (arith, long))) in
     let least = route-least parts (channel_number chan) entry plan found in
     h.next pass' accepted by refl
-    (between-made (network_of parts) h.front task h.rest pass pass' accepted accepted torn.entries h.between h.tasks by torn.own (established-told parts h.front _ pass accepted (channel_number chan) entry true plan h.between found is) torn.follows none (λ empty. absurd (let size = torn.whole in let zero_long : length torn.entries ≡ 0 = ap length empty in omega (arith, least, size, zero_long))) (record {
+    (between-made (network_of parts) h.front task task h.rest pass pass' accepted accepted torn.entries h.between h.tasks by torn.own (established-told parts h.front _ pass accepted (channel_number chan) entry true plan h.between found is) refl torn.follows none (λ empty. absurd (let size = torn.whole in let zero_long : length torn.entries ≡ 0 = ap length empty in omega (arith, least, size, zero_long))) (record {
       known = h.between.known;
       fresh = λ c off had. others.unopened c (λ same. off (sym same)) had;
       live = λ request has each accepts. (let both = each-front _ h.front task each in others.established request (λ same. both.1 (sym same)) (h.between.live request (has-front (Opens request) h.front task has (λ same. closes-apart entry.request request same)) both.0 accepts));
@@ -372,7 +373,7 @@ pour-over parts caller place link count gap size reply pass pass' accepted at ha
     let one : Asked = record { link = link; ask = PourAsk count gap size; reply = reply } in
     let none : task_ask task (map reply_in made.entries) ≡ None = ap (task_ask task) (one-reply made.entries one made.are) in
     h.next pass' accepted by refl
-    (between-made (network_of parts) h.front task h.rest pass pass' accepted accepted made.entries h.between h.tasks by made.own refl (one-follows (task_ask task) made.entries one made.are refl) none (one-some made.entries one made.are) (record {
+    (between-made (network_of parts) h.front task task h.rest pass pass' accepted accepted made.entries h.between h.tasks by made.own refl refl (one-follows (task_ask task) made.entries one made.are refl) none (one-some made.entries one made.are) (record {
       known = h.between.known;
       fresh = λ c off had. unopened c tt had;
       live = λ request has each accepts. established request (h.between.live request (has-front (Opens request) h.front task has (λ same. sends-apart link None request count gap size same)) (each-front _ h.front task each).0 accepts);

@@ -7,7 +7,7 @@ use Rattle.net_units.specs.Numbers.{actor_number, channel_number}
 use Rattle.link_ledger.specs.Tokens.{Token}
 use Rattle.shared_network.specs.Calls.{HasNone, reply_in}
 use Rattle.call_script.specs.Parts.{PlanParts}
-use Rattle.call_script.specs.Scripts.{ask_at, begun, from_step, is_established, standing}
+use Rattle.call_script.specs.Scripts.{ask_at, begun, from_step, is_established, newest, standing}
 use Rattle.call_script.specs.Standing.{requests_of}
 use Rattle.call_script.specs.Tasks.{Network, network_of, tasks_of}
 use Rattle.call_script.specs.declared.entries.CallerEntry.{CallerEntry}
@@ -26,7 +26,7 @@ none-accepted (suc n) zero = refl
 none-accepted (suc n) (suc i) = none-accepted n i
 
 between-first : (network : Network) (rest : List Task) (pass : Token) (accepted : List Bool) (n : ℕ) → pass.own ≡ [] → accepted ≡ replicate n false → StandsBetween network [] rest pass accepted
-unfolding standing is_established
+unfolding standing is_established newest
 between-first network rest pass accepted n none same = record {
   outcomes = [];
   asked = subst (λ own. IsAsked network (actor_number pass.actor) (reverse (map (own_done pass.actor) own))) (sym none) tt;

@@ -27,7 +27,8 @@ use Rattle.call_script.specs.Fits.{NetworkFits}
 use Rattle.call_script.specs.Parts.{PlanParts, openings_in}
 use Rattle.call_script.specs.Plans.{HasTerms, IsPlan}
 use Rattle.call_script.specs.Rules.{are_unclosed, are_within_load, each_after, is_opened, is_unclosed, load_in, load_of, op_in_range, opens}
-use Rattle.call_script.specs.Scripts.{Opened, from_step, standing, standing_of, takes_step}
+use Rattle.interleave_core.proofs.TurnFacts.{from-step-most}
+use Rattle.call_script.specs.Scripts.{standing, standing_of}
 use Rattle.call_script.specs.Splits.{entry_link, groups_in}
 use Rattle.call_script.specs.Tasks.{Network, network_of, request_of, script_of, send_on, task_for, tasks_of, with_task}
 use Rattle.call_script.specs.declared.entries.CallerEntry.{CallerEntry}
@@ -95,16 +96,6 @@ tasks-most requests entries n (Close chan ∷ ops) short each =
     omega (arith, rest, here)
 tasks-most requests entries n (Pour link count gap size ∷ ops) short each = (let rest = tasks-most requests entries n ops short each.1 in let loaded = each.0 in omega (arith, rest, loaded))
 
-from-most : (outcomes : List Opened) (tasks : List Task) → most_over (from_step outcomes tasks) ≤ most_over tasks
-unfolding from_step most_over
-from-most outcomes [] = omega arith
-from-most outcomes (task ∷ tasks) =
-    let rest = from-most outcomes tasks in
-    elim (cases_Bool (takes_step outcomes task)) [
-      | inl takes ↦ rw takes (omega arith)
-      | inr skips ↦ rw skips (omega (arith, rest))
-    ]
-
 -- ---- the channels that a caller closes
 
 module _ (parts : PlanParts) (n : ℕ) (caller : CallerEntry) (plan : IsPlan parts) (found : slice_get parts.callers n ≡ Some caller) where
@@ -162,7 +153,7 @@ unfolding standing most_over
 script-most parts a None plan at = omega arith
 script-most parts a (Some caller) plan at =
     let script : List Task = script_of (map request_of parts.requests) caller in
-    let from = from-most [] script in
+    let from = from-step-most [] script in
     let few = caller-steps parts a caller plan at in
     omega (arith, from, few)
 

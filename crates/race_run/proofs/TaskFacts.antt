@@ -9,7 +9,7 @@ use Rattle.net_units.specs.declared.numbers.ActorNo.{ActorNo}
 use Rattle.link_steps.specs.declared.replies.Reply.{Reply}
 use Rattle.link_ledger.specs.declared.entries.OwnEntry.{OwnEntry}
 use Rattle.shared_network.specs.Calls.{Follows, reply_in}
-use Rattle.call_script.specs.Scripts.{Standing, Opened, ask_at, begun, continued, replied, resumed, standing, task_ask, outcome_by}
+use Rattle.call_script.specs.Scripts.{Standing, Learnt, ask_at, begun, continued, replied, resumed, standing, task_ask, outcome_by}
 use Rattle.call_script.specs.Tasks.{Network}
 use Rattle.call_script.specs.declared.tasks.Task.{Task}
 use Rattle.interleave_core.specs.Parts.{IsAsked, next_after, reply_of}
@@ -58,14 +58,14 @@ one-more network actor tasks own e at has past asks = record {
   stands = ap (standing tasks) (turned-last reply_in own e) ∙ ap (λ at. replied at e.reply) past.stands;
 }
 
-abbrev pub under : List Opened → Task → List Task → List Reply → Standing
+abbrev pub under : List Learnt → Task → List Task → List Reply → Standing
 under outcomes task rest replies = record { tasks = task ∷ rest; replies = replies; outcomes = outcomes }
 
-replied-under : (outcomes : List Opened) (task : Task) (rest : List Task) (replies : List Reply) (reply : Reply) → replied (under outcomes task rest replies) reply ≡ continued outcomes task rest (replies ++ reply ∷ []) (task_ask task (replies ++ reply ∷ []))
+replied-under : (outcomes : List Learnt) (task : Task) (rest : List Task) (replies : List Reply) (reply : Reply) → replied (under outcomes task rest replies) reply ≡ continued outcomes task rest (replies ++ reply ∷ []) (task_ask task (replies ++ reply ∷ []))
 unfolding resumed
 replied-under outcomes task rest replies reply = refl
 
-pub task-made : (network : Network) (actor : ActorNo) (tasks : List Task) (outcomes : List Opened) (task : Task) (rest : List Task) (own : List OwnEntry) (replies : List Reply) (e : OwnEntry) (left all : List OwnEntry) (final : List Reply) → HasTasks network actor tasks → Past network tasks actor own (under outcomes task rest replies)
+pub task-made : (network : Network) (actor : ActorNo) (tasks : List Task) (outcomes : List Learnt) (task : Task) (rest : List Task) (own : List OwnEntry) (replies : List Reply) (e : OwnEntry) (left all : List OwnEntry) (final : List Reply) → HasTasks network actor tasks → Past network tasks actor own (under outcomes task rest replies)
     → Follows (task_ask task) replies (e ∷ left) → all ≡ own ++ e ∷ left → final ≡ replies ++ map reply_in (e ∷ left) → task_ask task final ≡ None → Past network tasks actor all (begun (outcome_by task final ++ outcomes) rest)
 unfolding Follows
 task-made network actor tasks outcomes task rest own replies e [] all final has past follows are is none =

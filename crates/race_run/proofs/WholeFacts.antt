@@ -69,7 +69,7 @@ are-of : (n : ℕ) (journals : List Journal) → ((k : ℕ) (journal : Journal) 
 are-of n [] numbers = tt
 are-of n (journal ∷ journals) numbers = (
   let first : link_number journal.link ≡ n = (let e = numbers 0 journal refl in omega (arith, e)) in
-      Each-reverse (λ (x : Stamped). link_number x.done.link ≡ n) (map (stamped_on journal.link) journal.entries.items) (Each-map (λ (x : Stamped). link_number x.done.link ≡ n) (stamped_on journal.link) journal.entries.items (Each-from (λ (e : Entry). link_number journal.link ≡ n) journal.entries.items (λ e. first))),
+      Each-reverse (λ (x : Stamped). link_number x.done.link ≡ n) (map (stamped_on journal.link) journal.entries) (Each-map (λ (x : Stamped). link_number x.done.link ≡ n) (stamped_on journal.link) journal.entries (Each-from (λ (e : Entry). link_number journal.link ≡ n) journal.entries (λ e. first))),
   are-of (suc n) journals (λ k one found. (let e = numbers (suc k) one found in omega (arith, e))),
 )
 
@@ -93,15 +93,15 @@ pub whole-journals : (network : Network) (passes : List Token) (journals : List 
 whole-journals network passes journals whole = record {
   whole = length-map journals stamped_in ∙ whole-length network passes journals whole;
   of_links = are-of 0 journals (λ k journal found. (let e = journal-number network passes journals k journal whole found in omega (arith, e)));
-  falls = Each-map Falls stamped_in journals (Each-if (λ (journal : Journal). StampsRise (marks_in journal.entries.items)) (λ (journal : Journal). Falls (stamped_in journal)) journals (λ journal rises. (falls-turned (stamped_on journal.link) mark_in (λ e. refl) 0 journal.entries.items rises).0) whole.closed.rises);
+  falls = Each-map Falls stamped_in journals (Each-if (λ (journal : Journal). StampsRise (marks_in journal.entries)) (λ (journal : Journal). Falls (stamped_in journal)) journals (λ journal rises. (falls-turned (stamped_on journal.link) mark_in (λ e. refl) 0 journal.entries rises).0) whole.closed.rises);
   apart = pairs-apart journals (λ k l one other ne here there. are-apart (stamped_in one) (stamped_in other) (λ x y in_one in_other.
-      (let from = among-turned_map (stamped_on one.link) one.entries.items x in_one in
-      let to = among-turned_map (stamped_on other.link) other.entries.items y in_other in
-      λ same. whole.closed.apart k l one other from.from to.from ne here there (get-has one.entries.items from.place from.from from.found) (get-has other.entries.items to.place to.from to.found) (sym (ap (λ (s : Stamped). s.stamp) from.is) ∙ same ∙ ap (λ (s : Stamped). s.stamp) to.is))));
+      (let from = among-turned_map (stamped_on one.link) one.entries x in_one in
+      let to = among-turned_map (stamped_on other.link) other.entries y in_other in
+      λ same. whole.closed.apart k l one other from.from to.from ne here there (get-has one.entries from.place from.from from.found) (get-has other.entries to.place to.from to.found) (sym (ap (λ (s : Stamped). s.stamp) from.is) ∙ same ∙ ap (λ (s : Stamped). s.stamp) to.is))));
   legal = λ n link journal linked found.
       (let it = comes-from stamped_in journals n journal found in
-      let told : map entry_in (stamped_in it.from) ≡ reverse (map done_in it.from.entries.items) = turned-map entry_in (map (stamped_on it.from.link) it.from.entries.items) ∙ ap reverse (entries-told it.from.link it.from.entries.items) in
-      subst (λ (j : List Stamped). IsLegal link (map entry_in j)) it.is (subst (IsLegal link) (sym told) ((journals-are-histories link (map done_in it.from.entries.items)).0 (whole.closed.legal n link it.from linked it.found))));
+      let told : map entry_in (stamped_in it.from) ≡ reverse (map done_in it.from.entries) = turned-map entry_in (map (stamped_on it.from.link) it.from.entries) ∙ ap reverse (entries-told it.from.link it.from.entries) in
+      subst (λ (j : List Stamped). IsLegal link (map entry_in j)) it.is (subst (IsLegal link) (sym told) ((journals-are-histories link (map done_in it.from.entries)).0 (whole.closed.legal n link it.from linked it.found))));
 }
 
 -- ---- the own entries
@@ -134,14 +134,14 @@ own-stands network passes journals actor x (Some pass) whole is among =
     let at = Each-at (StandsAt journals pass.actor) pass.own from.place from.from (Each-at (λ (p : Token). Each (StandsAt journals p.actor) p.own) passes actor pass whole.closed.stands is) from.found in
     let link : at.journal.link ≡ from.from.link = same-link at.journal.link from.from.link (journal-number network passes journals (link_number from.from.link) at.journal whole at.found) in
     let same : stamped_on at.journal.link (own_entry pass.actor from.from) ≡ x = ap (λ l. stamped_on l (own_entry pass.actor from.from)) link ∙ sym from.is in (
-      StandsIn (link_number from.from.link) (stamped_in at.journal) (mapped-at stamped_in journals (link_number from.from.link) at.journal at.found) (subst (λ (z : Stamped). Among z (stamped_in at.journal)) same (turned_map-among (stamped_on at.journal.link) at.journal.entries.items _ (own_entry pass.actor from.from) at.here)),
+      StandsIn (link_number from.from.link) (stamped_in at.journal) (mapped-at stamped_in journals (link_number from.from.link) at.journal at.found) (subst (λ (z : Stamped). Among z (stamped_in at.journal)) same (turned_map-among (stamped_on at.journal.link) at.journal.entries _ (own_entry pass.actor from.from) at.here)),
       ap (λ (z : Stamped). actor_number z.done.actor) from.is ∙ pass-number network passes journals actor pass whole is,
     )
 
 all-own : (network : Network) (passes : List Token) (journals : List Journal) (actor : ℕ) (x : Stamped) → IsWhole network passes journals → InOne x (map stamped_in journals) → actor_number x.done.actor ≡ actor → Among x (owns_of passes actor)
 all-own network passes journals actor x whole (StandsIn k stamped found among) by =
     let journal = comes-from stamped_in journals k stamped found in
-    let from = among-turned_map (stamped_on journal.from.link) journal.from.entries.items x (subst (Among x) (sym journal.is) among) in
+    let from = among-turned_map (stamped_on journal.from.link) journal.from.entries x (subst (Among x) (sym journal.is) among) in
     let one = whole.closed.of_one k from.place journal.from from.from journal.found from.found in
     let link : journal.from.link ≡ one.entry.link = same-link journal.from.link one.entry.link (journal-number network passes journals k journal.from whole journal.found ∙ sym one.link) in
     let is : own_stamped one.pass.actor one.entry ≡ x = ap (λ l. stamped_on l (own_entry one.pass.actor one.entry)) (sym link) ∙ ap (stamped_on journal.from.link) one.same ∙ sym from.is in

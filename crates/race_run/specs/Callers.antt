@@ -14,14 +14,14 @@ use Rattle.link_ledger.specs.Tokens.{Token}
 use Rattle.shared_network.specs.Calls.{HasNone, IsEstablished, reply_in}
 use Rattle.call_script.specs.Owners.{TaskOff}
 use Rattle.call_script.specs.Parts.{PlanParts}
-use Rattle.call_script.specs.Scripts.{Opened, begun, is_established, standing}
+use Rattle.call_script.specs.Scripts.{Learnt, begun, is_established, standing}
 use Rattle.call_script.specs.Standing.{requests_of}
 use Rattle.call_script.specs.Tasks.{Network, network_of, tasks_of}
 use Rattle.call_script.specs.declared.entries.CallerEntry.{CallerEntry}
 use Rattle.call_script.specs.declared.entries.RequestEntry.{RequestEntry}
 use Rattle.call_script.specs.declared.operations.Op.{Op}
 use Rattle.call_script.specs.declared.tasks.Task.{Task}
-use Rattle.call_script.specs.declared.tasks.Task.TheVariants.{Opens, Sends, Closes}
+use Rattle.call_script.specs.declared.tasks.Task.TheVariants.{Opens, Sends, Closes, Moves}
 use Rattle.interleave_core.specs.Parts.{IsAsked}
 use Rattle.race_run.specs.Whole.{own_done}
 
@@ -30,10 +30,11 @@ abbrev pub LeavesOpen : ℕ → Task → Type 0
 LeavesOpen c (Opens request) = Unit {0}
 LeavesOpen c (Sends link chan count gap size) = Unit {0}
 LeavesOpen c (Closes request) = channel_number request.chan ≢ c
+LeavesOpen c (Moves old new gap size) = Unit {0}
 
 -- of the tasks, those of `front` are done. `accepted` tells of each channel, by its number, whether it was accepted so far
 pub record StandsBetween (network : Network) (front rest : List Task) (pass : Token) (accepted : List Bool) : Type 0 where
-  pub outcomes : List Opened
+  pub outcomes : List Learnt
   pub asked : IsAsked network (actor_number pass.actor) (reverse (map (own_done pass.actor) pass.own))
   pub stands : standing (front ++ rest) (reverse (map reply_in pass.own)) ≡ begun outcomes rest
   pub known : (chan : ChanNo) → is_established chan outcomes ≡ get_or accepted (channel_number chan) false

@@ -5,4 +5,3 @@ pub mod Callers
 pub mod Rounds
 pub mod Pieces
 pub mod Tail
-pub mod Worked

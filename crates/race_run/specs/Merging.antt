@@ -20,7 +20,7 @@ places_from journal at (e ∷ entries) = record { stamp = e.stamp; journal = jou
 -- the places of each journal, the first of which has the number n
 unfoldable pub sources_from : ℕ → List Journal → List (List Place)
 sources_from n [] = []
-sources_from n (journal ∷ journals) = places_from n 0 journal.entries.items ∷ sources_from (suc n) journals
+sources_from n (journal ∷ journals) = places_from n 0 journal.entries ∷ sources_from (suc n) journals
 
 -- those of all journals, one journal after the other
 abbrev pub places_of : List Journal → List Place
@@ -31,7 +31,7 @@ pub record IsInside (journals : List Journal) (place : Place) : Type 0 where
   pub journal : Journal
   pub found : slice_get journals place.journal ≡ Some journal
   pub entry : Entry
-  pub here : slice_get journal.entries.items place.at ≡ Some entry
+  pub here : slice_get journal.entries place.at ≡ Some entry
 
 -- it is this one, as an entry of a run
 pub record IsThere (journals : List Journal) (place : Place) (done : Done) : Type 0 where

@@ -50,7 +50,7 @@ stamped_on link e = record { stamp = e.stamp; done = record { actor = e.actor; l
 
 -- the entries of a journal, newest first
 abbrev pub stamped_in : Journal → List Stamped
-stamped_in journal = reverse (map (stamped_on journal.link) journal.entries.items)
+stamped_in journal = reverse (map (stamped_on journal.link) journal.entries)
 
 -- all entries of all journals in order of stamp, newest first
 abbrev pub weave_of : List Journal → List Done

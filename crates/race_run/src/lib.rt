@@ -18,6 +18,3 @@ pub mod weaving;
 
 pub use racing::race;
 pub use weaving::{Raced, woven};
-
-#[cfg(test)]
-mod tests;

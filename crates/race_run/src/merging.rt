@@ -42,7 +42,7 @@ fn sources(alloc: Global, journals: &[Journal]) -> Result<Vec<Vec<Place>>, OutOf
 
 // The places of the journal of this number.
 fn source(alloc: Global, number: usize, journal: &Journal) -> Result<Vec<Place>, OutOfMemory>
-    ensures { IfOk result (λ places. places.items ≡ places_from number 0 journal.now.entries.items) }
+    ensures { IfOk result (λ places. places.items ≡ places_from number 0 journal.now.entries) }
 {
     let entries = journal.entries.as_slice();
     let mut places = Vec::with_capacity(alloc, entries.len())?;

@@ -42,8 +42,8 @@ pub fn race<R: Threads + Wait + Sync, G: Gate + Sync>(
     plan: &Plan,
     gate: &G,
 ) -> Result<Closed, OutOfMemory>
-    ensures whole { IfOk result (λ closed. IsWhole (network_of plan.now) closed.passes.items closed.journals.items) }
-    ensures tail { IfOk result (λ closed. TailIsLast plan.now (map own_in closed.passes.items)) }
+    ensures whole { IfOk result (λ closed. IsWhole (network_of plan.now) closed.passes closed.journals) }
+    ensures tail { IfOk result (λ closed. TailIsLast plan.now (map own_in closed.passes)) }
 {
     let links = links_of(alloc, plan)?;
     let owners = owners_of(alloc, plan)?;
@@ -69,8 +69,8 @@ fn race_over<L: LinkStep + Send, H: Home + Send + Sync, R: Threads + Wait + Sync
     requires links { map L.link_of links.items ≡ H.links }
     requires stand { Each (λ link. L.stands_for link []) links.items }
     requires owners { owners.items ≡ H.owners }
-    ensures whole { IfOk result (λ closed. IsWhole (network_of plan.now) closed.passes.items closed.journals.items) }
-    ensures tail { IfOk result (λ closed. TailIsLast plan.now (map own_in closed.passes.items)) }
+    ensures whole { IfOk result (λ closed. IsWhole (network_of plan.now) closed.passes closed.journals) }
+    ensures tail { IfOk result (λ closed. TailIsLast plan.now (map own_in closed.passes)) }
 {
     let (network, passes) = Network::<L, H>::open(alloc, opened, links, owners)?;
     let passes = make_all(rt, alloc, &network, plan, gate, passes)?;

@@ -31,8 +31,8 @@ pub struct Raced {
 /// its entries. The scenario's language writes the schedule: its actors are the plan's, and each item has 1 to 1,048,576
 /// steps (`language`). An `Err` comes only for want of memory. It waits for nobody.
 pub fn woven(alloc: Global, plan: &Plan, closed: &Closed) -> Result<Raced, OutOfMemory>
-    requires whole { IsWhole (network_of plan.now) closed.now.passes.items closed.now.journals.items }
-    ensures weave { IfOk result (λ raced. reverse raced.run.entries ≡ weave_of closed.now.journals.items) }
+    requires whole { IsWhole (network_of plan.now) closed.now.passes closed.now.journals }
+    ensures weave { IfOk result (λ raced. reverse raced.run.entries ≡ weave_of closed.now.journals) }
     ensures runs { IfOk result (λ raced. AreMaximalRuns (actors_of raced.run.entries) raced.schedule.items) }
     ensures written { IfOk result (λ raced. raced.schedule.written ≡ true) }
     ensures actors { IfOk result (λ raced. Each (IsActorOf plan.now) raced.schedule.items) }

@@ -16,6 +16,3 @@ pub use finding::{Check, Finding};
 pub use laws::{
     levels_of_runs_are_accepted, sound_tables_keep_the_bounds, tables_of_runs_are_sound,
 };
-
-#[cfg(test)]
-mod tests;

@@ -1,5 +1,5 @@
 -- The link is whole, or split as the plan says.
-use Rattle.std.proofs.Common.{◌≡◌, Some, ap, sym, ◌∙◌, subst}
+use Rattle.std.proofs.Common.{ap, sym, ◌∙◌, subst}
 use Rattle.std.proofs.lemmas.Option.{slice_get_within}
 use Rattle.net_units.specs.Numbers.{link_number}
 use Rattle.link_steps.specs.Split.{SplitFits, whole}

@@ -1,13 +1,18 @@
 -- What the step says of its link, said of the list of the links.
 use Rattle.std.proofs.Common.{◌≡◌, List, ◌∷◌, sym, subst}
 use Rattle.std.proofs.lemmas.Option.{get_or_from_slice_get}
-use Rattle.link_quota.specs.Any.{any_rules, any_clock, AnyStands}
+use Rattle.link_quota.specs.Any.{any_rules, AnyStands}
 use Rattle.link_quota.specs.declared.any_link.AnyLink.{AnyLink}
 use Rattle.link_steps.specs.Replies.{reply_to}
-use Rattle.link_steps.specs.Split.{whole}
 use Rattle.link_steps.specs.declared.replies.Entry.{Entry}
 use Rattle.interleave_core.proofs.Lookups.{get-set-same, if-ok, if-err}
 use Rattle.interleave_core.proofs.links.step_link.Goals as goal
+
+pub returns-clause-same : goal.returns-clause-same
+returns-clause-same c =
+    λ link next found after.
+    subst (λ (l : AnyLink). any_rules l ≡ any_rules link) (sym (get-set-same c.args.links.now c.args.number c.step.new.self next after))
+    (subst (λ (l : AnyLink). any_rules c.step.new.self ≡ any_rules l) (get_or_from_slice_get c.args.links.now c.args.number link c.index-links-number.result found) c.step.ensures.same)
 
 pub returns-clause-legal : goal.returns-clause-legal
 returns-clause-legal c =

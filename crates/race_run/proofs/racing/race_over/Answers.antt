@@ -21,8 +21,8 @@ make_all-requires-clause-new g c κs within = all-new g.H.Home.table g.H.Home.ow
 
 pub returns-in-Ok-clause-whole : goal.returns-in-Ok-clause-whole
 returns-in-Ok-clause-whole g c =
-    kept-whole (network_of c.args.plan.now) c.in_ok-passes.passes.items c.in-Ok.closed.passes.items c.in-Ok.closed.journals.items c.in-Ok.ensures.passes
-    (subst (λ (ls : List Link). IsClosed ls c.in_ok-passes.passes.items c.in-Ok.closed.journals.items) c.requires.network.links_are c.in-Ok.ensures.closed) c.in_ok-passes.ensures.actors c.in_ok-passes.ensures.made
+    kept-whole (network_of c.args.plan.now) c.in_ok-passes.passes.items c.in-Ok.closed.passes c.in-Ok.closed.journals c.in-Ok.ensures.passes
+    (subst (λ (ls : List Link). IsClosed ls c.in_ok-passes.passes.items c.in-Ok.closed.journals) c.requires.network.links_are c.in-Ok.ensures.closed) c.in_ok-passes.ensures.actors c.in_ok-passes.ensures.made
 
 pub returns-in-Ok-clause-tail : goal.returns-in-Ok-clause-tail
-returns-in-Ok-clause-tail g c = tail-kept c.args.plan.now c.in_ok-passes.passes.items c.in-Ok.closed.passes.items c.in-Ok.ensures.passes c.in_ok-passes.ensures.tail
+returns-in-Ok-clause-tail g c = tail-kept c.args.plan.now c.in_ok-passes.passes.items c.in-Ok.closed.passes c.in-Ok.ensures.passes c.in_ok-passes.ensures.tail

@@ -1,17 +1,17 @@
 -- No task is left.
-use Rattle.std.proofs.Common.{◌≡◌, ◌∙◌, [], length, map, drop, ap, sym, refl, subst, arith}
-use Rattle.std.proofs.lemmas.List.{drop_all}
-use Rattle.call_script.specs.Tasks.{request_of, tasks_of}
+use Rattle.std.proofs.Common.{◌∙◌, [], map, drop, ap, sym, subst, arith}
+use Rattle.std.proofs.lemmas.List.{length-map}
+use Rattle.call_script.specs.Tasks.{request_of}
 use Rattle.call_script.specs.Work.{WorkStands}
 use Rattle.call_script.specs.declared.work.Work.TheVariants as work
 use Rattle.call_script.proofs.ActorFacts.{none-left}
 use Rattle.call_script.proofs.actor.Actor.begin.Goals as goal
 
 pub returns-in-None-clause-stands : goal.returns-in-None-clause-stands
-returns-in-None-clause-stands c = record {
-  under_way = subst (λ tasks. WorkStands work.Idle tasks []) (sym c.in-None.ensures.none) tt;
-  rest = ap (drop 1) c.in-None.ensures.none ∙ sym (none-left (map request_of c.args.requests.now) c.args.ops.now);
+returns-in-None-clause-stands c = λ outcomes are counts. record {
+  under_way = subst (λ tasks. WorkStands work.Idle tasks []) (sym (c.in-None.ensures.none outcomes are)) tt;
+  rest = ap (drop 1) (c.in-None.ensures.none outcomes are) ∙ sym (none-left (map request_of c.args.requests.now) c.args.ops.now);
   within = omega arith;
-  outcomes = refl;
-  room = omega (arith, c.requires.room);
+  outcomes = are;
+  accounts = counts ∙ sym (length-map c.args.requests.now request_of);
 }

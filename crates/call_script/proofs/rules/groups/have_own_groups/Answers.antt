@@ -1,5 +1,5 @@
 -- The group at hand: it is new, and joins the set; or the set has it already.
-use Rattle.std.proofs.Common.{◌≡◌, [], ap, sym, ◌∙◌, get_or, not, nat_eq}
+use Rattle.std.proofs.Common.{[], ap, sym, ◌∙◌, get_or, not, nat_eq}
 use Rattle.link_steps.specs.declared.quota.Quota.{Quota}
 use Rattle.call_script.specs.Groups.{is_of_new_group}
 use Rattle.call_script.proofs.GroupFacts.{get-here}

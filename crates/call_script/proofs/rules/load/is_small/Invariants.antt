@@ -1,6 +1,5 @@
 use Rattle.std.proofs.Common.{◌≡◌, ◌+◌, ◌≤◌, drop}
-use Rattle.traffic_contract.specs.Admission.{total}
-use Rattle.call_script.specs.Rules.{load_of, load_in}
+use Rattle.call_script.specs.Rules.{load_in}
 use Rattle.call_script.specs.Rules.{all_ops, op_in_range}
 use Rattle.std.specs.Prelude.{IsTrue}
 use Rattle.call_script.proofs.rules.load.is_small.Given as goal

@@ -1,7 +1,6 @@
 -- The name at hand: it is new, and joins the set; or the set has it already.
-use Rattle.std.proofs.Common.{◌≡◌, ap, sym, ◌∙◌, true, false, not, drop, take, length, nat_eq, arith, refl}
-use Rattle.std.proofs.lemmas.List.{drop_all}
-use Rattle.call_script.specs.Rules.{each_after, is_named, is_new}
+use Rattle.std.proofs.Common.{ap, sym, ◌∙◌, not}
+use Rattle.call_script.specs.Rules.{is_named, is_new}
 use Rattle.call_script.proofs.Walks.{after-skip, after-stop, any-more, over}
 use Rattle.call_script.proofs.rules.names.are_distinct.Goals as goal
 

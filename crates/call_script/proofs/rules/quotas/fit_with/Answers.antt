@@ -1,9 +1,8 @@
 -- The level at hand fits, or it doesn't; and the buffer's units are those of the quotas and of the one more.
-use Rattle.std.proofs.Common.{◌≡◌, ◌+◌, ◌-◌, ◌∙◌, ◌∷◌, ◌++◌, [], ℕ, ap, sym, true, false, Bool, length, arith}
+use Rattle.std.proofs.Common.{◌≡◌, ◌+◌, ◌∙◌, ◌∷◌, ◌++◌, [], ℕ, ap, sym, Bool, length, arith}
 use Rattle.std.specs.Prelude.{◌&&◌, nat_le}
 use Rattle.traffic_contract.specs.Admission.{total}
 use Rattle.traffic_contract.proofs.AdmissionFacts.{total-push}
-use Rattle.link_steps.specs.Room.{all_from}
 use Rattle.link_steps.specs.Split.{buffer_part}
 use Rattle.call_script.specs.Groups.{level_fits}
 use Rattle.call_script.proofs.GroupFacts.{level-skip, level-stop, levels-over}

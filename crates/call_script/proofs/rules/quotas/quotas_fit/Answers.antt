@@ -1,8 +1,7 @@
 -- The level at hand fits, or it doesn't.
-use Rattle.std.proofs.Common.{◌≡◌, ℕ, ◌+◌, ◌-◌, ◌∙◌, ap, sym, true, false, Bool, length, arith}
+use Rattle.std.proofs.Common.{◌≡◌, ℕ, ◌+◌, ◌∙◌, ap, sym, Bool, length, arith}
 use Rattle.std.specs.Prelude.{◌&&◌, nat_le}
 use Rattle.traffic_contract.specs.Admission.{total}
-use Rattle.link_steps.specs.Room.{all_from}
 use Rattle.link_steps.specs.Split.{buffer_part}
 use Rattle.call_script.specs.Groups.{level_fits}
 use Rattle.call_script.proofs.GroupFacts.{level-skip, level-stop, levels-over}

@@ -1,8 +1,8 @@
 -- The operation at hand passes, and joins the set where it is of its kind; or it doesn't pass.
-use Rattle.std.proofs.Common.{◌≡◌, ℕ, true, false, cond, ap, sym, ◌∙◌, not, take, nat_eq, refl}
+use Rattle.std.proofs.Common.{◌≡◌, true, cond, ap, sym, ◌∙◌, not, take, nat_eq}
 use Rattle.std.specs.HashSet.{contains}
 use Rattle.std.specs.List.{list_any}
-use Rattle.call_script.specs.Rules.{hits, used_by, closed_in, is_unclosed, closes}
+use Rattle.call_script.specs.Rules.{hits, used_by, is_unclosed, closes}
 use Rattle.call_script.proofs.Walks.{after-skip, after-stop, any-more, any-same, over, hits-same}
 use Rattle.call_script.proofs.rules.scripts.ops_are_unclosed.Goals as goal
 use Rattle.call_script.proofs.rules.scripts.ops_are_unclosed.Goals.{in-Some+in_ok-insert, in_default}

@@ -1,8 +1,7 @@
 -- The link's reply is that of the next step of each run that the engine stands for, and it then stands for the run with it.
-use Rattle.std.proofs.Common.{◌≡◌, ◌-◌, ◌∷◌, length, sym, ap, subst, ◌∙◌, refl, arith}
+use Rattle.std.proofs.Common.{◌≡◌, ◌∷◌, length, sym, ap, subst, ◌∙◌, refl, arith}
 use Rattle.std.proofs.lemmas.List.{with_items_is}
 use Rattle.std.specs.List.{slice_get}
-use Rattle.std.specs.Vec.{with_items}
 use Rattle.net_units.specs.Numbers.{actor_number}
 use Rattle.call_script.proofs.FitFacts.{plan-fits}
 use Rattle.call_script.specs.Tasks.{network_of}

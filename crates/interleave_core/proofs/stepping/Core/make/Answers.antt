@@ -1,5 +1,5 @@
 -- The engine makes the step for the run that is recorded, and it is recorded.
-use Rattle.std.proofs.Common.{◌-◌, ◌∷◌, ap, refl, sym, ◌∙◌, arith}
+use Rattle.std.proofs.Common.{◌-◌, ap, refl, sym, ◌∙◌}
 use Rattle.call_script.specs.Tasks.{network_of}
 use Rattle.interleave_core.specs.Runs.{step}
 use Rattle.interleave_core.specs.Standing.{IsAboutTo, run_in}

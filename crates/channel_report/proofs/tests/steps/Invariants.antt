@@ -1,6 +1,0 @@
-use Rattle.interleave_core.specs.Standing.{CoreStands}
-use Rattle.channel_report.proofs.tests.steps.Given as goal
-
--- the core stands
-abbrev pub invariant-loop-step : goal.invariant-loop-step
-invariant-loop-step l = CoreStands l.plan l.core

@@ -1,0 +1,208 @@
+//! Reports of runs, worked by hand. The link has levels of 10, 20 and 40 ticks and a propagation of 2.
+ghost use Rattle.std.specs.Prelude.{◌≡◌, [], ◌∷◌, IfOk, OnOk, reverse};
+ghost use Rattle.net_units.specs.Numbers.{link_number, channel_number};
+ghost use Rattle.call_script.specs.OneLink.{IsThatLink, IsThatRequest, IsThatScript};
+ghost use Rattle.call_script.specs.Tasks.{network_of};
+ghost use Rattle.interleave_core.specs.Runs.{IsRun};
+ghost use Rattle.interleave_core.specs.Standing.{CoreStands};
+
+use byte_ends::MemSink;
+use call_script::{
+    CallerEntry, Do, Dos, LinkEntry, Op, Ops, Plan, Quotas, RequestEntry, Schedule, Version,
+    push_request,
+};
+use channel_report::{write_report, write_schedule, write_summary};
+use hop_reservation::{Hop, Route};
+use interleave_core::Core;
+use link_steps::LinkShape;
+use net_units::{ActorNo, Bounds, ChanNo, LinkNo, Name};
+use run_record::Record;
+use setup_protocol::{Control, Request};
+use std::alloc::Global;
+use std::process::Abort;
+use std::test::Fail;
+use traffic_contract::Contract;
+
+mod summaries;
+
+fn name(text: &str) -> Result<Name, Fail> {
+    Ok(Name::new(text.as_bytes()).ok_or("name")?)
+}
+
+fn bounds() -> Result<Bounds, Fail>
+    ensures { IfOk result (λ made. made ≡ 10 ∷ 20 ∷ 40 ∷ []) }
+{
+    Ok(Bounds::new(&[10, 20, 40]).ok_or("bounds")?)
+}
+
+fn link_no() -> Result<LinkNo, Fail>
+    ensures { IfOk result (λ link. link_number link ≡ 0) }
+{
+    Ok(LinkNo::new(0).ok_or("link")?)
+}
+
+fn link(alloc: Global, version: Version) -> Result<LinkEntry, Fail>
+    ensures { IfOk result IsThatLink }
+{
+    let test = version.test();
+    Ok(LinkEntry {
+        name: name("A")?,
+        from: name("n1")?,
+        to: name("n2")?,
+        shape: LinkShape::new(link_no()?, 1, 4, 2, 100, bounds()?, test, 0)?,
+        quotas: Quotas::none(alloc),
+    })
+}
+
+// A request whose route is given, or was found between these nodes.
+fn request(found: Option<(Name, Name)>) -> Result<RequestEntry, Fail>
+    ensures { IfOk result IsThatRequest }
+{
+    let hop = Hop {
+        link: link_no()?,
+        bounds: bounds()?,
+        prop: 2,
+    };
+    Ok(RequestEntry {
+        name: name("r1")?,
+        caller: ActorNo::new(0).ok_or("caller")?,
+        request: Request {
+            chan: ChanNo::new(0).ok_or("channel")?,
+            route: Route::new(&[hop])?,
+            contract: Contract::new(5, 10, 20, 2)?,
+            control: Control::Rate,
+            delay: 12,
+        },
+        found,
+    })
+}
+
+// The caller opens the request, and sends three packets.
+#[tactic(auto, unfolding(call_script::specs::Parts::openings_in))]
+fn caller(alloc: Global, chan: ChanNo) -> Result<CallerEntry, Fail>
+    requires { channel_number chan ≡ 0 }
+    ensures { IfOk result IsThatScript }
+{
+    let mut ops = Vec::new(alloc);
+    ops.push(Op::Open(chan))?;
+    ops.push(Op::Send {
+        chan,
+        count: 3,
+        gap: 10,
+        size: 2,
+    })?;
+    Ok(CallerEntry {
+        name: name("k1")?,
+        group: 0,
+        ops: Ops::new(ops),
+    })
+}
+
+// A plan of that link, that request and that caller, with 30 rounds.
+fn plan(alloc: Global, version: Version, found: Option<(Name, Name)>) -> Result<Plan, Fail> {
+    let request = request(found)?;
+    let caller = caller(alloc, request.request.chan)?;
+    let mut links = Vec::new(alloc);
+    links.push(link(alloc, version)?)?;
+    let mut requests = Vec::new(alloc);
+    push_request(&mut requests, request)?;
+    let mut callers = Vec::new(alloc);
+    callers.push(caller)?;
+    let groups = Vec::new(alloc);
+    Ok(Plan::new(alloc, version, links, groups, requests, callers, 30, 0)?)
+}
+
+// So many steps of one actor.
+fn steps(core: &mut Core, plan: &Plan, actor: u8, count: u64) -> Result<(), Fail>
+    requires { CoreStands plan.now core.old }
+    ensures { OnOk result (CoreStands plan.now core.new) }
+{
+    let actor = ActorNo::new(actor).ok_or("actor")?;
+    for _step in 0..count {
+        core.step(plan, actor).ok().ok_or("step")?;
+    }
+    Ok(())
+}
+
+// The run in which the caller makes so many steps, and then the plane.
+fn run(alloc: Global, plan: &Plan, caller: u64, plane: u64) -> Result<Record, Fail>
+    ensures { IfOk result (λ made. IsRun (network_of plan.now) (reverse made.entries)) }
+{
+    let mut core = Core::new(alloc, plan)?;
+    steps(&mut core, plan, 0, caller)?;
+    steps(&mut core, plan, 1, plane)?;
+    Ok(core.finish())
+}
+
+#[test]
+fn a_channel_that_carries_three_packets(rt: HostRuntime) -> Result<(), Fail> {
+    let alloc = rt.alloc();
+    let plan = plan(alloc, Version::One, None)?;
+    let run = run(alloc, &plan, 3, 30)?;
+    let mut sink = MemSink::new(alloc, 65_536, 65_536, Vec::new(alloc))?;
+    assert_eq!(rt; write_report(alloc, &plan, &run, true, &mut sink), Ok(()));
+    let text = "accept r1 delay 12 levels 1\n\
+        channel r1 offered 3 keeps delivered 3 least 4 worst 4 refused 0\n\
+        link A clock 30 sent 3 full 0\n\
+        end steps 33\n\
+        channel,packet,hop,link,size,at,eligible,departed\n\
+        r1,1,1,A,2,0,0,2\n\
+        r1,2,1,A,2,10,10,12\n\
+        r1,3,1,A,2,20,20,22\n";
+    assert_eq!(rt; sink.bytes(), text.as_bytes());
+    Ok(())
+}
+
+#[test]
+fn a_setup_that_has_not_ended(rt: HostRuntime) -> Result<(), Fail> {
+    let alloc = rt.alloc();
+    let plan = plan(alloc, Version::One, None)?;
+    let run = run(alloc, &plan, 1, 0)?;
+    let mut sink = MemSink::new(alloc, 65_536, 4, Vec::new(alloc))?;
+    assert_eq!(rt; write_report(alloc, &plan, &run, false, &mut sink), Ok(()));
+    let text = "pending r1\nlink A clock 0 sent 0 full 0\nend steps 1\n";
+    assert_eq!(rt; sink.bytes(), text.as_bytes());
+    Ok(())
+}
+
+#[test]
+fn a_route_that_was_found_has_a_line(rt: HostRuntime) -> Result<(), Fail> {
+    let alloc = rt.alloc();
+    let nodes = (name("n1")?, name("n2")?);
+    let plan = plan(alloc, Version::Four, Some(nodes))?;
+    let run = run(alloc, &plan, 1, 0)?;
+    let mut sink = MemSink::new(alloc, 65_536, 4, Vec::new(alloc))?;
+    assert_eq!(rt; write_report(alloc, &plan, &run, false, &mut sink), Ok(()));
+    let text = "pending r1\nroute r1 A prop 2\nlink A clock 0 sent 0 full 0\nend steps 1\n";
+    assert_eq!(rt; sink.bytes(), text.as_bytes());
+    Ok(())
+}
+
+#[test]
+fn the_text_of_a_schedule(rt: HostRuntime) -> Result<(), Fail> {
+    let alloc = rt.alloc();
+    let plan = plan(alloc, Version::One, None)?;
+    let caller = ActorNo::new(0).ok_or("caller")?;
+    let plane = ActorNo::new(1).ok_or("plane")?;
+    assert!(rt; usize::from(caller.get()) <= plan.callers().len());
+    assert!(rt; usize::from(plane.get()) <= plan.callers().len());
+    let mut items = Vec::new(alloc);
+    items.push(Do {
+        line: 0,
+        actor: caller,
+        count: 3,
+    })?;
+    items.push(Do {
+        line: 0,
+        actor: plane,
+        count: 30,
+    })?;
+    let schedule = Schedule {
+        written: true,
+        items: Dos::new(items),
+    };
+    let mut sink = MemSink::new(alloc, 65_536, 65_536, Vec::new(alloc))?;
+    assert_eq!(rt; write_schedule(alloc, &plan, &schedule, &mut sink), Ok(()));
+    assert_eq!(rt; sink.bytes(), "do k1 3\ndo plane 30\n".as_bytes());
+    Ok(())
+}

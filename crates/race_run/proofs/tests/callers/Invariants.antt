@@ -1,7 +1,0 @@
-use Rattle.std.proofs.Common.{◌≡◌, length}
-use Rattle.race_run.specs.Worked.{AreNumbered, IsWorkedCaller}
-use Rattle.race_run.proofs.tests.callers.Given as goal
-
--- one a number so far
-abbrev pub invariant-loop-number : goal.invariant-loop-number
-invariant-loop-number l = record { all : AreNumbered IsWorkedCaller 0 l.callers.items; count : length l.callers.items ≡ l.number }

@@ -1,0 +1,69 @@
+//! Which order a race keeps: the plane's last rounds come after all callers, and a link's steps one after the other.
+use super::plan;
+use net_units::{ActorNo, Gate, LinkNo, NoGate};
+use race_run::{race, woven};
+use std::sync::atomic::{AtomicU64, Ordering};
+use std::test::Fail;
+use std::thread;
+
+// Two callers make two steps each, and then the plane makes three rounds of two links.
+#[test]
+fn the_last_rounds_come_after_all_callers(rt: HostRuntime) -> Result<(), Fail> {
+    let alloc = rt.alloc();
+    let plan = plan(alloc, 2, 2, false, (0, 3))?;
+    let closed = race(&rt, alloc, &plan, &NoGate)?;
+    let raced = woven(alloc, &plan, &closed)?;
+    let Some((last, callers)) = raced.schedule.items.as_slice().split_last() else {
+        return Err(Fail::from("an item"));
+    };
+    assert_eq!(rt; (last.actor.get(), last.count), (2, 6));
+    assert!(rt; callers.iter().all(|item| item.actor.get() < 2));
+    assert_eq!(rt; raced.run.entries().len(), 10);
+    Ok(())
+}
+
+// How long a step of the first link stands, in turns.
+const STAND: u64 = 1_000;
+
+// Counts the steps of the first link, and those that another one came into while they stood.
+#[derive(Drop)]
+struct Alone {
+    inside: AtomicU64,
+    made: AtomicU64,
+    met: AtomicU64,
+}
+
+impl Gate for Alone {
+    fn within(&self, link: LinkNo, _actor: ActorNo) {
+        if link.get() != 0 {
+            return;
+        }
+        let before = self.inside.fetch_add(1, Ordering::SeqCst);
+        for _ in 0..STAND {
+            thread::yield_now();
+        }
+        let after = self.inside.fetch_sub(1, Ordering::SeqCst);
+        if before != 0 || after != 1 {
+            self.met.fetch_add(1, Ordering::SeqCst);
+        }
+        self.made.fetch_add(1, Ordering::SeqCst);
+    }
+
+    fn after(&self, _link: LinkNo, _actor: ActorNo) {}
+}
+
+// Each of two callers reserves, relaxes, submits and releases at the first link.
+#[test]
+fn no_step_of_a_link_comes_into_another(rt: HostRuntime) -> Result<(), Fail> {
+    let alloc = rt.alloc();
+    let plan = plan(alloc, 4, 2, true, (0, 0))?;
+    let gate = Alone {
+        inside: AtomicU64::new(0),
+        made: AtomicU64::new(0),
+        met: AtomicU64::new(0),
+    };
+    race(&rt, alloc, &plan, &gate)?;
+    assert_eq!(rt; gate.made.load(Ordering::SeqCst), 8);
+    assert_eq!(rt; gate.met.load(Ordering::SeqCst), 0);
+    Ok(())
+}

@@ -1,6 +1,0 @@
--- The request may be accepted at that level.
-use Rattle.call_script.proofs.OneLinkFacts.{one-accepted}
-use Rattle.trace_audit.proofs.tests.found.Goals as goal
-
-pub audit-requires-clause-accepted : goal.audit-requires-clause-accepted
-audit-requires-clause-accepted c = one-accepted c.in_ok-plan.plan c.in_ok-level_one.field-0 c.in_ok-plan.ensures c.in_ok-level_one.ensures
