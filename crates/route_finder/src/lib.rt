@@ -18,6 +18,3 @@ pub use edge::Edge;
 pub use find::{Found, RouteFault, least_route};
 pub use laws::{least_walk_is_least, least_walk_passes_no_link_twice, there_is_one_least_walk};
 pub use least::Least;
-
-#[cfg(test)]
-mod tests;

@@ -4,5 +4,3 @@ pub(crate) mod draft;
 pub(crate) mod place;
 pub mod reader;
 pub(crate) mod row;
-#[cfg(test)]
-mod tests;

@@ -32,6 +32,3 @@ pub use cause::Cause;
 pub use fault::ReportFault;
 pub use reader::{MOST_BYTES, ReadRefusal, read_plan};
 pub use writer::write_plan;
-
-#[cfg(test)]
-mod tests;

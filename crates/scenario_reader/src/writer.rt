@@ -306,6 +306,3 @@ fn write_items<K: Sink>(
     }
     Ok(())
 }
-
-#[cfg(test)]
-mod tests;

@@ -1,11 +1,9 @@
 //! Scenarios that are read, and lines that are refused.
-use crate::cause::Cause;
-use crate::reader::{ReadRefusal, read_plan};
-use crate::writer::write_plan;
 use byte_ends::{MemSink, MemSource};
 use call_script::{Dos, Op, Plan, Schedule, Version};
 use link_steps::Quota;
 use net_units::{ChanNo, LinkNo};
+use scenario_reader::{Cause, ReadRefusal, read_plan, write_plan};
 use setup_protocol::Control;
 use std::alloc::Global;
 use std::process::Abort;

@@ -3,7 +3,6 @@ ghost use Rattle.std.specs.Prelude.{◌≡◌, [], ◌∷◌, IfOk, length};
 ghost use Rattle.net_units.specs.Numbers.{link_number, channel_number};
 ghost use Rattle.call_script.specs.OneLink.{IsThatLink, IsThatRequest, IsThatScript};
 
-use super::write_plan;
 use byte_ends::MemSink;
 use call_script::{
     BadPlan, CallerEntry, Do, Dos, LinkEntry, Op, Ops, Plan, Quotas, RequestEntry, Schedule,
@@ -12,6 +11,7 @@ use call_script::{
 use hop_reservation::{Hop, Route};
 use link_steps::LinkShape;
 use net_units::{ActorNo, Bounds, ChanNo, LinkNo, Name};
+use scenario_reader::write_plan;
 use setup_protocol::{Control, Request};
 use std::alloc::Global;
 use std::test::Fail;

@@ -1,8 +1,6 @@
 //! An audit's input that is read, and lines of it that are refused.
-use crate::audit::reader::read_audit;
-use crate::cause::Cause;
-use crate::reader::ReadRefusal;
 use byte_ends::MemSource;
+use scenario_reader::{Cause, ReadRefusal, read_audit};
 use std::alloc::Global;
 use std::test::Fail;
 

@@ -1,6 +1,6 @@
 -- The parts may be planned.
 use Rattle.call_script.proofs.OneLinkFacts.{one-planned}
-use Rattle.scenario_reader.proofs.writer.tests.plan.Goals as goal
+use Rattle.scenario_reader_tests.proofs.writing.plan.Goals as goal
 
 pub new-requires : goal.new-requires
 new-requires c =

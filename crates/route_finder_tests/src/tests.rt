@@ -2,9 +2,9 @@
 ghost use Rattle.std.specs.Prelude.{IsTrue};
 ghost use Rattle.route_finder.specs.Walks.{IsNetwork};
 
-use super::*;
 use hop_reservation::{Hop, Route};
 use net_units::{Bounds, LinkNo};
+use route_finder::{Edge, RouteFault, check_route, least_route};
 use std::alloc::Global;
 use std::process::Abort;
 use std::test::Fail;

@@ -1,0 +1,9 @@
+//! Tests of `scenario_reader`, in a crate of their own, so that its functions aren't proved again with them.
+#![tactic(auto)]
+
+#[cfg(test)]
+mod auditing;
+#[cfg(test)]
+mod reading;
+#[cfg(test)]
+mod writing;
