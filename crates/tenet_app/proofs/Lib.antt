@@ -7,4 +7,5 @@ pub mod RaceFacts
 pub mod RaceLaws
 pub mod OneRace
 pub mod StepCause
+pub mod RaceAgain
 pub mod WordFacts

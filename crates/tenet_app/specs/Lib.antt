@@ -2,5 +2,6 @@ pub mod Codes
 pub mod Playing
 pub mod Making
 pub mod Racing
+pub mod Again
 pub mod Working
 pub mod Auditing

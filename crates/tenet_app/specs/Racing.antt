@@ -4,7 +4,7 @@
 -- run. Which race happens isn't determined, so the bytes determine the status, and the journals the text. A schedule that is written in
 -- the scenario is read for its form and not used. A fault of reading or writing is answered only where the count of faults of the
 -- source or the sink rose. What is said of bytes is said where the source and the sink tell them.
-use Rattle.std.specs.Prelude.{◌≡◌, ℕ, Bool, true, false, ◌&&◌, ◌||◌, if◌then◌else◌, ◌⊎◌, Option, Some, None, Result, Ok, Err, List, [], ◌∷◌, ◌++◌, reverse, codes}
+use Rattle.std.specs.Prelude.{◌≡◌, ℕ, Bool, true, false, ◌&&◌, ◌||◌, if◌then◌else◌, ◌⊎◌, Option, Some, None, Result, Ok, Err, List, [], ◌∷◌, ◌++◌, length, reverse, codes}
 use Rattle.std.specs.Io.KnownBytes.{Appends, Keeps, IsAtEnd}
 use Rattle.byte_ends.specs.Faults.{FaultsRise}
 use Rattle.byte_ends.specs.Gathering.{WritesPart}
@@ -19,7 +19,8 @@ use Rattle.channel_report.specs.Schedule.{schedule_of}
 use Rattle.interleave_core.specs.Runs.{next_for}
 use Rattle.interleave_core.specs.Schedules.{IsPlayed}
 use Rattle.interleave_core.specs.Standing.{IsGuaranteedRun}
-use Rattle.race_run.specs.Turns.{AreMaximalRuns, actors_of}
+use Rattle.link_steps.specs.Lists.{Each}
+use Rattle.race_run.specs.Turns.{AreMaximalRuns, IsWritable, actors_of}
 use Rattle.race_run.specs.Whole.{IsWhole, weave_of}
 use Rattle.run_record.specs.declared.done.Done.{Done}
 use Rattle.scenario_reader.specs.Reading.{Reading, PlanRead, BadLine, TooManyBytes, reading}
@@ -34,13 +35,14 @@ use Rattle.tenet_app.specs.declared.status.Status.TheVariants as status
 -- ---- a race of a plan
 
 -- the journals and passes are whole for the plan. The entries, in order of time, are the weave of the journals, and the schedule
--- is their actors in maximal runs. They are the plan's run by this schedule, after them no actor has a step left, and they have
--- the whole guarantee at the beginning and after each of them
+-- is their actors in maximal runs, which the scenario's language can write. They are the plan's run by this schedule, after them
+-- no actor has a step left, and they have the whole guarantee at the beginning and after each of them
 pub record IsRaceOf (parts : PlanParts) (closed : Closed) (schedule : Schedule) (entries : List Done) : Type 0 where
-  pub whole : IsWhole (network_of parts) closed.passes.items closed.journals.items
-  pub weave : reverse entries ≡ weave_of closed.journals.items
+  pub whole : IsWhole (network_of parts) closed.passes closed.journals
+  pub weave : reverse entries ≡ weave_of closed.journals
   pub written : schedule.written ≡ true
   pub runs : AreMaximalRuns (actors_of entries) schedule.items
+  pub language : Each (IsWritable (length parts.callers)) schedule.items
   pub played : IsPlayed (network_of parts) schedule (reverse entries)
   pub over : (actor : ℕ) → next_for (network_of parts) actor (reverse entries) ≡ None
   pub guaranteed : IsGuaranteedRun parts (reverse entries)

@@ -1,4 +1,5 @@
 //! Laws of the words `play`, `race`, `make` and `audit`, each as the contract of a function that does nothing.
+ghost use Rattle.tenet_app.specs.Again.{RacesArePlayedAgain};
 ghost use Rattle.tenet_app.specs.Auditing.{AuditsDetermine};
 ghost use Rattle.tenet_app.specs.Making.{LoadsDetermine};
 ghost use Rattle.tenet_app.specs.Playing.{BytesDetermine};
@@ -12,4 +13,10 @@ pub fn without_a_fault_the_bytes_determine_the_answer()
     ensures races { RacesAreDue }
     ensures makes { LoadsDetermine }
     ensures audits { AuditsDetermine }
+{}
+
+/// A race is played again, exactly: its schedule, written under its scenario where that makes at most 4,194,304 bytes, is read as
+/// one by which the plan is played to the race's run, and so the race's report is due for that text.
+pub fn a_race_is_played_again()
+    ensures { RacesArePlayedAgain }
 {}

@@ -95,7 +95,7 @@ fn race_plan<R: Threads + Wait + Sync, K: Sink, G: Gate + Sync>(
 
 // Writes the schedule of a race and the report of its run, and hands back its journals and passes. It waits for nobody.
 fn tell<K: Sink>(alloc: Global, packets: bool, plan: &Plan, closed: Closed, sink: &mut K) -> Ended
-    requires whole { IsWhole (network_of plan.now) closed.passes.items closed.journals.items }
+    requires whole { IsWhole (network_of plan.now) closed.passes closed.journals }
     ensures answers { AnswersRace packets plan.now result.status result.raced (K.written sink.old) (K.written sink.new) (K.faults sink.old) (K.faults sink.new) }
     ensures handed { IsSome result.raced ↔ (result.status ≡ Done) }
     ensures counts { K.faults sink.old ≤ K.faults sink.new }

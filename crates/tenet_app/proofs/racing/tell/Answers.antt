@@ -8,21 +8,21 @@ pub returns-in-Ok-write_race-clause-answers : goal.returns-in-Ok-write_race-clau
 returns-in-Ok-write_race-clause-answers g c =
     let woven = c.in-Ok.ensures in
     let race : IsRaceOf c.args.plan.now c.args.closed c.in-Ok.raced.schedule c.in-Ok.raced.run.entries =
-    record { whole = c.requires.whole; weave = woven.weave; written = woven.written; runs = woven.runs; played = woven.played; over = woven.over; guaranteed = woven.guaranteed } in
+    record { whole = c.requires.whole; weave = woven.weave; written = woven.written; runs = woven.runs; language = woven.language; played = woven.played; over = woven.over; guaranteed = woven.guaranteed } in
     record { closed = c.args.closed; handed = refl; schedule = c.in-Ok.raced.schedule; entries = c.in-Ok.raced.run.entries; race = race; appends = c.in-Ok-write_race.ensures.0 }
 
 pub returns-in-Err-Memory-clause-answers : goal.returns-in-Err-Memory-clause-answers
 returns-in-Err-Memory-clause-answers g c =
     let woven = c.in-Ok.ensures in
     let race : IsRaceOf c.args.plan.now c.args.closed c.in-Ok.raced.schedule c.in-Ok.raced.run.entries =
-    record { whole = c.requires.whole; weave = woven.weave; written = woven.written; runs = woven.runs; played = woven.played; over = woven.over; guaranteed = woven.guaranteed } in
+    record { whole = c.requires.whole; weave = woven.weave; written = woven.written; runs = woven.runs; language = woven.language; played = woven.played; over = woven.over; guaranteed = woven.guaranteed } in
     inr (front-of-race c.args.packets c.args.plan.now c.args.closed c.in-Ok.raced.schedule c.in-Ok.raced.run.entries _ _ race c.in-Err-Memory.ensures.0)
 
 pub returns-clause-answers : goal.returns-clause-answers
 returns-clause-answers g c =
     let woven = c.in-Ok.ensures in
     let race : IsRaceOf c.args.plan.now c.args.closed c.in-Ok.raced.schedule c.in-Ok.raced.run.entries =
-    record { whole = c.requires.whole; weave = woven.weave; written = woven.written; runs = woven.runs; played = woven.played; over = woven.over; guaranteed = woven.guaranteed } in (
+    record { whole = c.requires.whole; weave = woven.weave; written = woven.written; runs = woven.runs; language = woven.language; played = woven.played; over = woven.over; guaranteed = woven.guaranteed } in (
       subst (λ why. IsWhy why (g.K.Sink.faults c.args.sink.now) (g.K.Sink.faults c.write_race.new.sink)) c.in-Err-WriteFault.field-0-is c.in-Err-WriteFault.ensures.1,
       front-of-race c.args.packets c.args.plan.now c.args.closed c.in-Ok.raced.schedule c.in-Ok.raced.run.entries _ _ race c.in-Err-WriteFault.ensures.0,
     )

@@ -1,0 +1,32 @@
+-- A race is played again, exactly. The schedule that a race prints, written under its scenario, makes a text; where that has at
+-- most 4,194,304 bytes, it is read as the same plan, with a schedule by which the plan is played to the very run of the race. So what
+-- `play` is due to write for that text is the race's report.
+use Rattle.std.specs.Prelude.{◌≡◌, ◌≤◌, Bool, List, length, reverse}
+use Rattle.call_script.specs.Parts.{PlanParts}
+use Rattle.call_script.specs.Plans.{IsPlan}
+use Rattle.call_script.specs.Tasks.{network_of}
+use Rattle.call_script.specs.declared.schedule.Schedule.{Schedule}
+use Rattle.channel_report.specs.Report.{report_of}
+use Rattle.interleave_core.specs.Schedules.{IsPlayed}
+use Rattle.run_record.specs.declared.done.Done.{Done}
+use Rattle.scenario_reader.specs.BothWays.{AreNamed, HaveFoundRoutes}
+use Rattle.scenario_reader.specs.PlanText.{plan_text}
+use Rattle.scenario_reader.specs.Reading.{PlanRead, reading}
+use Rattle.scenario_reader.specs.declared.reader.TheConstants.{MOST_BYTES}
+use Rattle.shared_network.specs.declared.closing.Closed.{Closed}
+use Rattle.tenet_app.specs.Playing.{IsDueFor}
+use Rattle.tenet_app.specs.Racing.{IsRaceOf}
+use Rattle.tenet_app.specs.declared.status.Status.TheVariants as status
+
+-- the text of the plan and the schedule is read as the plan and a schedule, that is played to this run, and its report is due for the
+-- text, with the table of packets or without it
+pub record IsPlayedAgain (parts : PlanParts) (schedule : Schedule) (entries : List Done) : Type 0 where
+  pub again : Schedule
+  pub read : reading MOST_BYTES (plan_text parts schedule) ≡ PlanRead parts again
+  pub played : IsPlayed (network_of parts) again (reverse entries)
+  pub due : (packets : Bool) → IsDueFor packets status.Done (report_of parts entries packets) (reading MOST_BYTES (plan_text parts schedule))
+
+-- so it is for every race of a plan
+abbrev pub RacesArePlayedAgain : Type 0
+RacesArePlayedAgain = (parts : PlanParts) (closed : Closed) (schedule : Schedule) (entries : List Done) → IsPlan parts → AreNamed parts → HaveFoundRoutes parts
+    → IsRaceOf parts closed schedule entries → length (plan_text parts schedule) ≤ MOST_BYTES → IsPlayedAgain parts schedule entries
