@@ -10,7 +10,7 @@ use Rattle.link_server.specs.Account.{account}
 use Rattle.link_server.specs.Wants.{ask_for, MayHold}
 use Rattle.link_server.specs.declared.served_row.Offered.{Offered}
 use Rattle.link_server.specs.declared.served_row.Wanted.{Wanted}
-use Rattle.link_server.specs.declared.packets.Packets.{Packets}
+use Rattle.link_server.specs.KeptQueue.{KeptQueue}
 use Rattle.link_server.proofs.PlaceFacts.{terms-found, terms-absent, kept-found, kept-absent, kept-without, kept-changed}
 use Rattle.std.specs.List.{remove}
 use Rattle.net_units.specs.declared.numbers.ChanNo.{ChanNo}
@@ -37,17 +37,17 @@ use Rattle.link_steps.proofs.ReplyFacts.{whole-offer-may}
 
 -- ---- a deny
 
-pub deny-absent : (shape : LinkShape) (t : ℕ) (packets : Packets) (chan : ChanNo) (rows : List ServedRow) → IsAbsent chan rows → Refused NoSuch ≡ kept_reply (whole shape) (account t packets rows) (Deny chan)
+pub deny-absent : (shape : LinkShape) (t : ℕ) (queue : KeptQueue) (chan : ChanNo) (rows : List ServedRow) → IsAbsent chan rows → Refused NoSuch ≡ kept_reply (whole shape) (account t queue rows) (Deny chan)
 unfolding kept_reply deny_reply
-deny-absent shape t packets chan rows absent = rw (terms-absent chan rows absent) refl
+deny-absent shape t queue chan rows absent = rw (terms-absent chan rows absent) refl
 
-pub deny-refused : (shape : LinkShape) (t : ℕ) (packets : Packets) (chan : ChanNo) (rows : List ServedRow) (i : ℕ) (d : ServedRow) (refusal : Refusal) → IsPlaceOf chan rows i → Some refusal ≡ not_in_phase Tentative (reservation_in (get_or rows i d)) → Refused refusal ≡ kept_reply (whole shape) (account t packets rows) (Deny chan)
+pub deny-refused : (shape : LinkShape) (t : ℕ) (queue : KeptQueue) (chan : ChanNo) (rows : List ServedRow) (i : ℕ) (d : ServedRow) (refusal : Refusal) → IsPlaceOf chan rows i → Some refusal ≡ not_in_phase Tentative (reservation_in (get_or rows i d)) → Refused refusal ≡ kept_reply (whole shape) (account t queue rows) (Deny chan)
 unfolding kept_reply deny_reply
-deny-refused shape t packets chan rows i d refusal place phase = rw (terms-found chan rows i d place, sym phase) refl
+deny-refused shape t queue chan rows i d refusal place phase = rw (terms-found chan rows i d place, sym phase) refl
 
-pub deny-denied : (shape : LinkShape) (t : ℕ) (packets : Packets) (chan : ChanNo) (rows : List ServedRow) (i : ℕ) (d : ServedRow) → IsPlaceOf chan rows i → None ≡ not_in_phase Tentative (reservation_in (get_or rows i d)) → Denied ≡ kept_reply (whole shape) (account t packets rows) (Deny chan)
+pub deny-denied : (shape : LinkShape) (t : ℕ) (queue : KeptQueue) (chan : ChanNo) (rows : List ServedRow) (i : ℕ) (d : ServedRow) → IsPlaceOf chan rows i → None ≡ not_in_phase Tentative (reservation_in (get_or rows i d)) → Denied ≡ kept_reply (whole shape) (account t queue rows) (Deny chan)
 unfolding kept_reply deny_reply
-deny-denied shape t packets chan rows i d place phase = rw (terms-found chan rows i d place, sym phase) refl
+deny-denied shape t queue chan rows i d place phase = rw (terms-found chan rows i d place, sym phase) refl
 
 -- a refusal changes nothing
 pub deny-same : (shape : LinkShape) (k : Kept) (chan : ChanNo) (refusal : Refusal) → k ≡ kept_after shape k (Deny chan) (Refused refusal)
@@ -55,37 +55,37 @@ unfolding kept_after
 deny-same shape k chan refusal = refl
 
 -- and a deny takes the row out
-pub deny-kept : (shape : LinkShape) (t : ℕ) (packets : Packets) (chan : ChanNo) (rows : List ServedRow) (i : ℕ) → IsPlaceOf chan rows i → account t packets (remove rows i) ≡ kept_after shape (account t packets rows) (Deny chan) Denied
+pub deny-kept : (shape : LinkShape) (t : ℕ) (queue : KeptQueue) (chan : ChanNo) (rows : List ServedRow) (i : ℕ) → IsPlaceOf chan rows i → account t queue (remove rows i) ≡ kept_after shape (account t queue rows) (Deny chan) Denied
 unfolding kept_after
-deny-kept shape t packets chan rows i place = ap (with_kept_rows (account t packets rows)) (kept-without chan rows i place)
+deny-kept shape t queue chan rows i place = ap (with_kept_rows (account t queue rows)) (kept-without chan rows i place)
 
 -- ---- a relax
 
-pub relax-absent : (shape : LinkShape) (t : ℕ) (packets : Packets) (chan : ChanNo) (level : Level) (up_bound : ℕ) (rows : List ServedRow) → IsAbsent chan rows → Refused NoSuch ≡ kept_reply (whole shape) (account t packets rows) (Relax chan level up_bound)
+pub relax-absent : (shape : LinkShape) (t : ℕ) (queue : KeptQueue) (chan : ChanNo) (level : Level) (up_bound : ℕ) (rows : List ServedRow) → IsAbsent chan rows → Refused NoSuch ≡ kept_reply (whole shape) (account t queue rows) (Relax chan level up_bound)
 unfolding kept_reply relax_reply
-relax-absent shape t packets chan level up_bound rows absent = rw (terms-absent chan rows absent) refl
+relax-absent shape t queue chan level up_bound rows absent = rw (terms-absent chan rows absent) refl
 
-pub relax-phase : (shape : LinkShape) (t : ℕ) (packets : Packets) (chan : ChanNo) (level : Level) (up_bound : ℕ) (rows : List ServedRow) (i : ℕ) (d : ServedRow) (refusal : Refusal) → IsPlaceOf chan rows i → Some refusal ≡ not_in_phase Tentative (reservation_in (get_or rows i d)) → Refused refusal ≡ kept_reply (whole shape) (account t packets rows) (Relax chan level up_bound)
+pub relax-phase : (shape : LinkShape) (t : ℕ) (queue : KeptQueue) (chan : ChanNo) (level : Level) (up_bound : ℕ) (rows : List ServedRow) (i : ℕ) (d : ServedRow) (refusal : Refusal) → IsPlaceOf chan rows i → Some refusal ≡ not_in_phase Tentative (reservation_in (get_or rows i d)) → Refused refusal ≡ kept_reply (whole shape) (account t queue rows) (Relax chan level up_bound)
 unfolding kept_reply relax_reply
-relax-phase shape t packets chan level up_bound rows i d refusal place phase = rw (terms-found chan rows i d place, sym phase) refl
+relax-phase shape t queue chan level up_bound rows i d refusal place phase = rw (terms-found chan rows i d place, sym phase) refl
 
-pub relax-unfit : (shape : LinkShape) (t : ℕ) (packets : Packets) (chan : ChanNo) (level : Level) (up_bound : ℕ) (rows : List ServedRow) (i : ℕ) (d : ServedRow) (refusal : Refusal) → IsPlaceOf chan rows i → None ≡ not_in_phase Tentative (reservation_in (get_or rows i d)) → Some refusal ≡ unfit (reservation_in (get_or rows i d)) level up_bound → Refused refusal ≡ kept_reply (whole shape) (account t packets rows) (Relax chan level up_bound)
+pub relax-unfit : (shape : LinkShape) (t : ℕ) (queue : KeptQueue) (chan : ChanNo) (level : Level) (up_bound : ℕ) (rows : List ServedRow) (i : ℕ) (d : ServedRow) (refusal : Refusal) → IsPlaceOf chan rows i → None ≡ not_in_phase Tentative (reservation_in (get_or rows i d)) → Some refusal ≡ unfit (reservation_in (get_or rows i d)) level up_bound → Refused refusal ≡ kept_reply (whole shape) (account t queue rows) (Relax chan level up_bound)
 unfolding kept_reply relax_reply
-relax-unfit shape t packets chan level up_bound rows i d refusal place phase fits = rw (terms-found chan rows i d place, sym phase, sym fits) refl
+relax-unfit shape t queue chan level up_bound rows i d refusal place phase fits = rw (terms-found chan rows i d place, sym phase, sym fits) refl
 
-pub relax-relaxed : (shape : LinkShape) (t : ℕ) (packets : Packets) (chan : ChanNo) (level : Level) (up_bound : ℕ) (rows : List ServedRow) (i : ℕ) (d : ServedRow) → IsPlaceOf chan rows i → None ≡ not_in_phase Tentative (reservation_in (get_or rows i d)) → None ≡ unfit (reservation_in (get_or rows i d)) level up_bound → Relaxed t ≡ kept_reply (whole shape) (account t packets rows) (Relax chan level up_bound)
+pub relax-relaxed : (shape : LinkShape) (t : ℕ) (queue : KeptQueue) (chan : ChanNo) (level : Level) (up_bound : ℕ) (rows : List ServedRow) (i : ℕ) (d : ServedRow) → IsPlaceOf chan rows i → None ≡ not_in_phase Tentative (reservation_in (get_or rows i d)) → None ≡ unfit (reservation_in (get_or rows i d)) level up_bound → Relaxed t ≡ kept_reply (whole shape) (account t queue rows) (Relax chan level up_bound)
 unfolding kept_reply relax_reply
-relax-relaxed shape t packets chan level up_bound rows i d place phase fits = rw (terms-found chan rows i d place, sym phase, sym fits) refl
+relax-relaxed shape t queue chan level up_bound rows i d place phase fits = rw (terms-found chan rows i d place, sym phase, sym fits) refl
 
 pub relax-same : (shape : LinkShape) (k : Kept) (chan : ChanNo) (level : Level) (up_bound : ℕ) (refusal : Refusal) → k ≡ kept_after shape k (Relax chan level up_bound) (Refused refusal)
 unfolding kept_after
 relax-same shape k chan level up_bound refusal = refl
 
 -- a relax commits the row
-pub relax-kept : (shape : LinkShape) (t : ℕ) (packets : Packets) (chan : ChanNo) (level : Level) (up_bound clock : ℕ) (rows : List ServedRow) (i : ℕ) (new d : ServedRow) → IsPlaceOf chan rows i → row_in new ≡ kept_relaxed level up_bound (row_in (get_or rows i d)) → account t packets (set rows i new) ≡ kept_after shape (account t packets rows) (Relax chan level up_bound) (Relaxed clock)
+pub relax-kept : (shape : LinkShape) (t : ℕ) (queue : KeptQueue) (chan : ChanNo) (level : Level) (up_bound clock : ℕ) (rows : List ServedRow) (i : ℕ) (new d : ServedRow) → IsPlaceOf chan rows i → row_in new ≡ kept_relaxed level up_bound (row_in (get_or rows i d)) → account t queue (set rows i new) ≡ kept_after shape (account t queue rows) (Relax chan level up_bound) (Relaxed clock)
 unfolding kept_after
-relax-kept shape t packets chan level up_bound clock rows i new d place same =
-    ap (with_kept_rows (account t packets rows)) (kept-changed (is_served_row_of chan) (is_kept_of chan) (kept_relaxed level up_bound) (λ row. refl) rows i new d place same)
+relax-kept shape t queue chan level up_bound clock rows i new d place same =
+    ap (with_kept_rows (account t queue rows)) (kept-changed (is_served_row_of chan) (is_kept_of chan) (kept_relaxed level up_bound) (λ row. refl) rows i new d place same)
 
 -- ---- a reserve, over the reservations that are held
 
@@ -120,44 +120,44 @@ unfolding kept_after
 reserve-same shape k wanted refusal = refl
 
 -- and an offer holds a row more
-pub reserve-kept : (shape : LinkShape) (t : ℕ) (packets : Packets) (wanted : Wanted) (level reach : Level) (rows : List ServedRow) (new : ServedRow) → row_in new ≡ new_kept (tentative wanted.chan wanted.contract wanted.kind wanted.first wanted.next wanted.up_reach level reach) → account t packets (rows ++ new ∷ []) ≡ kept_after shape (account t packets rows) (ask_for wanted) (Offer level reach)
+pub reserve-kept : (shape : LinkShape) (t : ℕ) (queue : KeptQueue) (wanted : Wanted) (level reach : Level) (rows : List ServedRow) (new : ServedRow) → row_in new ≡ new_kept (tentative wanted.chan wanted.contract wanted.kind wanted.first wanted.next wanted.up_reach level reach) → account t queue (rows ++ new ∷ []) ≡ kept_after shape (account t queue rows) (ask_for wanted) (Offer level reach)
 unfolding kept_after
-reserve-kept shape t packets wanted level reach rows new same =
-    ap (with_kept_rows (account t packets rows)) (map_push row_in rows new ∙ ap (λ k. map row_in rows ++ k ∷ []) same)
+reserve-kept shape t queue wanted level reach rows new same =
+    ap (with_kept_rows (account t queue rows)) (map_push row_in rows new ∙ ap (λ k. map row_in rows ++ k ∷ []) same)
 
 -- ---- a submit
 
-pub submit-absent : (shape : LinkShape) (t : ℕ) (packets : Packets) (chan : ChanNo) (count gap size : ℕ) (rows : List ServedRow) → NoRowPasses (is_served_at_hop chan true) rows → Refused NoSuch ≡ kept_reply (whole shape) (account t packets rows) (Submit chan count gap size)
+pub submit-absent : (shape : LinkShape) (t : ℕ) (queue : KeptQueue) (chan : ChanNo) (count gap size : ℕ) (rows : List ServedRow) → NoRowPasses (is_served_at_hop chan true) rows → Refused NoSuch ≡ kept_reply (whole shape) (account t queue rows) (Submit chan count gap size)
 unfolding kept_reply
-submit-absent shape t packets chan count gap size rows absent = rw (kept-absent (is_served_at_hop chan true) (is_kept_at_hop chan true) (λ row. refl) rows absent) refl
+submit-absent shape t queue chan count gap size rows absent = rw (kept-absent (is_served_at_hop chan true) (is_kept_at_hop chan true) (λ row. refl) rows absent) refl
 
 -- the reply is that of the row at the place
-submit-found : (shape : LinkShape) (t : ℕ) (packets : Packets) (chan : ChanNo) (count gap size : ℕ) (rows : List ServedRow) (i : ℕ) (d : ServedRow) → IsFirstPlace (is_served_at_hop chan true) rows i → kept_reply (whole shape) (account t packets rows) (Submit chan count gap size) ≡ submit_reply t size (reservation_in (get_or rows i d)) (length (left_in (get_or rows i d).planned))
+submit-found : (shape : LinkShape) (t : ℕ) (queue : KeptQueue) (chan : ChanNo) (count gap size : ℕ) (rows : List ServedRow) (i : ℕ) (d : ServedRow) → IsFirstPlace (is_served_at_hop chan true) rows i → kept_reply (whole shape) (account t queue rows) (Submit chan count gap size) ≡ submit_reply t size (reservation_in (get_or rows i d)) (length (left_in (get_or rows i d).planned))
 unfolding kept_reply
-submit-found shape t packets chan count gap size rows i d place = ap (kept_submit t size) (kept-found (is_served_at_hop chan true) (is_kept_at_hop chan true) (λ row. refl) rows i d place)
+submit-found shape t queue chan count gap size rows i d place = ap (kept_submit t size) (kept-found (is_served_at_hop chan true) (is_kept_at_hop chan true) (λ row. refl) rows i d place)
 
-pub submit-phase : (shape : LinkShape) (t : ℕ) (packets : Packets) (chan : ChanNo) (count gap size : ℕ) (rows : List ServedRow) (i : ℕ) (d : ServedRow) (refusal : Refusal) → IsFirstPlace (is_served_at_hop chan true) rows i → Some refusal ≡ not_in_phase Committed (reservation_in (get_or rows i d)) → Refused refusal ≡ kept_reply (whole shape) (account t packets rows) (Submit chan count gap size)
+pub submit-phase : (shape : LinkShape) (t : ℕ) (queue : KeptQueue) (chan : ChanNo) (count gap size : ℕ) (rows : List ServedRow) (i : ℕ) (d : ServedRow) (refusal : Refusal) → IsFirstPlace (is_served_at_hop chan true) rows i → Some refusal ≡ not_in_phase Committed (reservation_in (get_or rows i d)) → Refused refusal ≡ kept_reply (whole shape) (account t queue rows) (Submit chan count gap size)
 unfolding submit_reply
-submit-phase shape t packets chan count gap size rows i d refusal place phase = rw (submit-found shape t packets chan count gap size rows i d place, sym phase) refl
+submit-phase shape t queue chan count gap size rows i d refusal place phase = rw (submit-found shape t queue chan count gap size rows i d place, sym phase) refl
 
-pub submit-busy : (shape : LinkShape) (t : ℕ) (packets : Packets) (chan : ChanNo) (count gap size : ℕ) (rows : List ServedRow) (i : ℕ) (d : ServedRow) (refusal : Refusal) → IsFirstPlace (is_served_at_hop chan true) rows i → None ≡ not_in_phase Committed (reservation_in (get_or rows i d)) → Some refusal ≡ busy (length (left_in (get_or rows i d).planned)) → Refused refusal ≡ kept_reply (whole shape) (account t packets rows) (Submit chan count gap size)
+pub submit-busy : (shape : LinkShape) (t : ℕ) (queue : KeptQueue) (chan : ChanNo) (count gap size : ℕ) (rows : List ServedRow) (i : ℕ) (d : ServedRow) (refusal : Refusal) → IsFirstPlace (is_served_at_hop chan true) rows i → None ≡ not_in_phase Committed (reservation_in (get_or rows i d)) → Some refusal ≡ busy (length (left_in (get_or rows i d).planned)) → Refused refusal ≡ kept_reply (whole shape) (account t queue rows) (Submit chan count gap size)
 unfolding submit_reply
-submit-busy shape t packets chan count gap size rows i d refusal place phase left = rw (submit-found shape t packets chan count gap size rows i d place, sym phase, sym left) refl
+submit-busy shape t queue chan count gap size rows i d refusal place phase left = rw (submit-found shape t queue chan count gap size rows i d place, sym phase, sym left) refl
 
-pub submit-big : (shape : LinkShape) (t : ℕ) (packets : Packets) (chan : ChanNo) (count gap size : ℕ) (rows : List ServedRow) (i : ℕ) (d : ServedRow) (refusal : Refusal) → IsFirstPlace (is_served_at_hop chan true) rows i → None ≡ not_in_phase Committed (reservation_in (get_or rows i d)) → None ≡ busy (length (left_in (get_or rows i d).planned)) → Some refusal ≡ too_big (reservation_in (get_or rows i d)) size → Refused refusal ≡ kept_reply (whole shape) (account t packets rows) (Submit chan count gap size)
+pub submit-big : (shape : LinkShape) (t : ℕ) (queue : KeptQueue) (chan : ChanNo) (count gap size : ℕ) (rows : List ServedRow) (i : ℕ) (d : ServedRow) (refusal : Refusal) → IsFirstPlace (is_served_at_hop chan true) rows i → None ≡ not_in_phase Committed (reservation_in (get_or rows i d)) → None ≡ busy (length (left_in (get_or rows i d).planned)) → Some refusal ≡ too_big (reservation_in (get_or rows i d)) size → Refused refusal ≡ kept_reply (whole shape) (account t queue rows) (Submit chan count gap size)
 unfolding submit_reply
-submit-big shape t packets chan count gap size rows i d refusal place phase left large = rw (submit-found shape t packets chan count gap size rows i d place, sym phase, sym left, sym large) refl
+submit-big shape t queue chan count gap size rows i d refusal place phase left large = rw (submit-found shape t queue chan count gap size rows i d place, sym phase, sym left, sym large) refl
 
-pub submit-planned : (shape : LinkShape) (t : ℕ) (packets : Packets) (chan : ChanNo) (count gap size : ℕ) (rows : List ServedRow) (i : ℕ) (d : ServedRow) → IsFirstPlace (is_served_at_hop chan true) rows i → None ≡ not_in_phase Committed (reservation_in (get_or rows i d)) → None ≡ busy (length (left_in (get_or rows i d).planned)) → None ≡ too_big (reservation_in (get_or rows i d)) size → Planned t ≡ kept_reply (whole shape) (account t packets rows) (Submit chan count gap size)
+pub submit-planned : (shape : LinkShape) (t : ℕ) (queue : KeptQueue) (chan : ChanNo) (count gap size : ℕ) (rows : List ServedRow) (i : ℕ) (d : ServedRow) → IsFirstPlace (is_served_at_hop chan true) rows i → None ≡ not_in_phase Committed (reservation_in (get_or rows i d)) → None ≡ busy (length (left_in (get_or rows i d).planned)) → None ≡ too_big (reservation_in (get_or rows i d)) size → Planned t ≡ kept_reply (whole shape) (account t queue rows) (Submit chan count gap size)
 unfolding submit_reply
-submit-planned shape t packets chan count gap size rows i d place phase left large = rw (submit-found shape t packets chan count gap size rows i d place, sym phase, sym left, sym large) refl
+submit-planned shape t queue chan count gap size rows i d place phase left large = rw (submit-found shape t queue chan count gap size rows i d place, sym phase, sym left, sym large) refl
 
 pub submit-same : (shape : LinkShape) (k : Kept) (chan : ChanNo) (count gap size : ℕ) (refusal : Refusal) → k ≡ kept_after shape k (Submit chan count gap size) (Refused refusal)
 unfolding kept_after
 submit-same shape k chan count gap size refusal = refl
 
 -- a submit plans the row's packets
-pub submit-kept : (shape : LinkShape) (t : ℕ) (packets : Packets) (chan : ChanNo) (count gap size clock : ℕ) (rows : List ServedRow) (i : ℕ) (new d : ServedRow) → IsFirstPlace (is_served_at_hop chan true) rows i → row_in new ≡ kept_planned t count gap size (row_in (get_or rows i d)) → account t packets (set rows i new) ≡ kept_after shape (account t packets rows) (Submit chan count gap size) (Planned clock)
+pub submit-kept : (shape : LinkShape) (t : ℕ) (queue : KeptQueue) (chan : ChanNo) (count gap size clock : ℕ) (rows : List ServedRow) (i : ℕ) (new d : ServedRow) → IsFirstPlace (is_served_at_hop chan true) rows i → row_in new ≡ kept_planned t count gap size (row_in (get_or rows i d)) → account t queue (set rows i new) ≡ kept_after shape (account t queue rows) (Submit chan count gap size) (Planned clock)
 unfolding kept_after
-submit-kept shape t packets chan count gap size clock rows i new d place same =
-    ap (with_kept_rows (account t packets rows)) (kept-changed (is_served_at_hop chan true) (is_kept_at_hop chan true) (kept_planned t count gap size) (λ row. refl) rows i new d place same)
+submit-kept shape t queue chan count gap size clock rows i new d place same =
+    ap (with_kept_rows (account t queue rows)) (kept-changed (is_served_at_hop chan true) (is_kept_at_hop chan true) (kept_planned t count gap size) (λ row. refl) rows i new d place same)

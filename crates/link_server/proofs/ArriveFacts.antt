@@ -1,7 +1,7 @@
 -- The answers to an arrive, case by case.
 use Rattle.std.proofs.Common.{◌≡◌, ℕ, suc, ◌+◌, ◌<◌, [], ◌∷◌, ◌++◌, List, Some, None, length, map, get_or, set, refl, sym, ap, ◌∙◌, subst, arith}
 use Rattle.std.proofs.lemmas.Bool.{eqb-true}
-use Rattle.std.proofs.lemmas.List.{map_push, length-map, length-append}
+use Rattle.std.proofs.lemmas.List.{length-append}
 use Rattle.std.specs.Prelude.{nat_eq, find}
 use Rattle.link_steps.specs.declared.asks.Ask.TheVariants.{Arrive}
 use Rattle.link_steps.specs.declared.asks.Packet.{Packet}
@@ -22,15 +22,15 @@ use Rattle.link_steps.specs.Reservation.{Reservation}
 use Rattle.link_steps.specs.Sources.{arrival_at}
 use Rattle.link_steps.proofs.Account.{same-kept}
 use Rattle.link_steps.proofs.RefusalFacts.{unless-none}
+use Rattle.link_steps.specs.Service.{Arrival}
 use Rattle.link_server.specs.Account.{account}
-use Rattle.link_server.specs.Packets.{arrival_in, here_in, on_in}
-use Rattle.link_server.specs.Planned.{left_in}
+use Rattle.link_server.specs.Packets.{arrival_in}
 use Rattle.link_server.specs.Rows.{reservation_in, row_in, is_served_row_of, IsAbsent, IsPlaceOf}
 use Rattle.link_server.specs.Sound.{IsSound}
 use Rattle.link_server.specs.Strays.{first_rule, stray}
 use Rattle.link_server.specs.declared.served_row.ServedRow.{ServedRow}
-use Rattle.link_server.specs.declared.held_packet.HeldPacket.{HeldPacket}
-use Rattle.link_server.specs.declared.packets.Packets.{Packets}
+use Rattle.link_server.specs.declared.queue.held_packet.HeldPacket.{HeldPacket}
+use Rattle.link_server.specs.KeptQueue.{KeptQueue}
 use Rattle.link_server.proofs.PlaceFacts.{kept-found, kept-absent, kept-changed}
 use Rattle.link_server.proofs.SoundNumbers.{rows-upto}
 
@@ -49,41 +49,41 @@ rules-kept (None ∷ rules) more reply none = rules-kept rules more reply none
 rules-kept (Some other ∷ rules) more reply none = cc
 
 -- the reply to a packet of a channel without a row
-pub arrive-absent : (shape : LinkShape) (t : ℕ) (packets : Packets) (packet : Packet) (rows : List ServedRow) → IsAbsent packet.chan rows → Refused (Stray NoRow) ≡ kept_reply (whole shape) (account t packets rows) (Arrive packet)
+pub arrive-absent : (shape : LinkShape) (t : ℕ) (queue : KeptQueue) (packet : Packet) (rows : List ServedRow) → IsAbsent packet.chan rows → Refused (Stray NoRow) ≡ kept_reply (whole shape) (account t queue rows) (Arrive packet)
 unfolding kept_reply
-arrive-absent shape t packets packet rows absent = rw (kept-absent (is_served_row_of packet.chan) (is_kept_of packet.chan) (λ row. refl) rows absent) refl
+arrive-absent shape t queue packet rows absent = rw (kept-absent (is_served_row_of packet.chan) (is_kept_of packet.chan) (λ row. refl) rows absent) refl
 
 -- or else it is that of the row at the place: its rules on strays come first, and then its slots
-abbrev pub slots-rule : LinkShape → List HeldPacket → ServedRow → RefusalRule
-slots-rule shape here row = full (held_packets row.lead (here_in here)) (slots_of shape.bounds (reservation_in row))
+abbrev pub slots-rule : LinkShape → List Arrival → ServedRow → RefusalRule
+slots-rule shape here row = full (held_packets row.lead here) (slots_of shape.bounds (reservation_in row))
 
 abbrev taken-reply : ℕ → Packet → ServedRow → Reply
 taken-reply t packet row = Taken t (eligible_next (reservation_in row) (row_in row).recent t packet.due)
 
-arrive-found : (shape : LinkShape) (t : ℕ) (packets : Packets) (packet : Packet) (rows : List ServedRow) (i : ℕ) (d : ServedRow) → IsPlaceOf packet.chan rows i
-    → kept_reply (whole shape) (account t packets rows) (Arrive packet) ≡ first_refusal (stray_rules packet (reservation_in (get_or rows i d)) (get_or rows i d).taken ++ slots-rule shape packets.here.items (get_or rows i d) ∷ []) (taken-reply t packet (get_or rows i d))
+arrive-found : (shape : LinkShape) (t : ℕ) (queue : KeptQueue) (packet : Packet) (rows : List ServedRow) (i : ℕ) (d : ServedRow) → IsPlaceOf packet.chan rows i
+    → kept_reply (whole shape) (account t queue rows) (Arrive packet) ≡ first_refusal (stray_rules packet (reservation_in (get_or rows i d)) (get_or rows i d).taken ++ slots-rule shape queue.here (get_or rows i d) ∷ []) (taken-reply t packet (get_or rows i d))
 unfolding kept_reply arrive_reply
-arrive-found shape t packets packet rows i d place = ap (kept_arrive shape t (here_in packets.here.items) packet) (kept-found (is_served_row_of packet.chan) (is_kept_of packet.chan) (λ row. refl) rows i d place)
+arrive-found shape t queue packet rows i d place = ap (kept_arrive shape t queue.here packet) (kept-found (is_served_row_of packet.chan) (is_kept_of packet.chan) (λ row. refl) rows i d place)
 
 -- a packet without a place, one that finds each slot taken, and one that is taken
-pub arrive-stray : (shape : LinkShape) (t : ℕ) (packets : Packets) (packet : Packet) (rows : List ServedRow) (i : ℕ) (d : ServedRow) (refusal : Refusal) → IsPlaceOf packet.chan rows i → Some refusal ≡ stray packet (reservation_in (get_or rows i d)) (get_or rows i d).taken → Refused refusal ≡ kept_reply (whole shape) (account t packets rows) (Arrive packet)
-arrive-stray shape t packets packet rows i d refusal place first = rule-applies (stray_rules packet (reservation_in (get_or rows i d)) (get_or rows i d).taken) (slots-rule shape packets.here.items (get_or rows i d) ∷ []) (taken-reply t packet (get_or rows i d)) refusal first ∙ sym (arrive-found shape t packets packet rows i d place)
+pub arrive-stray : (shape : LinkShape) (t : ℕ) (queue : KeptQueue) (packet : Packet) (rows : List ServedRow) (i : ℕ) (d : ServedRow) (refusal : Refusal) → IsPlaceOf packet.chan rows i → Some refusal ≡ stray packet (reservation_in (get_or rows i d)) (get_or rows i d).taken → Refused refusal ≡ kept_reply (whole shape) (account t queue rows) (Arrive packet)
+arrive-stray shape t queue packet rows i d refusal place first = rule-applies (stray_rules packet (reservation_in (get_or rows i d)) (get_or rows i d).taken) (slots-rule shape queue.here (get_or rows i d) ∷ []) (taken-reply t packet (get_or rows i d)) refusal first ∙ sym (arrive-found shape t queue packet rows i d place)
 
-pub arrive-full : (shape : LinkShape) (t : ℕ) (packets : Packets) (packet : Packet) (rows : List ServedRow) (i : ℕ) (d : ServedRow) (refusal : Refusal) → IsPlaceOf packet.chan rows i → None ≡ stray packet (reservation_in (get_or rows i d)) (get_or rows i d).taken
-    → Some refusal ≡ slots-rule shape packets.here.items (get_or rows i d) → Refused refusal ≡ kept_reply (whole shape) (account t packets rows) (Arrive packet)
-arrive-full shape t packets packet rows i d refusal place none holds =
-    rule-applies (slots-rule shape packets.here.items (get_or rows i d) ∷ []) [] (taken-reply t packet (get_or rows i d)) refusal (one-rule (slots-rule shape packets.here.items (get_or rows i d)) refusal holds)
-    ∙ rules-kept (stray_rules packet (reservation_in (get_or rows i d)) (get_or rows i d).taken) (slots-rule shape packets.here.items (get_or rows i d) ∷ []) (taken-reply t packet (get_or rows i d)) none ∙ sym (arrive-found shape t packets packet rows i d place) where
+pub arrive-full : (shape : LinkShape) (t : ℕ) (queue : KeptQueue) (packet : Packet) (rows : List ServedRow) (i : ℕ) (d : ServedRow) (refusal : Refusal) → IsPlaceOf packet.chan rows i → None ≡ stray packet (reservation_in (get_or rows i d)) (get_or rows i d).taken
+    → Some refusal ≡ slots-rule shape queue.here (get_or rows i d) → Refused refusal ≡ kept_reply (whole shape) (account t queue rows) (Arrive packet)
+arrive-full shape t queue packet rows i d refusal place none holds =
+    rule-applies (slots-rule shape queue.here (get_or rows i d) ∷ []) [] (taken-reply t packet (get_or rows i d)) refusal (one-rule (slots-rule shape queue.here (get_or rows i d)) refusal holds)
+    ∙ rules-kept (stray_rules packet (reservation_in (get_or rows i d)) (get_or rows i d).taken) (slots-rule shape queue.here (get_or rows i d) ∷ []) (taken-reply t packet (get_or rows i d)) none ∙ sym (arrive-found shape t queue packet rows i d place) where
       one-rule : (rule : RefusalRule) (refusal : Refusal) → Some refusal ≡ rule → Some refusal ≡ first_rule (rule ∷ [])
       one-rule None refusal same = same
       one-rule (Some other) refusal same = same
 
-pub arrive-taken : (shape : LinkShape) (t : ℕ) (packets : Packets) (packet : Packet) (rows : List ServedRow) (i : ℕ) (d : ServedRow) (e : ℕ) → IsPlaceOf packet.chan rows i → None ≡ stray packet (reservation_in (get_or rows i d)) (get_or rows i d).taken
-    → None ≡ slots-rule shape packets.here.items (get_or rows i d) → e ≡ eligible_next (reservation_in (get_or rows i d)) (row_in (get_or rows i d)).recent t packet.due → Taken t e ≡ kept_reply (whole shape) (account t packets rows) (Arrive packet)
-arrive-taken shape t packets packet rows i d e place none free tick =
+pub arrive-taken : (shape : LinkShape) (t : ℕ) (queue : KeptQueue) (packet : Packet) (rows : List ServedRow) (i : ℕ) (d : ServedRow) (e : ℕ) → IsPlaceOf packet.chan rows i → None ≡ stray packet (reservation_in (get_or rows i d)) (get_or rows i d).taken
+    → None ≡ slots-rule shape queue.here (get_or rows i d) → e ≡ eligible_next (reservation_in (get_or rows i d)) (row_in (get_or rows i d)).recent t packet.due → Taken t e ≡ kept_reply (whole shape) (account t queue rows) (Arrive packet)
+arrive-taken shape t queue packet rows i d e place none free tick =
     ap (Taken t) tick
-    ∙ rule-none (slots-rule shape packets.here.items (get_or rows i d)) (taken-reply t packet (get_or rows i d)) free
-    ∙ rules-kept (stray_rules packet (reservation_in (get_or rows i d)) (get_or rows i d).taken) (slots-rule shape packets.here.items (get_or rows i d) ∷ []) (taken-reply t packet (get_or rows i d)) none ∙ sym (arrive-found shape t packets packet rows i d place) where
+    ∙ rule-none (slots-rule shape queue.here (get_or rows i d)) (taken-reply t packet (get_or rows i d)) free
+    ∙ rules-kept (stray_rules packet (reservation_in (get_or rows i d)) (get_or rows i d).taken) (slots-rule shape queue.here (get_or rows i d) ∷ []) (taken-reply t packet (get_or rows i d)) none ∙ sym (arrive-found shape t queue packet rows i d place) where
       rule-none : (rule : RefusalRule) (reply : Reply) → None ≡ rule → reply ≡ first_refusal (rule ∷ []) reply
       rule-none None reply none = refl
       rule-none (Some other) reply none = cc
@@ -106,14 +106,14 @@ next-number packet terms taken none =
     eqb-true packet.number (suc taken) (unless-none (nat_eq packet.number (suc taken)) (Stray (WrongNumber (suc taken))) kept)
 
 -- what is kept with the packet
-pub arrive-kept : (shape : LinkShape) (t e : ℕ) (old new : Packets) (packet : Packet) (rows : List ServedRow) (i : ℕ) (d row : ServedRow) (taken : HeldPacket) → IsPlaceOf packet.chan rows i
+pub arrive-kept : (shape : LinkShape) (t e : ℕ) (old new : KeptQueue) (packet : Packet) (rows : List ServedRow) (i : ℕ) (d row : ServedRow) (taken : HeldPacket) → IsPlaceOf packet.chan rows i
     → packet.number ≡ suc (get_or rows i d).taken
     → row_in row ≡ kept_with (old.taken + 1) (eligible_next (reservation_in (get_or rows i d)) (row_in (get_or rows i d)).recent t packet.due) (row_in (get_or rows i d))
     → arrival_in taken ≡ arrival_at (reservation_in (get_or rows i d)) (get_or rows i d).lead (old.taken + 1) (suc (get_or rows i d).taken) packet.size t (eligible_next (reservation_in (get_or rows i d)) (row_in (get_or rows i d)).recent t packet.due)
-    → new.taken ≡ old.taken + 1 → new.here.items ≡ old.here.items ++ taken ∷ [] → new.on ≡ old.on → new.best ≡ old.best
+    → new ≡ record old { taken = old.taken + 1; here = old.here ++ arrival_in taken ∷ []; looked = new.looked }
     → account t new (set rows i row) ≡ kept_after shape (account t old rows) (Arrive packet) (Taken t e)
 unfolding kept_after kept_with_arrival
-arrive-kept shape t e old new packet rows i d row taken place number same arrived count pushed on best =
+arrive-kept shape t e old new packet rows i d row taken place number same arrived kept =
     let was = get_or rows i d in
     let tick = eligible_next (reservation_in was) (row_in was).recent t packet.due in
     let next : old.taken + 1 ≡ suc old.taken = omega arith in
@@ -122,17 +122,16 @@ arrive-kept shape t e old new packet rows i d row taken place number same arrive
     kept-changed (is_served_row_of packet.chan) (is_kept_of packet.chan) (kept_arrived_row t (suc old.taken) packet) (λ r. refl) rows i row d place (same ∙ ap (λ n. kept_with n tick (row_in was)) next) in
     let put : arrival_in taken ≡ kept_arrived t (suc old.taken) packet (row_in was) =
     arrived ∙ ap (λ n. arrival_at (reservation_in was) was.lead n (suc was.taken) packet.size t tick) next ∙ ap (λ n. arrival_at (reservation_in was) was.lead (suc old.taken) n packet.size t tick) (sym number) in
-    let here : here_in new.here.items ≡ here_in old.here.items ++ kept_arrived t (suc old.taken) packet (row_in was) ∷ [] =
-    ap here_in pushed ∙ map_push arrival_in old.here.items taken ∙ ap (λ p. here_in old.here.items ++ p ∷ []) put in
-    same-kept (account t new (set rows i row)) (kept_with_arrival packet (account t old rows) (Some (row_in was))) refl (count ∙ next) changed here (ap on_in on) (ap left_in best)
+    let here : new.here ≡ old.here ++ kept_arrived t (suc old.taken) packet (row_in was) ∷ [] =
+    ap (λ (queue : KeptQueue). queue.here) kept ∙ ap (λ p. old.here ++ p ∷ []) put in
+    same-kept (account t new (set rows i row)) (kept_with_arrival packet (account t old rows) (Some (row_in was))) refl (ap (λ (queue : KeptQueue). queue.taken) kept ∙ next) changed here (ap (λ (queue : KeptQueue). queue.on) kept) (ap (λ (queue : KeptQueue). queue.best) kept)
     ∙ ap (kept_with_arrival packet (account t old rows)) (sym found)
 
 -- so where the account with the packet is sound, there was a place for it
-pub arrive-room : (shape : LinkShape) (room t e : ℕ) (packets : Packets) (packet : Packet) (rows : List ServedRow) (i : ℕ) (d : ServedRow) → IsPlaceOf packet.chan rows i → IsSound shape room (kept_after shape (account t packets rows) (Arrive packet) (Taken t e)) → length packets.here.items < room
+pub arrive-room : (shape : LinkShape) (room t e : ℕ) (queue : KeptQueue) (packet : Packet) (rows : List ServedRow) (i : ℕ) (d : ServedRow) → IsPlaceOf packet.chan rows i → IsSound shape room (kept_after shape (account t queue rows) (Arrive packet) (Taken t e)) → length queue.here < room
 unfolding kept_after kept_with_arrival
-arrive-room shape room t e packets packet rows i d place sound =
+arrive-room shape room t e queue packet rows i d place sound =
     let found = kept-found (is_served_row_of packet.chan) (is_kept_of packet.chan) (λ r. refl) rows i d place in
-    let upto = rows-upto shape room (kept_with_arrival packet (account t packets rows) (Some (row_in (get_or rows i d)))) (subst (λ o. IsSound shape room (kept_with_arrival packet (account t packets rows) o)) found sound) in
-    let more = length-append (here_in packets.here.items) (kept_arrived t (suc packets.taken) packet (row_in (get_or rows i d)) ∷ []) in
-    let long = length-map packets.here.items arrival_in in
-    omega (arith, upto, more, long)
+    let upto = rows-upto shape room (kept_with_arrival packet (account t queue rows) (Some (row_in (get_or rows i d)))) (subst (λ o. IsSound shape room (kept_with_arrival packet (account t queue rows) o)) found sound) in
+    let more = length-append queue.here (kept_arrived t (suc queue.taken) packet (row_in (get_or rows i d)) ∷ []) in
+    omega (arith, upto, more)

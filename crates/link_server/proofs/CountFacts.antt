@@ -10,8 +10,8 @@ use Rattle.std.specs.Prelude.{filter, nat_eq, nat_lt, if◌then◌else◌}
 use Rattle.traffic_contract.specs.Admission.{total}
 use Rattle.link_steps.specs.Buffer.{has_lead, held_packets}
 use Rattle.link_steps.specs.Service.{Arrival}
-use Rattle.link_server.specs.declared.lead_count.Count.{Count}
-use Rattle.link_server.specs.declared.held_packet.HeldPacket.{HeldPacket}
+use Rattle.link_server.specs.declared.queue.lead_count.Count.{Count}
+use Rattle.link_server.specs.declared.queue.held_packet.HeldPacket.{HeldPacket}
 use Rattle.link_server.specs.Counts.{share_of, counted, packets_in, all_counted, one_of, IsCountAt, IsGapFor, AreByLead, AreCounts}
 use Rattle.link_server.specs.Packets.{arrival_in, here_in}
 

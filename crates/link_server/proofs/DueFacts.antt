@@ -6,7 +6,7 @@ use Rattle.std.specs.List.{All}
 use Rattle.std.specs.List.Sorted.{IsPermutation}
 use Rattle.link_steps.specs.Lists.{Each}
 use Rattle.tick_calendar.specs.Calendar.{Entry, TakesDue, key_at, without_place}
-use Rattle.link_server.specs.declared.line.Rank.{Rank}
+use Rattle.link_server.specs.declared.queue.line.Rank.{Rank}
 use Rattle.link_server.specs.Keys.{rank_at, ranks_at, queues_at, key_of, keys_of, times, held_at, IsUnderTick, AreKeyed, AreInOrder}
 use Rattle.link_server.specs.Line.{AreAfter, AreFrom}
 use Rattle.link_server.specs.Queues.{joined, pushed}

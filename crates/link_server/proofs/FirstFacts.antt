@@ -5,7 +5,7 @@ use Rattle.std.specs.List.Sorted.{IsPermutation}
 use Rattle.slab.specs.Slab.{Slab, Updates}
 use Rattle.link_steps.proofs.ListFacts.{Each-append}
 use Rattle.tick_calendar.specs.Calendar.{Entry}
-use Rattle.link_server.specs.declared.line.Rank.{Rank}
+use Rattle.link_server.specs.declared.queue.line.Rank.{Rank}
 use Rattle.link_server.specs.Keys.{rank_at, ranks_at, queues_at, keys_of, AreKeyed, AreInOrder}
 use Rattle.link_server.specs.Line.{IsAfter, AreAfter, IsNext}
 use Rattle.link_server.specs.Queues.{joined, first_of, after_first}

@@ -222,7 +222,7 @@ places-least levels shape clock taken (row ∷ rows) each =
 pub places-few : (link : LinkState) → link.keeping.places < 2 ^ 40
 places-few link =
     let same = keeping-places link.shape.buffer link.shape.bounds link.keeping link.rows.items link.keeps in
-    let least = places-least (length link.shape.bounds) link.shape link.clock link.packets.taken (kept_in link).rows link.sound.rows in
+    let least = places-least (length link.shape.bounds) link.shape link.clock link.queue.taken (kept_in link).rows link.sound.rows in
     let whole = link.keeps.whole in
     let units = link.keeps.units in
     let held = ap (total (kept_units link.shape.bounds)) (terms-kept link.rows.items) in

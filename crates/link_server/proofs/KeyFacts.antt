@@ -10,7 +10,7 @@ use Rattle.slab.specs.Slab.{Slab, Updates, get}
 use Rattle.link_steps.specs.Lists.{Each}
 use Rattle.link_steps.proofs.ListFacts.{Each-append}
 use Rattle.tick_calendar.specs.Calendar.{Entry}
-use Rattle.link_server.specs.declared.line.Rank.{Rank}
+use Rattle.link_server.specs.declared.queue.line.Rank.{Rank}
 use Rattle.link_server.specs.Keys.{rank_told, rank_at, ranks_at, queues_at, key_of, keys_of, keys_in, times, held_at, IsUnderTick, AreKeyed}
 use Rattle.link_server.specs.Queues.{joined, first_of, after_first, pushed}
 use Rattle.link_server.proofs.QueueFacts.{Each-parts, comes-before, moved-between, joined-first, joined-map, pushed-map}

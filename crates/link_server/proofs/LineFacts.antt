@@ -3,7 +3,7 @@ use Rattle.std.proofs.Common.{◌≡◌, ℕ, ◌+◌, ◌<◌, ◌≤◌, Bool,
 use Rattle.std.proofs.lemmas.List.{at_drop_more, at_drop_all}
 use Rattle.std.specs.Prelude.{filter}
 use Rattle.link_steps.specs.Service.{Arrival}
-use Rattle.link_server.specs.declared.held_packet.HeldPacket.{HeldPacket}
+use Rattle.link_server.specs.declared.queue.held_packet.HeldPacket.{HeldPacket}
 use Rattle.link_server.specs.Packets.{arrival_in, here_in}
 
 -- ---- the packets that pass a test, counted place by place

@@ -13,7 +13,7 @@ use Rattle.link_steps.specs.Quiet.{IsEligibleFrom}
 use Rattle.link_steps.specs.Service.{Arrival, Start, goes_before, sooner, first_in_line}
 use Rattle.link_steps.proofs.ListFacts.{Each-append, Each-if, Each-both, Each-filter, filter-none}
 use Rattle.link_steps.proofs.ServiceFacts.{first_in_line-fact}
-use Rattle.link_server.specs.declared.line.Rank.{Rank}
+use Rattle.link_server.specs.declared.queue.line.Rank.{Rank}
 use Rattle.link_server.specs.InLine.{is_rank_of, IsIn, AreIn, AreRising, HasRank, IsStale}
 use Rattle.link_server.specs.Line.{AreAfter, AreFrom, IsBehind, IsNext}
 use Rattle.link_server.specs.Rank.{stands_before}

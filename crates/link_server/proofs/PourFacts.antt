@@ -1,5 +1,5 @@
 -- The answers to a pour, case by case, and the best-effort packet of a tick.
-use Rattle.std.proofs.Common.{◌≡◌, ℕ, suc, ◌<◌, ◌≤◌, Bool, true, false, List, length, Option, Some, None, refl, sym, ap, ◌∙◌}
+use Rattle.std.proofs.Common.{◌≡◌, ℕ, suc, ◌+◌, ◌<◌, ◌≤◌, ◌++◌, ◌∷◌, [], Bool, true, false, List, length, Option, Some, None, refl, sym, ap, ◌∙◌, arith}
 use Rattle.std.proofs.lemmas.Bool.{lt-leb, le-leb}
 use Rattle.std.specs.Prelude.{find, filter, nat_lt}
 use Rattle.net_units.specs.Numbers.{channel_number}
@@ -13,44 +13,43 @@ use Rattle.link_steps.specs.declared.shape.LinkShape.{LinkShape}
 use Rattle.link_steps.specs.Kept.{Kept, waits_here, kept_waiting, kept_best, kept_reply, kept_after}
 use Rattle.link_steps.specs.Refusals.{busy}
 use Rattle.link_steps.specs.Replies.{pour_reply}
-use Rattle.link_steps.specs.Rows.{SourcePacket, planned_from, is_for}
-use Rattle.link_steps.specs.BestEffort.{best_step, best_arrival}
-use Rattle.link_steps.specs.Sources.{Rests, Brings, Drops, source_step}
+use Rattle.link_steps.specs.Rows.{SourcePacket, planned_from, is_for, left_at}
+use Rattle.link_steps.specs.BestEffort.{best_step, best_arrival, best_packet}
+use Rattle.link_steps.specs.Sources.{SourceStep, Rests, Brings, Drops, source_step, taken_by}
+use Rattle.std.proofs.lemmas.List.{append-nil}
+use Rattle.link_server.proofs.AccountFacts.{queue-same}
 use Rattle.link_steps.specs.Split.{whole}
 use Rattle.link_server.specs.Account.{account}
-use Rattle.link_server.specs.Planned.{left_in, size_of}
+use Rattle.link_server.specs.Planned.{size_of}
 use Rattle.link_server.specs.declared.served_row.ServedRow.{ServedRow}
-use Rattle.link_server.specs.declared.packets.Packets.{Packets}
-use Rattle.link_server.proofs.PlanFacts.{planned-length, after-none, none-left}
+use Rattle.link_server.specs.KeptQueue.{KeptQueue}
+use Rattle.link_server.proofs.PlanFacts.{after-none, none-left}
 use Rattle.net_units.proofs.NumberFacts.{same-channel}
-
-pub left-counted : (packets : Packets) → length (left_in packets.best) ≡ packets.best.count
-left-counted packets = planned-length packets.best.tick packets.best.gap packets.best.size packets.best.count
 
 -- the account with another best-effort plan
 abbrev pub with_plan : Kept → List SourcePacket → Kept
 with_plan k plan = record k { best_left = plan }
 
-pub pour-busy : (shape : LinkShape) (t : ℕ) (packets : Packets) (rows : List ServedRow) (count gap size : ℕ) (refusal : Refusal) → Some refusal ≡ busy packets.best.count → Refused refusal ≡ kept_reply (whole shape) (account t packets rows) (Pour count gap size)
+pub pour-busy : (shape : LinkShape) (t : ℕ) (queue : KeptQueue) (rows : List ServedRow) (count gap size : ℕ) (refusal : Refusal) → Some refusal ≡ busy (length queue.best) → Refused refusal ≡ kept_reply (whole shape) (account t queue rows) (Pour count gap size)
 unfolding kept_reply pour_reply
-pour-busy shape t packets rows count gap size refusal left = rw (left-counted packets, sym left) refl
+pour-busy shape t queue rows count gap size refusal left = rw (sym left) refl
 
-pub pour-big : (shape : LinkShape) (t : ℕ) (packets : Packets) (rows : List ServedRow) (count gap size : ℕ) → None ≡ busy packets.best.count → shape.cap < size → Refused (TooBig size shape.cap) ≡ kept_reply (whole shape) (account t packets rows) (Pour count gap size)
+pub pour-big : (shape : LinkShape) (t : ℕ) (queue : KeptQueue) (rows : List ServedRow) (count gap size : ℕ) → None ≡ busy (length queue.best) → shape.cap < size → Refused (TooBig size shape.cap) ≡ kept_reply (whole shape) (account t queue rows) (Pour count gap size)
 unfolding kept_reply pour_reply
-pour-big shape t packets rows count gap size left big = rw (left-counted packets, sym left, lt-leb size shape.cap big) refl
+pour-big shape t queue rows count gap size left big = rw (sym left, lt-leb size shape.cap big) refl
 
-pub pour-planned : (shape : LinkShape) (t : ℕ) (packets : Packets) (rows : List ServedRow) (count gap size : ℕ) → None ≡ busy packets.best.count → size ≤ shape.cap → Planned t ≡ kept_reply (whole shape) (account t packets rows) (Pour count gap size)
+pub pour-planned : (shape : LinkShape) (t : ℕ) (queue : KeptQueue) (rows : List ServedRow) (count gap size : ℕ) → None ≡ busy (length queue.best) → size ≤ shape.cap → Planned t ≡ kept_reply (whole shape) (account t queue rows) (Pour count gap size)
 unfolding kept_reply pour_reply
-pour-planned shape t packets rows count gap size left small = rw (left-counted packets, sym left, le-leb size shape.cap small) refl
+pour-planned shape t queue rows count gap size left small = rw (sym left, le-leb size shape.cap small) refl
 
 pub pour-same : (shape : LinkShape) (k : Kept) (count gap size : ℕ) (refusal : Refusal) → k ≡ kept_after shape k (Pour count gap size) (Refused refusal)
 unfolding kept_after
 pour-same shape k count gap size refusal = refl
 
-pub pour-kept : (shape : LinkShape) (t : ℕ) (packets : Packets) (rows : List ServedRow) (count gap size clock : ℕ) → None ≡ busy packets.best.count → with_plan (account t packets rows) (planned_from t gap size count) ≡ kept_after shape (account t packets rows) (Pour count gap size) (Planned clock)
+pub pour-kept : (shape : LinkShape) (t : ℕ) (queue : KeptQueue) (rows : List ServedRow) (count gap size clock : ℕ) → None ≡ busy (length queue.best) → account t (record queue { best = planned_from t gap size count }) rows ≡ kept_after shape (account t queue rows) (Pour count gap size) (Planned clock)
 unfolding kept_after
-pour-kept shape t packets rows count gap size clock left =
-    ap (with_plan (account t packets rows)) (after-none (left_in packets.best) (planned_from t gap size count) (left-counted packets ∙ none-left packets.best.count left))
+pour-kept shape t queue rows count gap size clock left =
+    ap (with_plan (account t queue rows)) (after-none queue.best (planned_from t gap size count) (none-left (length queue.best) left))
 
 -- ---- the step of the best-effort plan, where its packet fits or not
 
@@ -93,3 +92,29 @@ best-made bounds place size t level chan none below =
     ap (λ n. made n chan) below ∙ ap (made (suc (length bounds))) (same-channel chan (best_arrival bounds place size t).chan none) where
       made : ℕ → ChanNo → Arrival
       made n c = record { place = place; lead = place; chan = c; number = 0; size = size; at = t; eligible = t; level = n; next = None }
+
+-- ---- the queue once the step is made
+
+-- the queue after a step of the best-effort plan
+abbrev pub stepped-queue : List ℕ → ℕ → KeptQueue → SourceStep → ℕ → KeptQueue
+stepped-queue bounds clock queue step looked =
+    record queue { taken = queue.taken + taken_by step; here = queue.here ++ best_packet step bounds (suc queue.taken) clock; best = left_at (clock + 1) queue.best; looked = looked }
+
+-- a step that takes no packet leaves the plan alone behind
+nothing-taken : (bounds : List ℕ) (clock : ℕ) (queue : KeptQueue) (left : List SourcePacket) → left ≡ left_at (clock + 1) queue.best → record queue { best = left } ≡ stepped-queue bounds clock queue Rests queue.looked
+nothing-taken bounds clock queue left over =
+    let same : queue.taken ≡ queue.taken + 0 = omega arith in
+    queue-same (record queue { best = left }) (stepped-queue bounds clock queue Rests queue.looked) same (sym (append-nil queue.here)) refl over refl refl
+
+pub rests-queue : (bounds : List ℕ) (clock : ℕ) (queue : KeptQueue) (left : List SourcePacket) (step : SourceStep) → step ≡ Rests → left ≡ left_at (clock + 1) queue.best → record queue { best = left } ≡ stepped-queue bounds clock queue step queue.looked
+rests-queue bounds clock queue left step is over = rw is (nothing-taken bounds clock queue left over)
+
+pub drops-queue : (bounds : List ℕ) (clock : ℕ) (queue : KeptQueue) (left : List SourcePacket) (step : SourceStep) → step ≡ Drops → left ≡ left_at (clock + 1) queue.best → record queue { best = left } ≡ stepped-queue bounds clock queue step queue.looked
+drops-queue bounds clock queue left step is over = rw is (nothing-taken bounds clock queue left over)
+
+pub brings-queue : (bounds : List ℕ) (clock size looked : ℕ) (queue : KeptQueue) (left : List SourcePacket) (step : SourceStep) (packet : Arrival) → step ≡ Brings size → left ≡ left_at (clock + 1) queue.best → packet ≡ best_arrival bounds (queue.taken + 1) size clock
+    → record queue { taken = queue.taken + 1; here = queue.here ++ packet ∷ []; best = left; looked = looked } ≡ stepped-queue bounds clock queue step looked
+brings-queue bounds clock size looked queue left step packet is over made =
+    let next : queue.taken + 1 ≡ suc queue.taken = omega arith in
+    let put : queue.here ++ packet ∷ [] ≡ queue.here ++ best_arrival bounds (suc queue.taken) size clock ∷ [] = ap (λ p. queue.here ++ p ∷ []) (made ∙ ap (λ n. best_arrival bounds n size clock) next) in
+    rw is (queue-same (record queue { taken = queue.taken + 1; here = queue.here ++ packet ∷ []; best = left; looked = looked }) (stepped-queue bounds clock queue (Brings size) looked) refl put refl over refl refl)

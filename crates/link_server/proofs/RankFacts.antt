@@ -8,7 +8,7 @@ use Rattle.std.proofs.lemmas.Option.{same_Some}
 use Rattle.std.specs.List.Sorted.{IsPermutation}
 use Rattle.link_steps.specs.Lists.{Each}
 use Rattle.link_steps.proofs.ListFacts.{Each-append, Each-if, Each-both}
-use Rattle.link_server.specs.declared.line.Rank.{Rank}
+use Rattle.link_server.specs.declared.queue.line.Rank.{Rank}
 use Rattle.link_server.specs.Keys.{AreInOrder}
 use Rattle.link_server.specs.Line.{AreAfter, IsAfter, IsBehind, IsNext}
 use Rattle.link_server.specs.Queues.{joined, first_of, after_first, pushed}

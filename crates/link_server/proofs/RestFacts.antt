@@ -12,10 +12,9 @@ use Rattle.link_steps.proofs.ListFacts.{Each-if}
 use Rattle.net_units.specs.Numbers.{channel_number}
 use Rattle.tick_calendar.specs.Calendar.{Entry, Schedule}
 use Rattle.link_server.specs.declared.served_row.ServedRow.{ServedRow}
-use Rattle.link_server.specs.declared.packets.Packets.{Packets}
+use Rattle.link_server.specs.KeptQueue.{KeptQueue}
 use Rattle.link_server.specs.Account.{account}
 use Rattle.link_server.specs.Holds.{AreListed, IsListed, tells_end}
-use Rattle.link_server.specs.Packets.{here_in, on_in}
 use Rattle.link_server.specs.Plans.{ArePlanned, IsTold}
 use Rattle.link_server.specs.Planned.{IsPlannedFrom, left_in}
 use Rattle.link_server.specs.Resting.{RestsFromClock}
@@ -62,10 +61,10 @@ rows-rest bounds clock until holds plans (row ∷ rows) held planned listed told
 )
 
 -- so the account rests, where no packet starts or departs before either
-pub rests-by : (shape : LinkShape) (clock until : ℕ) (holds plans : Schedule) (packets : Packets) (rows : List ServedRow) → All (λ entry. until ≤ entry.0) holds.entries → All (λ entry. until ≤ entry.0) plans.entries
-    → AreListed shape.bounds clock holds (map row_in rows) → ArePlanned clock plans (map row_in rows) → Each (IsPlannedFrom until) (left_in packets.best) → ServiceRests shape.rate until (here_in packets.here.items) (on_in packets.on)
-    → RestsUntil shape until (account clock packets rows)
-rests-by shape clock until holds plans packets rows held planned listed told best service = record {
+pub rests-by : (shape : LinkShape) (clock until : ℕ) (holds plans : Schedule) (queue : KeptQueue) (rows : List ServedRow) → All (λ entry. until ≤ entry.0) holds.entries → All (λ entry. until ≤ entry.0) plans.entries
+    → AreListed shape.bounds clock holds (map row_in rows) → ArePlanned clock plans (map row_in rows) → Each (IsPlannedFrom until) queue.best → ServiceRests shape.rate until queue.here queue.on
+    → RestsUntil shape until (account clock queue rows)
+rests-by shape clock until holds plans queue rows held planned listed told best service = record {
   rows = rows-rest shape.bounds clock until holds plans rows held planned listed.listed told.told;
   best = best;
   service = service;

@@ -1,19 +1,19 @@
 -- The packet that occupies the link in a tick can go on in it, and departs at its end if that is its last tick.
-use Rattle.std.proofs.Common.{◌≡◌, ℕ, suc, ◌+◌, ◌≤◌, Bool, true, false, cond, not, List, [], ◌∷◌, Option, Some, None, refl, sym, ap, ◌∙◌, subst, arith}
-use Rattle.std.proofs.lemmas.Bool.{leb-true, eq-eqb, cond_both}
+use Rattle.std.proofs.Common.{◌≡◌, ℕ, suc, ◌+◌, ◌<◌, ◌≤◌, Bool, true, false, cond, not, List, [], ◌∷◌, Option, Some, None, refl, sym, ap, ◌∙◌, subst, arith}
+use Rattle.std.proofs.lemmas.Bool.{leb-true, lt-leb, le-leb, eq-eqb, cond_both}
 use Rattle.std.specs.Prelude.{filter, is_some}
 use Rattle.link_steps.specs.declared.shape.LinkShape.{LinkShape}
 use Rattle.link_steps.specs.declared.replies.Sent.{Sent}
 use Rattle.link_steps.specs.BestEffort.{is_best}
-use Rattle.link_steps.specs.Kept.{is_eligible_by, start_at, served, departs, best_departs}
+use Rattle.link_steps.specs.Kept.{is_eligible_by, is_other, start_at, served, departs, best_departs, still_here, still_on}
 use Rattle.link_steps.specs.Lists.{Each}
 use Rattle.link_steps.specs.Replies.{sent_of}
 use Rattle.link_steps.specs.Service.{Arrival, Start, leaves_at, first_in_line}
 use Rattle.link_steps.proofs.ServiceFacts.{first_in_line-fact}
 use Rattle.traffic_contract.proofs.LoadFacts.{ceil_quotient-some}
-use Rattle.link_server.specs.declared.held_packet.HeldPacket.{HeldPacket}
-use Rattle.link_server.specs.declared.held_packet.Running.{Running}
-use Rattle.link_server.specs.Packets.{here_in, on_in, start_in}
+use Rattle.link_server.specs.declared.queue.held_packet.Running.{Running}
+use Rattle.link_server.specs.KeptQueue.{KeptQueue}
+use Rattle.link_server.specs.Packets.{on_in, start_in}
 use Rattle.link_server.specs.Serving.{ServiceGoesOn, CanServe}
 
 -- those of the packets here that are eligible
@@ -46,9 +46,9 @@ goes-on shape clock here None start can same some =
     same some
 
 -- so can the one that the code finds to occupy it
-pub running-goes-on : (shape : LinkShape) (clock : ℕ) (here : List HeldPacket) (on occupant : Option Running) (running : Running) → CanServe shape clock (on_in on) → on_in occupant ≡ served clock (here_in here) (on_in on) → occupant ≡ Some running → ServiceGoesOn shape clock (start_in running)
+pub running-goes-on : (shape : LinkShape) (clock : ℕ) (here : List Arrival) (on : Option Start) (occupant : Option Running) (running : Running) → CanServe shape clock on → on_in occupant ≡ served clock here on → occupant ≡ Some running → ServiceGoesOn shape clock (start_in running)
 running-goes-on shape clock here on occupant running can same is =
-    goes-on shape clock (here_in here) (on_in on) (start_in running) can (sym same ∙ ap on_in is) running.packet.has_size
+    goes-on shape clock here on (start_in running) can (sym same ∙ ap on_in is) running.packet.has_size
 
 -- where its last tick is over it departs
 pub departs-now : (shape : LinkShape) (clock : ℕ) (occupies : Option Start) (occupant : Option Running) (running : Running) (sent : Option Sent) → ServiceGoesOn shape clock (start_in running) → on_in occupant ≡ occupies → occupant ≡ Some running → leaves_at shape.rate (start_in running) ≤ clock + 1
@@ -70,3 +70,36 @@ best-departs-now shape clock occupies occupant running best goes same is last ma
 pub off-free : (on : Option Running) → is_some on ≡ false → on_in on ≡ None
 off-free None off = refl
 off-free (Some running) off = (let f : true ≡ false = off in cc)
+
+-- ---- the queue once the tick is served
+
+-- the queue in which this packet occupies the link, if one does
+abbrev pub occupied : KeptQueue → Option Start → ℕ → KeptQueue
+occupied queue on looked = record queue { on = on; looked = looked }
+
+-- the queue at the end of the tick in which it did, on a link of this rate
+abbrev pub served-queue : ℕ → ℕ → KeptQueue → Option Start → ℕ → KeptQueue
+served-queue rate clock queue on looked = record queue { here = still_here rate clock on queue.here; on = still_on rate clock on; looked = looked }
+
+-- where none does, nothing departs
+pub none-served : (rate clock looked : ℕ) (queue : KeptQueue) (occupant : Option Running) (on : Option Start) → on_in occupant ≡ on → None ≡ occupant → occupied queue (on_in occupant) looked ≡ served-queue rate clock queue on looked
+none-served rate clock looked queue None on same none = ap (λ o. served-queue rate clock queue o looked) same
+none-served rate clock looked queue (Some running) on same none = cc
+
+-- one that leaves later stays on
+pub goes-on-served : (rate clock looked : ℕ) (queue : KeptQueue) (occupant : Option Running) (on : Option Start) (running : Running) → on_in occupant ≡ on → occupant ≡ Some running → clock + 1 < leaves_at rate (start_in running)
+    → occupied queue (on_in occupant) looked ≡ served-queue rate clock queue on looked
+goes-on-served rate clock looked queue occupant on running same is later =
+    let start = start_in running in
+    let on_is : on ≡ Some start = sym same ∙ ap on_in is in
+    let stays = lt-leb (leaves_at rate start) (suc clock) (omega (arith, later)) in
+    rw (same, on_is, stays) refl
+
+-- and one whose last tick is over departs
+pub departs-served : (rate clock looked : ℕ) (queue : KeptQueue) (occupant : Option Running) (on : Option Start) (running : Running) → on_in occupant ≡ on → occupant ≡ Some running → leaves_at rate (start_in running) ≤ clock + 1
+    → record queue { here = filter (is_other (start_in running)) queue.here; on = None; looked = looked } ≡ served-queue rate clock queue on looked
+departs-served rate clock looked queue occupant on running same is last =
+    let start = start_in running in
+    let on_is : on ≡ Some start = sym same ∙ ap on_in is in
+    let leaves = le-leb (leaves_at rate start) (suc clock) (omega (arith, last)) in
+    rw (on_is, leaves) refl

@@ -1,7 +1,6 @@
 -- A row's step in a tick, by the packet that is planned for it and by whether a slot is free.
 use Rattle.std.proofs.Common.{◌≡◌, ℕ, suc, ◌+◌, ◌≤◌, Bool, true, false, List, [], ◌∷◌, ◌++◌, length, Option, Some, None, refl, sym, ap, ◌∙◌, arith}
 use Rattle.std.proofs.lemmas.Option.{none-some}
-use Rattle.std.proofs.lemmas.List.{map_push}
 use Rattle.std.specs.Prelude.{find, unwrap_or}
 use Rattle.link_steps.specs.Buffer.{has_slot}
 use Rattle.link_steps.specs.Kept.{KeptRow, kept_step, kept_tick, kept_with, kept_packet, kept_after_step, past_tick}
@@ -9,10 +8,10 @@ use Rattle.link_steps.specs.Rows.{SourcePacket, is_for}
 use Rattle.link_steps.specs.Service.{Arrival}
 use Rattle.link_steps.specs.Sources.{SourceStep, Rests, Brings, Drops, source_step, arrival_at, taken_by, dropped_by}
 use Rattle.link_server.specs.Planned.{size_of}
-use Rattle.link_server.specs.Packets.{arrival_in, here_in}
+use Rattle.link_server.specs.Packets.{arrival_in}
 use Rattle.link_server.specs.Rows.{reservation_in, row_in}
 use Rattle.link_server.specs.declared.served_row.ServedRow.{ServedRow}
-use Rattle.link_server.specs.declared.held_packet.HeldPacket.{HeldPacket}
+use Rattle.link_server.specs.declared.queue.held_packet.HeldPacket.{HeldPacket}
 
 rests-where-none : (slot : Bool) (planned : Option SourcePacket) → None ≡ size_of planned → source_step slot planned ≡ Rests
 rests-where-none true None none = refl
@@ -58,14 +57,12 @@ pub slot-same : (bounds : List ℕ) (t : ℕ) (here : List Arrival) (new old : S
 slot-same bounds t here new old same = ap (λ row. has_slot bounds row.terms row.lead here) same
 
 -- the packet that such a row takes, after those here
-pub brought-here : (t size taken place : ℕ) (items new_items : List HeldPacket) (packet : HeldPacket) (new old : ServedRow) → place ≡ taken + 1 → new_items ≡ items ++ packet ∷ [] → row_in new ≡ past_tick t (row_in old)
+pub brought-here : (t size taken place : ℕ) (here : List Arrival) (packet : HeldPacket) (new old : ServedRow) → place ≡ taken + 1 → row_in new ≡ past_tick t (row_in old)
     → arrival_in packet ≡ arrival_at (reservation_in new) new.lead place (suc new.taken) size t (kept_tick (row_in new) t)
-    → here_in new_items ≡ here_in items ++ kept_packet (Brings size) t (suc taken) (row_in old)
-brought-here t size taken place items new_items packet new old number pushed same taking =
+    → here ++ arrival_in packet ∷ [] ≡ here ++ kept_packet (Brings size) t (suc taken) (row_in old)
+brought-here t size taken place here packet new old number same taking =
     let next : place ≡ suc taken = omega (arith, number) in
-    ap here_in pushed
-    ∙ map_push arrival_in items packet
-    ∙ ap (λ p. here_in items ++ p ∷ []) (taking
+    ap (λ p. here ++ p ∷ []) (taking
     ∙ ap (λ row. arrival_at row.terms row.lead place (suc row.taken) size t (kept_tick row t)) same
     ∙ ap (λ n. arrival_at (reservation_in old) old.lead n (suc old.taken) size t (kept_tick (row_in old) t)) next)
 

@@ -2,7 +2,7 @@
 -- is together what all do.
 use Rattle.std.proofs.Common.{◌≡◌, ℕ, zero, suc, ◌+◌, ◌-◌, ◌<◌, ◌≤◌, Bool, true, false, List, [], ◌∷◌, ◌++◌, length, map, take, drop, get_or, set, refl, sym, ap, ◌∙◌, subst, arith}
 use Rattle.std.specs.Prelude.{if◌then◌else◌}
-use Rattle.std.proofs.lemmas.List.{drop_more, drop-drop, get_or-drop, set-get_or, drop-set-lt, take_more_set, map_push, append_assoc, length-append, append-nil, length-map, take-append-le, drop_all, take_all}
+use Rattle.std.proofs.lemmas.List.{drop_more, drop-drop, get_or-drop, set-get_or, drop-set-lt, take_more_set, map_push, append_assoc, length-append, append-nil, take-append-le, drop_all, take_all}
 use Rattle.link_steps.specs.Kept.{KeptRow, kept_packet, kept_after_step, kept_packets, kept_rows_after, kept_lost}
 use Rattle.link_steps.specs.Lists.{Each}
 use Rattle.link_steps.specs.Service.{Arrival}
@@ -10,9 +10,7 @@ use Rattle.link_steps.specs.Sources.{SourceStep, Rests, Brings, Drops, taken_by,
 use Rattle.link_server.specs.Plans.{IsQuiet}
 use Rattle.link_server.specs.Rows.{reservation_in, row_in}
 use Rattle.link_server.specs.Sources.{step_in, brought_by, served_rows_after, lost_by_rows, IsReady, AreReady}
-use Rattle.link_server.specs.Packets.{arrival_in, here_in}
 use Rattle.link_server.specs.declared.served_row.ServedRow.{ServedRow}
-use Rattle.link_server.specs.declared.held_packet.HeldPacket.{HeldPacket}
 use Rattle.link_server.proofs.QuietFacts.{quiet-step, quiet-past}
 use Rattle.link_server.proofs.SourceFacts.{packet-length, lost_by-most}
 
@@ -188,17 +186,13 @@ lost-same true lost n new none is same = absurd (let f : true ≡ false = is in 
 lost-same false lost n new none is same = omega (arith, none, same)
 
 -- packets after those here leave the front of the list
-pub front-same : (before : ℕ) (items new : List HeldPacket) (more : List Arrival) → before ≤ length items → here_in new ≡ here_in items ++ more → take before (here_in new) ≡ take before (here_in items)
-front-same before items new more within brought =
-    let long : length (here_in items) ≡ length items = length-map items arrival_in in
-    ap (take before) brought ∙ take-append-le before (here_in items) more (omega (arith, long, within))
+pub front-same : (before : ℕ) (here new more : List Arrival) → before ≤ length here → new ≡ here ++ more → take before new ≡ take before here
+front-same before here new more within brought = ap (take before) brought ∙ take-append-le before here more within
 
-pub front-within : (before : ℕ) (items new : List HeldPacket) (more : List Arrival) → before ≤ length items → here_in new ≡ here_in items ++ more → before ≤ length new
-front-within before items new more within brought =
-    let long : length (here_in items) ≡ length items = length-map items arrival_in in
-    let longer : length (here_in new) ≡ length new = length-map new arrival_in in
-    let both : length (here_in new) ≡ length (here_in items) + length more = ap length brought ∙ length-append (here_in items) more in
-    omega (arith, long, longer, both, within)
+pub front-within : (before : ℕ) (here new more : List Arrival) → before ≤ length here → new ≡ here ++ more → before ≤ length new
+front-within before here new more within brought =
+    let both = ap length brought ∙ length-append here more in
+    omega (arith, both, within)
 
 -- a step changes no reservation
 pub terms-stepped : (step : SourceStep) (t place : ℕ) (new old : ServedRow) → row_in new ≡ kept_after_step step t place (row_in old) → reservation_in new ≡ reservation_in old

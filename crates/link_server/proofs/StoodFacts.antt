@@ -1,6 +1,6 @@
 -- A state of a link stands for an admissible history from its beginning on, and so its numbers have the bounds that these
 -- promise.
-use Rattle.std.proofs.Common.{◌≡◌, ℕ, zero, suc, ◌*◌, ◌^◌, ◌<◌, ◌≤◌, List, [], ◌∷◌, length, map, take, ⊎_elim, sym, ap, subst, arith}
+use Rattle.std.proofs.Common.{◌≡◌, ℕ, zero, suc, ◌+◌, ◌*◌, ◌^◌, ◌<◌, ◌≤◌, List, [], ◌∷◌, length, map, take, ⊎_elim, sym, ap, subst, arith}
 use Rattle.std.proofs.Math.Nat.{mul-le-mul_right}
 use Rattle.std.proofs.lemmas.Bool.{cases_lt}
 use Rattle.std.proofs.lemmas.List.{length-map}
@@ -40,7 +40,7 @@ use Rattle.link_server.specs.State.{kept_in}
 use Rattle.link_server.specs.Stood.{IsStood}
 use Rattle.link_server.specs.Wants.{ask_for, MayHold}
 use Rattle.link_server.proofs.ChosenFacts.{terms-stand, wanted-admissible}
-use Rattle.link_server.proofs.SoundNumbers.{rows-ready}
+use Rattle.link_server.proofs.SoundNumbers.{rows-ready, rows-upto}
 use Rattle.link_server.proofs.StepFacts.{rows-have, step-admissible}
 
 -- ---- every state stands
@@ -133,22 +133,22 @@ rows-units shape clock taken (row ∷ rows) each =
 pub rows-few : (link : LinkState) → length link.rows.items < 2 ^ 32
 rows-few link =
     let units = units-stood link.shape (kept_in link) link.stood in
-    let rows = rows-units link.shape link.clock link.packets.taken (kept_in link).rows link.sound.rows in
+    let rows = rows-units link.shape link.clock link.queue.taken (kept_in link).rows link.sound.rows in
     let long = length-map link.rows.items row_in in
     let buffer : link.shape.buffer ≤ 262144 = link.shape.buffer_most in
     omega (arith, units, rows, long, buffer)
 
--- its room is that of a vector, as the packets' counts are
-pub room-small : (link : LinkState) → link.room < 2 ^ 63
-room-small link =
-    let small = link.packets.counts.small in
-    let fit = link.packets.counts_fit in
-    let roomy = link.roomy in
-    omega (arith, small, fit, roomy)
+-- an arrival number is left for one packet more
+pub numbers-left : (link : LinkState) → link.clock < 2 ^ 61 → link.queue.taken + 1 < 2 ^ 64
+numbers-left link early =
+    let most = link.sound.taken_most in
+    let upto = rows-upto link.shape link.queue.room (kept_in link) link.sound in
+    let few = link.few in
+    omega (arith, early, most, upto, few)
 
 -- and each row can make its step in a tick
 pub all-ready : (link : LinkState) → link.clock < 2 ^ 61 → Each (IsReady link.clock) (kept_in link).rows
-all-ready link early = rows-ready link.shape link.room (kept_in link) early (room-small link) link.sound (newest-stood link.shape (kept_in link) early link.stood)
+all-ready link early = rows-ready link.shape link.queue.room (kept_in link) early link.few link.sound (newest-stood link.shape (kept_in link) early link.stood)
 
 -- an ask that is answered leaves a state that stands
 pub still-stood : (link : LinkState) (ask : Ask) (reply : Reply) (next : Kept) → AskFits link.shape ask → reply ≡ kept_reply (whole link.shape) (kept_in link) ask → next ≡ kept_after link.shape (kept_in link) ask reply → IsStood link.shape next

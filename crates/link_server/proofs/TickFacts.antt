@@ -12,21 +12,19 @@ use Rattle.link_steps.specs.BestEffort.{best_packet}
 use Rattle.link_steps.specs.Rows.{left_at}
 use Rattle.link_steps.specs.Sources.{SourceStep, Rests, Brings, Drops, taken_by, dropped_by}
 use Rattle.link_steps.proofs.Account.{same-kept}
-use Rattle.link_server.specs.Planned.{left_in}
 use Rattle.link_server.specs.Account.{account}
-use Rattle.link_server.specs.Packets.{here_in, on_in}
 use Rattle.link_server.specs.Rows.{row_in}
 use Rattle.link_server.specs.Sources.{brought_by, served_rows_after, lost_by_rows}
 use Rattle.link_server.specs.declared.served_row.ServedRow.{ServedRow}
-use Rattle.link_server.specs.declared.packets.Packets.{Packets}
+use Rattle.link_server.specs.KeptQueue.{KeptQueue}
 
 -- the rows that stay bring the packets that the account says
 pub brought-is : (shape : LinkShape) (k : Kept) (rows : List ServedRow) → map row_in rows ≡ held_rows shape k → brought_by shape.bounds k.here k.clock k.taken rows ≡ from_sources shape k
 brought-is shape k rows stay = ap (kept_packets shape.bounds k.here k.clock k.taken) stay
 
 -- so after the best-effort packet has come those are here that the account says
-pub present-is : (shape : LinkShape) (k : Kept) (rows : List ServedRow) (src mid : Packets) (step : SourceStep) → map row_in rows ≡ held_rows shape k → here_in src.here.items ≡ k.here ++ brought_by shape.bounds k.here k.clock k.taken rows → src.taken ≡ k.taken + length (brought_by shape.bounds k.here k.clock k.taken rows)
-    → step ≡ kept_best shape k → here_in mid.here.items ≡ here_in src.here.items ++ best_packet step shape.bounds (suc src.taken) k.clock → here_in mid.here.items ≡ present shape k
+pub present-is : (shape : LinkShape) (k : Kept) (rows : List ServedRow) (src mid : KeptQueue) (step : SourceStep) → map row_in rows ≡ held_rows shape k → src.here ≡ k.here ++ brought_by shape.bounds k.here k.clock k.taken rows → src.taken ≡ k.taken + length (brought_by shape.bounds k.here k.clock k.taken rows)
+    → step ≡ kept_best shape k → mid.here ≡ src.here ++ best_packet step shape.bounds (suc src.taken) k.clock → mid.here ≡ present shape k
 present-is shape k rows src mid step stay here taken is came =
     let count : src.taken ≡ k.taken + length (from_sources shape k) = taken ∙ ap (λ more. k.taken + length more) (brought-is shape k rows stay) in
     came
@@ -36,7 +34,7 @@ present-is shape k rows src mid step stay here taken is came =
     ∙ append_assoc k.here (from_sources shape k) (best_packet (kept_best shape k) shape.bounds (suc (k.taken + length (from_sources shape k))) k.clock)
 
 -- as many have been taken
-pub taken-is : (shape : LinkShape) (k : Kept) (rows : List ServedRow) (src mid : Packets) (step : SourceStep) → map row_in rows ≡ held_rows shape k → src.taken ≡ k.taken + length (brought_by shape.bounds k.here k.clock k.taken rows)
+pub taken-is : (shape : LinkShape) (k : Kept) (rows : List ServedRow) (src mid : KeptQueue) (step : SourceStep) → map row_in rows ≡ held_rows shape k → src.taken ≡ k.taken + length (brought_by shape.bounds k.here k.clock k.taken rows)
     → step ≡ kept_best shape k → mid.taken ≡ src.taken + taken_by step → mid.taken ≡ k.taken + length (brought shape k)
 taken-is shape k rows src mid step stay taken is came =
     let count : src.taken ≡ k.taken + length (from_sources shape k) = taken ∙ ap (λ more. k.taken + length more) (brought-is shape k rows stay) in
@@ -49,12 +47,12 @@ taken-is shape k rows src mid step stay taken is came =
       by-step Drops = refl
 
 -- and the link serves the one that the account says
-pub occupies-is : (shape : LinkShape) (k : Kept) (mid : Packets) → here_in mid.here.items ≡ present shape k → on_in mid.on ≡ k.on → served k.clock (here_in mid.here.items) (on_in mid.on) ≡ occupies shape k
-occupies-is shape k mid here on = ap (λ all. served k.clock all (on_in mid.on)) here ∙ ap (served k.clock (present shape k)) on
+pub occupies-is : (shape : LinkShape) (k : Kept) (mid : KeptQueue) → mid.here ≡ present shape k → mid.on ≡ k.on → served k.clock mid.here mid.on ≡ occupies shape k
+occupies-is shape k mid here on = ap (λ all. served k.clock all mid.on) here ∙ ap (served k.clock (present shape k)) on
 
 -- the reply
-pub tick-replied : (shape : LinkShape) (k : Kept) (rows : List ServedRow) (mid : Packets) (full : ℕ) (sent : Option Sent) (best lost_best : Bool) (step : SourceStep) → map row_in rows ≡ held_rows shape k → full ≡ lost_by_rows shape.bounds k.here k.clock rows
-    → served k.clock (here_in mid.here.items) (on_in mid.on) ≡ occupies shape k → sent ≡ departs shape k.clock (served k.clock (here_in mid.here.items) (on_in mid.on)) → best ≡ best_departs shape k.clock (served k.clock (here_in mid.here.items) (on_in mid.on))
+pub tick-replied : (shape : LinkShape) (k : Kept) (rows : List ServedRow) (mid : KeptQueue) (full : ℕ) (sent : Option Sent) (best lost_best : Bool) (step : SourceStep) → map row_in rows ≡ held_rows shape k → full ≡ lost_by_rows shape.bounds k.here k.clock rows
+    → served k.clock mid.here mid.on ≡ occupies shape k → sent ≡ departs shape k.clock (served k.clock mid.here mid.on) → best ≡ best_departs shape k.clock (served k.clock mid.here mid.on)
     → step ≡ kept_best shape k → lost_best ≡ nat_eq (dropped_by step) 1
     → Ticked k.clock full sent best lost_best ≡ kept_reply (whole shape) k Tick
 unfolding kept_reply kept_tick_reply
@@ -65,21 +63,21 @@ tick-replied shape k rows mid full sent best lost_best step stay lost occupant l
     ∙ ap (Ticked k.clock (kept_lost shape.bounds k.here k.clock (held_rows shape k)) (departs shape k.clock (occupies shape k)) (best_departs shape k.clock (occupies shape k))) (loses ∙ ap (λ s. nat_eq (dropped_by s) 1) is)
 
 -- the account after it
-pub tick-kept : (shape : LinkShape) (k : Kept) (rows last : List ServedRow) (mid new : Packets) (clock : ℕ) (reply : Reply)
+pub tick-kept : (shape : LinkShape) (k : Kept) (rows last : List ServedRow) (mid new : KeptQueue) (clock : ℕ) (reply : Reply)
     → clock ≡ k.clock + 1
     → map row_in rows ≡ held_rows shape k → map row_in last ≡ served_rows_after shape.bounds k.here k.clock k.taken rows
-    → here_in mid.here.items ≡ present shape k → mid.taken ≡ k.taken + length (brought shape k)
-    → served k.clock (here_in mid.here.items) (on_in mid.on) ≡ occupies shape k
+    → mid.here ≡ present shape k → mid.taken ≡ k.taken + length (brought shape k)
+    → served k.clock mid.here mid.on ≡ occupies shape k
     → new.taken ≡ mid.taken
-    → here_in new.here.items ≡ still_here shape.rate k.clock (served k.clock (here_in mid.here.items) (on_in mid.on)) (here_in mid.here.items)
-    → on_in new.on ≡ still_on shape.rate k.clock (served k.clock (here_in mid.here.items) (on_in mid.on))
-    → left_in new.best ≡ left_at (k.clock + 1) k.best_left
+    → new.here ≡ still_here shape.rate k.clock (served k.clock mid.here mid.on) mid.here
+    → new.on ≡ still_on shape.rate k.clock (served k.clock mid.here mid.on)
+    → new.best ≡ left_at (k.clock + 1) k.best_left
     → account clock new last ≡ kept_after shape k Tick reply
 unfolding kept_after kept_after_tick
 tick-kept shape k rows last mid new clock reply next stay stepped here taken occupant kept_taken left on best =
     let one : clock ≡ suc k.clock = omega (arith, next) in
     let later : k.clock + 1 ≡ suc k.clock = omega arith in
     let rows_same = stepped ∙ ap (kept_rows_after shape.bounds k.here k.clock k.taken) stay in
-    let here_same = left ∙ ap (λ start. still_here shape.rate k.clock start (here_in mid.here.items)) occupant ∙ ap (still_here shape.rate k.clock (occupies shape k)) here in
+    let here_same = left ∙ ap (λ start. still_here shape.rate k.clock start mid.here) occupant ∙ ap (still_here shape.rate k.clock (occupies shape k)) here in
     let on_same = on ∙ ap (still_on shape.rate k.clock) occupant in
     same-kept (account clock new last) (kept_after shape k Tick reply) one (kept_taken ∙ taken) rows_same here_same on_same (best ∙ ap (λ t. left_at t k.best_left) later)

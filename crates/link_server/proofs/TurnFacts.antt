@@ -8,8 +8,8 @@ use Rattle.link_steps.specs.Kept.{is_other}
 use Rattle.link_steps.specs.Lists.{Each}
 use Rattle.link_steps.specs.Service.{Arrival, Start}
 use Rattle.link_steps.proofs.ListFacts.{Each-if, filter-all}
-use Rattle.link_server.specs.declared.held_packet.HeldPacket.{HeldPacket}
-use Rattle.link_server.specs.declared.line.Rank.{Rank}
+use Rattle.link_server.specs.declared.queue.held_packet.HeldPacket.{HeldPacket}
+use Rattle.link_server.specs.declared.queue.line.Rank.{Rank}
 use Rattle.link_server.specs.InLine.{is_rank_of, AreRising, HasRank, IsStale}
 use Rattle.link_server.specs.Packets.{arrival_in, here_in}
 use Rattle.link_server.specs.Parting.{PartsAt}

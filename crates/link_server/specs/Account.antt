@@ -3,11 +3,9 @@
 use Rattle.std.specs.Prelude.{ℕ, List, map}
 use Rattle.link_steps.specs.Kept.{Kept}
 use Rattle.link_server.specs.declared.served_row.ServedRow.{ServedRow}
-use Rattle.link_server.specs.declared.packets.Packets.{Packets}
-use Rattle.link_server.specs.Packets.{here_in, on_in}
-use Rattle.link_server.specs.Planned.{left_in}
+use Rattle.link_server.specs.KeptQueue.{KeptQueue}
 use Rattle.link_server.specs.Rows.{row_in}
 
--- the account of a clock, packets and rows
-abbrev pub account : ℕ → Packets → List ServedRow → Kept
-account clock packets rows = record { clock = clock; taken = packets.taken; rows = map row_in rows; here = here_in packets.here.items; on = on_in packets.on; best_left = left_in packets.best }
+-- the account of a clock, a queue of packets and rows
+abbrev pub account : ℕ → KeptQueue → List ServedRow → Kept
+account clock queue rows = record { clock = clock; taken = queue.taken; rows = map row_in rows; here = queue.here; on = queue.on; best_left = queue.best }

@@ -2,12 +2,10 @@
 -- packet. A count stands only for a reservation that has a packet here, so there are no more counts than packets. The counts
 -- stand in the order of their leads.
 use Rattle.std.specs.Prelude.{◌≡◌, ℕ, suc, ◌<◌, ◌≤◌, Bool, true, nat_eq, if◌then◌else◌, List, [], ◌∷◌, length, slice_index_or}
-use Rattle.std.specs.Coded.{×_prop, Unit-prop, le_prop}
-use native.Mathlib.Nat.{ℕ_set}
 use Rattle.traffic_contract.specs.Admission.{total}
 use Rattle.link_steps.specs.Buffer.{held_packets}
 use Rattle.link_steps.specs.Service.{Arrival}
-use Rattle.link_server.specs.declared.lead_count.Count.{Count}
+use Rattle.link_server.specs.declared.queue.lead_count.Count.{Count}
 
 -- whether it is the count of this lead
 abbrev pub is_count_of : ℕ → Count → Bool
@@ -52,11 +50,3 @@ pub record IsGapFor (lead : ℕ) (counts : List Count) (i : ℕ) : Type 0 where
 pub record AreCounts (counts : List Count) (here : List Arrival) : Type 0 where
   pub each : (lead : ℕ) → counted lead counts ≡ held_packets lead here
   pub all : all_counted counts ≡ length here
-
--- there is one proof of it at most
-pub AreByLead-prop : (low : ℕ) (counts : List Count) → IsProp (AreByLead low counts)
-AreByLead-prop low [] = Unit-prop
-AreByLead-prop low (count ∷ counts) = ×_prop le_prop (AreByLead-prop (suc count.lead) counts)
-
-pub AreCounts-prop : (counts : List Count) (here : List Arrival) → IsProp (AreCounts counts here)
-AreCounts-prop counts here = Prim.hlevel ℕ_set

@@ -2,13 +2,11 @@
 -- packet is here is that of the packet which starts; a rank that is no packet's here counts for nothing.
 use Rattle.std.specs.Prelude.{◌≡◌, ℕ, ◌<◌, Bool, true, false, nat_eq, ◌&&◌, Option, Some, None, List, [], ◌∷◌, find}
 use Rattle.std.specs.List.{list_any}
-use Rattle.std.proofs.Math.Bool.{Bool-set}
 use Rattle.link_steps.specs.Kept.{is_other}
 use Rattle.link_steps.specs.Lists.{Each}
 use Rattle.link_steps.specs.Service.{Arrival, Start}
 use Rattle.link_server.specs.Sound.{has_arrival_number}
-use Rattle.link_server.specs.SoundProp.{Each-prop}
-use Rattle.link_server.specs.declared.line.Rank.{Rank}
+use Rattle.link_server.specs.declared.queue.line.Rank.{Rank}
 
 -- whether it is the rank of this packet
 abbrev pub is_rank_of : Arrival → Rank → Bool
@@ -31,13 +29,6 @@ IsIn ranks on p = is_off on p ≡ true → list_any (is_rank_of p) ranks ≡ tru
 -- and so for each packet here
 abbrev pub AreIn : List Rank → Option Start → List Arrival → Type 0
 AreIn ranks on here = Each (IsIn ranks on) here
-
--- there is one proof of it at most
-IsIn-prop : (ranks : List Rank) (on : Option Start) (p : Arrival) → IsProp (IsIn ranks on p)
-IsIn-prop ranks on p = Prim.hlevel Bool-set
-
-pub AreIn-prop : (ranks : List Rank) (on : Option Start) (here : List Arrival) → IsProp (AreIn ranks on here)
-AreIn-prop ranks on here = Each-prop (IsIn ranks on) (IsIn-prop ranks on) here
 
 -- the packets stand in the order of their arrival numbers, which are above this one
 abbrev pub AreRising : ℕ → List Arrival → Type 0

@@ -5,7 +5,7 @@
 use Rattle.std.specs.Prelude.{◌≡◌, ℕ, ◌+◌, if◌then◌else◌, nat_eq, List, [], ◌∷◌, ◌++◌, Option, Some, None, is_some, count_by, map, length, slice_index_or}
 use Rattle.link_steps.specs.Lists.{Each}
 use Rattle.tick_calendar.specs.Calendar.{Entry}
-use Rattle.link_server.specs.declared.line.Rank.{Rank}
+use Rattle.link_server.specs.declared.queue.line.Rank.{Rank}
 use Rattle.link_server.specs.Queues.{joined}
 use Rattle.link_server.specs.Rank.{HasLevel, IsBy, IsUpTo, IsAheadOf, AreByArrival, AreByLevel}
 

@@ -6,6 +6,8 @@ pub mod Sources
 pub mod Strays
 pub mod Wants
 pub mod Packets
+pub mod KeptQueue
+pub mod QueueParts
 pub mod Counts
 pub mod Serving
 pub mod Asks

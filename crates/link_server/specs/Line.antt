@@ -2,8 +2,8 @@
 use Rattle.std.specs.Prelude.{◌≡◌, ℕ, ◌<◌, ◌≤◌, false, List, ◌∷◌, ◌++◌}
 use Rattle.std.specs.List.Sorted.{IsPermutation}
 use Rattle.link_steps.specs.Lists.{Each}
-use Rattle.link_server.specs.declared.line.Line.{Line}
-use Rattle.link_server.specs.declared.line.Rank.{Rank}
+use Rattle.link_server.specs.declared.queue.line.Line.{Line}
+use Rattle.link_server.specs.declared.queue.line.Rank.{Rank}
 use Rattle.link_server.specs.Keys.{keys_of, ranks_at, queues_at}
 use Rattle.link_server.specs.Queues.{joined}
 use Rattle.link_server.specs.Rank.{stands_before}

@@ -4,7 +4,7 @@ use Rattle.std.specs.Coded.{×_prop, Unit-prop, le_prop}
 use mathlib.Core.HLevel.{×₃_prop}
 use native.Mathlib.Nat.{ℕ_set}
 use Rattle.tick_calendar.specs.Calendar.{Entry}
-use Rattle.link_server.specs.declared.line.Rank.{Rank}
+use Rattle.link_server.specs.declared.queue.line.Rank.{Rank}
 use Rattle.link_server.specs.Keys.{AreKeyed, AreInOrder}
 use Rattle.link_server.specs.Rank.{HasLevel, IsAtLevel, IsAhead, IsAheadOf, ArrivedBefore, AreByArrival, AreByTick, AreByLevel}
 use Rattle.link_server.specs.SoundProp.{Each-prop}

@@ -2,8 +2,8 @@
 -- arrival, and the one that occupies it.
 use Rattle.std.specs.Prelude.{Option, Some, None, List, map}
 use Rattle.link_steps.specs.Service.{Arrival, Start}
-use Rattle.link_server.specs.declared.held_packet.HeldPacket.{HeldPacket}
-use Rattle.link_server.specs.declared.held_packet.Running.{Running}
+use Rattle.link_server.specs.declared.queue.held_packet.HeldPacket.{HeldPacket}
+use Rattle.link_server.specs.declared.queue.held_packet.Running.{Running}
 
 -- a packet
 abbrev pub arrival_in : HeldPacket → Arrival

@@ -3,7 +3,7 @@
 -- so there are levels from 1 to 9.
 use Rattle.std.specs.Prelude.{◌≡◌, ℕ, suc, ◌<◌, ◌≤◌, Bool, nat_lt, nat_eq, ◌&&◌, ◌||◌, List, [], ◌∷◌}
 use Rattle.link_steps.specs.Lists.{Each}
-use Rattle.link_server.specs.declared.line.Rank.{Rank}
+use Rattle.link_server.specs.declared.queue.line.Rank.{Rank}
 
 -- whether one rank goes before another
 abbrev pub stands_before : Rank → Rank → Bool

@@ -89,15 +89,15 @@ impl LinkState {
             return Reply::Refused(refusal);
         }
         let bounds = self.shape.bounds;
-        let held = self.packets.held(self.rows[place].lead);
+        let held = self.queue.held(self.rows[place].lead);
         if let Some(refusal) = self.rows[place].full(&bounds, held) {
             return Reply::Refused(refusal);
         }
         self.due = 0;
         let clock = self.clock;
-        let number = self.packets.taken + 1;
+        let number = self.queue.taken() + 1;
         let taken = self.rows[place].take(packet.size, packet.due, number, clock);
-        self.packets.push(taken, clock);
+        self.queue.push(taken, clock);
         put_hold(&mut self.holds, &self.rows[place], &bounds, clock);
         Reply::Taken {
             clock,
@@ -115,7 +115,7 @@ impl LinkState {
         ensures reply { result ≡ kept_reply (whole self.old.shape) (kept_in self.old) (AskPour count gap size) }
         ensures kept { kept_in self.new ≡ kept_after self.old.shape (kept_in self.old) (AskPour count gap size) result }
     {
-        if let Some(refusal) = busy_with(self.packets.best.count) {
+        if let Some(refusal) = busy_with(self.queue.best_left()) {
             return Reply::Refused(refusal);
         }
         if size > self.shape.cap {
@@ -125,12 +125,12 @@ impl LinkState {
             });
         }
         self.due = 0;
-        self.packets.best = Planned {
+        self.queue.plan_best(Planned {
             tick: self.clock,
             gap,
             size,
             count,
-        };
+        });
         Reply::Planned { clock: self.clock }
     }
 
@@ -157,19 +157,19 @@ impl LinkState {
             &shape.bounds,
             clock,
         );
-        let fits = self.packets.best_fits(&shape, clock);
+        let fits = self.queue.best_fits(&shape, clock);
         let full = take_source_packets(
             &mut self.rows,
             &self.index,
             &mut self.plans,
-            &mut self.packets,
+            &mut self.queue,
             &shape.bounds,
             clock,
         );
-        let best_lost = self.packets.take_best(fits, &shape, clock);
-        let left = self.packets.serve(&shape, clock);
+        let best_lost = self.queue.take_best(fits, &shape, clock);
+        let left = self.queue.serve(&shape, clock);
         self.clock += 1;
-        self.due = next_due(&self.packets, &self.holds, &self.plans.calendar, &shape);
+        self.due = next_due(&self.queue, &self.holds, &self.plans.calendar, &shape);
         Ok(Reply::Ticked {
             clock,
             full,

@@ -6,23 +6,16 @@
 #![tactic(auto)]
 
 mod answer;
-mod best_effort;
 mod carrying;
-mod counts;
 mod expiry;
-mod held_packet;
 mod held_row;
-mod in_line;
 mod keeping;
 mod keyed_list;
 pub mod laws;
-mod lead_count;
-mod line;
 mod link_state;
-mod packets;
 mod planned;
 mod plans;
-mod ready;
+mod queue;
 mod resting;
 mod row_index;
 mod rows;

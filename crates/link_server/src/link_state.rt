@@ -18,8 +18,8 @@ ghost use Rattle.link_server.specs.Stood.{IsStood, IsStood-prop};
 use crate::held_row::HeldRow;
 use crate::keeping::Keeping;
 use crate::keyed_list::KeyedList;
-use crate::packets::Packets;
 use crate::plans::Plans;
+use crate::queue::Queue;
 use crate::row_index::RowIndex;
 use crate::rows::{need_of, place_of, reach_of};
 use crate::served_row::ServedRow;
@@ -42,13 +42,12 @@ pub struct LinkState {
     // When the holds of closing rows end, with the numbers of their channels.
     pub(crate) holds: Calendar,
     pub(crate) plans: Plans,
-    pub(crate) packets: Packets,
+    // It has room for the packets of channels that are here, one in each free slot, one more a row, and the best-effort packets
+    // that may be here.
+    pub(crate) queue: Queue,
     pub(crate) sums: LevelSums,
     // What the rows keep together.
     pub(crate) keeping: Keeping,
-    // How many packets there is room for at least: those of channels that are here, one in each free slot, one more a
-    // row, and the best-effort packets that may be here.
-    pub(crate) room: u64,
     // Nothing falls due before this tick.
     pub(crate) due: u64,
     ghost admitted: { AreAdmitted sums },
@@ -58,13 +57,13 @@ pub struct LinkState {
     ghost indexed: { IsIndex index.places.items (channels_in rows.items) } by { IsIndex-prop index.places.items (channels_in rows.items) },
     ghost listed: { AreListed shape.bounds clock holds (map row_in rows.items) } by { AreListed-prop shape.bounds clock holds (map row_in rows.items) },
     ghost keeps: { IsKeeping shape.buffer shape.bounds keeping (map reservation_in rows.items) } by { IsKeeping-prop shape.buffer shape.bounds keeping (map reservation_in rows.items) },
-    ghost sound: { IsSound shape room (account clock packets rows.items) } by { IsSound-prop shape room (account clock packets rows.items) },
+    ghost sound: { IsSound shape queue.room (account clock queue rows.items) } by { IsSound-prop shape queue.room (account clock queue rows.items) },
     ghost planned: { ArePlanned clock plans.calendar (map row_in rows.items) } by { ArePlanned-prop clock plans.calendar (map row_in rows.items) },
     ghost turns: { length rows.items ≤ vec_capacity plans.turns },
-    ghost roomy: { room ≤ packets.room },
-    ghost looked: { packets.line.until ≤ clock },
-    ghost stood: { IsStood shape (account clock packets rows.items) } by { IsStood-prop shape (account clock packets rows.items) },
-    ghost rests: { RestsFromClock shape due (account clock packets rows.items) } by { RestsFromClock-prop shape due (account clock packets rows.items) },
+    ghost few: { queue.room < 2 ^ 63 },
+    ghost looked: { queue.looked ≤ clock },
+    ghost stood: { IsStood shape (account clock queue rows.items) } by { IsStood-prop shape (account clock queue rows.items) },
+    ghost rests: { RestsFromClock shape due (account clock queue rows.items) } by { RestsFromClock-prop shape due (account clock queue rows.items) },
 }
 
 impl LinkState {
@@ -86,8 +85,8 @@ impl LinkState {
     {
         let blocking = shape.blocking();
         let places = shape.best + 1;
-        let mut packets = Packets::new(alloc)?;
-        packets.reserve(places as usize)?;
+        let mut queue = Queue::new(alloc)?;
+        queue.reserve(places as usize)?;
         Ok(LinkState {
             alloc,
             sums: LevelSums::new(alloc, shape.bounds, shape.rate, blocking, shape.test),
@@ -98,8 +97,7 @@ impl LinkState {
             holds: Calendar::new(alloc)?,
             plans: Plans::new(alloc)?,
             keeping: Keeping::new(shape.buffer),
-            packets,
-            room: u64::from(places),
+            queue,
             due: 0,
         })
     }

@@ -6,13 +6,11 @@ ghost use Rattle.link_steps.specs.Lists.{Each};
 ghost use Rattle.link_steps.specs.Replies.{reply_to};
 ghost use Rattle.link_steps.specs.Split.{whole};
 ghost use Rattle.link_steps.specs.declared.replies.Entry.{Entry};
-ghost use Rattle.link_server.specs.Packets.{here_in, on_in};
-ghost use Rattle.link_server.specs.Planned.{left_in};
 ghost use Rattle.link_server.specs.State.{LinkStands, kept_in};
 ghost use Rattle.link_steps.specs.Quiet.{IsPlannedFrom, RestsUntil, ServiceRests, later_by, quiet_reply, quiet_ticks};
 
 use crate::link_state::LinkState;
-use crate::packets::Packets;
+use crate::queue::Queue;
 use link_steps::{LinkShape, Reply};
 use net_units::OutOfMemory;
 use tick_calendar::Calendar;
@@ -25,12 +23,7 @@ impl LinkState {
         if self.clock < self.due {
             return self.due;
         }
-        next_due(
-            &self.packets,
-            &self.holds,
-            &self.plans.calendar,
-            &self.shape,
-        )
+        next_due(&self.queue, &self.holds, &self.plans.calendar, &self.shape)
     }
 
     /// Makes this many ticks, all before one until which it rests.
@@ -84,20 +77,14 @@ impl LinkState {
 
 // A tick before which nothing falls due at a link of this shape with these packets, by the calendars of the holds and of the rows'
 // plans.
-pub(crate) fn next_due(
-    packets: &Packets,
-    holds: &Calendar,
-    plans: &Calendar,
-    shape: &LinkShape,
-) -> u64
-    ensures service { ServiceRests shape.now.rate result (here_in packets.now.here.items) (on_in packets.now.on) }
-    ensures best { Each (IsPlannedFrom result) (left_in packets.now.best) }
+pub(crate) fn next_due(queue: &Queue, holds: &Calendar, plans: &Calendar, shape: &LinkShape) -> u64
+    ensures service { ServiceRests shape.now.rate result queue.now.here queue.now.on }
+    ensures best { Each (IsPlannedFrom result) queue.now.best }
     ensures holds { All (λ entry. result ≤ entry.0) holds.now.entries }
     ensures plans { All (λ entry. result ≤ entry.0) plans.now.entries }
 {
-    let service = packets.rests_until(shape.rate);
-    let best = packets.best.rests_until();
+    let packets = queue.rests_until(shape.rate);
     let held = holds.rests_until();
     let planned = plans.rests_until();
-    service.min(best).min(held).min(planned)
+    packets.min(held).min(planned)
 }

@@ -8,8 +8,8 @@ ghost use Rattle.link_steps.specs.Buffer.{units_for};
 ghost use Rattle.link_steps.specs.Refusals.{busy};
 ghost use Rattle.link_steps.specs.Sources.{lead_with};
 
-use crate::held_packet::HeldPacket;
 use crate::planned::Planned;
+use crate::queue::held_packet::HeldPacket;
 use link_steps::{Packet, Phase, Refusal, Why};
 use net_units::{Bounds, ChanNo, Kind, Level, LinkNo, OutOfMemory};
 use regulator_core::Regulator;

@@ -14,7 +14,6 @@ ghost use Rattle.link_steps.specs.Kept.{kept_reply, kept_after};
 ghost use Rattle.link_steps.specs.Legal.{AskFits, ReserveFits, RelaxFits};
 ghost use Rattle.link_server.specs.Asks.{IsOffer};
 ghost use Rattle.link_server.specs.Held.{reservations_held, reach_at, MayReserve, IsBestFor};
-ghost use Rattle.link_server.specs.Packets.{here_in};
 ghost use Rattle.link_server.specs.Rows.{reservation_in, row_in, IsWithinLevels};
 ghost use Rattle.link_server.specs.Sound.{most_places};
 ghost use Rattle.link_server.specs.State.{kept_in, LinkStands};
@@ -162,19 +161,17 @@ impl LinkState {
         ensures plan_fits { OnOk result (length self.new.rows.items + 1 ≤ self.new.plans.calendar.spare) }
         ensures turn_fits { OnOk result (length self.new.rows.items + 1 ≤ vec_capacity self.new.plans.turns) }
         ensures sum_fits { OnOk result (1 ≤ self.new.sums.spare) }
-        ensures packets_fit { OnOk result (most_places self.new.shape.bounds (here_in self.new.packets.here.items) (map row_in self.new.rows.items) + suc (slots_of self.new.shape.bounds (reservation_in row.now)) + suc self.new.shape.best ≤ self.new.room) }
+        ensures packets_fit { OnOk result (most_places self.new.shape.bounds self.new.queue.here (map row_in self.new.rows.items) + suc (slots_of self.new.shape.bounds (reservation_in row.now)) + suc self.new.shape.best ≤ self.new.queue.room) }
     {
         let bounds = self.shape.bounds;
         let places = self.keeping.places + 1 + row.slots(&bounds) + u64::from(self.shape.best) + 1;
-        let room = self.packets.here.len() as u64 + places;
         let rows = self.rows.len() + 1;
         self.rows.reserve(rows)?;
         self.sums.reserve(1)?;
-        self.packets.reserve(places as usize)?;
+        self.queue.reserve(places as usize)?;
         self.index.reserve(row.chan)?;
         self.holds.reserve(rows)?;
         self.plans.reserve(rows)?;
-        self.room = self.room.max(room);
         Ok(())
     }
 

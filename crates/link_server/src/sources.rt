@@ -5,7 +5,6 @@ ghost use Rattle.link_steps.specs.Buffer.{held_packets};
 ghost use Rattle.link_steps.specs.Kept.{kept_packet, kept_after_step};
 ghost use Rattle.link_steps.specs.Lists.{Each};
 ghost use Rattle.link_steps.specs.Sources.{taken_by, dropped_by};
-ghost use Rattle.link_server.specs.Packets.{here_in};
 ghost use Rattle.link_server.specs.Index.{channels_in, IsIndex};
 ghost use Rattle.link_server.specs.Plans.{ArePlanned, AreCalled};
 ghost use Rattle.link_server.specs.Rows.{row_in, summed, IsWithinLevels, AreWithin};
@@ -13,8 +12,8 @@ ghost use Rattle.link_server.specs.Sound.{HaveOwnLeads};
 ghost use Rattle.link_server.specs.Sources.{step_in, brought_by, served_rows_after, lost_by_rows, IsReady, AreReady};
 
 use crate::keyed_list::KeyedList;
-use crate::packets::Packets;
 use crate::plans::{Plans, put_plan};
+use crate::queue::Queue;
 use crate::row_index::RowIndex;
 use crate::served_row::ServedRow;
 use net_units::Bounds;
@@ -26,7 +25,7 @@ pub(crate) fn take_source_packets(
     rows: &mut KeyedList<ServedRow>,
     index: &RowIndex,
     plans: &mut Plans,
-    packets: &mut Packets,
+    queue: &mut Queue,
     bounds: &Bounds,
     clock: u64,
 ) -> u32
@@ -38,18 +37,14 @@ pub(crate) fn take_source_packets(
     requires ready { AreReady clock rows.old.items }
     requires within { AreWithin (length bounds.now) rows.old.items }
     requires apart { HaveOwnLeads (map row_in rows.old.items) }
-    requires leads { Each (λ row. row.lead ≤ packets.old.taken) (map row_in rows.old.items) }
-    requires looked { packets.old.line.until ≤ clock }
-    requires room { length packets.old.here.items + length (brought_by bounds.now (here_in packets.old.here.items) clock packets.old.taken rows.old.items) ≤ packets.old.room }
-    requires numbers { packets.old.taken + length (brought_by bounds.now (here_in packets.old.here.items) clock packets.old.taken rows.old.items) < 2 ^ 64 }
-    ensures lost { result ≡ lost_by_rows bounds.now (here_in packets.old.here.items) clock rows.old.items }
-    ensures rows { map row_in rows.new.items ≡ served_rows_after bounds.now (here_in packets.old.here.items) clock packets.old.taken rows.old.items }
-    ensures here { here_in packets.new.here.items ≡ here_in packets.old.here.items ++ brought_by bounds.now (here_in packets.old.here.items) clock packets.old.taken rows.old.items }
-    ensures taken { packets.new.taken ≡ packets.old.taken + length (brought_by bounds.now (here_in packets.old.here.items) clock packets.old.taken rows.old.items) }
-    ensures on { packets.new.on ≡ packets.old.on }
-    ensures best { packets.new.best ≡ packets.old.best }
-    ensures room { packets.new.room ≡ packets.old.room }
-    ensures looked { packets.new.line.until ≤ clock }
+    requires leads { Each (λ row. row.lead ≤ queue.old.taken) (map row_in rows.old.items) }
+    requires looked { queue.old.looked ≤ clock }
+    requires room { length queue.old.here + length (brought_by bounds.now queue.old.here clock queue.old.taken rows.old.items) ≤ queue.old.room }
+    requires numbers { queue.old.taken + length (brought_by bounds.now queue.old.here clock queue.old.taken rows.old.items) < 2 ^ 64 }
+    ensures lost { result ≡ lost_by_rows bounds.now queue.old.here clock rows.old.items }
+    ensures rows { map row_in rows.new.items ≡ served_rows_after bounds.now queue.old.here clock queue.old.taken rows.old.items }
+    ensures kept { queue.new ≡ record queue.old { taken = queue.old.taken + length (brought_by bounds.now queue.old.here clock queue.old.taken rows.old.items); here = queue.old.here ++ brought_by bounds.now queue.old.here clock queue.old.taken rows.old.items; looked = queue.new.looked } }
+    ensures looked { queue.new.looked ≤ clock }
     ensures summed { map summed rows.new.items ≡ map summed rows.old.items }
     ensures levels { AreWithin (length bounds.now) rows.new.items }
     ensures planned { ArePlanned clock plans.new.calendar (map row_in rows.new.items) }
@@ -60,7 +55,7 @@ pub(crate) fn take_source_packets(
         rows,
         &plans.turns,
         &mut plans.calendar,
-        packets,
+        queue,
         bounds,
         clock,
     )
@@ -72,7 +67,7 @@ fn take_turns(
     rows: &mut KeyedList<ServedRow>,
     turns: &[usize],
     calendar: &mut Calendar,
-    packets: &mut Packets,
+    queue: &mut Queue,
     bounds: &Bounds,
     clock: u64,
 ) -> u32
@@ -83,26 +78,22 @@ fn take_turns(
     requires ready { AreReady clock rows.old.items }
     requires within { AreWithin (length bounds.now) rows.old.items }
     requires apart { HaveOwnLeads (map row_in rows.old.items) }
-    requires leads { Each (λ row. row.lead ≤ packets.old.taken) (map row_in rows.old.items) }
-    requires looked { packets.old.line.until ≤ clock }
-    requires room { length packets.old.here.items + length (brought_by bounds.now (here_in packets.old.here.items) clock packets.old.taken rows.old.items) ≤ packets.old.room }
-    requires numbers { packets.old.taken + length (brought_by bounds.now (here_in packets.old.here.items) clock packets.old.taken rows.old.items) < 2 ^ 64 }
-    ensures lost { result ≡ lost_by_rows bounds.now (here_in packets.old.here.items) clock rows.old.items }
-    ensures rows { map row_in rows.new.items ≡ served_rows_after bounds.now (here_in packets.old.here.items) clock packets.old.taken rows.old.items }
-    ensures here { here_in packets.new.here.items ≡ here_in packets.old.here.items ++ brought_by bounds.now (here_in packets.old.here.items) clock packets.old.taken rows.old.items }
-    ensures taken { packets.new.taken ≡ packets.old.taken + length (brought_by bounds.now (here_in packets.old.here.items) clock packets.old.taken rows.old.items) }
-    ensures on { packets.new.on ≡ packets.old.on }
-    ensures best { packets.new.best ≡ packets.old.best }
-    ensures room { packets.new.room ≡ packets.old.room }
-    ensures looked { packets.new.line.until ≤ clock }
+    requires leads { Each (λ row. row.lead ≤ queue.old.taken) (map row_in rows.old.items) }
+    requires looked { queue.old.looked ≤ clock }
+    requires room { length queue.old.here + length (brought_by bounds.now queue.old.here clock queue.old.taken rows.old.items) ≤ queue.old.room }
+    requires numbers { queue.old.taken + length (brought_by bounds.now queue.old.here clock queue.old.taken rows.old.items) < 2 ^ 64 }
+    ensures lost { result ≡ lost_by_rows bounds.now queue.old.here clock rows.old.items }
+    ensures rows { map row_in rows.new.items ≡ served_rows_after bounds.now queue.old.here clock queue.old.taken rows.old.items }
+    ensures kept { queue.new ≡ record queue.old { taken = queue.old.taken + length (brought_by bounds.now queue.old.here clock queue.old.taken rows.old.items); here = queue.old.here ++ brought_by bounds.now queue.old.here clock queue.old.taken rows.old.items; looked = queue.new.looked } }
+    ensures looked { queue.new.looked ≤ clock }
     ensures summed { map summed rows.new.items ≡ map summed rows.old.items }
     ensures levels { AreWithin (length bounds.now) rows.new.items }
     ensures planned { ArePlanned clock calendar.new (map row_in rows.new.items) }
 {
-    let before = packets.here.len();
+    let before = queue.len();
     let mut lost = 0;
     for place in turns {
-        if take_source_packet(&mut rows[*place], packets, before, bounds, clock) {
+        if take_source_packet(&mut rows[*place], queue, before, bounds, clock) {
             lost += 1;
         }
         put_plan(calendar, &rows[*place]);
@@ -115,7 +106,7 @@ fn take_turns(
 // among them.
 fn take_source_packet(
     row: &mut ServedRow,
-    packets: &mut Packets,
+    queue: &mut Queue,
     before: usize,
     bounds: &Bounds,
     clock: u64,
@@ -123,27 +114,23 @@ fn take_source_packet(
     requires early { clock < 2 ^ 61 }
     requires ready { IsReady clock (row_in row.old) }
     requires within { IsWithinLevels (length bounds.now) row.old }
-    requires looked { packets.old.line.until ≤ clock }
-    requires before { before ≤ length packets.old.here.items }
-    requires held { held_packets row.old.lead (here_in packets.old.here.items) ≡ held_packets row.old.lead (take before (here_in packets.old.here.items)) }
-    requires room { length packets.old.here.items + taken_by (step_in bounds.now (take before (here_in packets.old.here.items)) clock row.old) ≤ packets.old.room }
-    requires numbers { packets.old.taken + taken_by (step_in bounds.now (take before (here_in packets.old.here.items)) clock row.old) < 2 ^ 64 }
-    ensures lost { (if result then 1 else 0) ≡ dropped_by (step_in bounds.now (take before (here_in packets.old.here.items)) clock row.old) }
-    ensures row { row_in row.new ≡ kept_after_step (step_in bounds.now (take before (here_in packets.old.here.items)) clock row.old) clock (suc packets.old.taken) (row_in row.old) }
-    ensures here { here_in packets.new.here.items ≡ here_in packets.old.here.items ++ kept_packet (step_in bounds.now (take before (here_in packets.old.here.items)) clock row.old) clock (suc packets.old.taken) (row_in row.old) }
-    ensures taken { packets.new.taken ≡ packets.old.taken + taken_by (step_in bounds.now (take before (here_in packets.old.here.items)) clock row.old) }
-    ensures on { packets.new.on ≡ packets.old.on }
-    ensures best { packets.new.best ≡ packets.old.best }
-    ensures room { packets.new.room ≡ packets.old.room }
-    ensures looked { packets.new.line.until ≤ clock }
+    requires looked { queue.old.looked ≤ clock }
+    requires before { before ≤ length queue.old.here }
+    requires held { held_packets row.old.lead queue.old.here ≡ held_packets row.old.lead (take before queue.old.here) }
+    requires room { length queue.old.here + taken_by (step_in bounds.now (take before queue.old.here) clock row.old) ≤ queue.old.room }
+    requires numbers { queue.old.taken + taken_by (step_in bounds.now (take before queue.old.here) clock row.old) < 2 ^ 64 }
+    ensures lost { (if result then 1 else 0) ≡ dropped_by (step_in bounds.now (take before queue.old.here) clock row.old) }
+    ensures row { row_in row.new ≡ kept_after_step (step_in bounds.now (take before queue.old.here) clock row.old) clock (suc queue.old.taken) (row_in row.old) }
+    ensures kept { queue.new ≡ record queue.old { taken = queue.old.taken + taken_by (step_in bounds.now (take before queue.old.here) clock row.old); here = queue.old.here ++ kept_packet (step_in bounds.now (take before queue.old.here) clock row.old) clock (suc queue.old.taken) (row_in row.old); looked = queue.new.looked } }
+    ensures looked { queue.new.looked ≤ clock }
 {
     let Some(size) = row.next_planned(clock) else {
         return false;
     };
-    if !row.has_slot(bounds, packets.held(row.lead)) {
+    if !row.has_slot(bounds, queue.held(row.lead)) {
         return true;
     }
-    let packet = row.take(size, 0, packets.taken + 1, clock);
-    packets.push(packet, clock);
+    let packet = row.take(size, 0, queue.taken() + 1, clock);
+    queue.push(packet, clock);
     false
 }

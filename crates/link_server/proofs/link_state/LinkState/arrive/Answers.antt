@@ -19,7 +19,7 @@ use Rattle.link_server.specs.Holds.{is_open, IsListed, PlansNone, open_count}
 use Rattle.link_server.proofs.CalendarRows.{listed-put, open-room}
 use Rattle.link_server.proofs.CalendarSteps.{stray-open}
 use Rattle.link_server.specs.Account.{account}
-use Rattle.link_server.specs.Packets.{here_in}
+use Rattle.link_server.specs.KeptQueue.{KeptQueue}
 use Rattle.link_server.specs.Rows.{reservation_in, row_in, summed, IsPlaceOf, IsWithinLevels}
 use Rattle.link_server.specs.Keeping.{IsKeeping}
 use Rattle.link_server.specs.Sound.{IsSound}
@@ -34,7 +34,7 @@ use Rattle.link_server.proofs.PlansRows.{planned-set, same-idle}
 use Rattle.link_server.proofs.PlaceFacts.{at-place}
 use Rattle.link_server.proofs.SumsFacts.{summed-same, within-same}
 use Rattle.link_server.proofs.SoundTaking.{sound-arrive}
-use Rattle.link_server.proofs.StoodFacts.{all-ready, newest-stood, still-stood}
+use Rattle.link_server.proofs.StoodFacts.{all-ready, newest-stood, numbers-left, still-stood}
 use Rattle.link_steps.specs.declared.replies.Phase.TheVariants.{Closing}
 use Rattle.link_steps.specs.Reservation.{is_phase}
 use Rattle.link_server.proofs.RestFacts.{due-now}
@@ -43,7 +43,7 @@ use Rattle.link_server.proofs.link_state.LinkState.arrive.Goals.{In-Some, After-
 
 pub returns-in_default-clause-reply : goal.returns-in_default-clause-reply
 returns-in_default-clause-reply c =
-    arrive-absent c.args.self.now.shape c.args.self.now.clock c.args.self.now.packets c.args.packet.now c.args.self.now.rows.items (c.in_default.ensures.none)
+    arrive-absent c.args.self.now.shape c.args.self.now.clock c.args.self.now.queue c.args.packet.now c.args.self.now.rows.items (c.in_default.ensures.none)
 
 pub returns-in_default-clause-kept : goal.returns-in_default-clause-kept
 returns-in_default-clause-kept c = arrive-same c.args.self.now.shape _ c.args.packet.now _
@@ -60,7 +60,7 @@ stray-requires c =
 
 pub returns-in-Some-stray-clause-reply : goal.returns-in-Some-stray-clause-reply
 returns-in-Some-stray-clause-reply c =
-    arrive-stray c.args.self.now.shape c.args.self.now.clock c.args.self.now.packets c.args.packet.now c.args.self.now.rows.items c.in-Some.place c.index.result.now _
+    arrive-stray c.args.self.now.shape c.args.self.now.clock c.args.self.now.queue c.args.packet.now c.args.self.now.rows.items c.in-Some.place c.index.result.now _
     (placed (goal.at.returns-in-Some-stray-clause-reply c).In-Some)
     (c.in-Some-stray.ensures ∙ ap (λ row. stray c.args.packet.now (reservation_in row) row.taken) c.index.ensures)
 
@@ -70,12 +70,12 @@ returns-in-Some-stray-clause-kept c = arrive-same c.args.self.now.shape _ c.args
 pub returns-in-Some-full-clause-reply : goal.returns-in-Some-full-clause-reply
 returns-in-Some-full-clause-reply c =
     let place = placed (goal.at.returns-in-Some-full-clause-reply c).In-Some in
-    arrive-full c.args.self.now.shape c.args.self.now.clock c.args.self.now.packets c.args.packet.now c.args.self.now.rows.items c.in-Some.place c.index.result.now _ place
+    arrive-full c.args.self.now.shape c.args.self.now.clock c.args.self.now.queue c.args.packet.now c.args.self.now.rows.items c.in-Some.place c.index.result.now _ place
     (c.in_default-stray.ensures ∙ ap (λ row. stray c.args.packet.now (reservation_in row) row.taken) c.index.ensures)
     (c.in-Some-full.ensures
     ∙ ap (λ row. full c.held-held.result (slots_of c.args.self.now.shape.bounds (reservation_in row))) (at-place c.args.self.now.rows.items c.in-Some.place c.index-3.result.now c.index.result.now c.index-3.ensures place.inside)
     ∙ ap (λ n. full n (slots_of c.args.self.now.shape.bounds (reservation_in (get_or c.args.self.now.rows.items c.in-Some.place c.index.result.now))))
-    (c.held-held.ensures ∙ ap (λ row. held_packets row.lead (here_in c.args.self.now.packets.here.items)) (at-place c.args.self.now.rows.items c.in-Some.place c.index-2.result.now c.index.result.now c.index-2.ensures place.inside)))
+    (c.held-held.ensures ∙ ap (λ row. held_packets row.lead c.args.self.now.queue.here) (at-place c.args.self.now.rows.items c.in-Some.place c.index-2.result.now c.index.result.now c.index-2.ensures place.inside)))
 
 pub returns-in-Some-full-clause-kept : goal.returns-in-Some-full-clause-kept
 returns-in-Some-full-clause-kept c = arrive-same c.args.self.now.shape _ c.args.packet.now _
@@ -95,26 +95,33 @@ take-taken-requires-clause-few c =
 -- the reply is the account's
 replied : (c : After-take-taken) → IsPlaceOf c.args.packet.now.chan c.args.self.now.rows.items c.in-Some.place → Taken c.args.self.now.clock c.take-taken.result.eligible ≡ kept_reply (whole c.args.self.now.shape) (kept_in c.args.self.now) (Arrive c.args.packet.now)
 replied c place =
-    arrive-taken c.args.self.now.shape c.args.self.now.clock c.args.self.now.packets c.args.packet.now c.args.self.now.rows.items c.in-Some.place c.index.result.now c.take-taken.result.eligible place
+    arrive-taken c.args.self.now.shape c.args.self.now.clock c.args.self.now.queue c.args.packet.now c.args.self.now.rows.items c.in-Some.place c.index.result.now c.take-taken.result.eligible place
     (c.in_default-stray.ensures ∙ ap (λ row. stray c.args.packet.now (reservation_in row) row.taken) c.index.ensures)
     (c.in_default-full.ensures
     ∙ ap (λ row. full c.held-held.result (slots_of c.args.self.now.shape.bounds (reservation_in row))) (at-place c.args.self.now.rows.items c.in-Some.place c.index-3.result.now c.index.result.now c.index-3.ensures place.inside)
     ∙ ap (λ n. full n (slots_of c.args.self.now.shape.bounds (reservation_in (get_or c.args.self.now.rows.items c.in-Some.place c.index.result.now))))
-    (c.held-held.ensures ∙ ap (λ row. held_packets row.lead (here_in c.args.self.now.packets.here.items)) (at-place c.args.self.now.rows.items c.in-Some.place c.index-2.result.now c.index.result.now c.index-2.ensures place.inside)))
+    (c.held-held.ensures ∙ ap (λ row. held_packets row.lead c.args.self.now.queue.here) (at-place c.args.self.now.rows.items c.in-Some.place c.index-2.result.now c.index.result.now c.index-2.ensures place.inside)))
     (ap (λ p. p.eligible) c.take-taken.ensures.packet
     ∙ ap (λ row. eligible_next (reservation_in row) (row_in row).recent c.args.self.now.clock c.args.packet.now.due) (at-place c.args.self.now.rows.items c.in-Some.place c.index_mut.result.now c.index.result.now c.index_mut.ensures.value place.inside))
 
-sound : (c : After-take-taken) → IsPlaceOf c.args.packet.now.chan c.args.self.now.rows.items c.in-Some.place → IsSound c.args.self.now.shape c.args.self.now.room (kept_after c.args.self.now.shape (kept_in c.args.self.now) (Arrive c.args.packet.now) (Taken c.args.self.now.clock c.take-taken.result.eligible))
+sound : (c : After-take-taken) → IsPlaceOf c.args.packet.now.chan c.args.self.now.rows.items c.in-Some.place → IsSound c.args.self.now.shape c.args.self.now.queue.room (kept_after c.args.self.now.shape (kept_in c.args.self.now) (Arrive c.args.packet.now) (Taken c.args.self.now.clock c.take-taken.result.eligible))
 sound c place =
-    sound-arrive c.args.self.now.shape c.args.self.now.room (kept_in c.args.self.now) c.args.packet.now (Taken c.args.self.now.clock c.take-taken.result.eligible) c.requires.fits c.args.self.now.sound (replied c place)
+    sound-arrive c.args.self.now.shape c.args.self.now.queue.room (kept_in c.args.self.now) c.args.packet.now (Taken c.args.self.now.clock c.take-taken.result.eligible) c.requires.fits c.args.self.now.sound (replied c place)
+
+pub overflow_add-number : goal.overflow_add-number
+overflow_add-number c =
+    let few = numbers-left c.args.self.now c.requires.early in
+    omega (arith, few, c.taken-number.ensures)
+
+pub push-requires-clause-countable : goal.push-requires-clause-countable
+push-requires-clause-countable c = numbers-left c.args.self.now c.requires.early
 
 pub push-requires-clause-room : goal.push-requires-clause-room
 push-requires-clause-room c =
     let place = placed (goal.at.push-requires-clause-room c).In-Some in
     let after = sound (goal.at.push-requires-clause-room c).After-take-taken place in
-    let free = arrive-room c.args.self.now.shape c.args.self.now.room c.args.self.now.clock c.take-taken.result.eligible c.args.self.now.packets c.args.packet.now c.args.self.now.rows.items c.in-Some.place c.index_mut.result.now place after in
-    let roomy = c.args.self.now.roomy in
-    omega (arith, free, roomy)
+    let free = arrive-room c.args.self.now.shape c.args.self.now.queue.room c.args.self.now.clock c.take-taken.result.eligible c.args.self.now.queue c.args.packet.now c.args.self.now.rows.items c.in-Some.place c.index_mut.result.now place after in
+    free
 
 pub push-requires-clause-eligible : goal.push-requires-clause-eligible
 push-requires-clause-eligible c =
@@ -128,11 +135,11 @@ kept : (c : After-push) → IsPlaceOf c.args.packet.now.chan c.args.self.now.row
 kept c place =
     let was = get_or c.args.self.now.rows.items c.in-Some.place c.index_mut.result.now in
     let none = c.in_default-stray.ensures ∙ ap (λ row. stray c.args.packet.now (reservation_in row) row.taken) (at-place c.args.self.now.rows.items c.in-Some.place c.index.result.now c.index_mut.result.now c.index.ensures place.inside) in
-    arrive-kept c.args.self.now.shape c.args.self.now.clock c.take-taken.result.eligible c.args.self.now.packets c.push.new.self c.args.packet.now c.args.self.now.rows.items c.in-Some.place c.index_mut.result.now c.take-taken.new.self c.take-taken.result place
+    arrive-kept c.args.self.now.shape c.args.self.now.clock c.take-taken.result.eligible c.args.self.now.queue c.push.new.self c.args.packet.now c.args.self.now.rows.items c.in-Some.place c.index_mut.result.now c.take-taken.new.self c.take-taken.result place
     (next-number c.args.packet.now (reservation_in was) was.taken none)
-    (c.take-taken.ensures.row ∙ ap (λ row. kept_with (c.args.self.now.packets.taken + 1) (eligible_next (reservation_in row) (row_in row).recent c.args.self.now.clock c.args.packet.now.due) (row_in row)) c.index_mut.ensures.value)
-    (c.take-taken.ensures.packet ∙ ap (λ row. arrival_at (reservation_in row) row.lead (c.args.self.now.packets.taken + 1) (suc row.taken) c.args.packet.now.size c.args.self.now.clock (eligible_next (reservation_in row) (row_in row).recent c.args.self.now.clock c.args.packet.now.due)) c.index_mut.ensures.value)
-    c.push.ensures.taken c.push.ensures.here c.push.ensures.on c.push.ensures.best
+    (c.take-taken.ensures.row ∙ ap (λ n. kept_with (n + 1) (eligible_next (reservation_in c.index_mut.result.now) (row_in c.index_mut.result.now).recent c.args.self.now.clock c.args.packet.now.due) (row_in c.index_mut.result.now)) c.taken-number.ensures ∙ ap (λ row. kept_with (c.args.self.now.queue.taken + 1) (eligible_next (reservation_in row) (row_in row).recent c.args.self.now.clock c.args.packet.now.due) (row_in row)) c.index_mut.ensures.value)
+    (c.take-taken.ensures.packet ∙ ap (λ n. arrival_at (reservation_in c.index_mut.result.now) c.index_mut.result.now.lead (n + 1) (suc c.index_mut.result.now.taken) c.args.packet.now.size c.args.self.now.clock (eligible_next (reservation_in c.index_mut.result.now) (row_in c.index_mut.result.now).recent c.args.self.now.clock c.args.packet.now.due)) c.taken-number.ensures ∙ ap (λ row. arrival_at (reservation_in row) row.lead (c.args.self.now.queue.taken + 1) (suc row.taken) c.args.packet.now.size c.args.self.now.clock (eligible_next (reservation_in row) (row_in row).recent c.args.self.now.clock c.args.packet.now.due)) c.index_mut.ensures.value)
+    c.push.ensures.kept
 
 -- the row was open, and it is the one whose end is put
 opened : (c : After-take-taken) → IsPlaceOf c.args.packet.now.chan c.args.self.now.rows.items c.in-Some.place → is_open (row_in (get_or c.args.self.now.rows.items c.in-Some.place c.index_mut.result.now)) ≡ true
@@ -164,8 +171,9 @@ invariant_of-self-2 c =
     let place = placed (goal.at.invariant_of-self-2 c).In-Some in
     let put = (goal.at.invariant_of-self-2 c).After-index-4 in
     let after = sound (goal.at.invariant_of-self-2 c).After-take-taken place in
-    let same = c.take-taken.ensures.row ∙ ap (λ row. kept_with (c.args.self.now.packets.taken + 1) (eligible_next (reservation_in row) (row_in row).recent c.args.self.now.clock c.args.packet.now.due) (row_in row)) c.index_mut.ensures.value in
-    let roomy = c.args.self.now.roomy in
+    let same = c.take-taken.ensures.row ∙ ap (λ n. kept_with (n + 1) (eligible_next (reservation_in c.index_mut.result.now) (row_in c.index_mut.result.now).recent c.args.self.now.clock c.args.packet.now.due) (row_in c.index_mut.result.now)) c.taken-number.ensures ∙ ap (λ row. kept_with (c.args.self.now.queue.taken + 1) (eligible_next (reservation_in row) (row_in row).recent c.args.self.now.clock c.args.packet.now.due) (row_in row)) c.index_mut.ensures.value in
+    let room : c.push.new.self.room ≡ c.args.self.now.queue.room = ap (λ (queue : KeptQueue). queue.room) c.push.ensures.kept in
+    let few = c.args.self.now.few in
     record {
       admitted = c.args.self.now.admitted;
       same_server = c.args.self.now.same_server;
@@ -188,14 +196,16 @@ invariant_of-self-2 c =
       keeps =
           subst (IsKeeping c.args.self.now.shape.buffer c.args.self.now.shape.bounds c.args.self.now.keeping)
           (sym (map-set_same reservation_in c.args.self.now.rows.items c.in-Some.place c.take-taken.new.self c.index_mut.result.now (ap (λ row. row.terms) same))) c.args.self.now.keeps;
-      sound = subst (IsSound c.args.self.now.shape c.args.self.now.room) (sym (kept (goal.at.invariant_of-self-2 c).After-push place)) after;
+      sound =
+          subst (λ n. IsSound c.args.self.now.shape n (account c.args.self.now.clock c.push.new.self (set c.args.self.now.rows.items c.in-Some.place c.take-taken.new.self))) (sym room)
+          (subst (IsSound c.args.self.now.shape c.args.self.now.queue.room) (sym (kept (goal.at.invariant_of-self-2 c).After-push place)) after);
       planned =
           planned-set c.args.self.now.clock c.args.self.now.plans.calendar c.args.self.now.rows.items c.in-Some.place c.take-taken.new.self c.index_mut.result.now c.args.self.now.planned place.inside
           (told-same c.args.self.now.plans.calendar.entries (row_in c.take-taken.new.self) (row_in (get_or c.args.self.now.rows.items c.in-Some.place c.index_mut.result.now)) (ap (λ row. row.left) same) (ap (λ row. channel_number row.terms.chan) same)
           (each-at (IsTold c.args.self.now.plans.calendar.entries) c.args.self.now.rows.items c.in-Some.place c.index_mut.result.now place.inside c.args.self.now.planned.told))
           (same-idle (row_in c.take-taken.new.self) (row_in (get_or c.args.self.now.rows.items c.in-Some.place c.index_mut.result.now)) (ap (λ row. row.left) same) (ap (λ row. is_phase row.terms.phase Closing) same));
       turns = (let turns = c.args.self.now.turns in let long = length-set c.args.self.now.rows.items c.in-Some.place c.take-taken.new.self in omega (arith, turns, long));
-      roomy = omega (arith, roomy, c.push.ensures.room);
+      few = omega (arith, few, room);
       looked = c.push.ensures.looked;
       stood = still-stood c.args.self.now (Arrive c.args.packet.now) (Taken c.args.self.now.clock c.take-taken.result.eligible) _ c.requires.fits (replied (goal.at.invariant_of-self-2 c).After-take-taken place) (kept (goal.at.invariant_of-self-2 c).After-push place);
       rests = due-now _ _;

@@ -29,14 +29,14 @@ use Rattle.link_server.proofs.link_state.LinkState.deny.Goals.{After-take_row}
 
 pub returns-in_default-clause-reply : goal.returns-in_default-clause-reply
 returns-in_default-clause-reply c =
-    deny-absent c.args.self.now.shape c.args.self.now.clock c.args.self.now.packets c.args.chan c.args.self.now.rows.items (c.in_default.ensures.none)
+    deny-absent c.args.self.now.shape c.args.self.now.clock c.args.self.now.queue c.args.chan c.args.self.now.rows.items (c.in_default.ensures.none)
 
 pub returns-in_default-clause-kept : goal.returns-in_default-clause-kept
 returns-in_default-clause-kept c = deny-same c.args.self.now.shape _ c.args.chan _
 
 pub returns-in-Some-not_tentative-clause-reply : goal.returns-in-Some-not_tentative-clause-reply
 returns-in-Some-not_tentative-clause-reply c =
-    deny-refused c.args.self.now.shape c.args.self.now.clock c.args.self.now.packets c.args.chan c.args.self.now.rows.items c.in-Some.place c.index.result.now _
+    deny-refused c.args.self.now.shape c.args.self.now.clock c.args.self.now.queue c.args.chan c.args.self.now.rows.items c.in-Some.place c.index.result.now _
     (c.in-Some.ensures.some)
     (c.in-Some-not_tentative.ensures ∙ ap (λ row. not_in_phase Tentative (reservation_in row)) c.index.ensures)
 
@@ -52,7 +52,7 @@ remove-requires c =
 -- the reply is the account's
 denied : (c : After-take_row) → Denied ≡ kept_reply (whole c.args.self.now.shape) (kept_in c.args.self.now) (Deny c.args.chan)
 denied c =
-    deny-denied c.args.self.now.shape c.args.self.now.clock c.args.self.now.packets c.args.chan c.args.self.now.rows.items c.in-Some.place c.index.result.now
+    deny-denied c.args.self.now.shape c.args.self.now.clock c.args.self.now.queue c.args.chan c.args.self.now.rows.items c.in-Some.place c.index.result.now
     (c.in-Some.ensures.some)
     (c.in_default-not_tentative.ensures ∙ ap (λ row. not_in_phase Tentative (reservation_in row)) c.index.ensures)
 
@@ -61,8 +61,8 @@ invariant_of-self-2 c =
     let place = c.in-Some.ensures.some in
     let distinct = subst IsDistinct c.args.self.now.same_rows c.args.self.now.admitted.distinct in
     let kept =
-    ap (account c.args.self.now.clock c.args.self.now.packets) c.take_row.ensures.rows
-    ∙ deny-kept c.args.self.now.shape c.args.self.now.clock c.args.self.now.packets c.args.chan c.args.self.now.rows.items c.in-Some.place place in
+    ap (account c.args.self.now.clock c.args.self.now.queue) c.take_row.ensures.rows
+    ∙ deny-kept c.args.self.now.shape c.args.self.now.clock c.args.self.now.queue c.args.chan c.args.self.now.rows.items c.in-Some.place place in
     record {
       admitted = c.remove.ensures.admitted;
       same_server = c.remove.ensures.server ∙ c.args.self.now.same_server;
@@ -78,13 +78,13 @@ invariant_of-self-2 c =
       keeps =
           subst (λ rows. IsKeeping c.args.self.now.shape.buffer c.args.self.now.shape.bounds c.give_back.new.self (map reservation_in rows)) (sym c.take_row.ensures.rows)
           (keeps-removed c.args.self.now.shape.buffer c.args.self.now.shape.bounds c.args.self.now.keeping c.give_back.new.self c.args.self.now.rows.items c.in-Some.place c.index-2.result.now c.args.self.now.keeps place.inside c.index-2.ensures c.give_back.ensures.budget c.give_back.ensures.places);
-      sound = subst (IsSound c.args.self.now.shape c.args.self.now.room) (sym kept) (sound-deny c.args.self.now.shape c.args.self.now.room (kept_in c.args.self.now) c.args.chan Denied c.args.self.now.sound);
+      sound = subst (IsSound c.args.self.now.shape c.args.self.now.queue.room) (sym kept) (sound-deny c.args.self.now.shape c.args.self.now.queue.room (kept_in c.args.self.now) c.args.chan Denied c.args.self.now.sound);
       planned = rw c.take_row.ensures.rows (planned-removed c.args.self.now.clock c.args.self.now.plans.calendar c.args.self.now.rows.items c.in-Some.place c.args.self.now.planned);
       turns =
           (let turns = c.args.self.now.turns in
           let fewer : length c.take_row.new.rows.items + 1 ≡ length c.args.self.now.rows.items = ap (λ rows. length rows + 1) c.take_row.ensures.rows ∙ length-remove c.args.self.now.rows.items c.in-Some.place place.inside in
           omega (arith, turns, fewer));
-      roomy = c.args.self.now.roomy;
+      few = c.args.self.now.few;
       looked = c.args.self.now.looked;
       stood = still-stood c.args.self.now (Deny c.args.chan) Denied _ tt (denied (goal.at.invariant_of-self-2 c).After-take_row) kept;
       rests = due-now _ _;
@@ -95,8 +95,8 @@ returns-clause-reply c = denied (goal.at.returns-clause-reply c).After-take_row
 
 pub returns-clause-kept : goal.returns-clause-kept
 returns-clause-kept c =
-    ap (account c.args.self.now.clock c.args.self.now.packets) c.take_row.ensures.rows
-    ∙ deny-kept c.args.self.now.shape c.args.self.now.clock c.args.self.now.packets c.args.chan c.args.self.now.rows.items c.in-Some.place
+    ap (account c.args.self.now.clock c.args.self.now.queue) c.take_row.ensures.rows
+    ∙ deny-kept c.args.self.now.shape c.args.self.now.clock c.args.self.now.queue c.args.chan c.args.self.now.rows.items c.in-Some.place
     (c.in-Some.ensures.some)
 
 pub give_back-requires-clause-held : goal.give_back-requires-clause-held

@@ -102,16 +102,16 @@ add-requires-clause-passes c =
     (still-may c.args.self.now c.make_room.new.self c.args.wanted.now c.args.offer.now c.make_room.ensures.shape c.make_room.ensures.kept c.requires.may)
 
 -- what is kept once the row is held
-kept : (c : After-add) → account c.make_room.new.self.clock c.make_room.new.self.packets c.push.new.self.items ≡ kept_after c.make_room.new.self.shape (kept_in c.make_room.new.self) (ask_for c.args.wanted.now) (Offer c.args.offer.now.level c.args.offer.now.reach)
+kept : (c : After-add) → account c.make_room.new.self.clock c.make_room.new.self.queue c.push.new.self.items ≡ kept_after c.make_room.new.self.shape (kept_in c.make_room.new.self) (ask_for c.args.wanted.now) (Offer c.args.offer.now.level c.args.offer.now.reach)
 kept c =
-    ap (account c.make_room.new.self.clock c.make_room.new.self.packets) (ap (λ rows. rows.items) c.push.ensures)
-    ∙ reserve-kept c.make_room.new.self.shape c.make_room.new.self.clock c.make_room.new.self.packets c.args.wanted.now c.args.offer.now.level c.args.offer.now.reach c.make_room.new.self.rows.items c.in_ok-row.row c.in_ok-row.ensures
+    ap (account c.make_room.new.self.clock c.make_room.new.self.queue) (ap (λ rows. rows.items) c.push.ensures)
+    ∙ reserve-kept c.make_room.new.self.shape c.make_room.new.self.clock c.make_room.new.self.queue c.args.wanted.now c.args.offer.now.level c.args.offer.now.reach c.make_room.new.self.rows.items c.in_ok-row.row c.in_ok-row.ensures
 
 pub invariant_of-self : goal.invariant_of-self
 invariant_of-self c =
     let may = still-may c.args.self.now c.make_room.new.self c.args.wanted.now c.args.offer.now c.make_room.ensures.shape c.make_room.ensures.kept c.requires.may in
     let room = subst (λ n. n < length c.make_room.new.self.index.places.items) (ap (λ row. channel_number row.terms.chan) c.in_ok-row.ensures) c.in_ok-make_room.ensures.place_fits in
-    let held = sound-held c.make_room.new.self.shape c.make_room.new.self.room (kept_in c.make_room.new.self) c.args.wanted.now c.args.offer.now c.in_ok-row.row c.requires.fits c.make_room.new.self.sound may c.in_ok-row.ensures c.in_ok-make_room.ensures.packets_fit in
+    let held = sound-held c.make_room.new.self.shape c.make_room.new.self.queue.room (kept_in c.make_room.new.self) c.args.wanted.now c.args.offer.now c.in_ok-row.row c.requires.fits c.make_room.new.self.sound may c.in_ok-row.ensures c.in_ok-make_room.ensures.packets_fit in
     record {
       admitted = c.add.ensures.admitted;
       same_server = c.add.ensures.server ∙ c.make_room.new.self.same_server;
@@ -132,14 +132,14 @@ invariant_of-self c =
           subst (λ rows. IsKeeping c.make_room.new.self.shape.buffer c.make_room.new.self.shape.bounds c.hold.new.self (map reservation_in rows)) (sym (ap (λ rows. rows.items) c.push.ensures))
           (keeps-pushed c.make_room.new.self.shape.buffer c.make_room.new.self.shape.bounds c.make_room.new.self.keeping c.hold.new.self c.make_room.new.self.rows.items c.in_ok-row.row c.make_room.new.self.keeps
           (fits-free c.make_room.new.self c.args.wanted.now c.args.offer.now c.in_ok-row.row may c.in_ok-row.ensures) c.hold.ensures.budget c.hold.ensures.places);
-      sound = subst (IsSound c.make_room.new.self.shape c.make_room.new.self.room) (sym (kept (goal.at.invariant_of-self c).After-add)) held;
+      sound = subst (IsSound c.make_room.new.self.shape c.make_room.new.self.queue.room) (sym (kept (goal.at.invariant_of-self c).After-add)) held;
       planned =
           subst (λ rows. ArePlanned c.make_room.new.self.clock c.make_room.new.self.plans.calendar (map row_in rows)) (sym (ap (λ rows. rows.items) c.push.ensures))
           (planned-pushed c.make_room.new.self.clock c.make_room.new.self.plans.calendar c.make_room.new.self.rows.items c.in_ok-row.row c.make_room.new.self.planned (told-none c.make_room.new.self.plans.calendar.entries (row_in c.in_ok-row.row) (ap (λ row. first_tick row.left) c.in_ok-row.ensures)) c.in_ok-make_room.ensures.plan_fits);
       turns =
           (let one : length c.push.new.self.items ≡ length c.make_room.new.self.rows.items + 1 = ap length (ap (λ rows. rows.items) c.push.ensures) ∙ length-append c.make_room.new.self.rows.items (c.in_ok-row.row ∷ []) in
           omega (arith, one, c.in_ok-make_room.ensures.turn_fits));
-      roomy = c.make_room.new.self.roomy;
+      few = c.make_room.new.self.few;
       looked = c.make_room.new.self.looked;
       stood = subst (IsStood c.make_room.new.self.shape) (sym (kept (goal.at.invariant_of-self c).After-add)) (stood-offered c.make_room.new.self.shape (kept_in c.make_room.new.self) c.args.wanted.now c.args.offer.now (rows-have c.make_room.new.self.rows.items) c.requires.fits may c.make_room.new.self.stood);
       rests = due-now _ _;

@@ -36,14 +36,14 @@ use Rattle.link_server.proofs.link_state.LinkState.relax.Goals.{In-Some, After-c
 
 pub returns-in_default-clause-reply : goal.returns-in_default-clause-reply
 returns-in_default-clause-reply c =
-    relax-absent c.args.self.now.shape c.args.self.now.clock c.args.self.now.packets c.args.chan c.args.level c.args.up_bound c.args.self.now.rows.items (c.in_default.ensures.none)
+    relax-absent c.args.self.now.shape c.args.self.now.clock c.args.self.now.queue c.args.chan c.args.level c.args.up_bound c.args.self.now.rows.items (c.in_default.ensures.none)
 
 pub returns-in_default-clause-kept : goal.returns-in_default-clause-kept
 returns-in_default-clause-kept c = relax-same c.args.self.now.shape _ c.args.chan c.args.level c.args.up_bound _
 
 pub returns-in-Some-not_tentative-clause-reply : goal.returns-in-Some-not_tentative-clause-reply
 returns-in-Some-not_tentative-clause-reply c =
-    relax-phase c.args.self.now.shape c.args.self.now.clock c.args.self.now.packets c.args.chan c.args.level c.args.up_bound c.args.self.now.rows.items c.in-Some.place c.index.result.now _
+    relax-phase c.args.self.now.shape c.args.self.now.clock c.args.self.now.queue c.args.chan c.args.level c.args.up_bound c.args.self.now.rows.items c.in-Some.place c.index.result.now _
     (c.in-Some.ensures.some)
     (c.in-Some-not_tentative.ensures ∙ ap (λ row. not_in_phase Tentative (reservation_in row)) c.index.ensures)
 
@@ -52,7 +52,7 @@ returns-in-Some-not_tentative-clause-kept c = relax-same c.args.self.now.shape _
 
 pub returns-in-Some-unfit-clause-reply : goal.returns-in-Some-unfit-clause-reply
 returns-in-Some-unfit-clause-reply c =
-    relax-unfit c.args.self.now.shape c.args.self.now.clock c.args.self.now.packets c.args.chan c.args.level c.args.up_bound c.args.self.now.rows.items c.in-Some.place c.index.result.now _
+    relax-unfit c.args.self.now.shape c.args.self.now.clock c.args.self.now.queue c.args.chan c.args.level c.args.up_bound c.args.self.now.rows.items c.in-Some.place c.index.result.now _
     (c.in-Some.ensures.some)
     (c.in_default-not_tentative.ensures ∙ ap (λ row. not_in_phase Tentative (reservation_in row)) c.index.ensures)
     (c.in-Some-unfit.ensures ∙ ap (λ row. unfit (reservation_in row) c.args.level c.args.up_bound) (at-place c.args.self.now.rows.items c.in-Some.place c.index-2.result.now c.index.result.now c.index-2.ensures ((c.in-Some.ensures.some).inside)))
@@ -90,10 +90,10 @@ fewer : (c : After-commit) → slots_of c.args.self.now.shape.bounds (reservatio
 fewer c =
     let place = c.in-Some.ensures.some in
     let reply =
-    relax-relaxed c.args.self.now.shape c.args.self.now.clock c.args.self.now.packets c.args.chan c.args.level c.args.up_bound c.args.self.now.rows.items c.in-Some.place c.index.result.now place
+    relax-relaxed c.args.self.now.shape c.args.self.now.clock c.args.self.now.queue c.args.chan c.args.level c.args.up_bound c.args.self.now.rows.items c.in-Some.place c.index.result.now place
     (c.in_default-not_tentative.ensures ∙ ap (λ row. not_in_phase Tentative (reservation_in row)) c.index.ensures)
     (c.in_default-unfit.ensures ∙ ap (λ row. unfit (reservation_in row) c.args.level c.args.up_bound) (at-place c.args.self.now.rows.items c.in-Some.place c.index-2.result.now c.index.result.now c.index-2.ensures place.inside)) in
-    relaxed-share c.args.self.now.shape c.args.self.now.room (kept_in c.args.self.now) c.args.chan c.args.level c.args.up_bound c.args.self.now.clock c.args.self.now.rows.items c.in-Some.place c.commit.new.self c.index_mut.result.now refl c.args.self.now.sound place
+    relaxed-share c.args.self.now.shape c.args.self.now.queue.room (kept_in c.args.self.now) c.args.chan c.args.level c.args.up_bound c.args.self.now.clock c.args.self.now.rows.items c.in-Some.place c.commit.new.self c.index_mut.result.now refl c.args.self.now.sound place
     (c.commit.ensures ∙ ap (λ row. kept_relaxed c.args.level c.args.up_bound (row_in row)) c.index_mut.ensures.value) reply
 
 -- which row was seen first makes no difference
@@ -134,12 +134,12 @@ invariant_of-self-2 c =
     let distinct = subst IsDistinct c.args.self.now.same_rows c.args.self.now.admitted.distinct in
     let same = c.commit.ensures ∙ ap (λ row. kept_relaxed c.args.level c.args.up_bound (row_in row)) c.index_mut.ensures.value in
     let reply =
-    relax-relaxed c.args.self.now.shape c.args.self.now.clock c.args.self.now.packets c.args.chan c.args.level c.args.up_bound c.args.self.now.rows.items c.in-Some.place c.index.result.now
+    relax-relaxed c.args.self.now.shape c.args.self.now.clock c.args.self.now.queue c.args.chan c.args.level c.args.up_bound c.args.self.now.rows.items c.in-Some.place c.index.result.now
     (c.in-Some.ensures.some)
     (c.in_default-not_tentative.ensures ∙ ap (λ row. not_in_phase Tentative (reservation_in row)) c.index.ensures)
     (c.in_default-unfit.ensures ∙ ap (λ row. unfit (reservation_in row) c.args.level c.args.up_bound) (at-place c.args.self.now.rows.items c.in-Some.place c.index-2.result.now c.index.result.now c.index-2.ensures ((c.in-Some.ensures.some).inside))) in
     let kept =
-    relax-kept c.args.self.now.shape c.args.self.now.clock c.args.self.now.packets c.args.chan c.args.level c.args.up_bound c.args.self.now.clock c.args.self.now.rows.items c.in-Some.place c.commit.new.self c.index_mut.result.now
+    relax-kept c.args.self.now.shape c.args.self.now.clock c.args.self.now.queue c.args.chan c.args.level c.args.up_bound c.args.self.now.clock c.args.self.now.rows.items c.in-Some.place c.commit.new.self c.index_mut.result.now
     (c.in-Some.ensures.some)
     (c.commit.ensures ∙ ap (λ row. kept_relaxed c.args.level c.args.up_bound (row_in row)) c.index_mut.ensures.value) in
     record {
@@ -167,7 +167,7 @@ invariant_of-self-2 c =
           (fits-again (goal.at.invariant_of-self-2 c).After-commit)
           (c.hold.ensures.budget ∙ ap (λ row. with_held c.give_back.new.self.budget (kept_units c.args.self.now.shape.bounds (reservation_in row))) (c.index-4.ensures ∙ get_or-set_same c.args.self.now.rows.items c.in-Some.place c.commit.new.self c.index-4.result.now place.inside))
           (c.hold.ensures.places ∙ ap (λ row. c.give_back.new.self.places + places_for c.args.self.now.shape.bounds (reservation_in row)) (c.index-4.ensures ∙ get_or-set_same c.args.self.now.rows.items c.in-Some.place c.commit.new.self c.index-4.result.now place.inside));
-      sound = subst (IsSound c.args.self.now.shape c.args.self.now.room) (sym kept) (sound-relax c.args.self.now.shape c.args.self.now.room (kept_in c.args.self.now) c.args.chan c.args.level c.args.up_bound (Relaxed c.args.self.now.clock) c.requires.fits c.args.self.now.sound reply);
+      sound = subst (IsSound c.args.self.now.shape c.args.self.now.queue.room) (sym kept) (sound-relax c.args.self.now.shape c.args.self.now.queue.room (kept_in c.args.self.now) c.args.chan c.args.level c.args.up_bound (Relaxed c.args.self.now.clock) c.requires.fits c.args.self.now.sound reply);
       planned =
           (let was = get_or c.args.self.now.rows.items c.in-Some.place c.index.result.now in
           let tentative = in-phase Tentative (row_in was) (c.in_default-not_tentative.ensures ∙ ap (λ row. not_in_phase Tentative (reservation_in row)) c.index.ensures) in
@@ -178,7 +178,7 @@ invariant_of-self-2 c =
           (same-idle (row_in c.commit.new.self) (row_in (get_or c.args.self.now.rows.items c.in-Some.place c.index_mut.result.now)) (ap (λ row. row.left) same)
           (ap (λ row. is_phase row.terms.phase Closing) same ∙ sym (ap (λ row. is_phase row.phase Closing) (get_or_default c.args.self.now.rows.items c.in-Some.place c.index_mut.result.now c.index.result.now place.inside) ∙ other))));
       turns = (let turns = c.args.self.now.turns in let long = length-set c.args.self.now.rows.items c.in-Some.place c.commit.new.self in omega (arith, turns, long));
-      roomy = c.args.self.now.roomy;
+      few = c.args.self.now.few;
       looked = c.args.self.now.looked;
       stood = still-stood c.args.self.now (Relax c.args.chan c.args.level c.args.up_bound) (Relaxed c.args.self.now.clock) _ c.requires.fits reply kept;
       rests = due-now _ _;
@@ -186,13 +186,13 @@ invariant_of-self-2 c =
 
 pub returns-clause-reply : goal.returns-clause-reply
 returns-clause-reply c =
-    relax-relaxed c.args.self.now.shape c.args.self.now.clock c.args.self.now.packets c.args.chan c.args.level c.args.up_bound c.args.self.now.rows.items c.in-Some.place c.index.result.now
+    relax-relaxed c.args.self.now.shape c.args.self.now.clock c.args.self.now.queue c.args.chan c.args.level c.args.up_bound c.args.self.now.rows.items c.in-Some.place c.index.result.now
     (c.in-Some.ensures.some)
     (c.in_default-not_tentative.ensures ∙ ap (λ row. not_in_phase Tentative (reservation_in row)) c.index.ensures)
     (c.in_default-unfit.ensures ∙ ap (λ row. unfit (reservation_in row) c.args.level c.args.up_bound) (at-place c.args.self.now.rows.items c.in-Some.place c.index-2.result.now c.index.result.now c.index-2.ensures ((c.in-Some.ensures.some).inside)))
 
 pub returns-clause-kept : goal.returns-clause-kept
 returns-clause-kept c =
-    relax-kept c.args.self.now.shape c.args.self.now.clock c.args.self.now.packets c.args.chan c.args.level c.args.up_bound c.args.self.now.clock c.args.self.now.rows.items c.in-Some.place c.commit.new.self c.index_mut.result.now
+    relax-kept c.args.self.now.shape c.args.self.now.clock c.args.self.now.queue c.args.chan c.args.level c.args.up_bound c.args.self.now.clock c.args.self.now.rows.items c.in-Some.place c.commit.new.self c.index_mut.result.now
     (c.in-Some.ensures.some)
     (c.commit.ensures ∙ ap (λ row. kept_relaxed c.args.level c.args.up_bound (row_in row)) c.index_mut.ensures.value)

@@ -39,7 +39,7 @@ use Rattle.link_server.proofs.link_state.LinkState.release.Goals.{In-Some, After
 
 pub returns-in_default-clause-reply : goal.returns-in_default-clause-reply
 returns-in_default-clause-reply c =
-    release-absent c.args.self.now.shape c.args.self.now.clock c.args.self.now.packets c.args.chan c.args.upstream c.args.self.now.rows.items
+    release-absent c.args.self.now.shape c.args.self.now.clock c.args.self.now.queue c.args.chan c.args.upstream c.args.self.now.rows.items
     (subst (λ first. NoRowPasses (is_served_at_hop c.args.chan first) c.args.self.now.rows.items) (names-is c.args.upstream c.is_none.result c.is_none.ensures)
     (c.in_default.ensures.none))
 
@@ -54,7 +54,7 @@ placed c =
 
 pub returns-in-Some-not_committed-clause-reply : goal.returns-in-Some-not_committed-clause-reply
 returns-in-Some-not_committed-clause-reply c =
-    release-phase c.args.self.now.shape c.args.self.now.clock c.args.self.now.packets c.args.chan c.args.upstream c.args.self.now.rows.items c.in-Some.place c.index.result.now _
+    release-phase c.args.self.now.shape c.args.self.now.clock c.args.self.now.queue c.args.chan c.args.upstream c.args.self.now.rows.items c.in-Some.place c.index.result.now _
     (placed (goal.at.returns-in-Some-not_committed-clause-reply c).In-Some)
     (c.in-Some-not_committed.ensures ∙ ap (λ row. not_in_phase Committed (reservation_in row)) c.index.ensures)
 
@@ -67,14 +67,14 @@ IsPlaced c = IsFirstPlace (is_served_at_hop c.args.chan (names_first_hop c.args.
 
 replied : (c : After-close) → IsPlaced c → Closing c.count_at_release-count.result c.cancelled_at_release-cancelled.result ≡ kept_reply (whole c.args.self.now.shape) (kept_in c.args.self.now) (Release c.args.chan c.args.upstream)
 replied c place =
-    release-closes c.args.self.now.shape c.args.self.now.clock c.args.self.now.packets c.args.chan c.args.upstream c.args.self.now.rows.items c.in-Some.place c.index.result.now c.count_at_release-count.result c.cancelled_at_release-cancelled.result place
+    release-closes c.args.self.now.shape c.args.self.now.clock c.args.self.now.queue c.args.chan c.args.upstream c.args.self.now.rows.items c.in-Some.place c.index.result.now c.count_at_release-count.result c.cancelled_at_release-cancelled.result place
     (c.in_default-not_committed.ensures ∙ ap (λ row. not_in_phase Committed (reservation_in row)) c.index.ensures)
     (c.count_at_release-count.ensures ∙ ap (λ row. count_at_release c.args.upstream row.taken) (at-place c.args.self.now.rows.items c.in-Some.place c.index-2.result.now c.index.result.now c.index-2.ensures place.inside))
     (c.cancelled_at_release-cancelled.ensures ∙ ap (λ row. cancelled_at_release c.args.upstream (length (left_in row.planned))) (at-place c.args.self.now.rows.items c.in-Some.place c.index-3.result.now c.index.result.now c.index-3.ensures place.inside))
 
-kept : (c : After-close) → IsPlaced c → account c.args.self.now.clock c.args.self.now.packets (set c.args.self.now.rows.items c.in-Some.place c.close.new.self) ≡ kept_after c.args.self.now.shape (kept_in c.args.self.now) (Release c.args.chan c.args.upstream) (Closing c.count_at_release-count.result c.cancelled_at_release-cancelled.result)
+kept : (c : After-close) → IsPlaced c → account c.args.self.now.clock c.args.self.now.queue (set c.args.self.now.rows.items c.in-Some.place c.close.new.self) ≡ kept_after c.args.self.now.shape (kept_in c.args.self.now) (Release c.args.chan c.args.upstream) (Closing c.count_at_release-count.result c.cancelled_at_release-cancelled.result)
 kept c place =
-    release-kept c.args.self.now.shape c.args.self.now.clock c.args.self.now.packets c.args.chan c.args.upstream c.count_at_release-count.result c.cancelled_at_release-cancelled.result c.args.self.now.rows.items c.in-Some.place c.close.new.self c.index_mut.result.now place
+    release-kept c.args.self.now.shape c.args.self.now.clock c.args.self.now.queue c.args.chan c.args.upstream c.count_at_release-count.result c.cancelled_at_release-cancelled.result c.args.self.now.rows.items c.in-Some.place c.close.new.self c.index_mut.result.now place
     (c.close.ensures ∙ ap (λ row. kept_closed c.count_at_release-count.result (row_in row)) c.index_mut.ensures.value)
 
 -- the row was open, and it is the one whose end is put
@@ -129,13 +129,13 @@ invariant_of-self-2 c =
       keeps =
           keeps-closed c.args.self.now.shape.buffer c.args.self.now.shape.bounds c.args.self.now.keeping c.args.self.now.rows.items c.in-Some.place c.close.new.self c.index_mut.result.now c.count_at_release-count.result c.args.self.now.keeps place.inside (ap (λ row. row.terms) same)
           (c.in_default-not_committed.ensures ∙ ap (λ row. not_in_phase Committed (reservation_in row)) (at-place c.args.self.now.rows.items c.in-Some.place c.index.result.now c.index_mut.result.now c.index.ensures place.inside));
-      sound = subst (IsSound c.args.self.now.shape c.args.self.now.room) (sym (kept close place)) (sound-release c.args.self.now.shape c.args.self.now.room (kept_in c.args.self.now) c.args.chan c.args.upstream (Closing c.count_at_release-count.result c.cancelled_at_release-cancelled.result) c.args.self.now.sound (replied close place));
+      sound = subst (IsSound c.args.self.now.shape c.args.self.now.queue.room) (sym (kept close place)) (sound-release c.args.self.now.shape c.args.self.now.queue.room (kept_in c.args.self.now) c.args.chan c.args.upstream (Closing c.count_at_release-count.result c.cancelled_at_release-cancelled.result) c.args.self.now.sound (replied close place));
       planned =
           planned-set c.args.self.now.clock c.args.self.now.plans.calendar c.args.self.now.rows.items c.in-Some.place c.close.new.self c.index_mut.result.now c.args.self.now.planned place.inside
           (told-none c.args.self.now.plans.calendar.entries (row_in c.close.new.self) (ap (λ row. first_tick row.left) same))
           (let none = closing-idle (row_in c.close.new.self) (ap (λ row. is_phase row.terms.phase PhaseClosing) same) in omega (arith, none));
       turns = (let turns = c.args.self.now.turns in let long = length-set c.args.self.now.rows.items c.in-Some.place c.close.new.self in omega (arith, turns, long));
-      roomy = c.args.self.now.roomy;
+      few = c.args.self.now.few;
       looked = c.args.self.now.looked;
       stood = still-stood c.args.self.now (Release c.args.chan c.args.upstream) (Closing c.count_at_release-count.result c.cancelled_at_release-cancelled.result) _ tt (replied close place) (kept close place);
       rests = due-now _ _;

@@ -21,10 +21,10 @@ invariant_of-self c =
       indexed = link.indexed;
       listed = listed-later link.shape.bounds link.clock (link.clock + c.args.ticks) link.holds (map row_in link.rows.items) (omega arith) link.listed;
       keeps = link.keeps;
-      sound = later-sound link.shape link.room rests.0 c.args.ticks (kept_in link) rests.1.0 rests.1.1 link.sound;
+      sound = later-sound link.shape link.queue.room rests.0 c.args.ticks (kept_in link) rests.1.0 rests.1.1 link.sound;
       planned = planned-later link.clock (link.clock + c.args.ticks) link.plans.calendar (map row_in link.rows.items) (omega arith) link.planned;
       turns = link.turns;
-      roomy = link.roomy;
+      few = link.few;
       looked = (let looked = link.looked in omega (arith, looked));
       stood = later-stood link.shape rests.0 c.args.ticks (kept_in link) (rows-have link.rows.items) rests.1.0 rests.1.1 link.stood;
       rests = λ before. later-rests link.shape link.due c.args.ticks (kept_in link) (link.rests (omega (arith, before)));

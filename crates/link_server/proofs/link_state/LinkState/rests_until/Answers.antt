@@ -8,4 +8,4 @@ returns-then-self c = c.args.self.now.rests c.if-self.true
 pub returns : goal.returns
 returns c =
     let link = c.args.self.now in
-    rests-by link.shape link.clock c.next_due.result link.holds link.plans.calendar link.packets link.rows.items c.next_due.ensures.holds c.next_due.ensures.plans link.listed link.planned c.next_due.ensures.best c.next_due.ensures.service
+    rests-by link.shape link.clock c.next_due.result link.holds link.plans.calendar link.queue link.rows.items c.next_due.ensures.holds c.next_due.ensures.plans link.listed link.planned c.next_due.ensures.best c.next_due.ensures.service

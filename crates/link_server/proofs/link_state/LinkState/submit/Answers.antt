@@ -33,14 +33,14 @@ use Rattle.link_server.proofs.link_state.LinkState.submit.Goals.{After-index-4}
 
 pub returns-in_default-clause-reply : goal.returns-in_default-clause-reply
 returns-in_default-clause-reply c =
-    submit-absent c.args.self.now.shape c.args.self.now.clock c.args.self.now.packets c.args.chan c.args.count c.args.gap c.args.size c.args.self.now.rows.items (c.in_default.ensures.none)
+    submit-absent c.args.self.now.shape c.args.self.now.clock c.args.self.now.queue c.args.chan c.args.count c.args.gap c.args.size c.args.self.now.rows.items (c.in_default.ensures.none)
 
 pub returns-in_default-clause-kept : goal.returns-in_default-clause-kept
 returns-in_default-clause-kept c = submit-same c.args.self.now.shape _ c.args.chan c.args.count c.args.gap c.args.size _
 
 pub returns-in-Some-not_committed-clause-reply : goal.returns-in-Some-not_committed-clause-reply
 returns-in-Some-not_committed-clause-reply c =
-    submit-phase c.args.self.now.shape c.args.self.now.clock c.args.self.now.packets c.args.chan c.args.count c.args.gap c.args.size c.args.self.now.rows.items c.in-Some.place c.index.result.now _
+    submit-phase c.args.self.now.shape c.args.self.now.clock c.args.self.now.queue c.args.chan c.args.count c.args.gap c.args.size c.args.self.now.rows.items c.in-Some.place c.index.result.now _
     (c.in-Some.ensures.some)
     (c.in-Some-not_committed.ensures ∙ ap (λ row. not_in_phase Committed (reservation_in row)) c.index.ensures)
 
@@ -49,7 +49,7 @@ returns-in-Some-not_committed-clause-kept c = submit-same c.args.self.now.shape 
 
 pub returns-in-Some-busy-clause-reply : goal.returns-in-Some-busy-clause-reply
 returns-in-Some-busy-clause-reply c =
-    submit-busy c.args.self.now.shape c.args.self.now.clock c.args.self.now.packets c.args.chan c.args.count c.args.gap c.args.size c.args.self.now.rows.items c.in-Some.place c.index.result.now _
+    submit-busy c.args.self.now.shape c.args.self.now.clock c.args.self.now.queue c.args.chan c.args.count c.args.gap c.args.size c.args.self.now.rows.items c.in-Some.place c.index.result.now _
     (c.in-Some.ensures.some)
     (c.in_default-not_committed.ensures ∙ ap (λ row. not_in_phase Committed (reservation_in row)) c.index.ensures)
     (c.in-Some-busy.ensures ∙ ap (λ row. busy (length (left_in row.planned))) (at-place c.args.self.now.rows.items c.in-Some.place c.index-2.result.now c.index.result.now c.index-2.ensures ((c.in-Some.ensures.some).inside)))
@@ -59,7 +59,7 @@ returns-in-Some-busy-clause-kept c = submit-same c.args.self.now.shape _ c.args.
 
 pub returns-in-Some-too_big-clause-reply : goal.returns-in-Some-too_big-clause-reply
 returns-in-Some-too_big-clause-reply c =
-    submit-big c.args.self.now.shape c.args.self.now.clock c.args.self.now.packets c.args.chan c.args.count c.args.gap c.args.size c.args.self.now.rows.items c.in-Some.place c.index.result.now _
+    submit-big c.args.self.now.shape c.args.self.now.clock c.args.self.now.queue c.args.chan c.args.count c.args.gap c.args.size c.args.self.now.rows.items c.in-Some.place c.index.result.now _
     (c.in-Some.ensures.some)
     (c.in_default-not_committed.ensures ∙ ap (λ row. not_in_phase Committed (reservation_in row)) c.index.ensures)
     (c.in_default-busy.ensures ∙ ap (λ row. busy (length (left_in row.planned))) (at-place c.args.self.now.rows.items c.in-Some.place c.index-2.result.now c.index.result.now c.index-2.ensures ((c.in-Some.ensures.some).inside)))
@@ -106,13 +106,13 @@ invariant_of-self-2 c =
     let place = c.in-Some.ensures.some in
     let same = c.plan.ensures ∙ ap (λ row. kept_planned c.args.self.now.clock c.args.count c.args.gap c.args.size (row_in row)) c.index_mut.ensures.value in
     let reply =
-    submit-planned c.args.self.now.shape c.args.self.now.clock c.args.self.now.packets c.args.chan c.args.count c.args.gap c.args.size c.args.self.now.rows.items c.in-Some.place c.index.result.now
+    submit-planned c.args.self.now.shape c.args.self.now.clock c.args.self.now.queue c.args.chan c.args.count c.args.gap c.args.size c.args.self.now.rows.items c.in-Some.place c.index.result.now
     (c.in-Some.ensures.some)
     (c.in_default-not_committed.ensures ∙ ap (λ row. not_in_phase Committed (reservation_in row)) c.index.ensures)
     (c.in_default-busy.ensures ∙ ap (λ row. busy (length (left_in row.planned))) (at-place c.args.self.now.rows.items c.in-Some.place c.index-2.result.now c.index.result.now c.index-2.ensures ((c.in-Some.ensures.some).inside)))
     (c.in_default-too_big.ensures ∙ ap (λ row. too_big (reservation_in row) c.args.size) (at-place c.args.self.now.rows.items c.in-Some.place c.index-3.result.now c.index.result.now c.index-3.ensures ((c.in-Some.ensures.some).inside))) in
     let kept =
-    submit-kept c.args.self.now.shape c.args.self.now.clock c.args.self.now.packets c.args.chan c.args.count c.args.gap c.args.size c.args.self.now.clock c.args.self.now.rows.items c.in-Some.place c.plan.new.self c.index_mut.result.now
+    submit-kept c.args.self.now.shape c.args.self.now.clock c.args.self.now.queue c.args.chan c.args.count c.args.gap c.args.size c.args.self.now.clock c.args.self.now.rows.items c.in-Some.place c.plan.new.self c.index_mut.result.now
     (c.in-Some.ensures.some)
     (c.plan.ensures ∙ ap (λ row. kept_planned c.args.self.now.clock c.args.count c.args.gap c.args.size (row_in row)) c.index_mut.ensures.value) in
     record {
@@ -135,7 +135,7 @@ invariant_of-self-2 c =
       keeps =
           subst (IsKeeping c.args.self.now.shape.buffer c.args.self.now.shape.bounds c.args.self.now.keeping)
           (sym (map-set_same reservation_in c.args.self.now.rows.items c.in-Some.place c.plan.new.self c.index_mut.result.now (ap (λ row. row.terms) same))) c.args.self.now.keeps;
-      sound = subst (IsSound c.args.self.now.shape c.args.self.now.room) (sym kept) (sound-submit c.args.self.now.shape c.args.self.now.room (kept_in c.args.self.now) c.args.chan c.args.count c.args.gap c.args.size (Planned c.args.self.now.clock) c.requires.fits c.args.self.now.sound reply);
+      sound = subst (IsSound c.args.self.now.shape c.args.self.now.queue.room) (sym kept) (sound-submit c.args.self.now.shape c.args.self.now.queue.room (kept_in c.args.self.now) c.args.chan c.args.count c.args.gap c.args.size (Planned c.args.self.now.clock) c.requires.fits c.args.self.now.sound reply);
       planned =
           planned-put c.args.self.now.clock c.args.self.now.plans.calendar c.put_plan.new.calendar c.args.self.now.rows.items c.in-Some.place c.plan.new.self c.index_mut.result.now c.args.self.now.planned place.inside
           (idle (goal.at.invariant_of-self-2 c).After-index-4)
@@ -143,7 +143,7 @@ invariant_of-self-2 c =
           (subst (λ row. IsTold c.put_plan.new.calendar.entries (row_in row)) (put-row (goal.at.invariant_of-self-2 c).After-index-4) c.put_plan.ensures.own)
           (subst (λ row. idle_count (row_in row) + c.args.self.now.plans.calendar.spare ≤ c.put_plan.new.calendar.spare + 1) (put-row (goal.at.invariant_of-self-2 c).After-index-4) c.put_plan.ensures.room);
       turns = (let turns = c.args.self.now.turns in let long = length-set c.args.self.now.rows.items c.in-Some.place c.plan.new.self in omega (arith, turns, long));
-      roomy = c.args.self.now.roomy;
+      few = c.args.self.now.few;
       looked = c.args.self.now.looked;
       stood = still-stood c.args.self.now (Submit c.args.chan c.args.count c.args.gap c.args.size) (Planned c.args.self.now.clock) _ c.requires.fits reply kept;
       rests = due-now _ _;
@@ -151,7 +151,7 @@ invariant_of-self-2 c =
 
 pub returns-clause-reply : goal.returns-clause-reply
 returns-clause-reply c =
-    submit-planned c.args.self.now.shape c.args.self.now.clock c.args.self.now.packets c.args.chan c.args.count c.args.gap c.args.size c.args.self.now.rows.items c.in-Some.place c.index.result.now
+    submit-planned c.args.self.now.shape c.args.self.now.clock c.args.self.now.queue c.args.chan c.args.count c.args.gap c.args.size c.args.self.now.rows.items c.in-Some.place c.index.result.now
     (c.in-Some.ensures.some)
     (c.in_default-not_committed.ensures ∙ ap (λ row. not_in_phase Committed (reservation_in row)) c.index.ensures)
     (c.in_default-busy.ensures ∙ ap (λ row. busy (length (left_in row.planned))) (at-place c.args.self.now.rows.items c.in-Some.place c.index-2.result.now c.index.result.now c.index-2.ensures ((c.in-Some.ensures.some).inside)))
@@ -159,6 +159,6 @@ returns-clause-reply c =
 
 pub returns-clause-kept : goal.returns-clause-kept
 returns-clause-kept c =
-    submit-kept c.args.self.now.shape c.args.self.now.clock c.args.self.now.packets c.args.chan c.args.count c.args.gap c.args.size c.args.self.now.clock c.args.self.now.rows.items c.in-Some.place c.plan.new.self c.index_mut.result.now
+    submit-kept c.args.self.now.shape c.args.self.now.clock c.args.self.now.queue c.args.chan c.args.count c.args.gap c.args.size c.args.self.now.clock c.args.self.now.rows.items c.in-Some.place c.plan.new.self c.index_mut.result.now
     (c.in-Some.ensures.some)
     (c.plan.ensures ∙ ap (λ row. kept_planned c.args.self.now.clock c.args.count c.args.gap c.args.size (row_in row)) c.index_mut.ensures.value)

@@ -1,0 +1,14 @@
+-- The counts are those of the packets here.
+use Rattle.std.proofs.Common.{sym, ap, ◌∙◌, subst}
+use Rattle.link_steps.specs.Buffer.{held_packets}
+use Rattle.link_server.specs.Counts.{AreByLead, counted}
+use Rattle.link_server.specs.KeptQueue.{KeptQueue}
+use Rattle.link_server.proofs.queue.Queue.held.Goals as goal
+
+pub count_of-requires : goal.count_of-requires
+count_of-requires c = subst (AreByLead 0) (sym c.deref.ensures.value) c.self.invariant.counts_sorted
+
+pub returns : goal.returns
+returns c =
+    c.count_of.ensures ∙ ap (counted c.args.lead) c.deref.ensures.value ∙ c.self.invariant.counts_are.each c.args.lead
+    ∙ ap (λ (queue : KeptQueue). held_packets c.args.lead queue.here) c.self.view_is

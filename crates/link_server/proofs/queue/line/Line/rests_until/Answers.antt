@@ -1,0 +1,24 @@
+-- Each rank is ready, or under its tick in the calendar.
+use Rattle.std.proofs.Common.{◌≡◌, List, [], ◌∷◌, ◌++◌, map, sym, ap, ◌∙◌, subst, append-nil, arith}
+use Rattle.link_server.specs.declared.queue.line.Rank.{Rank}
+use Rattle.link_server.specs.Keys.{rank_at, queues_at}
+use Rattle.link_server.specs.Line.{ranks_in, later_in, AreFrom}
+use Rattle.link_server.specs.Queues.{joined}
+use Rattle.link_server.specs.Ready.{queues_of}
+use Rattle.link_server.proofs.DueFacts.{all-from-tick}
+use Rattle.link_server.proofs.QueueFacts.{joined-map}
+use Rattle.link_server.proofs.queue.line.Line.rests_until.Goals as goal
+
+all-from-zero : (ranks : List Rank) → AreFrom 0 ranks
+all-from-zero [] = tt
+all-from-zero (r ∷ ranks) = (omega arith, all-from-zero ranks)
+
+pub returns-then-not-is_empty : goal.returns-then-not-is_empty
+returns-then-not-is_empty c = all-from-zero (ranks_in c.args.self.now)
+
+pub returns : goal.returns
+returns c =
+    let l = c.args.self.now in
+    let none : joined (queues_at l.ranks.slots (queues_of l.ready)) ≡ [] = joined-map (rank_at l.ranks.slots) (queues_of l.ready) ∙ ap (map (rank_at l.ranks.slots)) (c.is_empty.ensures c.if-not-is_empty.false) in
+    subst (λ ranks. AreFrom c.rests_until.result (later_in l ++ ranks)) (sym none)
+    (subst (AreFrom c.rests_until.result) (sym (append-nil (later_in l))) (all-from-tick l.ranks.slots l.later.entries c.rests_until.result l.keyed.under c.rests_until.ensures))

@@ -1,0 +1,286 @@
+//! The queue of the packets at a link: those that it has taken and that haven't departed, and the one that occupies it.
+ghost use Rattle.std.specs.Prelude.{◌≡◌, ◌+◌, ◌^◌, ◌<◌, ◌≤◌, ◌∷◌, ◌++◌, [], suc, nat_eq, filter, find, length, IsTrue, IsOk, IfOk, OnOk};
+ghost use Rattle.link_server.specs.Packets.{arrival_in, on_in};
+ghost use Rattle.link_server.specs.Planned.{left_in};
+
+mod best_effort;
+mod counts;
+pub(crate) mod held_packet;
+mod in_line;
+mod lead_count;
+mod line;
+mod ready;
+
+use crate::keyed_list::KeyedList;
+use crate::planned::Planned;
+use crate::queue::best_effort::best_packet;
+use crate::queue::counts::{count_of, raise};
+use crate::queue::held_packet::{HeldPacket, Running};
+use crate::queue::in_line::{best_here, best_here_but, start_next, take_out};
+use crate::queue::lead_count::Count;
+use crate::queue::line::{Line, Rank};
+use link_steps::{LinkShape, Sent};
+use net_units::{Bounds, OutOfMemory};
+use std::alloc::Global;
+use std::marker::Model;
+
+// The packets at a link, and those that are planned of no channel. A contract sees the record `KeptQueue`.
+#[derive(Drop)]
+pub(crate) struct Queue {
+    // How many packets the link has taken.
+    taken: u64,
+    // In the order of their arrival.
+    here: KeyedList<HeldPacket>,
+    // How many of them are of each reservation, in the order of their leads.
+    counts: Vec<Count>,
+    // The ranks of those that haven't started.
+    line: Line,
+    // For how many packets there is room, those here included.
+    room: usize,
+    // The one that occupies the link: it is one of those here.
+    on: Option<Running>,
+    // The best-effort packets that are planned and left.
+    best: Planned,
+}
+
+impl Model for Queue {
+    ghost use Rattle.link_server.specs.KeptQueue.{KeptQueue};
+
+    ghost Value = { KeptQueue };
+
+    ghost use Rattle.link_server.specs.QueueParts.{queue_seen, IsQueue};
+
+    ghost view = { queue_seen };
+
+    ghost invariant = { IsQueue };
+}
+
+// What leaves a link at the end of a tick: a packet of a channel, or a best-effort packet, if any.
+#[derive(Drop)]
+pub(crate) struct Left {
+    pub(crate) sent: Option<Sent>,
+    pub(crate) best_sent: bool,
+}
+
+impl Queue {
+    ghost use Rattle.link_steps.specs.BestEffort.{best_packet, best_step};
+    ghost use Rattle.link_steps.specs.Buffer.{held_packets};
+    ghost use Rattle.link_steps.specs.Kept.{served, departs, best_departs, still_on, still_here, waits_here};
+    ghost use Rattle.link_steps.specs.Lists.{Each};
+    ghost use Rattle.link_steps.specs.Quiet.{ServiceRests};
+    ghost use Rattle.link_steps.specs.Rows.{is_for, left_at};
+    ghost use Rattle.link_steps.specs.Sources.{source_step, taken_by, dropped_by};
+    ghost use Rattle.link_server.specs.Planned.{IsPlannedFrom};
+    ghost use Rattle.link_server.specs.Serving.{CanServe};
+
+    // No packet taken yet, and no room for one.
+    pub(crate) fn new(alloc: Global) -> Result<Queue, OutOfMemory>
+        ensures { IfOk result (λ made. made ≡ record { taken = 0; here = []; on = None; best = []; room = 0; looked = 0 }) }
+    {
+        Ok(Queue {
+            taken: 0,
+            here: KeyedList::new(alloc),
+            counts: Vec::new(alloc),
+            line: Line::new(alloc)?,
+            room: 0,
+            on: None,
+            best: Planned::NONE,
+        })
+    }
+
+    // Makes room for `more` more packets here. Where there is that room already it takes no memory.
+    pub(crate) fn reserve(&mut self, more: usize) -> Result<(), OutOfMemory>
+        ensures room { OnOk result (length self.new.here + more ≤ self.new.room) }
+        ensures had_room { length self.old.here + more ≤ self.old.room → IsOk result }
+        ensures grows { self.old.room ≤ self.new.room }
+        ensures small { self.old.room < 2 ^ 63 → self.new.room < 2 ^ 63 }
+        ensures kept { self.new ≡ record self.old { room = self.new.room } }
+    {
+        let room = self.here.len().checked_add(more).ok_or(OutOfMemory)?;
+        if room <= self.room {
+            return Ok(());
+        }
+        self.here.reserve(room)?;
+        self.line.reserve(room)?;
+        self.counts.reserve(room.saturating_sub(self.counts.len()))?;
+        self.room = room;
+        Ok(())
+    }
+
+    // How many packets the link has taken.
+    pub(crate) fn taken(&self) -> u64
+        ensures { result ≡ self.now.taken }
+    {
+        self.taken
+    }
+
+    // How many are here.
+    pub(crate) fn len(&self) -> usize
+        ensures { result ≡ length self.now.here }
+    {
+        self.here.len()
+    }
+
+    // How many best-effort packets are planned and left.
+    pub(crate) fn best_left(&self) -> u64
+        ensures { result ≡ length self.now.best }
+    {
+        self.best.count
+    }
+
+    // Plans best-effort packets.
+    pub(crate) fn plan_best(&mut self, planned: Planned)
+        ensures { self.new ≡ record self.old { best = left_in planned } }
+    {
+        self.best = planned;
+    }
+
+    // Takes a packet, after those that are here, which isn't eligible before the tick of the clock. It takes no memory.
+    pub(crate) fn push(&mut self, packet: HeldPacket, clock: u64)
+        requires room { length self.old.here < self.old.room }
+        requires next { packet.place ≡ self.old.taken + 1 }
+        requires looked { self.old.looked ≤ clock }
+        requires eligible { clock ≤ packet.eligible }
+        requires countable { self.old.taken + 1 < 2 ^ 64 }
+        ensures kept { self.new ≡ record self.old { taken = self.old.taken + 1; here = self.old.here ++ arrival_in packet ∷ []; looked = self.new.looked } }
+        ensures looked { self.new.looked ≤ clock }
+    {
+        let rank = Rank {
+            level: packet.level,
+            eligible: packet.eligible,
+            place: packet.place,
+        };
+        self.line.push(&rank, clock);
+        raise(&mut self.counts, packet.lead);
+        self.here.push(packet);
+        self.taken += 1;
+    }
+
+    // How many of the packets here are of the reservation whose first packet had this place.
+    pub(crate) fn held(&self, lead: u64) -> u64
+        ensures { result ≡ held_packets lead self.now.here }
+    {
+        count_of(&self.counts, lead)
+    }
+
+    // The packet that occupies the link in this tick: the one that did, or else the first in line of those here.
+    fn occupant(&mut self, tick: u64) -> Option<Running>
+        requires early { tick < 2 ^ 61 }
+        requires looked { self.old.looked ≤ tick }
+        ensures occupant { on_in result ≡ served tick self.old.here self.old.on }
+        ensures kept { self.new ≡ record self.old { on = on_in result; looked = self.new.looked } }
+        ensures looked { self.new.looked ≤ tick }
+    {
+        if self.on.is_some() {
+            return self.on;
+        }
+        // most ticks of a run find no packet here, and needn't look at the line
+        if self.here.len() == 0 {
+            return None;
+        }
+        let packet = start_next(&mut self.line, &self.here, tick)?;
+        self.on = Some(Running { packet, tick });
+        self.on
+    }
+
+    // A tick before which no packet starts or departs, and no best-effort packet is planned.
+    pub(crate) fn rests_until(&self, rate: u32) -> u64
+        requires { 1 ≤ rate }
+        ensures service { ServiceRests rate result self.now.here self.now.on }
+        ensures best { Each (IsPlannedFrom result) self.now.best }
+    {
+        self.service_rests_until(rate).min(self.best.rests_until())
+    }
+
+    // A tick before which no packet starts or departs.
+    fn service_rests_until(&self, rate: u32) -> u64
+        requires { 1 ≤ rate }
+        ensures { ServiceRests rate result self.now.here self.now.on }
+    {
+        match &self.on {
+            Some(running) => running.leaves_at(rate) - 1,
+            None => {
+                if self.here.len() == 0 {
+                    u64::MAX
+                } else {
+                    self.line.rests_until()
+                }
+            }
+        }
+    }
+
+    // Whether the best-effort packet that is planned for this tick has a place. Where none is planned it looks at no packet.
+    pub(crate) fn best_fits(&self, shape: &LinkShape, clock: u64) -> bool
+        requires ahead { Each (IsPlannedFrom clock) self.now.best }
+        ensures step { source_step result (find (is_for clock) self.now.best) ≡ best_step (length (filter (waits_here shape.now.bounds self.now.on) self.now.here)) shape.now.best clock self.now.best }
+        ensures fewer { IsTrue result → length (filter (waits_here shape.now.bounds self.now.on) self.now.here) < shape.now.best }
+    {
+        if !self.best.is_for(clock) {
+            return false;
+        }
+        (self.waiting(&shape.bounds) as u64) < u64::from(shape.best)
+    }
+
+    // How many best-effort packets are here and haven't started.
+    fn waiting(&self, bounds: &Bounds) -> usize
+        ensures { result ≡ length (filter (waits_here bounds.now self.now.on) self.now.here) }
+    {
+        match &self.on {
+            None => best_here(&self.here, bounds),
+            Some(running) => best_here_but(&self.here, bounds, running),
+        }
+    }
+
+    // Takes the best-effort packet that is planned for this tick, if there is one and it `fits`. It answers whether it
+    // found no place, and so was lost. It takes no memory.
+    pub(crate) fn take_best(&mut self, fits: bool, shape: &LinkShape, clock: u64) -> bool
+        requires ahead { Each (IsPlannedFrom clock) self.old.best }
+        requires room { IsTrue fits → length self.old.here < self.old.room }
+        requires countable { self.old.taken + 1 < 2 ^ 64 }
+        requires looked { self.old.looked ≤ clock }
+        ensures lost { result ≡ nat_eq (dropped_by (source_step fits (find (is_for clock) self.old.best))) 1 }
+        ensures kept { self.new ≡ record self.old { taken = self.old.taken + taken_by (source_step fits (find (is_for clock) self.old.best)); here = self.old.here ++ best_packet (source_step fits (find (is_for clock) self.old.best)) shape.now.bounds (suc self.old.taken) clock; best = left_at (clock + 1) self.old.best; looked = self.new.looked } }
+        ensures looked { self.new.looked ≤ clock }
+    {
+        let Some(size) = self.best.take_at(clock) else {
+            return false;
+        };
+        if !fits {
+            return true;
+        }
+        let place = self.taken + 1;
+        self.push(best_packet(&shape.bounds, place, size, clock), clock);
+        false
+    }
+
+    // Serves the tick of the clock: a packet that is on goes on, or else one starts. The answer is the packet whose last
+    // tick this is, which departs at its end. It takes no memory.
+    pub(crate) fn serve(&mut self, shape: &LinkShape, clock: u64) -> Left
+        requires early { clock < 2 ^ 61 }
+        requires looked { self.old.looked ≤ clock }
+        requires serves { CanServe shape.now clock self.old.on }
+        ensures sent { result.sent ≡ departs shape.now clock (served clock self.old.here self.old.on) }
+        ensures best_sent { result.best_sent ≡ best_departs shape.now clock (served clock self.old.here self.old.on) }
+        ensures kept { self.new ≡ record self.old { here = still_here shape.now.rate clock (served clock self.old.here self.old.on) self.old.here; on = still_on shape.now.rate clock (served clock self.old.here self.old.on); looked = self.new.looked } }
+        ensures looked { self.new.looked ≤ clock }
+    {
+        let Some(running) = self.occupant(clock) else {
+            return Left {
+                sent: None,
+                best_sent: false,
+            };
+        };
+        if running.leaves_at(shape.rate) > clock + 1 {
+            return Left {
+                sent: None,
+                best_sent: false,
+            };
+        }
+        self.on = None;
+        take_out(&mut self.here, &mut self.counts, &running);
+        Left {
+            sent: running.sent(shape),
+            best_sent: running.is_best(&shape.bounds),
+        }
+    }
+}
