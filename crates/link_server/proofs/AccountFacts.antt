@@ -3,7 +3,7 @@ use Rattle.std.proofs.Common.{◌≡◌, ℕ, List, [], None, ap, ◌∙◌}
 use Rattle.link_steps.specs.Kept.{nothing_kept}
 use Rattle.link_server.specs.Account.{account}
 use Rattle.link_server.specs.KeptQueue.{KeptQueue}
-use Rattle.link_server.specs.declared.served_row.ServedRow.{ServedRow}
+use Rattle.link_server.specs.declared.table.served_row.ServedRow.{ServedRow}
 
 -- queues that agree in each part are the same
 pub queue-same : (queue other : KeptQueue) → queue.taken ≡ other.taken → queue.here ≡ other.here → queue.on ≡ other.on → queue.best ≡ other.best → queue.room ≡ other.room → queue.looked ≡ other.looked → queue ≡ other

@@ -3,13 +3,13 @@ use Rattle.std.proofs.Common.{◌≡◌, ℕ, true, false, List, [], ◌∷◌, 
 use Rattle.std.specs.Prelude.{find, nat_le}
 use Rattle.std.proofs.lemmas.List.{map_push}
 use Rattle.link_steps.specs.Reservation.{Reservation}
-use Rattle.link_server.specs.declared.served_row.ServedRow.{ServedRow}
+use Rattle.link_server.specs.declared.table.served_row.ServedRow.{ServedRow}
 use Rattle.link_server.specs.Planned.{left_in}
 use Rattle.link_server.specs.Rows.{reservation_in, row_in, is_served_row_of, is_served_at_hop, NoRowPasses, IsFirstPlace, IsAbsent, IsPlaceOf}
 use Rattle.link_server.specs.Account.{account}
 use Rattle.link_server.specs.Wants.{ask_for, MayHold}
-use Rattle.link_server.specs.declared.served_row.Offered.{Offered}
-use Rattle.link_server.specs.declared.served_row.Wanted.{Wanted}
+use Rattle.link_server.specs.declared.table.served_row.Offered.{Offered}
+use Rattle.link_server.specs.declared.table.served_row.Wanted.{Wanted}
 use Rattle.link_server.specs.KeptQueue.{KeptQueue}
 use Rattle.link_server.proofs.PlaceFacts.{terms-found, terms-absent, kept-found, kept-absent, kept-without, kept-changed}
 use Rattle.std.specs.List.{remove}

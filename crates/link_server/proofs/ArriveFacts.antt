@@ -28,7 +28,7 @@ use Rattle.link_server.specs.Packets.{arrival_in}
 use Rattle.link_server.specs.Rows.{reservation_in, row_in, is_served_row_of, IsAbsent, IsPlaceOf}
 use Rattle.link_server.specs.Sound.{IsSound}
 use Rattle.link_server.specs.Strays.{first_rule, stray}
-use Rattle.link_server.specs.declared.served_row.ServedRow.{ServedRow}
+use Rattle.link_server.specs.declared.table.served_row.ServedRow.{ServedRow}
 use Rattle.link_server.specs.declared.queue.held_packet.HeldPacket.{HeldPacket}
 use Rattle.link_server.specs.KeptQueue.{KeptQueue}
 use Rattle.link_server.proofs.PlaceFacts.{kept-found, kept-absent, kept-changed}

@@ -20,7 +20,7 @@ use Rattle.tick_calendar.specs.Calendar.{Entry, Schedule, TakesDue}
 use Rattle.link_server.specs.Holds.{is_open, open_count, open_in, tells_end, IsListed, AreListed, HasEnded, StaysIfOf}
 use Rattle.link_server.specs.Index.{channel_in, channels_in, LeadsTo, IsIndex, IsAheadFrom}
 use Rattle.link_server.specs.Rows.{row_in, IsAbsent, IsPlaceOf}
-use Rattle.link_server.specs.declared.served_row.ServedRow.{ServedRow}
+use Rattle.link_server.specs.declared.table.served_row.ServedRow.{ServedRow}
 use Rattle.link_server.proofs.CalendarFacts.{listed-without}
 use Rattle.link_server.proofs.ExpiryFacts.{each-without, each-set}
 use Rattle.link_server.proofs.RowTotals.{rows-few, row-part, row-set, row-gone}

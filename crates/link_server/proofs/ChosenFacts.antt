@@ -36,9 +36,9 @@ use Rattle.link_steps.proofs.ReplyFacts.{offer-best, offer-numbers}
 use Rattle.link_server.specs.Held.{seen, seen_at, reach_at, MayReserve, IsBestFor}
 use Rattle.link_server.specs.Rows.{reservation_in, row_in}
 use Rattle.link_server.specs.declared.held_row.HeldRow.{HeldRow}
-use Rattle.link_server.specs.declared.served_row.ServedRow.{ServedRow}
-use Rattle.link_server.specs.declared.served_row.Offered.{Offered}
-use Rattle.link_server.specs.declared.served_row.Wanted.{Wanted}
+use Rattle.link_server.specs.declared.table.served_row.ServedRow.{ServedRow}
+use Rattle.link_server.specs.declared.table.served_row.Offered.{Offered}
+use Rattle.link_server.specs.declared.table.served_row.Wanted.{Wanted}
 use Rattle.link_server.specs.Wants.{ask_for, MayHold}
 use Rattle.link_server.proofs.AnswerFacts.{reserve-offer}
 use Rattle.link_server.proofs.PlaceFacts.{terms-kept}

@@ -18,7 +18,7 @@ use Rattle.link_steps.specs.Scan.{names_first_hop}
 use Rattle.link_server.specs.Account.{account}
 use Rattle.link_server.specs.Planned.{left_in}
 use Rattle.link_server.specs.Rows.{reservation_in, row_in, is_served_at_hop, summed, NoRowPasses, IsFirstPlace, IsWithinLevels}
-use Rattle.link_server.specs.declared.served_row.ServedRow.{ServedRow}
+use Rattle.link_server.specs.declared.table.served_row.ServedRow.{ServedRow}
 use Rattle.link_server.specs.KeptQueue.{KeptQueue}
 use Rattle.link_server.proofs.PlaceFacts.{kept-found, kept-absent, kept-changed}
 

@@ -10,7 +10,7 @@ use Rattle.link_steps.specs.Hold.{hold_ended}
 use Rattle.link_steps.specs.Kept.{KeptRow, kept_stays}
 use Rattle.link_steps.specs.Lists.{Each}
 use Rattle.link_server.specs.Rows.{reservation_in, row_in, is_served_row_of, summed, IsPlaceOf}
-use Rattle.link_server.specs.declared.served_row.ServedRow.{ServedRow}
+use Rattle.link_server.specs.declared.table.served_row.ServedRow.{ServedRow}
 use Rattle.rcsp_admission.proofs.KeyFacts.{distinct-later}
 
 -- the row at a place is its channel's, and the only one

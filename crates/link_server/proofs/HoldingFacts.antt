@@ -17,9 +17,9 @@ use Rattle.link_steps.specs.Shape.{server_of}
 use Rattle.link_server.specs.Rows.{reservation_in, row_in, summed, IsWithinLevels, AreWithin}
 use Rattle.link_server.specs.Sound.{IsSound, most_places}
 use Rattle.link_server.specs.Wants.{ask_for, MayHold}
-use Rattle.link_server.specs.declared.served_row.ServedRow.{ServedRow}
-use Rattle.link_server.specs.declared.served_row.Offered.{Offered}
-use Rattle.link_server.specs.declared.served_row.Wanted.{Wanted}
+use Rattle.link_server.specs.declared.table.served_row.ServedRow.{ServedRow}
+use Rattle.link_server.specs.declared.table.served_row.Offered.{Offered}
+use Rattle.link_server.specs.declared.table.served_row.Wanted.{Wanted}
 use Rattle.link_server.proofs.PlaceFacts.{terms-none}
 use Rattle.link_server.proofs.SoundNumbers.{most_places-push}
 use Rattle.link_server.proofs.SoundSetup.{sound-reserve}

@@ -30,8 +30,8 @@ use Rattle.link_steps.specs.Kept.{Kept, KeptRow, is_kept_of, kept_relaxed, kept_
 use Rattle.link_steps.specs.Reservation.{Reservation, closing}
 use Rattle.link_steps.specs.Service.{Arrival}
 use Rattle.link_steps.specs.Sources.{SourceStep, Rests, Brings, Drops, taken_by}
-use Rattle.link_server.specs.declared.keeping.Keeping.{Keeping}
-use Rattle.link_server.specs.declared.served_row.ServedRow.{ServedRow}
+use Rattle.link_server.specs.declared.table.keeping.Keeping.{Keeping}
+use Rattle.link_server.specs.declared.table.served_row.ServedRow.{ServedRow}
 use Rattle.link_server.specs.Keeping.{places_for, IsKeeping}
 use Rattle.link_server.specs.Rows.{reservation_in, row_in, is_served_row_of, IsPlaceOf}
 use Rattle.link_server.specs.Sound.{all_places_of, IsSoundRow, IsSound}

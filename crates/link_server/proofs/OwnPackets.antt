@@ -12,7 +12,7 @@ use Rattle.link_steps.specs.Service.{Arrival}
 use Rattle.link_steps.specs.Sources.{SourceStep, Rests, Brings, Drops, lead_with, taken_by}
 use Rattle.link_server.specs.Rows.{row_in}
 use Rattle.link_server.specs.Sound.{IsApartFrom, HaveOwnLeads}
-use Rattle.link_server.specs.declared.served_row.ServedRow.{ServedRow}
+use Rattle.link_server.specs.declared.table.served_row.ServedRow.{ServedRow}
 use Rattle.link_server.proofs.ExpiryFacts.{each-at}
 use Rattle.link_server.proofs.SourceFacts.{packet-length}
 use Rattle.link_server.proofs.SourceRows.{HaveStepped}

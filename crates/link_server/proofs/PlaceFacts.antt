@@ -11,7 +11,7 @@ use Rattle.link_steps.specs.Kept.{KeptRow, is_kept_of, kept_terms}
 use Rattle.link_steps.specs.Lists.{change_first, without_first}
 use Rattle.link_steps.specs.Reservation.{is_of}
 use Rattle.link_steps.proofs.ListFacts.{find-map, map-without_first}
-use Rattle.link_server.specs.declared.served_row.ServedRow.{ServedRow}
+use Rattle.link_server.specs.declared.table.served_row.ServedRow.{ServedRow}
 use Rattle.link_server.specs.Rows.{reservation_in, row_in, is_served_row_of, NoRowPasses, IsFirstPlace, IsAbsent, IsPlaceOf}
 
 -- a place past the first row is one of the others

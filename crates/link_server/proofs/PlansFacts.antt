@@ -13,7 +13,7 @@ use Rattle.tick_calendar.specs.Calendar.{Entry}
 use Rattle.link_server.specs.Planned.{IsPlannedFrom, first_tick}
 use Rattle.link_server.specs.Plans.{is_entry_of, IsTold, IsQuiet}
 use Rattle.link_server.specs.Rows.{row_in}
-use Rattle.link_server.specs.declared.served_row.ServedRow.{ServedRow}
+use Rattle.link_server.specs.declared.table.served_row.ServedRow.{ServedRow}
 use Rattle.link_server.proofs.CalendarFacts.{or-other}
 use Rattle.link_server.proofs.QuietFacts.{planned-quiet}
 

@@ -19,7 +19,7 @@ use Rattle.link_server.specs.Planned.{IsPlannedFrom, first_tick}
 use Rattle.link_server.specs.Plans.{is_entry_of, IsTold, is_idle, idle_count, idle_in, is_turn, ArePlanned, AreCalled, AreRising, IsPlaceOfKey, RestsIfOf}
 use Rattle.link_server.specs.Rows.{row_in, IsAbsent, IsPlaceOf}
 use Rattle.link_server.specs.Sources.{IsReady, AreReady}
-use Rattle.link_server.specs.declared.served_row.ServedRow.{ServedRow}
+use Rattle.link_server.specs.declared.table.served_row.ServedRow.{ServedRow}
 use Rattle.link_server.proofs.CalendarRows.{each-place}
 use Rattle.link_server.proofs.ExpiryFacts.{each-at, each-without, each-set}
 use Rattle.link_server.proofs.IndexFacts.{leads-once}

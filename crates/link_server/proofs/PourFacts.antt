@@ -21,7 +21,7 @@ use Rattle.link_server.proofs.AccountFacts.{queue-same}
 use Rattle.link_steps.specs.Split.{whole}
 use Rattle.link_server.specs.Account.{account}
 use Rattle.link_server.specs.Planned.{size_of}
-use Rattle.link_server.specs.declared.served_row.ServedRow.{ServedRow}
+use Rattle.link_server.specs.declared.table.served_row.ServedRow.{ServedRow}
 use Rattle.link_server.specs.KeptQueue.{KeptQueue}
 use Rattle.link_server.proofs.PlanFacts.{after-none, none-left}
 use Rattle.net_units.proofs.NumberFacts.{same-channel}

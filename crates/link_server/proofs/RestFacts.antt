@@ -11,7 +11,7 @@ use Rattle.link_steps.specs.Service.{Arrival, Start}
 use Rattle.link_steps.proofs.ListFacts.{Each-if}
 use Rattle.net_units.specs.Numbers.{channel_number}
 use Rattle.tick_calendar.specs.Calendar.{Entry, Schedule}
-use Rattle.link_server.specs.declared.served_row.ServedRow.{ServedRow}
+use Rattle.link_server.specs.declared.table.served_row.ServedRow.{ServedRow}
 use Rattle.link_server.specs.KeptQueue.{KeptQueue}
 use Rattle.link_server.specs.Account.{account}
 use Rattle.link_server.specs.Holds.{AreListed, IsListed, tells_end}

@@ -7,7 +7,7 @@ use Rattle.link_steps.specs.Buffer.{slots_of}
 use Rattle.link_steps.specs.Service.{Arrival}
 use Rattle.link_server.specs.Rows.{reservation_in, row_in}
 use Rattle.link_server.specs.Sound.{all_places_of, most_places}
-use Rattle.link_server.specs.declared.served_row.ServedRow.{ServedRow}
+use Rattle.link_server.specs.declared.table.served_row.ServedRow.{ServedRow}
 
 -- one row more has its places
 pub places-more : (bounds : List ℕ) (rows : List ServedRow) (i : ℕ) (d : ServedRow) → i < length rows

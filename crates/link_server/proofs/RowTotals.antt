@@ -5,7 +5,7 @@ use Rattle.std.specs.Prelude.{if◌then◌else◌, filter}
 use Rattle.traffic_contract.specs.Admission.{total}
 use Rattle.link_steps.specs.Kept.{KeptRow}
 use Rattle.link_server.specs.Rows.{row_in}
-use Rattle.link_server.specs.declared.served_row.ServedRow.{ServedRow}
+use Rattle.link_server.specs.declared.table.served_row.ServedRow.{ServedRow}
 
 -- where it is one at most, the sum is at most the number of the rows
 pub rows-few : (f : KeptRow → ℕ) (rows : List ServedRow) → ((row : KeptRow) → f row ≤ 1) → total f (map row_in rows) ≤ length rows

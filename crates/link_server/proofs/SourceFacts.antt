@@ -10,7 +10,7 @@ use Rattle.link_steps.specs.Sources.{SourceStep, Rests, Brings, Drops, source_st
 use Rattle.link_server.specs.Planned.{size_of}
 use Rattle.link_server.specs.Packets.{arrival_in}
 use Rattle.link_server.specs.Rows.{reservation_in, row_in}
-use Rattle.link_server.specs.declared.served_row.ServedRow.{ServedRow}
+use Rattle.link_server.specs.declared.table.served_row.ServedRow.{ServedRow}
 use Rattle.link_server.specs.declared.queue.held_packet.HeldPacket.{HeldPacket}
 
 rests-where-none : (slot : Bool) (planned : Option SourcePacket) → None ≡ size_of planned → source_step slot planned ≡ Rests

@@ -10,7 +10,7 @@ use Rattle.link_steps.specs.Sources.{SourceStep, Rests, Brings, Drops, taken_by,
 use Rattle.link_server.specs.Plans.{IsQuiet}
 use Rattle.link_server.specs.Rows.{reservation_in, row_in}
 use Rattle.link_server.specs.Sources.{step_in, brought_by, served_rows_after, lost_by_rows, IsReady, AreReady}
-use Rattle.link_server.specs.declared.served_row.ServedRow.{ServedRow}
+use Rattle.link_server.specs.declared.table.served_row.ServedRow.{ServedRow}
 use Rattle.link_server.proofs.QuietFacts.{quiet-step, quiet-past}
 use Rattle.link_server.proofs.SourceFacts.{packet-length, lost_by-most}
 

@@ -12,7 +12,7 @@ use Rattle.tick_calendar.specs.Calendar.{Entry, Schedule}
 use Rattle.link_server.specs.Planned.{IsPlannedFrom}
 use Rattle.link_server.specs.Plans.{IsTold, idle_count, idle_in, is_turn, ArePlanned, AreCalled, AreRising, IsQuiet}
 use Rattle.link_server.specs.Rows.{row_in}
-use Rattle.link_server.specs.declared.served_row.ServedRow.{ServedRow}
+use Rattle.link_server.specs.declared.table.served_row.ServedRow.{ServedRow}
 use Rattle.link_server.proofs.CalendarRows.{each-place}
 use Rattle.link_server.proofs.PlansFacts.{told-quiet}
 use Rattle.link_server.proofs.RisingFacts.{rising-below, rising-next, none-first, none-between}

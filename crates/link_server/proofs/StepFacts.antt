@@ -16,7 +16,7 @@ use Rattle.link_steps.proofs.LegalAdmissible.{may-answer, whole-fits}
 use Rattle.link_steps.specs.Legal.{AskFits}
 use Rattle.link_steps.proofs.HopHolds.{hop-guarantee}
 use Rattle.link_steps.proofs.Account.{stands-reply, stands-entry}
-use Rattle.link_server.specs.declared.served_row.ServedRow.{ServedRow}
+use Rattle.link_server.specs.declared.table.served_row.ServedRow.{ServedRow}
 use Rattle.link_server.specs.Asks.{IsOffer}
 use Rattle.link_server.specs.Rows.{row_in}
 

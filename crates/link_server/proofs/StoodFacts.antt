@@ -31,8 +31,8 @@ use Rattle.link_steps.proofs.Account.{nothing-stands, stands-entry}
 use Rattle.link_steps.proofs.TicksBounded.{ticks-soon}
 use Rattle.link_steps.proofs.UnitsHeld.{units-held}
 use Rattle.link_server.specs.declared.link_state.LinkState.{LinkState}
-use Rattle.link_server.specs.declared.served_row.Offered.{Offered}
-use Rattle.link_server.specs.declared.served_row.Wanted.{Wanted}
+use Rattle.link_server.specs.declared.table.served_row.Offered.{Offered}
+use Rattle.link_server.specs.declared.table.served_row.Wanted.{Wanted}
 use Rattle.link_server.specs.Rows.{row_in}
 use Rattle.link_server.specs.Sound.{IsSoundRow}
 use Rattle.link_server.specs.Sources.{IsReady}

@@ -12,7 +12,7 @@ use Rattle.link_steps.specs.Kept.{kept_terms, new_kept, kept_relaxed}
 use Rattle.link_steps.specs.Lists.{Each}
 use Rattle.link_steps.specs.Reservation.{Reservation, admitted}
 use Rattle.link_steps.specs.Shape.{server_of}
-use Rattle.link_server.specs.declared.served_row.ServedRow.{ServedRow}
+use Rattle.link_server.specs.declared.table.served_row.ServedRow.{ServedRow}
 use Rattle.link_server.specs.Rows.{reservation_in, row_in, is_served_row_of, summed, IsAbsent, IsPlaceOf, IsWithinLevels}
 use Rattle.link_server.proofs.PlaceFacts.{place-later, terms-kept}
 use Rattle.rcsp_admission.proofs.KeyFacts.{distinct-later}

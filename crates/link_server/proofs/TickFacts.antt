@@ -15,7 +15,7 @@ use Rattle.link_steps.proofs.Account.{same-kept}
 use Rattle.link_server.specs.Account.{account}
 use Rattle.link_server.specs.Rows.{row_in}
 use Rattle.link_server.specs.Sources.{brought_by, served_rows_after, lost_by_rows}
-use Rattle.link_server.specs.declared.served_row.ServedRow.{ServedRow}
+use Rattle.link_server.specs.declared.table.served_row.ServedRow.{ServedRow}
 use Rattle.link_server.specs.KeptQueue.{KeptQueue}
 
 -- the rows that stay bring the packets that the account says

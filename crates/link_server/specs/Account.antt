@@ -2,7 +2,7 @@
 -- occupy it.
 use Rattle.std.specs.Prelude.{ℕ, List, map}
 use Rattle.link_steps.specs.Kept.{Kept}
-use Rattle.link_server.specs.declared.served_row.ServedRow.{ServedRow}
+use Rattle.link_server.specs.declared.table.served_row.ServedRow.{ServedRow}
 use Rattle.link_server.specs.KeptQueue.{KeptQueue}
 use Rattle.link_server.specs.Rows.{row_in}
 

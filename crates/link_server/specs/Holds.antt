@@ -13,7 +13,7 @@ use Rattle.link_steps.specs.Kept.{KeptRow, kept_stays}
 use Rattle.link_steps.specs.Lists.{Each}
 use Rattle.link_steps.specs.Reservation.{is_phase}
 use Rattle.tick_calendar.specs.Calendar.{Entry, Schedule}
-use Rattle.link_server.specs.declared.served_row.ServedRow.{ServedRow}
+use Rattle.link_server.specs.declared.table.served_row.ServedRow.{ServedRow}
 use Rattle.link_server.specs.Index.{channel_in}
 use Rattle.link_server.specs.Rows.{row_in}
 use Rattle.link_server.specs.SoundProp.{Each-prop}

@@ -4,7 +4,7 @@ use Rattle.std.specs.Prelude.{◌≡◌, ℕ, suc, ◌<◌, ◌≤◌, List, len
 use native.Mathlib.Nat.{ℕ_set}
 use Rattle.std.specs.Coded.{le_prop}
 use Rattle.net_units.specs.Numbers.{channel_number}
-use Rattle.link_server.specs.declared.served_row.ServedRow.{ServedRow}
+use Rattle.link_server.specs.declared.table.served_row.ServedRow.{ServedRow}
 
 -- the number of a row's channel
 abbrev pub channel_in : ServedRow → ℕ

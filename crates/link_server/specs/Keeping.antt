@@ -7,7 +7,7 @@ use Rattle.buffer_budget.specs.Parts.{whole_of}
 use Rattle.traffic_contract.specs.Admission.{total}
 use Rattle.link_steps.specs.Buffer.{slots_of, kept_units}
 use Rattle.link_steps.specs.Reservation.{Reservation}
-use Rattle.link_server.specs.declared.keeping.Keeping.{Keeping}
+use Rattle.link_server.specs.declared.table.keeping.Keeping.{Keeping}
 
 -- the places that the packets of a reservation may want
 abbrev pub places_for : List ℕ → Reservation → ℕ

@@ -14,7 +14,7 @@ use Rattle.link_steps.specs.Lists.{Each}
 use Rattle.link_steps.specs.Reservation.{is_phase}
 use Rattle.link_steps.specs.Rows.{is_for}
 use Rattle.tick_calendar.specs.Calendar.{Entry, Schedule}
-use Rattle.link_server.specs.declared.served_row.ServedRow.{ServedRow}
+use Rattle.link_server.specs.declared.table.served_row.ServedRow.{ServedRow}
 use Rattle.link_server.specs.Index.{channel_in}
 use Rattle.link_server.specs.Planned.{IsPlannedFrom, first_tick}
 use Rattle.link_server.specs.Rows.{row_in}

@@ -9,7 +9,7 @@ use Rattle.net_units.specs.declared.numbers.ChanNo.{ChanNo}
 use Rattle.rcsp_admission.specs.Sums.{Held, held_at}
 use Rattle.link_steps.specs.Kept.{KeptRow}
 use Rattle.link_steps.specs.Reservation.{Reservation, is_of, is_at_hop}
-use Rattle.link_server.specs.declared.served_row.ServedRow.{ServedRow}
+use Rattle.link_server.specs.declared.table.served_row.ServedRow.{ServedRow}
 use Rattle.link_server.specs.Planned.{left_in}
 
 -- the reservation of a row

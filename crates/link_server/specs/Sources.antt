@@ -9,7 +9,7 @@ use Rattle.link_steps.specs.Service.{Arrival}
 use Rattle.link_steps.specs.Sources.{SourceStep}
 use Rattle.link_server.specs.Planned.{IsPlannedFrom}
 use Rattle.link_server.specs.Rows.{row_in}
-use Rattle.link_server.specs.declared.served_row.ServedRow.{ServedRow}
+use Rattle.link_server.specs.declared.table.served_row.ServedRow.{ServedRow}
 
 -- what the row's source does in tick t, with these packets here
 abbrev pub step_in : List ℕ → List Arrival → ℕ → ServedRow → SourceStep

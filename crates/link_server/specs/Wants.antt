@@ -8,8 +8,8 @@ use Rattle.link_steps.specs.declared.replies.Reply.TheVariants as Is
 use Rattle.link_steps.specs.declared.shape.LinkShape.{LinkShape}
 use Rattle.link_steps.specs.Admissible.{MayOffer}
 use Rattle.link_steps.specs.Reservation.{Reservation}
-use Rattle.link_server.specs.declared.served_row.Wanted.{Wanted}
-use Rattle.link_server.specs.declared.served_row.Offered.{Offered}
+use Rattle.link_server.specs.declared.table.served_row.Wanted.{Wanted}
+use Rattle.link_server.specs.declared.table.served_row.Offered.{Offered}
 
 -- the ask for what is wanted
 abbrev pub ask_for : Wanted → Ask

@@ -5,23 +5,15 @@
 //! Of the asks a reserve alone takes memory.
 #![tactic(auto)]
 
-mod answer;
-mod carrying;
-mod expiry;
+mod asks;
 mod held_row;
-mod keeping;
 mod keyed_list;
 pub mod laws;
 mod link_state;
 mod planned;
-mod plans;
 mod queue;
-mod resting;
-mod row_index;
-mod rows;
-mod served_row;
-mod setup;
-mod sources;
+mod table;
+mod tick;
 
 pub use held_row::HeldRow;
 pub use link_state::LinkState;

@@ -16,13 +16,13 @@ ghost use Rattle.link_server.specs.SoundProp.{IsSound-prop};
 ghost use Rattle.link_server.specs.Stood.{IsStood, IsStood-prop};
 
 use crate::held_row::HeldRow;
-use crate::keeping::Keeping;
 use crate::keyed_list::KeyedList;
-use crate::plans::Plans;
 use crate::queue::Queue;
-use crate::row_index::RowIndex;
-use crate::rows::{need_of, place_of, reach_of};
-use crate::served_row::ServedRow;
+use crate::table::keeping::Keeping;
+use crate::table::plans::Plans;
+use crate::table::row_index::RowIndex;
+use crate::table::rows::{need_of, place_of, reach_of};
+use crate::table::served_row::ServedRow;
 use link_steps::{Ask, LinkShape, LinkStep, Reply};
 use net_units::{ChanNo, Level, OutOfMemory};
 use rcsp_admission::LevelSums;

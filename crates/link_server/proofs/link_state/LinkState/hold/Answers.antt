@@ -23,9 +23,9 @@ use Rattle.link_server.specs.Plans.{ArePlanned}
 use Rattle.link_server.specs.State.{kept_in}
 use Rattle.link_server.specs.Wants.{ask_for, MayHold}
 use Rattle.link_server.specs.declared.link_state.LinkState.{LinkState}
-use Rattle.link_server.specs.declared.served_row.Offered.{Offered}
-use Rattle.link_server.specs.declared.served_row.ServedRow.{ServedRow}
-use Rattle.link_server.specs.declared.served_row.Wanted.{Wanted}
+use Rattle.link_server.specs.declared.table.served_row.Offered.{Offered}
+use Rattle.link_server.specs.declared.table.served_row.ServedRow.{ServedRow}
+use Rattle.link_server.specs.declared.table.served_row.Wanted.{Wanted}
 use Rattle.link_server.proofs.PlaceFacts.{terms-kept, terms-none}
 use Rattle.link_server.proofs.KeepingFacts.{keeping-free, keeps-pushed, slots-units, places-few}
 use Rattle.link_server.proofs.SumsFacts.{within-reserved, absent-new}

@@ -1,8 +1,0 @@
--- Nothing is left that is planned.
-use Rattle.std.proofs.Common.{refl}
-use Rattle.link_steps.specs.Rows.{planned_from}
-use Rattle.link_server.proofs.served_row.ServedRow.close.Goals as goal
-
-pub returns : goal.returns
-unfolding planned_from
-returns c = refl

@@ -1,0 +1,38 @@
+-- Each entry that is due gives its row a turn, or is no row's for this tick.
+use Rattle.std.proofs.Common.{length, sym, ◌∙◌, subst, arith}
+use Rattle.std.specs.Vec.{vec_capacity}
+use Rattle.link_server.specs.Plans.{AreCalled}
+use Rattle.link_server.proofs.PlansRows.{none-called, called-more, called-rests}
+use Rattle.link_server.proofs.RisingFacts.{rising-wider}
+use Rattle.link_server.proofs.table.plans.Plans.call.Goals as goal
+
+pub loop-key-init : goal.loop-key-init
+loop-key-init c = record {
+  called = subst (λ turns. AreCalled c.args.clock c.args.self.now.calendar turns c.args.rows.now.items) (sym c.clear.ensures.items) (none-called c.args.clock c.args.self.now.calendar c.args.rows.now.items c.requires.planned);
+  capacity = c.clear.ensures.capacity;
+}
+
+pub add_turn-requires-clause-rising : goal.add_turn-requires-clause-rising
+add_turn-requires-clause-rising c = rising-wider 0 (length c.args.rows.now.items) (vec_capacity c.loop-key.self.turns) c.loop-key.self.turns.items (omega (arith, c.requires.room, c.loop-key.invariant.capacity)) c.loop-key.invariant.called.rising
+
+pub loop-key-preserved-in-Some-planned_place : goal.loop-key-preserved-in-Some-planned_place
+loop-key-preserved-in-Some-planned_place c =
+    let called = c.loop-key.invariant.called in
+    record {
+      called =
+          called-more c.args.clock c.in-Some.key c.in-Some-planned_place.place c.loop-key.self.calendar c.take_due.new.self c.loop-key.self.turns.items c.add_turn.new.turns.items c.args.index.now.places.items c.args.rows.now.items
+          called c.requires.indexed c.in-Some.ensures.taken c.in-Some.ensures.spare c.take_due.ensures.clock c.in-Some-planned_place.ensures.some
+          (c.add_turn.ensures.rising (length c.args.rows.now.items) called.rising c.in-Some-planned_place.ensures.some.inside)
+          c.add_turn.ensures.called c.add_turn.ensures.others c.add_turn.ensures.one;
+      capacity = c.add_turn.ensures.capacity ∙ c.loop-key.invariant.capacity;
+    }
+
+pub loop-key-preserved : goal.loop-key-preserved
+loop-key-preserved c =
+    let spare = c.in-Some.ensures.spare in
+    record {
+      called =
+          called-rests c.args.clock c.in-Some.key c.loop-key.self.calendar c.take_due.new.self c.loop-key.self.turns.items c.args.rows.now.items
+          c.loop-key.invariant.called c.requires.ready c.in-Some.ensures.taken (omega (arith, spare)) c.take_due.ensures.clock c.in_default-planned_place.ensures.none;
+      capacity = c.loop-key.invariant.capacity;
+    }

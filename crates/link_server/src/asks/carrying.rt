@@ -1,0 +1,134 @@
+//! The asks by which a link carries packets: submit, release, arrive and pour.
+ghost use Rattle.std.specs.Prelude.{◌≡◌, ◌^◌, ◌<◌, ◌≤◌};
+ghost use Rattle.link_steps.specs.declared.asks.Ask.TheVariants.{Submit as AskSubmit, Release as AskRelease, Arrive as AskArrive, Pour as AskPour};
+ghost use Rattle.link_steps.specs.Split.{whole};
+ghost use Rattle.link_steps.specs.Kept.{kept_reply, kept_after};
+ghost use Rattle.link_steps.specs.Legal.{SubmitFits, PacketFits};
+ghost use Rattle.link_server.specs.State.{kept_in};
+
+use crate::link_state::LinkState;
+use crate::planned::Planned;
+use crate::table::plans::put_plan;
+use crate::table::rows::{place_at_hop, place_of};
+use crate::table::served_row::busy_with;
+use crate::tick::expiry::put_hold;
+use link_steps::{Packet, Refusal, Reply, Why};
+use net_units::ChanNo;
+
+impl LinkState {
+    // Plans source packets at the first hop, the first at the clock.
+    pub(crate) fn submit(&mut self, chan: ChanNo, count: u64, gap: u64, size: u32) -> Reply
+        requires fits { SubmitFits count gap size }
+        requires early { self.old.clock < 2 ^ 61 }
+        ensures shape { self.new.shape ≡ self.old.shape }
+        ensures clock { self.new.clock ≡ self.old.clock }
+        ensures reply { result ≡ kept_reply (whole self.old.shape) (kept_in self.old) (AskSubmit chan count gap size) }
+        ensures kept { kept_in self.new ≡ kept_after self.old.shape (kept_in self.old) (AskSubmit chan count gap size) result }
+    {
+        let Some(place) = place_at_hop(&self.rows, &self.index, chan, true) else {
+            return Reply::Refused(Refusal::NoSuch);
+        };
+        if let Some(refusal) = self.rows[place].not_committed() {
+            return Reply::Refused(refusal);
+        }
+        if let Some(refusal) = self.rows[place].busy() {
+            return Reply::Refused(refusal);
+        }
+        if let Some(refusal) = self.rows[place].too_big(size) {
+            return Reply::Refused(refusal);
+        }
+        self.due = 0;
+        self.rows[place].plan(Planned {
+            tick: self.clock,
+            gap,
+            size,
+            count,
+        });
+        put_plan(&mut self.plans.calendar, &self.rows[place]);
+        Reply::Planned { clock: self.clock }
+    }
+
+    // Closes a committed reservation: the one at its first hop where no count is told, or else one at a later hop.
+    pub(crate) fn release(&mut self, chan: ChanNo, upstream: Option<u64>) -> Reply
+        requires early { self.old.clock < 2 ^ 61 }
+        ensures shape { self.new.shape ≡ self.old.shape }
+        ensures clock { self.new.clock ≡ self.old.clock }
+        ensures reply { result ≡ kept_reply (whole self.old.shape) (kept_in self.old) (AskRelease chan upstream) }
+        ensures kept { kept_in self.new ≡ kept_after self.old.shape (kept_in self.old) (AskRelease chan upstream) result }
+    {
+        let Some(place) = place_at_hop(&self.rows, &self.index, chan, upstream.is_none()) else {
+            return Reply::Refused(Refusal::NoSuch);
+        };
+        if let Some(refusal) = self.rows[place].not_committed() {
+            return Reply::Refused(refusal);
+        }
+        let count = self.rows[place].count_at_release(upstream);
+        let cancelled = self.rows[place].cancelled_at_release(upstream);
+        self.due = 0;
+        self.rows[place].close(count);
+        let bounds = self.shape.bounds;
+        put_hold(&mut self.holds, &self.rows[place], &bounds, self.clock);
+        Reply::Closing { count, cancelled }
+    }
+
+    // Takes a packet from the link before.
+    pub(crate) fn arrive(&mut self, packet: &Packet) -> Reply
+        requires fits { PacketFits packet.now }
+        requires early { self.old.clock < 2 ^ 61 }
+        ensures shape { self.new.shape ≡ self.old.shape }
+        ensures clock { self.new.clock ≡ self.old.clock }
+        ensures reply { result ≡ kept_reply (whole self.old.shape) (kept_in self.old) (AskArrive packet.now) }
+        ensures kept { kept_in self.new ≡ kept_after self.old.shape (kept_in self.old) (AskArrive packet.now) result }
+    {
+        let Some(place) = place_of(&self.rows, &self.index, packet.chan) else {
+            return Reply::Refused(Refusal::Stray { why: Why::NoRow });
+        };
+        if let Some(refusal) = self.rows[place].stray(packet) {
+            return Reply::Refused(refusal);
+        }
+        let bounds = self.shape.bounds;
+        let held = self.queue.held(self.rows[place].lead);
+        if let Some(refusal) = self.rows[place].full(&bounds, held) {
+            return Reply::Refused(refusal);
+        }
+        self.due = 0;
+        let clock = self.clock;
+        let number = self.queue.taken() + 1;
+        let taken = self.rows[place].take(packet.size, packet.due, number, clock);
+        self.queue.push(taken, clock);
+        put_hold(&mut self.holds, &self.rows[place], &bounds, clock);
+        Reply::Taken {
+            clock,
+            eligible: taken.eligible,
+        }
+    }
+
+    // Plans best-effort packets, the first at the clock.
+    pub(crate) fn pour(&mut self, count: u64, gap: u64, size: u32) -> Reply
+        requires some { 1 ≤ self.old.shape.best }
+        requires fits { SubmitFits count gap size }
+        requires early { self.old.clock < 2 ^ 61 }
+        ensures shape { self.new.shape ≡ self.old.shape }
+        ensures clock { self.new.clock ≡ self.old.clock }
+        ensures reply { result ≡ kept_reply (whole self.old.shape) (kept_in self.old) (AskPour count gap size) }
+        ensures kept { kept_in self.new ≡ kept_after self.old.shape (kept_in self.old) (AskPour count gap size) result }
+    {
+        if let Some(refusal) = busy_with(self.queue.best_left()) {
+            return Reply::Refused(refusal);
+        }
+        if size > self.shape.cap {
+            return Reply::Refused(Refusal::TooBig {
+                size: u64::from(size),
+                smax: u64::from(self.shape.cap),
+            });
+        }
+        self.due = 0;
+        self.queue.plan_best(Planned {
+            tick: self.clock,
+            gap,
+            size,
+            count,
+        });
+        Reply::Planned { clock: self.clock }
+    }
+}

@@ -1,0 +1,79 @@
+//! The tick of a link: its parts in their order, or none of them where nothing falls due.
+ghost use Rattle.std.specs.Prelude.{◌≡◌, ◌^◌, ◌<◌, suc, IfOk, IsOk};
+ghost use Rattle.link_steps.specs.declared.asks.Ask.TheVariants.{Tick as AskTick};
+ghost use Rattle.link_steps.specs.Kept.{kept_reply, kept_after};
+ghost use Rattle.link_steps.specs.Split.{whole};
+ghost use Rattle.link_server.specs.State.{kept_in};
+
+pub(crate) mod expiry;
+mod resting;
+mod sources;
+
+use crate::link_state::LinkState;
+use crate::tick::expiry::expire;
+use crate::tick::resting::next_due;
+use crate::tick::sources::take_source_packets;
+use link_steps::Reply;
+use net_units::OutOfMemory;
+
+impl LinkState {
+    // Makes a tick. Where nothing falls due it looks at nothing but the tick until which the link rests.
+    pub(crate) fn tick(&mut self) -> Result<Reply, OutOfMemory>
+        requires early { self.old.clock < 2 ^ 61 }
+        ensures made { IsOk result }
+        ensures shape { self.new.shape ≡ self.old.shape }
+        ensures clock { self.new.clock ≡ suc self.old.clock }
+        ensures reply { IfOk result (λ reply. reply ≡ kept_reply (whole self.old.shape) (kept_in self.old) AskTick) }
+        ensures kept { IfOk result (λ reply. kept_in self.new ≡ kept_after self.old.shape (kept_in self.old) AskTick reply) }
+    {
+        if self.clock < self.due {
+            return Ok(self.rest_once());
+        }
+        self.make_tick()
+    }
+
+    // Makes a tick in which something may fall due: rows whose hold has ended expire, the source packets that are planned for it
+    // arrive, then the best-effort packet, and the link serves the packets here. It never wants memory; it answers as a step
+    // does, so that the reply is written where the caller reads it and not copied there.
+    #[inline(never)]
+    pub(crate) fn make_tick(&mut self) -> Result<Reply, OutOfMemory>
+        requires early { self.old.clock < 2 ^ 61 }
+        ensures made { IsOk result }
+        ensures shape { self.new.shape ≡ self.old.shape }
+        ensures clock { self.new.clock ≡ suc self.old.clock }
+        ensures reply { IfOk result (λ reply. reply ≡ kept_reply (whole self.old.shape) (kept_in self.old) AskTick) }
+        ensures kept { IfOk result (λ reply. kept_in self.new ≡ kept_after self.old.shape (kept_in self.old) AskTick reply) }
+    {
+        let clock = self.clock;
+        let shape = self.shape;
+        expire(
+            &mut self.holds,
+            &mut self.rows,
+            &mut self.index,
+            &mut self.sums,
+            &mut self.keeping,
+            &shape.bounds,
+            clock,
+        );
+        let fits = self.queue.best_fits(&shape, clock);
+        let full = take_source_packets(
+            &mut self.rows,
+            &self.index,
+            &mut self.plans,
+            &mut self.queue,
+            &shape.bounds,
+            clock,
+        );
+        let best_lost = self.queue.take_best(fits, &shape, clock);
+        let left = self.queue.serve(&shape, clock);
+        self.clock += 1;
+        self.due = next_due(&self.queue, &self.holds, &self.plans.calendar, &shape);
+        Ok(Reply::Ticked {
+            clock,
+            full,
+            sent: left.sent,
+            best_sent: left.best_sent,
+            best_lost,
+        })
+    }
+}

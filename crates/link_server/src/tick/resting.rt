@@ -1,0 +1,74 @@
+//! A link rests while nothing falls due in it: its ticks then change its clock alone.
+ghost use Rattle.std.specs.Prelude.{◌≡◌, ℕ, ◌+◌, ◌^◌, ◌<◌, ◌≤◌, suc, List, All};
+ghost use Rattle.link_steps.specs.declared.asks.Ask.TheVariants.{Tick as AskTick};
+ghost use Rattle.link_steps.specs.Kept.{kept_reply, kept_after};
+ghost use Rattle.link_steps.specs.Lists.{Each};
+ghost use Rattle.link_steps.specs.Replies.{reply_to};
+ghost use Rattle.link_steps.specs.Split.{whole};
+ghost use Rattle.link_steps.specs.declared.replies.Entry.{Entry};
+ghost use Rattle.link_server.specs.State.{LinkStands, kept_in};
+ghost use Rattle.link_steps.specs.Quiet.{IsPlannedFrom, RestsUntil, ServiceRests, later_by, quiet_reply, quiet_ticks};
+
+use crate::link_state::LinkState;
+use crate::queue::Queue;
+use link_steps::{LinkShape, Reply};
+use tick_calendar::Calendar;
+
+impl LinkState {
+    /// A tick before which nothing falls due: no row's hold ends, no packet is planned, and none starts or departs.
+    pub fn rests_until(&self) -> u64
+        ensures { RestsUntil self.now.shape result (kept_in self.now) }
+    {
+        if self.clock < self.due {
+            return self.due;
+        }
+        next_due(&self.queue, &self.holds, &self.plans.calendar, &self.shape)
+    }
+
+    /// Makes this many ticks, all before one until which it rests.
+    pub fn rest(&mut self, ticks: u64)
+        requires rests { (until : ℕ) × (RestsUntil self.old.shape until (kept_in self.old) × (self.old.clock + ticks ≤ until)) }
+        requires early { self.old.clock + ticks ≤ 2 ^ 61 }
+        ensures same { whole self.new.shape ≡ whole self.old.shape }
+        ensures clock { self.new.clock ≡ self.old.clock + ticks }
+        ensures kept { kept_in self.new ≡ later_by ticks (kept_in self.old) }
+        ensures made { (h : List Entry) → LinkStands self.old h → LinkStands self.new (quiet_ticks ticks self.old.clock h) }
+        ensures legal { (m : ℕ) (h : List Entry) → m < ticks → LinkStands self.old h → quiet_reply (self.old.clock + m) ≡ reply_to (whole self.old.shape) (quiet_ticks m self.old.clock h) AskTick }
+    {
+        self.clock += ticks;
+    }
+
+    // Makes a tick in which nothing falls due.
+    pub(crate) fn rest_once(&mut self) -> Reply
+        requires rests { self.old.clock < self.old.due }
+        requires early { self.old.clock < 2 ^ 61 }
+        ensures shape { self.new.shape ≡ self.old.shape }
+        ensures clock { self.new.clock ≡ suc self.old.clock }
+        ensures reply { result ≡ kept_reply (whole self.old.shape) (kept_in self.old) AskTick }
+        ensures kept { kept_in self.new ≡ kept_after self.old.shape (kept_in self.old) AskTick result }
+    {
+        let clock = self.clock;
+        self.rest(1);
+        Reply::Ticked {
+            clock,
+            full: 0,
+            sent: None,
+            best_sent: false,
+            best_lost: false,
+        }
+    }
+}
+
+// A tick before which nothing falls due at a link of this shape with these packets, by the calendars of the holds and of the rows'
+// plans.
+pub(crate) fn next_due(queue: &Queue, holds: &Calendar, plans: &Calendar, shape: &LinkShape) -> u64
+    ensures service { ServiceRests shape.now.rate result queue.now.here queue.now.on }
+    ensures best { Each (IsPlannedFrom result) queue.now.best }
+    ensures holds { All (λ entry. result ≤ entry.0) holds.now.entries }
+    ensures plans { All (λ entry. result ≤ entry.0) plans.now.entries }
+{
+    let packets = queue.rests_until(shape.rate);
+    let held = holds.rests_until();
+    let planned = plans.rests_until();
+    packets.min(held).min(planned)
+}
