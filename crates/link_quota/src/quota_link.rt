@@ -215,29 +215,10 @@ impl QuotaLink {
         Ok(reply)
     }
 
-    // Makes a tick, and looks first until when nothing falls due.
+    // Makes a tick in which something may fall due, and looks then until when nothing does. Rows may expire in it. It answers what
+    // the link inside answers as it stands, since each copy of a reply takes as long as a part of the tick.
+    #[inline(never)]
     fn tick(&mut self, ask: &Ask) -> Result<Reply, OutOfMemory>
-        requires fits { AskFits self.old.link.shape ask.now }
-        requires early { self.old.link.clock < 2 ^ 61 }
-        requires splits { is_split self.old.split ≡ true }
-        requires ticks { ask.now ≡ Tick }
-        ensures shape { self.new.link.shape ≡ self.old.link.shape }
-        ensures split { self.new.split ≡ self.old.split }
-        ensures goes { IfOk result (λ reply. GoesOn (rules_of self.old) (kept_in self.old.link) (kept_in self.new.link) ask.now reply) }
-        ensures memory { OnErr result ((h : List Entry) → QuotaStands self.old h → QuotaStands self.new h) }
-        ensures ticked { IfOk result (λ _. self.new.link.clock ≡ clock_with ask.now self.old.link.clock) }
-        ensures stopped { OnErr result (self.new.link.clock ≡ self.old.link.clock) }
-    {
-        self.due = self.link.rests_until();
-        if self.link.clock() < self.due {
-            return Ok(self.rest_once());
-        }
-        self.make_tick(ask)
-    }
-
-    // Makes a tick in which something may fall due. Rows may expire in it. It answers what the link inside answers as it stands,
-    // since each copy of a reply takes as long as a part of the tick.
-    fn make_tick(&mut self, ask: &Ask) -> Result<Reply, OutOfMemory>
         requires fits { AskFits self.old.link.shape ask.now }
         requires early { self.old.link.clock < 2 ^ 61 }
         requires splits { is_split self.old.split ≡ true }
@@ -252,6 +233,7 @@ impl QuotaLink {
         self.due = 0;
         let before = self.link.rows_held();
         let reply = self.link.step(ask);
+        self.due = self.link.rests_until();
         if self.link.rows_held() < before {
             count_anew(&mut self.shares, &self.split, &self.link);
         }
@@ -289,6 +271,7 @@ impl QuotaLink {
     {
         match ask {
             Ask::Tick if self.link.clock() < self.due => Ok(self.rest_once()),
+            Ask::Tick if !self.split.quotas().is_empty() => self.tick(ask),
             _ => self.make_step(ask),
         }
     }

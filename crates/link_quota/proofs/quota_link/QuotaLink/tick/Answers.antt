@@ -14,9 +14,8 @@ use Rattle.link_quota.specs.Stood.{IsLegallyStood}
 use Rattle.link_quota.specs.declared.share.Share.{Share}
 use Rattle.link_quota.proofs.QuotaFacts.{stood-within, few-held}
 use Rattle.link_quota.proofs.StepFacts.{written-back, tick-other, goes-all, same-shape, stood-all, ticked-all}
-use Rattle.link_server.proofs.RestFacts.{due-now}
-use Rattle.link_quota.proofs.quota_link.QuotaLink.make_tick.Goals as goal
-use Rattle.link_quota.proofs.quota_link.QuotaLink.make_tick.Goals.{After-rows_held}
+use Rattle.link_quota.proofs.quota_link.QuotaLink.tick.Goals as goal
+use Rattle.link_quota.proofs.quota_link.QuotaLink.tick.Goals.{After-rows_held}
 
 same : (c : After-rows_held) → c.step-reply.new.self.shape ≡ c.args.self.now.link.shape
 same c = ap (λ (l : Link). l.shape) c.step-reply.ensures.same
@@ -55,7 +54,7 @@ invariant_of-self c =
       fits = subst (λ s. SplitFits (record { shape = s; split = c.args.self.now.split })) (sym shape) c.args.self.now.fits;
       shared = subst (λ (items : List Share). AreShares (record { shape = c.step-reply.new.self.shape; split = c.args.self.now.split }) (reservations_held c.step-reply.new.self) items) (sym back) counted;
       stood = subst (λ s. IsLegallyStood (record { shape = s; split = c.args.self.now.split }) (kept_in c.step-reply.new.self)) (sym shape) (stood here.After-rows_held);
-      rests = due-now c.step-reply.new.self.shape (kept_in c.step-reply.new.self);
+      rests = λ before. c.rests_until-self.ensures;
     }
 
 pub invariant_of-self-else-rows_held-before : goal.invariant_of-self-else-rows_held-before
@@ -71,5 +70,5 @@ invariant_of-self-else-rows_held-before c =
       shared = subst (λ s. AreShares (record { shape = s; split = c.args.self.now.split }) (reservations_held c.step-reply.new.self) c.args.self.now.shares.items) (sym shape)
           (ticked-all (rules_of c.args.self.now) (kept_in c.args.self.now.link) (kept_in c.step-reply.new.self) c.step-reply.result c.args.self.now.shares.items ticked (kept-same here.After-rows_held) (omega (arith, was, now, most)) c.args.self.now.stood c.args.self.now.shared);
       stood = subst (λ s. IsLegallyStood (record { shape = s; split = c.args.self.now.split }) (kept_in c.step-reply.new.self)) (sym shape) (stood here.After-rows_held);
-      rests = due-now c.step-reply.new.self.shape (kept_in c.step-reply.new.self);
+      rests = λ before. c.rests_until-self.ensures;
     }
