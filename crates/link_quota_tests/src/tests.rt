@@ -8,11 +8,13 @@ ghost use Rattle.link_steps.specs.Legal.{AskFits};
 
 use link_quota::{AnyLink, QuotaLink};
 use link_steps::{Ask, LinkShape, LinkStep, Quota, Refusal, Reply, Split};
-use net_units::limits::MOST_BOUND;
+use net_units::limits::{MOST_BOUND, MOST_GAP, MOST_PACKETS, MOST_SIZE};
 use net_units::{Bounds, ChanNo, Kind, Level, LinkNo};
 use std::alloc::Global;
 use std::test::Fail;
 use traffic_contract::{Contract, Test};
+
+mod rests;
 
 // An ask and its worked reply.
 #[derive(Clone, Copy)]
@@ -26,7 +28,7 @@ const RELAXED: Reply = Reply::Relaxed { clock: 0 };
 
 // A link of a unit a tick, with packets of up to 4 units and levels with bounds of 10, 20 and 40 ticks. Channels 1 to 3 are of
 // group 1, and 4 to 6 of group 2.
-fn split_link(alloc: Global) -> Result<AnyLink, Fail> {
+fn split_link(alloc: Global) -> Result<QuotaLink, Fail> {
     let number = LinkNo::new(0).ok_or("link")?;
     let bounds = Bounds::new(&[10, 20, 40]).ok_or("bounds")?;
     let shape = LinkShape::new(number, 1, 4, 2, 100, bounds, Test::Whole, 0)?;
@@ -43,8 +45,7 @@ fn split_link(alloc: Global) -> Result<AnyLink, Fail> {
         },
     ];
     let split = Split::new(alloc, bounds, &quotas, &[0, 1, 1, 1, 2, 2, 2]).map_err(|_| "split")?;
-    let link = QuotaLink::new(alloc, shape, split).map_err(|_| "no memory")?;
-    Ok(AnyLink::Quota(link))
+    Ok(QuotaLink::new(alloc, shape, split).map_err(|_| "no memory")?)
 }
 
 // The first reply of a link that isn't the worked one, with its place in the table, from 0.
@@ -70,7 +71,7 @@ fn step<L: LinkStep>(link: &mut L, ask: &Ask) -> Result<Reply, Fail> {
     Ok(link.step(ask)?)
 }
 
-// Whether it is an ask of a reservation, or a tick, whose numbers are within their limits at a link of this shape.
+// Whether it is an ask of a reservation, a submit or a tick, whose numbers are within their limits at a link of this shape.
 fn fits(ask: &Ask, shape: &LinkShape) -> bool
     ensures { IsTrue result → AskFits shape.now ask.now }
 {
@@ -91,7 +92,20 @@ fn fits(ask: &Ask, shape: &LinkShape) -> bool
             ..
         } => level.get() <= shape.bounds.len() && *up_bound <= u64::from(MOST_BOUND),
         Ask::Deny { .. } | Ask::Release { .. } | Ask::Tick => true,
-        Ask::Submit { .. } | Ask::Arrive { .. } | Ask::Pour { .. } => false,
+        Ask::Submit {
+            count,
+            gap,
+            size,
+            ..
+        } => {
+            1 <= *count
+                && *count <= MOST_PACKETS
+                && 1 <= *gap
+                && *gap <= u64::from(MOST_GAP)
+                && 1 <= *size
+                && *size <= MOST_SIZE
+        }
+        Ask::Arrive { .. } | Ask::Pour { .. } => false,
     }
 }
 
@@ -234,6 +248,7 @@ fn each_group_goes_by_its_own_quota(rt: HostRuntime) -> Result<(), Fail> {
         ticked(),
         offered(3, &voice, 100, 1, 3),
     ];
-    assert_eq!(rt; first_other(split_link(rt.alloc())?, &turns)?, None);
+    let link = AnyLink::Quota(split_link(rt.alloc())?);
+    assert_eq!(rt; first_other(link, &turns)?, None);
     Ok(())
 }
