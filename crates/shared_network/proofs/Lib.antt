@@ -9,11 +9,13 @@ mod NumberOrder
 mod HoldFacts
 mod UnsentMarks
 mod HoldSteps
+mod ContractKept
 pub mod StillHolds
 mod ContractFacts
 mod MoveSteps
 mod ShiftFacts
 pub mod SubmittedFacts
+pub mod PlannedFacts
 mod SetupGoes
 mod CallFacts
 mod TeardownFacts

@@ -3,8 +3,10 @@
 -- over the move's routes, nothing may have been submitted on the one that is joined, and the packets are those that were
 -- planned last on the one that is left.
 use Rattle.std.specs.Prelude.{◌≡◌, ◌==◌, ℕ, ◌≤◌, if◌then◌else◌, Option, Some, None, List, [], ◌∷◌, ◌++◌, map}
+use Rattle.std.specs.List.{slice_get}
 use Rattle.net_units.specs.Numbers.{channel_number}
 use Rattle.net_units.specs.declared.numbers.ChanNo.{ChanNo}
+use Rattle.net_units.specs.declared.numbers.LinkNo.{LinkNo}
 use Rattle.hop_reservation.specs.declared.route.Hop.{Hop}
 use Rattle.traffic_contract.specs.Contract.{Traffic}
 use Rattle.link_steps.specs.Lists.{Each}
@@ -33,6 +35,12 @@ pub record TakesSize (chan : ChanNo) (route : List Hop) (size : ℕ) (own : List
   pub contract : Traffic
   pub holds : HoldsRoute chan route contract own
   pub small : size ≤ contract.smax
+
+-- packets that are planned at the first hop of a route over which their channel is established keep its contract
+abbrev pub KeepsContract : LinkNo → Ask → Reply → List OwnEntry → Type 0
+KeepsContract link (Submit chan count gap size) (Planned clock) own =
+    (route : List Hop) (contract : Traffic) (hop : Hop) → slice_get route 0 ≡ Some hop → hop.link ≡ link → HoldsRoute chan route contract own → size ≤ contract.smax
+KeepsContract link _ _ own = Unit {0}
 
 -- no entry submits on the channel
 abbrev pub NoneSubmitted : ChanNo → List OwnEntry → Type 0

@@ -15,6 +15,7 @@ ghost use Rattle.link_ledger.specs.Owners.{OwnsAsk, NextBelow};
 ghost use Rattle.link_ledger.specs.Tokens.{Steps, last_seen, stamps_drawn};
 ghost use Rattle.shared_network.specs.Added.{Adds, IsSamePass, IsLost};
 ghost use Rattle.shared_network.specs.Ready.{MayStep, PassGoesOn, IsNew};
+ghost use Rattle.shared_network.specs.Shifts.{KeepsContract};
 ghost use Rattle.shared_network.specs.Sight.{FitsAt, IsSend, IsUnusedLink};
 
 use link_ledger::{Home, LockedLink, Pass, StepFault};
@@ -103,8 +104,9 @@ impl<L: LinkStep + Send, H: Home> Network<L, H> {
 
     /// Sends packets at a link of the network: of a channel that the pass's actor owns, by a submit, or best-effort ones, by a
     /// pour. It is one ask, whose reply is the answer. An established channel stays so, and so does one that no entry names, if
-    /// the ask doesn't (`unopened`). It may wait for the link. After want of memory the pass is spent, and the link's journal
-    /// may have the entry.
+    /// the ask doesn't (`unopened`). Packets are planned at the first hop of such a channel only where its contract allows their
+    /// size (`small`). It may wait for the link. After want of memory the pass is spent, and the link's journal may have the
+    /// entry.
     ///
     /// The pass has its seat, isn't spent (`pass`) and has drawn fewer than 2^40 - 64 stamps, and the conditions on an ask
     /// hold.
@@ -123,6 +125,7 @@ impl<L: LinkStep + Send, H: Home> Network<L, H> {
         requires fits { FitsAt H.links (link_number link) ask.now }
         requires owned { OwnsAsk H.owners pass.old.actor ask.now }
         ensures made { IfOk result (λ reply. Adds pass.old pass.new (record { link = link; ask = ask.now; reply = reply } ∷ [])) }
+        ensures small { IfOk result (λ reply. KeepsContract link ask.now reply pass.old.own) }
         ensures established { OnOk result ((request : Request) → IsEstablished request pass.old.own → IsEstablished request pass.new.own) }
         ensures unopened { OnOk result ((chan : ChanNo) → IsOff (channel_number chan) ask.now → HasNone chan pass.old.own → HasNone chan pass.new.own) }
         ensures drew { OnOk result (stamps_drawn pass.new ≡ stamps_drawn pass.old + 1) }

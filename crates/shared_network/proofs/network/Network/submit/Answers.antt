@@ -2,6 +2,7 @@ use Rattle.std.proofs.Common.{[], ◌∷◌, sym, subst}
 use Rattle.std.proofs.lemmas.Result.{IfOk-weaker}
 use Rattle.net_units.specs.Numbers.{channel_number}
 use Rattle.channel_laws.specs.Asks.{IsOff}
+use Rattle.shared_network.proofs.ContractKept.{keeps-contract, ok-where}
 use Rattle.shared_network.proofs.LinkNumbers.{ok-then}
 use Rattle.shared_network.proofs.OtherChannels.{sent-established, unopened-stays}
 use Rattle.shared_network.proofs.StepFacts.{adds-one}
@@ -15,3 +16,8 @@ returns-clause-established g c = ok-then _ _ c.step_at.result (λ reply steps re
 
 pub returns-clause-unopened : goal.returns-clause-unopened
 returns-clause-unopened g c = ok-then _ _ c.step_at.result (λ reply steps chan off none. unopened-stays chan _ _ (steps.entry ∷ []) steps.own (subst (IsOff (channel_number chan)) (sym steps.acted.ask_is) off, tt) none) c.step_at.ensures.made
+
+pub returns-clause-small : goal.returns-clause-small
+returns-clause-small g c =
+    ok-where _ _ _ c.step_at.result
+    (λ reply steps goes. keeps-contract g.H.Home.table g.H.Home.owners g.H.Home.links c.args.link c.args.pass.now c.step_at.new.pass c.step_at.ensures.splits c.requires.pass goes c.args.ask.now reply c.requires.owned steps) c.step_at.ensures.made c.step_at.ensures.ready
