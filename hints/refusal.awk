@@ -113,6 +113,10 @@ function form_of_line() {
   if ($1 == "send") send_form("own", "the request")
   if ($1 == "pour") send_form("link", "the link")
   if ($1 == "close") name(2, "the request", "used", "own")
+  if ($1 == "move") {
+    name(2, "the request that is left", "used", "own")
+    name(3, "the request that is joined", "used", "own")
+  }
   if ($1 == "rounds" || $1 == "tail") number(2, "the number of rounds", 0, 524288)
   if ($1 == "do") {
     name(2, "the actor", "used", "actor")
@@ -175,6 +179,15 @@ function of_quota(    level, blocking) {
   }
   tell_field(5, "buffer")
   print "  with this line the quotas of the buffer come to " taken[$2, 0] + $5 "; the link has " buffer[$2]
+}
+
+# a move between requests that don't agree, or to one that is in use
+function of_move() {
+  if ($2 == $3) tell_field(3, "the same request")
+  else if (terms[$2] != terms[$3]) print "  the contracts are " terms[$2] " and " terms[$3]
+  else if (route_from[$2] != route_from[$3]) print "  the routes begin at " route_from[$2] " and " route_from[$3]
+  else if (route_to[$2] != route_to[$3]) print "  the routes end at " route_to[$2] " and " route_to[$3]
+  else print "  " shown($3) " was sent on, closed, moved from or moved to above"
 }
 
 # a number of a contract
@@ -251,13 +264,14 @@ function told_count(has, most) {
   return 1
 }
 
-# whether it is `best`, `pour`, `from`, `group` or `quota`, and the header hasn't that word yet
+# whether it is `best`, `pour`, `from`, `group`, `quota` or `move`, and the header hasn't that word yet
 function tell_later_word() {
   if ($1 == "link" && $13 == "best") return is_later(13, 3)
   if ($1 == "pour") return is_later(1, 3)
   if ($1 == "open" && is_found()) return is_later(3, 4)
   if ($1 == "group" || $1 == "quota") return is_later(1, 5)
   if ($1 == "caller" && $3 == "group") return is_later(3, 5)
+  if ($1 == "move") return is_later(1, 6)
   return 0
 }
 
@@ -288,10 +302,16 @@ function stands(place, word) {
 
 # ---- counts that are too large
 
-# the sum of a send's or a pour's packets with all above, or of the ticks
-function of_load(    sum) {
+# the packets of a send, a pour or a move, once for each hop
+function crossing() {
+  if ($1 == "move") return load[$2] * hops[$3]
+  return $3 * ($1 == "send" ? hops[$2] : 1)
+}
+
+# with all above, or the ticks
+function of_load() {
   if ($1 == "tail") print "  (rounds + tail) * links is (" rounds " + " $2 ") * " link_count " = " (rounds + $2) * link_count "; at most 524288 are allowed"
-  else print "  with this line the packets times their hops come to " packets + $3 * ($1 == "send" ? hops[$2] : 1) "; at most 262144 are allowed"
+  else print "  with this line the packets times their hops come to " packets + crossing() "; at most 262144 are allowed"
 }
 
 function of_step() {
@@ -307,13 +327,13 @@ function of_word() {
 
 # a request that another caller has opened
 function tell_owner() {
-  if (($1 == "send" || $1 == "close") && ("request" SUBSEP $2) in known) print "  " shown($2) " is a request of caller " owner[$2]
+  if (($1 == "send" || $1 == "close" || $1 == "move") && ("request" SUBSEP $2) in known) print "  " shown($2) " is a request of caller " owner[$2]
 }
 
 # ---- sentences
 
 function sentences() {
-  means["header"] = "the first line that isn't passed over is tenet 1, tenet 2, tenet 3, tenet 4 or tenet 5"
+  means["header"] = "the first line that isn't passed over is one of tenet 1 to tenet 6"
   means["word"] = "this word may not stand here; the order is: the header, links, groups, quotas, callers each with its operations, rounds, tail, schedule, do"
   means["shape"] = "bytes, spaces, the number of fields or a fixed word aren't those of such a line"
   means["name"] = "a name is a letter and then letters, digits and _, at most 16 in all, and neither contract nor plane"
@@ -325,14 +345,15 @@ function sentences() {
   means["contract"] = "a contract has XMIN at most XAVE, XAVE at most I, and I / XAVE, rounded down, at most 256"
   means["levels"] = "the bounds of a link rise, and its largest packet fits into the first"
   means["route"] = "each link of a route is another one, and begins at the node where the one before it ends; the nodes after from and to differ"
-  means["closed"] = "the request was closed above; after that nothing is sent on it and it isn't closed again"
-  means["load"] = "the COUNTs times the hops of all sends come to at most 262,144, and the rounds and the tail times the links to at most 524,288"
+  means["closed"] = "the request was closed above, or moved from; after that nothing is sent on it or moved from it, and one that was closed isn't closed again"
+  means["load"] = "the COUNTs times the hops of all sends and moves come to at most 262,144, and the rounds and the tail times the links to at most 524,288"
   means["reach"] = "no route of at most 16 links leads from the first node to the second"
   means["best"] = "a pour wants a link with best"
   means["quota"] = "a quota has a load for each level of its link, and the quotas of a link leave room for its largest packet within each bound and fit its buffer"
+  means["move"] = "a move is from one request to another with the same contract, whose route begins and ends at the same nodes, and which nothing above has used"
   means["end"] = "the input ended before its tail line"
   means["cut"] = "the input ended inside this line: its line feed is missing"
-  means["step"] = "this do line asks for a step of an actor that has none left at that point of the schedule; operations on a denied request take no steps"
+  means["step"] = "this do line asks for a step of an actor that has none left at that point of the schedule; operations on a denied request take no steps, and neither does a close after a move"
 }
 
 function forms_of_lines() {
@@ -343,6 +364,7 @@ function forms_of_lines() {
   usual["open"] = "open NAME route LINK1 .. LINKh contract XMIN XAVE I SMAX delay D rate, or with jitter J for rate, or under tenet 4 with from NODE1 to NODE2 for the route"
   usual["send"] = "send NAME COUNT GAP SIZE"
   usual["close"] = "close NAME"
+  usual["move"] = "move OLD NEW"
   usual["pour"] = "pour LINK COUNT GAP SIZE"
   usual["rounds"] = "rounds R"
   usual["tail"] = "tail Q"
@@ -370,6 +392,7 @@ function tell() {
   else if (cause == "closed") tell_field(2, "the request")
   else if (cause == "best") tell_field(2, "the link")
   else if (cause == "quota") of_quota()
+  else if (cause == "move") of_move()
   else if (cause == "step") of_step()
   else if (cause == "load") of_load()
   else of_form()
@@ -393,6 +416,15 @@ function keep_numbers(    i, from) {
   buffer[$2] = $12
   levels[$2] = NF - from
   for (i = from + 1; i <= NF; i++) bound[$2, i - from] = $i
+}
+
+# the contract and the ends of a request's route. A route that is found isn't searched for here, so its hops aren't known.
+function keep_route(    at) {
+  at = place_of("contract")
+  hops[$2] = at - 4
+  terms[$2] = $(at + 1) " " $(at + 2) " " $(at + 3) " " $(at + 4)
+  route_from[$2] = is_found() ? $4 : begins[$4]
+  route_to[$2] = is_found() ? $6 : ends[$(at - 1)]
 }
 
 $1 == "tenet" { version = $2 }
@@ -424,10 +456,18 @@ $1 == "open" {
   known["request", $2] = 1
   own[caller, $2] = 1
   owner[$2] = caller
-  hops[$2] = place_of("contract") - 4
+  keep_route()
 }
 
-$1 == "send" { packets += $3 * hops[$2] }
+$1 == "send" {
+  packets += crossing()
+  if ($3 > load[$2]) load[$2] = $3
+}
+
+$1 == "move" {
+  packets += crossing()
+  if (load[$2] > load[$3]) load[$3] = load[$2]
+}
 
 $1 == "pour" { packets += $3 }
 

@@ -11,7 +11,7 @@ use Rattle.channel_move.specs.declared.shifted.Shifted.{Shifted}
 use Rattle.setup_protocol.specs.Laws.{is_accepted}
 use Rattle.setup_protocol.specs.Setup.{Outcome}
 use Rattle.call_script.specs.Accounts.{Said, said_of, said_in, blank, account_in, AreAccounts}
-use Rattle.call_script.specs.Scripts.{Learnt, Settles, PlannedOn, MovedTo, is_that, newest, outcome_in, is_established, last_packets}
+use Rattle.call_script.specs.Scripts.{Learnt, Settles, PlannedOn, MovedTo, is_that, newest, outcome_in, is_established, last_packets, moved_off}
 use Rattle.call_script.specs.declared.accounts.Account.{Account}
 
 -- ---- what one note changes
@@ -22,24 +22,24 @@ settled outcome said = record said { verdict = Some outcome; established = is_ac
 abbrev pub planned : ℕ → ℕ → Said → Said
 planned gap size said = record said { packets = record { gap = gap; size = size } }
 
-abbrev pub left : Said → Said
-left said = record said { established = false }
+abbrev pub left : Shifted → Said → Said
+left told said = record said { established = false; moved = Some told }
 
 abbrev pub changed : Bool → (Said → Said) → Said → Said
 changed test change said = if test then change said else said
 
 settled-more : (chan own : ChanNo) (outcome : Outcome) (outcomes : List Learnt) → said_of chan (Settles own outcome ∷ outcomes) ≡ changed (is_that chan own) (settled outcome) (said_of chan outcomes)
-unfolding newest outcome_in is_established last_packets
+unfolding newest outcome_in is_established last_packets moved_off
 settled-more chan own outcome outcomes = elim (cases_Bool (is_that chan own)) [ inl is ↦ rw is refl | inr is ↦ rw is refl ]
 
 planned-more : (chan own : ChanNo) (gap size : ℕ) (outcomes : List Learnt) → said_of chan (PlannedOn own gap size ∷ outcomes) ≡ changed (is_that chan own) (planned gap size) (said_of chan outcomes)
-unfolding newest outcome_in is_established last_packets
+unfolding newest outcome_in is_established last_packets moved_off
 planned-more chan own gap size outcomes = elim (cases_Bool (is_that chan own)) [ inl is ↦ rw is refl | inr is ↦ rw is refl ]
 
 -- a move that has shifted packets
 shifted-more : (chan old new : ChanNo) (told : Shifted) (gap size : ℕ) (outcomes : List Learnt) → nat_eq told.shifted 0 ≡ false
-    → said_of chan (MovedTo old new told gap size ∷ outcomes) ≡ changed (is_that chan new) (planned gap size) (changed (is_that chan old) left (said_of chan outcomes))
-unfolding newest outcome_in is_established last_packets
+    → said_of chan (MovedTo old new told gap size ∷ outcomes) ≡ changed (is_that chan new) (planned gap size) (changed (is_that chan old) (left told) (said_of chan outcomes))
+unfolding newest outcome_in is_established last_packets moved_off
 shifted-more chan old new told gap size outcomes some =
     elim (cases_Bool (is_that chan old)) [
       | inl is ↦ elim (cases_Bool (is_that chan new)) [ inl joins ↦ rw is (rw joins (rw some refl)) | inr joins ↦ rw is (rw joins refl) ]
@@ -48,8 +48,8 @@ shifted-more chan old new told gap size outcomes some =
 
 -- a move that has shifted none
 left-more : (chan old new : ChanNo) (told : Shifted) (gap size : ℕ) (outcomes : List Learnt) → nat_eq told.shifted 0 ≡ true
-    → said_of chan (MovedTo old new told gap size ∷ outcomes) ≡ changed (is_that chan old) left (said_of chan outcomes)
-unfolding newest outcome_in is_established last_packets
+    → said_of chan (MovedTo old new told gap size ∷ outcomes) ≡ changed (is_that chan old) (left told) (said_of chan outcomes)
+unfolding newest outcome_in is_established last_packets moved_off
 left-more chan old new told gap size outcomes none =
     elim (cases_Bool (is_that chan old)) [
       | inl is ↦ elim (cases_Bool (is_that chan new)) [ inl joins ↦ rw is (rw joins (rw none refl)) | inr joins ↦ rw is (rw joins refl) ]
@@ -87,17 +87,17 @@ with-planned accounts own gap size account was outcomes within is says before ch
     put-says accounts own account was (planned gap size) (λ c. said_of c outcomes) within is says before chan ∙ sym (planned-more chan own gap size outcomes)
 
 pub with-none-shifted : (accounts : List Account) (old new : ChanNo) (told : Shifted) (gap size : ℕ) (account was : Account) (outcomes : List Learnt) → channel_number old < length accounts → was ≡ account_in accounts old
-    → said_in account ≡ left (said_in was) → told.shifted ≡ 0 → AreAccounts accounts outcomes
+    → said_in account ≡ left told (said_in was) → told.shifted ≡ 0 → AreAccounts accounts outcomes
     → AreAccounts (set accounts (channel_number old) account) (MovedTo old new told gap size ∷ outcomes)
 with-none-shifted accounts old new told gap size account was outcomes within is says none before chan =
-    put-says accounts old account was left (λ c. said_of c outcomes) within is says before chan ∙ sym (left-more chan old new told gap size outcomes (ap (λ n. nat_eq n 0) none))
+    put-says accounts old account was (left told) (λ c. said_of c outcomes) within is says before chan ∙ sym (left-more chan old new told gap size outcomes (ap (λ n. nat_eq n 0) none))
 
 pub with-some-shifted : (accounts now : List Account) (old new : ChanNo) (told : Shifted) (gap size : ℕ) (account was joined joins : Account) (outcomes : List Learnt) → channel_number old < length accounts → was ≡ account_in accounts old
-    → said_in account ≡ left (said_in was) → now ≡ set accounts (channel_number old) account → channel_number new < length now → joins ≡ account_in now new → said_in joined ≡ planned gap size (said_in joins)
+    → said_in account ≡ left told (said_in was) → now ≡ set accounts (channel_number old) account → channel_number new < length now → joins ≡ account_in now new → said_in joined ≡ planned gap size (said_in joins)
     → (told.shifted ≡ 0 → ⊥) → AreAccounts accounts outcomes → AreAccounts (set now (channel_number new) joined) (MovedTo old new told gap size ∷ outcomes)
 with-some-shifted accounts now old new told gap size account was joined joins outcomes within is says put inside found tells some before chan =
-    put-says now new joined joins (planned gap size) (λ c. changed (is_that c old) left (said_of c outcomes)) inside found tells
-    (subst (λ xs. Say xs (λ c. changed (is_that c old) left (said_of c outcomes))) (sym put) (put-says accounts old account was left (λ c. said_of c outcomes) within is says before)) chan
+    put-says now new joined joins (planned gap size) (λ c. changed (is_that c old) (left told) (said_of c outcomes)) inside found tells
+    (subst (λ xs. Say xs (λ c. changed (is_that c old) (left told) (said_of c outcomes))) (sym put) (put-says accounts old account was (left told) (λ c. said_of c outcomes) within is says before)) chan
     ∙ sym (shifted-more chan old new told gap size outcomes (not-zero told.shifted some))
 
 -- ---- where nothing was learnt
@@ -110,5 +110,5 @@ blank-everywhere n i =
     ]
 
 pub none-said : (n : ℕ) → AreAccounts (replicate n blank) []
-unfolding newest outcome_in is_established last_packets
+unfolding newest outcome_in is_established last_packets moved_off
 none-said n chan = ap said_in (blank-everywhere n (channel_number chan))

@@ -1,17 +1,19 @@
 -- The network of every plan fits.
-use Rattle.std.proofs.Common.{◌≡◌, ℕ, ◌<◌, ◌≤◌, true, Option, Some, None, List, [], ◌∷◌, length, map, refl, sym, ap, ◌∙◌, subst, inl, inr, option_map, IsTrue, arith}
-use Rattle.std.proofs.lemmas.Bool.{leb-true, ltb-true}
+use Rattle.std.proofs.Common.{◌≡◌, ◌≢◌, ℕ, ◌<◌, ◌≤◌, true, Option, Some, None, List, [], ◌∷◌, length, map, refl, sym, ap, ◌∙◌, subst, inl, inr, option_map, IsTrue, arith}
+use Rattle.std.proofs.lemmas.Bool.{eqb-true, eqb-false, leb-true, ltb-true}
 use Rattle.std.proofs.lemmas.List.{length-map}
 use Rattle.std.proofs.lemmas.Option.{slice_get-map, slice_get_cases}
 use Rattle.std.specs.List.{list_all, slice_get}
-use Rattle.std.specs.Prelude.{nat_le, ◌&&◌}
+use Rattle.std.specs.Prelude.{nat_eq, nat_le, not, ◌&&◌}
 use Rattle.net_units.specs.LevelBounds.{are_bounds}
 use Rattle.net_units.specs.Numbers.{link_number, channel_number}
 use Rattle.net_units.specs.declared.numbers.ChanNo.{ChanNo}
 use Rattle.net_units.specs.declared.numbers.LinkNo.{LinkNo}
 use Rattle.hop_reservation.specs.declared.route.Hop.{Hop}
 use Rattle.link_steps.specs.Lists.{Each}
+use Rattle.link_steps.specs.Legal.{SubmitFits}
 use Rattle.link_steps.specs.Split.{Link, SplitFits}
+use Rattle.traffic_contract.specs.Contract.{Traffic}
 use Rattle.relaxation.specs.Laws.{HaveBounds}
 use Rattle.setup_protocol.specs.declared.request.Request.{Request}
 use Rattle.call_script.specs.Fits.{TaskFits, NetworkFits}
@@ -19,17 +21,17 @@ use Rattle.call_script.specs.Groups.{have_own_groups, quota_is_there, quotas_fit
 use Rattle.setup_protocol.specs.Hops.{IsHopOf, RequestFits}
 use Rattle.call_script.specs.Parts.{PlanParts, FollowsLink}
 use Rattle.call_script.specs.Plans.{HasTerms, IsPlan}
-use Rattle.call_script.specs.Rules.{have_links, has_link, route_is_there, pour_is_there, are_opened, are_there, request_in_range, op_in_range, rounds_in_range, are_in_range, are_few, takes_best_effort, pour_is_taken, pours_are_taken}
+use Rattle.call_script.specs.Rules.{have_links, has_link, route_is_there, request_in_range, op_in_range, rounds_in_range, are_in_range, are_few, takes_best_effort, pour_is_taken, pours_are_taken, same_contract, same_ends, may_move, move_is_fit}
 use Rattle.call_script.specs.Splits.{entry_link, groups_in}
-use Rattle.call_script.specs.Tasks.{request_of, send_on, task_for, task_of, with_task, tasks_of, script_of, network_of}
+use Rattle.call_script.specs.Tasks.{request_of, send_on, task_for, move_for, task_of, with_task, tasks_of, script_of, network_of}
 use Rattle.call_script.specs.declared.entries.CallerEntry.{CallerEntry}
 use Rattle.call_script.specs.declared.entries.LinkEntry.{LinkEntry}
 use Rattle.call_script.specs.declared.entries.RequestEntry.{RequestEntry}
 use Rattle.call_script.specs.declared.operations.Op.{Op}
-use Rattle.call_script.specs.declared.operations.Op.TheVariants.{Open, Send, Close, Pour}
+use Rattle.call_script.specs.declared.operations.Op.TheVariants.{Open, Send, Close, Pour, Move}
 use Rattle.call_script.specs.declared.tasks.Task.{Task}
 use Rattle.call_script.specs.declared.tasks.Task.TheVariants.{Sends}
-use Rattle.call_script.proofs.RuleFacts.{both, each-of, packets-fit, keeps-rules}
+use Rattle.call_script.proofs.RuleFacts.{both, not-true, each-of, packets-fit, keeps-rules, used-in, moves-in}
 use Rattle.call_script.proofs.SplitFits.{entry-fits}
 use Rattle.link_steps.proofs.ListParts.{Each-at, comes-from}
 
@@ -65,12 +67,10 @@ hops-bounds links (hop ∷ route) there follows =
     ]
 
 pub request-fits : (parts : PlanParts) (n : ℕ) (entry : RequestEntry) → IsPlan parts → slice_get parts.requests n ≡ Some entry → RequestFits (map (entry_link (groups_in parts)) parts.links) entry.request
-unfolding are_there
 request-fits parts n entry plan found =
     let rules = keeps-rules parts plan.kept in
-    let first = both (list_all (route_is_there parts.links) parts.requests && list_all (λ (caller : CallerEntry). list_all (pour_is_there parts.links) caller.ops) parts.callers) (are_opened parts.callers) rules.there in
-    let routes = both (list_all (route_is_there parts.links) parts.requests) (list_all (λ (caller : CallerEntry). list_all (pour_is_there parts.links) caller.ops) parts.callers) first.0 in
-    let there = Each-at (λ e. route_is_there parts.links e ≡ true) parts.requests n entry (each-of (route_is_there parts.links) parts.requests routes.0) found in
+    let routes = used-in parts rules.there in
+    let there = Each-at (λ e. route_is_there parts.links e ≡ true) parts.requests n entry (each-of (route_is_there parts.links) parts.requests routes.routes) found in
     let follows = plan.planned.hops n entry found in
     let terms = Each-at HasTerms parts.requests n entry plan.terms found in
     record { contract = terms.contract; bounds = hops-bounds parts.links entry.request.route there follows; route = terms.route; hops = hops-there (groups_in parts) parts.links entry.request.route there follows }
@@ -119,27 +119,62 @@ pour-fits groups links link count gap size taken range = by (slice_get links (li
   by None is none = cc
   by (Some entry) is some = record { link = entry_link groups entry; linked = slice_get-map (entry_link groups) links (link_number link) ∙ ap (option_map (entry_link groups)) is; packets = (leb-true 1 entry.shape.best some, packets-fit count gap size range) }
 
-op-fits : (parts : PlanParts) (op : Op) → IsPlan parts → op_in_range op ≡ true → pour_is_taken parts.links op ≡ true → TaskFitsIf (map (entry_link (groups_in parts)) parts.links) (task_of (map request_of parts.requests) op)
-op-fits parts (Open chan) plan range taken = of-request parts _ (channel_number chan) plan (λ request fits. fits) (slice_get (map request_of parts.requests) (channel_number chan)) refl
-op-fits parts (Send chan count gap size) plan range taken = sends-fit parts (channel_number chan) count gap size chan plan range (slice_get (map request_of parts.requests) (channel_number chan)) refl
-op-fits parts (Close chan) plan range taken = of-request parts _ (channel_number chan) plan (λ request fits. fits) (slice_get (map request_of parts.requests) (channel_number chan)) refl
-op-fits parts (Pour link count gap size) plan range taken = pour-fits (groups_in parts) parts.links link count gap size taken range
+-- contracts with the same numbers are one
+contract-same : (a b : Traffic) → same_contract a b ≡ true → a ≡ b
+contract-same a b same =
+    let first = both (nat_eq a.xmin b.xmin && nat_eq a.xave b.xave && nat_eq a.interval b.interval) (nat_eq a.smax b.smax) same in
+    let second = both (nat_eq a.xmin b.xmin && nat_eq a.xave b.xave) (nat_eq a.interval b.interval) first.0 in
+    let third = both (nat_eq a.xmin b.xmin) (nat_eq a.xave b.xave) second.0 in
+    let xmin = eqb-true a.xmin b.xmin third.0 in
+    let xave = eqb-true a.xave b.xave third.1 in
+    let interval = eqb-true a.interval b.interval second.1 in
+    let smax = eqb-true a.smax b.smax first.1 in
+    λ i. record { xmin = xmin i; xave = xave i; interval = interval i; smax = smax i }
 
-ops-fit : (parts : PlanParts) (ops : List Op) → IsPlan parts → list_all op_in_range ops ≡ true → list_all (pour_is_taken parts.links) ops ≡ true → Each (TaskFits (map (entry_link (groups_in parts)) parts.links)) (tasks_of (map request_of parts.requests) ops)
+one-packet : SubmitFits 1 1 1
+one-packet = record { count_least = omega arith; count_most = omega arith; gap_least = omega arith; gap_most = omega arith; size_least = omega arith; size_most = omega arith }
+
+move-fits : (parts : PlanParts) (o n : ℕ) → IsPlan parts → o ≢ n → (old new : Option RequestEntry) → slice_get parts.requests o ≡ old → slice_get parts.requests n ≡ new → may_move parts.links old new ≡ true
+    → TaskFitsIf (map (entry_link (groups_in parts)) parts.links) (move_for (option_map request_of old) (option_map request_of new))
+unfolding TaskFitsIf
+move-fits parts o n plan apart None new from to fit = cc
+move-fits parts o n plan apart (Some old) None from to fit = cc
+move-fits parts o n plan apart (Some old) (Some new) from to fit = record {
+  of_old = request-fits parts o old plan from;
+  of_new = request-fits parts n new plan to;
+  same = contract-same old.request.contract new.request.contract (both (same_contract old.request.contract new.request.contract) (same_ends parts.links old.request.route new.request.route) fit).0;
+  apart = λ same. apart (sym (plan.planned.requests o old from) ∙ same ∙ plan.planned.requests n new to);
+  packets = one-packet;
+}
+
+op-fits : (parts : PlanParts) (op : Op) → IsPlan parts → op_in_range op ≡ true → pour_is_taken parts.links op ≡ true → move_is_fit parts.links parts.requests op ≡ true → TaskFitsIf (map (entry_link (groups_in parts)) parts.links) (task_of (map request_of parts.requests) op)
+op-fits parts (Open chan) plan range taken fit = of-request parts _ (channel_number chan) plan (λ request fits. fits) (slice_get (map request_of parts.requests) (channel_number chan)) refl
+op-fits parts (Send chan count gap size) plan range taken fit = sends-fit parts (channel_number chan) count gap size chan plan range (slice_get (map request_of parts.requests) (channel_number chan)) refl
+op-fits parts (Close chan) plan range taken fit = of-request parts _ (channel_number chan) plan (λ request fits. fits) (slice_get (map request_of parts.requests) (channel_number chan)) refl
+op-fits parts (Pour link count gap size) plan range taken fit = pour-fits (groups_in parts) parts.links link count gap size taken range
+op-fits parts (Move old new) plan range taken fit =
+    let split = both (may_move parts.links (slice_get parts.requests (channel_number old)) (slice_get parts.requests (channel_number new))) (not (nat_eq (channel_number old) (channel_number new))) fit in
+    subst (λ f. TaskFitsIf (map (entry_link (groups_in parts)) parts.links) (move_for f (slice_get (map request_of parts.requests) (channel_number new)))) (sym (slice_get-map request_of parts.requests (channel_number old)))
+    (subst (λ f. TaskFitsIf (map (entry_link (groups_in parts)) parts.links) (move_for (option_map request_of (slice_get parts.requests (channel_number old))) f)) (sym (slice_get-map request_of parts.requests (channel_number new)))
+    (move-fits parts (channel_number old) (channel_number new) plan (eqb-false (channel_number old) (channel_number new) (not-true (nat_eq (channel_number old) (channel_number new)) split.1)) (slice_get parts.requests (channel_number old)) (slice_get parts.requests (channel_number new)) refl refl split.0))
+
+ops-fit : (parts : PlanParts) (ops : List Op) → IsPlan parts → list_all op_in_range ops ≡ true → list_all (pour_is_taken parts.links) ops ≡ true → list_all (move_is_fit parts.links parts.requests) ops ≡ true → Each (TaskFits (map (entry_link (groups_in parts)) parts.links)) (tasks_of (map request_of parts.requests) ops)
 unfolding tasks_of
-ops-fit parts [] plan range taken = tt
-ops-fit parts (op ∷ ops) plan range taken =
+ops-fit parts [] plan range taken fit = tt
+ops-fit parts (op ∷ ops) plan range taken fit =
     let ranges = both (op_in_range op) (list_all op_in_range ops) range in
     let takes = both (pour_is_taken parts.links op) (list_all (pour_is_taken parts.links) ops) taken in
-    with-fits (map (entry_link (groups_in parts)) parts.links) (task_of (map request_of parts.requests) op) (tasks_of (map request_of parts.requests) ops) (op-fits parts op plan ranges.0 takes.0) (ops-fit parts ops plan ranges.1 takes.1)
+    let fits = both (move_is_fit parts.links parts.requests op) (list_all (move_is_fit parts.links parts.requests) ops) fit in
+    with-fits (map (entry_link (groups_in parts)) parts.links) (task_of (map request_of parts.requests) op) (tasks_of (map request_of parts.requests) ops) (op-fits parts op plan ranges.0 takes.0 fits.0) (ops-fit parts ops plan ranges.1 takes.1 fits.1)
 
-callers-fit : (parts : PlanParts) (callers : List CallerEntry) → IsPlan parts → list_all (λ (caller : CallerEntry). list_all op_in_range caller.ops) callers ≡ true → list_all (λ (caller : CallerEntry). list_all (pour_is_taken parts.links) caller.ops) callers ≡ true
+callers-fit : (parts : PlanParts) (callers : List CallerEntry) → IsPlan parts → list_all (λ (caller : CallerEntry). list_all op_in_range caller.ops) callers ≡ true → list_all (λ (caller : CallerEntry). list_all (pour_is_taken parts.links) caller.ops) callers ≡ true → list_all (λ (caller : CallerEntry). list_all (move_is_fit parts.links parts.requests) caller.ops) callers ≡ true
     → Each (Each (TaskFits (map (entry_link (groups_in parts)) parts.links))) (map (script_of (map request_of parts.requests)) callers)
-callers-fit parts [] plan range taken = tt
-callers-fit parts (caller ∷ callers) plan range taken =
+callers-fit parts [] plan range taken fit = tt
+callers-fit parts (caller ∷ callers) plan range taken fit =
     let ranges = both (list_all op_in_range caller.ops) (list_all (λ (c : CallerEntry). list_all op_in_range c.ops) callers) range in
     let takes = both (list_all (pour_is_taken parts.links) caller.ops) (list_all (λ (c : CallerEntry). list_all (pour_is_taken parts.links) c.ops) callers) taken in
-    (ops-fit parts caller.ops plan ranges.0 takes.0, callers-fit parts callers plan ranges.1 takes.1)
+    let fits = both (list_all (move_is_fit parts.links parts.requests) caller.ops) (list_all (λ (c : CallerEntry). list_all (move_is_fit parts.links parts.requests) c.ops) callers) fit in
+    (ops-fit parts caller.ops plan ranges.0 takes.0 fits.0, callers-fit parts callers plan ranges.1 takes.1 fits.1)
 
 -- ---- the network
 
@@ -171,6 +206,6 @@ plan-fits parts plan =
       some = omega (arith, length-map parts.links (entry_link (groups_in parts)));
       few = omega (arith, length-map parts.links (entry_link (groups_in parts)));
       splits = links-fit parts rules.groups;
-      tasks = callers-fit parts parts.callers plan ops.1 rules.pours;
+      tasks = callers-fit parts parts.callers plan ops.1 rules.pours (moves-in parts rules.moves).fit;
       rounds = omega arith;
     }

@@ -10,25 +10,26 @@ use Rattle.net_units.specs.declared.numbers.ChanNo.{ChanNo}
 use Rattle.net_units.specs.declared.numbers.LinkNo.{LinkNo}
 use Rattle.link_steps.proofs.ListFacts.{Each-append}
 use Rattle.link_steps.specs.Lists.{Each}
-use Rattle.traffic_contract.specs.Admission.{total}
 use Rattle.call_script.specs.Broken.{unless_broken, use_rule_broken, range_rule_broken, name_rule_broken, rule_broken}
 use Rattle.call_script.specs.Groups.{groups_have_version, groups_have_names, groups_are_there, quotas_are_in_range, groups_are_few, quotas_are_fit}
-use Rattle.call_script.specs.Growing.{nothing_of, new_caller, add_op, last_ops, with_link, with_caller, with_open, with_op, with_rounds, with_tail, MayAddLink, MayAddCaller, MayOpen, IsOpenedThere, IsWithinLoad, MaySend, MayPour, KeepSoFar, AreEnough}
+use Rattle.call_script.specs.Growing.{nothing_of, new_caller, add_op, last_ops, with_link, with_caller, with_open, with_op, with_rounds, with_tail, MayAddLink, MayAddCaller, MayOpen, IsOpenedThere, IsWithinLoad, MaySend, MayPour, MayMove, KeepSoFar, AreEnough}
 use Rattle.call_script.specs.Parts.{PlanParts, parts_with, Opening, opened_by, openings_of, opening_of, FollowsLink, LeavesUnused, ArePlanned}
 use Rattle.call_script.specs.Plans.{HasTerms, IsPlan}
-use Rattle.call_script.specs.Rules.{each_after, link_has_version, request_has_version, op_has_version, have_version, have_links, is_new, are_distinct, link_names, caller_names, request_names, have_names, route_is_there, pour_is_there, opens, is_opened, are_opened, are_there, request_in_range, op_in_range, rounds_in_range, are_in_range, are_few, is_joined, are_joined, closes, is_unclosed, are_unclosed, hops_of, load_of, load_in, are_within_load, pour_is_taken, pours_are_taken}
+use Rattle.call_script.specs.Rules.{each_after, link_has_version, request_has_version, op_has_version, have_version, have_links, is_new, are_distinct, link_names, caller_names, request_names, have_names, route_is_there, pour_is_there, is_in, is_after, is_apart, all_after, are_there, request_in_range, op_in_range, rounds_in_range, are_in_range, are_few, is_joined, are_joined, are_unclosed, load_in, ops_load, ops_over, are_within_load, pour_is_taken, pours_are_taken, move_is_fit, moves_are_fit}
 use Rattle.call_script.specs.declared.entries.CallerEntry.{CallerEntry}
 use Rattle.call_script.specs.declared.entries.LinkEntry.{LinkEntry}
 use Rattle.call_script.specs.declared.entries.RequestEntry.{RequestEntry}
 use Rattle.call_script.specs.declared.operations.Op.{Op}
-use Rattle.call_script.specs.declared.operations.Op.TheVariants.{Open, Send, Close, Pour}
+use Rattle.call_script.specs.declared.operations.Op.TheVariants.{Open, Send, Close, Pour, Move}
+use Rattle.call_script.specs.declared.roles.Role.TheVariants as role
 use Rattle.call_script.specs.declared.version.Version.{Version}
 use Rattle.link_steps.proofs.ListParts.{Each-by_place}
-use Rattle.call_script.proofs.GrowthFacts.{all-more, after-more, get-before, get-more, added-all, added-after, added-names, added-length, added-total, added-openings, added-opens-none, new-opens-none}
+use Rattle.call_script.proofs.GrowthFacts.{all-more, after-more, get-before, get-more, added-all, added-after, added-names, added-length, added-openings, added-opens-none, new-opens-none}
 use Rattle.call_script.proofs.GroupFacts.{no-groups, none-unused, groups-with-link, groups-with-caller, groups-with-op, groups-from}
 use Rattle.call_script.proofs.OpeningFacts.{opened-has}
+use Rattle.call_script.proofs.LoadFacts.{HasHops, load-more, added-load, new-over}
 use Rattle.call_script.proofs.OwnerFacts.{any-later, twice-not}
-use Rattle.traffic_contract.proofs.AdmissionFacts.{total-push}
+use Rattle.call_script.proofs.RuleFacts.{HasUsed, used-in, used-from, unclosed-in, unclosed-from, moves-in, moves-from}
 
 -- ---- the rules on names and numbers, in their parts
 
@@ -69,25 +70,6 @@ unfolding have_version
 version-from parts has =
     and_from (list_all (link_has_version parts.version) parts.links && list_all (request_has_version parts.version) parts.requests) (list_all (λ (c : CallerEntry). list_all (op_has_version parts.version) c.ops) parts.callers)
     (and_from (list_all (link_has_version parts.version) parts.links) (list_all (request_has_version parts.version) parts.requests) has.links has.requests) has.ops
-
--- what routes, pours, sends and closes use is there
-pub record HasUsed (parts : PlanParts) : Type 0 where
-  pub routes : list_all (route_is_there parts.links) parts.requests ≡ true
-  pub pours : list_all (λ (c : CallerEntry). list_all (pour_is_there parts.links) c.ops) parts.callers ≡ true
-  pub opened : list_all (λ (c : CallerEntry). each_after is_opened [] c.ops) parts.callers ≡ true
-
-pub used-in : (parts : PlanParts) → are_there parts ≡ true → HasUsed parts
-unfolding are_there
-used-in parts there =
-    let first = and_parts (list_all (route_is_there parts.links) parts.requests && list_all (λ (c : CallerEntry). list_all (pour_is_there parts.links) c.ops) parts.callers) (are_opened parts.callers) there in
-    let second = and_parts (list_all (route_is_there parts.links) parts.requests) (list_all (λ (c : CallerEntry). list_all (pour_is_there parts.links) c.ops) parts.callers) first.0 in
-    record { routes = second.0; pours = second.1; opened = first.1 }
-
-used-from : (parts : PlanParts) → HasUsed parts → are_there parts ≡ true
-unfolding are_there
-used-from parts has =
-    and_from (list_all (route_is_there parts.links) parts.requests && list_all (λ (c : CallerEntry). list_all (pour_is_there parts.links) c.ops) parts.callers) (are_opened parts.callers)
-    (and_from (list_all (route_is_there parts.links) parts.requests) (list_all (λ (c : CallerEntry). list_all (pour_is_there parts.links) c.ops) parts.callers) has.routes has.pours) has.opened
 
 -- numbers in their ranges
 pub record HasRanges (parts : PlanParts) : Type 0 where
@@ -141,7 +123,7 @@ names-more names name apart new = after-more is_new [] names name apart new
 -- ---- nothing
 
 pub nothing-keeps : (version : Version) → KeepSoFar (nothing_of version)
-unfolding have_version have_names are_there are_in_range are_few are_joined are_unclosed pours_are_taken openings_of each_after
+unfolding have_version have_names are_there are_in_range are_few are_joined are_unclosed pours_are_taken moves_are_fit openings_of each_after ops_over ops_load
 nothing-keeps version = record {
   version = refl;
   names = refl;
@@ -152,6 +134,7 @@ nothing-keeps version = record {
   unclosed = refl;
   load = omega arith;
   pours = refl;
+  moves = refl;
   groups = no-groups version;
   planned = record { links = λ n entry found. cc; requests = λ n entry found. cc; openings = refl; hops = λ n entry found. cc; unused = λ n entry found. cc };
   terms = tt;
@@ -168,7 +151,7 @@ no-request parts planned none = by parts.requests (sym (ap (openings_of 0) none)
 
 link-grown : (version : Version) (links : List LinkEntry) (groups : List (List ℕ)) (entry : LinkEntry) (rounds tail : ℕ) → KeepSoFar (parts_with version links groups [] [] rounds tail)
     → MayAddLink (parts_with version links groups [] [] rounds tail) entry → KeepSoFar (parts_with version (links ++ entry ∷ []) groups [] [] rounds tail)
-unfolding have_version are_there are_in_range are_joined are_unclosed pours_are_taken openings_of
+unfolding have_version are_there are_in_range are_joined are_unclosed pours_are_taken moves_are_fit openings_of
 link-grown version links groups entry rounds tail keep may =
     let few = few-in (parts_with version links groups [] [] rounds tail) keep.few in
     let names = names-in (parts_with version links groups [] [] rounds tail) keep.names in
@@ -187,6 +170,7 @@ link-grown version links groups entry rounds tail keep may =
       unclosed = refl;
       load = keep.load;
       pours = refl;
+      moves = refl;
       groups = groups-with-link version groups links entry [] may.unsplit keep.groups;
       planned = record {
         links = λ n e found. elim (get-more links entry n e found) [
@@ -216,7 +200,7 @@ link-keeps parts entry keep may = by parts.callers parts.requests (sym may.first
 -- ---- a caller
 
 pub caller-keeps : (parts : PlanParts) (name : List ℕ) (group : ℕ) → KeepSoFar parts → MayAddCaller parts name group → KeepSoFar (with_caller name group parts)
-unfolding have_version are_joined are_unclosed pours_are_taken each_after
+unfolding have_version are_joined pours_are_taken each_after
 caller-keeps parts name group keep may =
     let names = names-in parts keep.names in
     let used = used-in parts keep.there in
@@ -224,7 +208,9 @@ caller-keeps parts name group keep may =
     let few = few-in parts keep.few in
     let version = version-in parts keep.version in
     let longer = length-more parts.callers (new_caller name group) in
-    let load : load_in parts.requests (parts.callers ++ new_caller name group ∷ []) ≡ load_in parts.requests parts.callers + 0 = total-push (λ (c : CallerEntry). total (load_of parts.requests) c.ops) parts.callers (new_caller name group) in
+    let load = ap (ops_load parts.requests []) (new-over name group parts.callers) in
+    let unclosed = unclosed-in parts keep.unclosed in
+    let moves = moves-in parts keep.moves in
     record {
       version = version-from (with_caller name group parts) (record { links = version.links; requests = version.requests; ops = calm (list_all (op_has_version parts.version)) refl version.ops });
       names = names-from (with_caller name group parts) (record {
@@ -232,13 +218,14 @@ caller-keeps parts name group keep may =
         callers = ap are_distinct (map-append (λ (c : CallerEntry). c.name) parts.callers (new_caller name group ∷ [])) ∙ names-more (caller_names parts.callers) name names.callers may.new;
         requests = names.requests;
       });
-      there = used-from (with_caller name group parts) (record { routes = used.routes; pours = calm (list_all (pour_is_there parts.links)) refl used.pours; opened = calm (each_after is_opened []) refl used.opened });
+      there = used-from (with_caller name group parts) (record { routes = used.routes; pours = calm (list_all (pour_is_there parts.links)) refl used.pours; opened = calm (each_after (is_after role.Uses role.Opens) []) refl used.opened; onto_opened = calm (each_after (is_after role.Joins role.Opens) []) refl used.onto_opened });
       range = ranges-from (with_caller name group parts) (record { requests = ranges.requests; ops = calm (list_all op_in_range) refl ranges.ops; rounds = ranges.rounds; tail = ranges.tail });
       few = few-from (with_caller name group parts) (record { links = few.links; callers = omega (arith, may.few, longer); requests = few.requests });
       joined = keep.joined;
-      unclosed = calm (each_after is_unclosed []) refl keep.unclosed;
+      unclosed = unclosed-from (with_caller name group parts) (record { closed = calm (each_after (is_apart role.Uses role.Closes) []) refl unclosed.closed; left = calm (each_after (is_apart role.Keeps role.Leaves) []) refl unclosed.left });
       load = omega (arith, keep.load, load);
       pours = calm (list_all (pour_is_taken parts.links)) refl keep.pours;
+      moves = moves-from (with_caller name group parts) (record { fit = calm (list_all (move_is_fit parts.links parts.requests)) refl moves.fit; unused = calm (each_after (is_apart role.Joins role.Uses) []) refl moves.unused; unjoined = calm (each_after (is_apart role.Joins role.Joins) []) refl moves.unjoined });
       groups = groups-with-caller parts.version parts.groups parts.links parts.callers name group may.version may.there keep.groups;
       planned = record { links = keep.planned.links; requests = keep.planned.requests; openings = new-opens-none 0 name group parts.callers ∙ keep.planned.openings; hops = keep.planned.hops; unused = keep.planned.unused };
       terms = keep.terms;
@@ -253,32 +240,40 @@ caller-keeps parts name group keep may =
 record MayFollow (parts : PlanParts) (op : Op) : Type 0 where
   version : op_has_version parts.version op ≡ true
   there : pour_is_there parts.links op ≡ true
-  opened : is_opened (last_ops parts.callers) op ≡ true
+  opened : is_after role.Uses role.Opens (last_ops parts.callers) op ≡ true
+  onto_opened : is_after role.Joins role.Opens (last_ops parts.callers) op ≡ true
   range : op_in_range op ≡ true
-  unclosed : is_unclosed (last_ops parts.callers) op ≡ true
+  unclosed : is_apart role.Uses role.Closes (last_ops parts.callers) op ≡ true
+  unleft : is_apart role.Keeps role.Leaves (last_ops parts.callers) op ≡ true
+  fit : move_is_fit parts.links parts.requests op ≡ true
+  unused : is_apart role.Joins role.Uses (last_ops parts.callers) op ≡ true
+  unjoined : is_apart role.Joins role.Joins (last_ops parts.callers) op ≡ true
   load : IsWithinLoad parts op
   taken : pour_is_taken parts.links op ≡ true
   opens_none : (n : ℕ) → opened_by n op ≡ []
 
 op-keeps : (parts : PlanParts) (op : Op) → KeepSoFar parts → MayFollow parts op → KeepSoFar (with_op op parts)
-unfolding have_version are_joined are_unclosed pours_are_taken
+unfolding have_version are_joined pours_are_taken
 op-keeps parts op keep may =
     let names = names-in parts keep.names in
     let used = used-in parts keep.there in
     let ranges = ranges-in parts keep.range in
     let few = few-in parts keep.few in
     let version = version-in parts keep.version in
-    let load = added-total (load_of parts.requests) op parts.callers in
+    let load = added-load parts.requests op parts.callers in
+    let unclosed = unclosed-in parts keep.unclosed in
+    let moves = moves-in parts keep.moves in
     record {
       version = version-from (with_op op parts) (record { links = version.links; requests = version.requests; ops = added-all (op_has_version parts.version) op parts.callers version.ops may.version });
       names = names-from (with_op op parts) (record { links = names.links; callers = ap are_distinct (added-names op parts.callers) ∙ names.callers; requests = names.requests });
-      there = used-from (with_op op parts) (record { routes = used.routes; pours = added-all (pour_is_there parts.links) op parts.callers used.pours may.there; opened = added-after is_opened op parts.callers used.opened may.opened });
+      there = used-from (with_op op parts) (record { routes = used.routes; pours = added-all (pour_is_there parts.links) op parts.callers used.pours may.there; opened = added-after (is_after role.Uses role.Opens) op parts.callers used.opened may.opened; onto_opened = added-after (is_after role.Joins role.Opens) op parts.callers used.onto_opened may.onto_opened });
       range = ranges-from (with_op op parts) (record { requests = ranges.requests; ops = added-all op_in_range op parts.callers ranges.ops may.range; rounds = ranges.rounds; tail = ranges.tail });
       few = few-from (with_op op parts) (record { links = few.links; callers = omega (arith, few.callers, added-length op parts.callers); requests = few.requests });
       joined = keep.joined;
-      unclosed = added-after is_unclosed op parts.callers keep.unclosed may.unclosed;
+      unclosed = unclosed-from (with_op op parts) (record { closed = added-after (is_apart role.Uses role.Closes) op parts.callers unclosed.closed may.unclosed; left = added-after (is_apart role.Keeps role.Leaves) op parts.callers unclosed.left may.unleft });
       load = omega (arith, load, may.load);
       pours = added-all (pour_is_taken parts.links) op parts.callers keep.pours may.taken;
+      moves = moves-from (with_op op parts) (record { fit = added-all (move_is_fit parts.links parts.requests) op parts.callers moves.fit may.fit; unused = added-after (is_apart role.Joins role.Uses) op parts.callers moves.unused may.unused; unjoined = added-after (is_apart role.Joins role.Joins) op parts.callers moves.unjoined may.unjoined });
       groups = groups-with-op parts.version parts.groups parts.links parts.callers op keep.groups;
       planned = record { links = keep.planned.links; requests = keep.planned.requests; openings = added-opens-none op parts.callers may.opens_none ∙ keep.planned.openings; hops = keep.planned.hops; unused = keep.planned.unused };
       terms = keep.terms;
@@ -296,9 +291,14 @@ pub send-keeps : (parts : PlanParts) (chan : ChanNo) (count gap size : ℕ) → 
 send-keeps parts chan count gap size keep may = op-keeps parts (Send chan count gap size) keep (record {
   version = refl;
   there = refl;
-  opened = not-missed (list_any (opens (channel_number chan)) (last_ops parts.callers)) may.channel.opened;
+  opened = not-missed (list_any (is_in role.Opens (channel_number chan)) (last_ops parts.callers)) may.channel.opened;
+  onto_opened = refl;
   range = may.range;
-  unclosed = not-hit (list_any (closes (channel_number chan)) (last_ops parts.callers)) may.channel.unclosed;
+  unclosed = not-hit (list_any (is_in role.Closes (channel_number chan)) (last_ops parts.callers)) may.channel.unclosed;
+  unleft = not-hit (list_any (is_in role.Leaves (channel_number chan)) (last_ops parts.callers)) may.unleft;
+  fit = refl;
+  unused = refl;
+  unjoined = refl;
   load = may.load;
   taken = refl;
   opens_none = λ n. refl;
@@ -308,9 +308,14 @@ pub close-keeps : (parts : PlanParts) (chan : ChanNo) → KeepSoFar parts → Is
 close-keeps parts chan keep may = op-keeps parts (Close chan) keep (record {
   version = refl;
   there = refl;
-  opened = not-missed (list_any (opens (channel_number chan)) (last_ops parts.callers)) may.opened;
+  opened = not-missed (list_any (is_in role.Opens (channel_number chan)) (last_ops parts.callers)) may.opened;
+  onto_opened = refl;
   range = refl;
-  unclosed = not-hit (list_any (closes (channel_number chan)) (last_ops parts.callers)) may.unclosed;
+  unclosed = not-hit (list_any (is_in role.Closes (channel_number chan)) (last_ops parts.callers)) may.unclosed;
+  unleft = refl;
+  fit = refl;
+  unused = refl;
+  unjoined = refl;
   load = omega (arith, keep.load);
   taken = refl;
   opens_none = λ n. refl;
@@ -321,10 +326,32 @@ pour-keeps parts link count gap size keep may = op-keeps parts (Pour link count 
   version = may.version;
   there = may.there;
   opened = refl;
+  onto_opened = refl;
   range = may.range;
   unclosed = refl;
+  unleft = refl;
+  fit = refl;
+  unused = refl;
+  unjoined = refl;
   load = may.load;
   taken = may.taken;
+  opens_none = λ n. refl;
+})
+
+pub move-keeps : (parts : PlanParts) (old new : ChanNo) → KeepSoFar parts → MayMove parts old new → KeepSoFar (with_op (Move old new) parts)
+move-keeps parts old new keep may = op-keeps parts (Move old new) keep (record {
+  version = may.version;
+  there = refl;
+  opened = not-missed (list_any (is_in role.Opens (channel_number old)) (last_ops parts.callers)) may.channel.opened;
+  onto_opened = not-missed (list_any (is_in role.Opens (channel_number new)) (last_ops parts.callers)) may.joined;
+  range = refl;
+  unclosed = not-hit (list_any (is_in role.Closes (channel_number old)) (last_ops parts.callers)) may.channel.unclosed;
+  unleft = not-hit (list_any (is_in role.Leaves (channel_number old)) (last_ops parts.callers)) may.unleft;
+  fit = may.fit;
+  unused = not-hit (list_any (is_in role.Uses (channel_number new)) (last_ops parts.callers)) may.unused;
+  unjoined = not-hit (list_any (is_in role.Joins (channel_number new)) (last_ops parts.callers)) may.unjoined;
+  load = may.load;
+  taken = refl;
   opens_none = λ n. refl;
 })
 
@@ -332,32 +359,35 @@ pour-keeps parts link count gap size keep may = op-keeps parts (Pour link count 
 
 -- every channel that operations open has a request
 abbrev pub HaveRequests : List RequestEntry → List Op → Type 0
-HaveRequests requests ops = (c : ℕ) → list_any (opens c) ops ≡ true → c < length requests
+HaveRequests requests ops = (c : ℕ) → list_any (is_in role.Opens c) ops ≡ true → c < length requests
 
--- one request more doesn't change the load of operations whose requests are there
-ops-load : (requests : List RequestEntry) (entry : RequestEntry) (above ops : List Op) → each_after is_opened above ops ≡ true → HaveRequests requests (above ++ ops) → total (load_of (requests ++ entry ∷ [])) ops ≡ total (load_of requests) ops
+-- so has each that they send on or move
+ops-have : (requests : List RequestEntry) (above ops : List Op) → each_after (is_after role.Uses role.Opens) above ops ≡ true → each_after (is_after role.Joins role.Opens) above ops ≡ true → HaveRequests requests (above ++ ops) → Each (HasHops requests) ops
 unfolding each_after
-ops-load requests entry above [] opened have = refl
-ops-load requests entry above (op ∷ ops) opened have =
-    let split = and_parts (is_opened above op) (each_after is_opened (above ++ op ∷ []) ops) opened in
-    let rest = ops-load requests entry (above ++ op ∷ []) ops split.1 (λ c any. have c (subst (λ os. list_any (opens c) os ≡ true) (append_assoc above (op ∷ []) ops) any)) in
-    ap (λ (n : ℕ). n + total (load_of (requests ++ entry ∷ [])) ops) (one op split.0 have) ∙ ap (λ (n : ℕ). load_of requests op + n) rest
+ops-have requests above [] opened onto have = tt
+ops-have requests above (op ∷ ops) opened onto have =
+    let uses = and_parts (is_after role.Uses role.Opens above op) (each_after (is_after role.Uses role.Opens) (above ++ op ∷ []) ops) opened in
+    let joins = and_parts (is_after role.Joins role.Opens above op) (each_after (is_after role.Joins role.Opens) (above ++ op ∷ []) ops) onto in
+    (one op uses.0 joins.0 (λ c any. have c (any-later (is_in role.Opens c) above (op ∷ ops) any)), ops-have requests (above ++ op ∷ []) ops uses.1 joins.1 (λ c any. have c (subst (λ os. list_any (is_in role.Opens c) os ≡ true) (append_assoc above (op ∷ []) ops) any)))
   where
-    one : (o : Op) → is_opened above o ≡ true → HaveRequests requests (above ++ o ∷ ops) → load_of (requests ++ entry ∷ []) o ≡ load_of requests o
-    one (Open chan) own all = refl
-    one (Send chan count gap size) own all =
-        let there = any-later (opens (channel_number chan)) above (Send chan count gap size ∷ ops) (twice-not (list_any (opens (channel_number chan)) above) own) in
-        ap (λ (found : Option RequestEntry). count * hops_of found) (get-before requests (entry ∷ []) (channel_number chan) (all (channel_number chan) there))
-    one (Close chan) own all = refl
-    one (Pour link count gap size) own all = refl
+    one : (o : Op) → is_after role.Uses role.Opens above o ≡ true → is_after role.Joins role.Opens above o ≡ true → HaveRequests requests above → HasHops requests o
+    one (Open chan) used joined all = tt
+    one (Send chan count gap size) used joined all = all (channel_number chan) (twice-not (list_any (is_in role.Opens (channel_number chan)) above) used)
+    one (Close chan) used joined all = tt
+    one (Pour link count gap size) used joined all = tt
+    one (Move old new) used joined all = (all (channel_number old) (twice-not (list_any (is_in role.Opens (channel_number old)) above) used), all (channel_number new) (twice-not (list_any (is_in role.Opens (channel_number new)) above) joined))
 
-pub callers-load : (requests : List RequestEntry) (entry : RequestEntry) (callers : List CallerEntry) → list_all (λ (c : CallerEntry). each_after is_opened [] c.ops) callers ≡ true → Each (λ (c : CallerEntry). HaveRequests requests c.ops) callers
-    → load_in (requests ++ entry ∷ []) callers ≡ load_in requests callers
-callers-load requests entry [] opened have = refl
-callers-load requests entry (caller ∷ callers) opened have =
-    let split = and_parts (each_after is_opened [] caller.ops) (list_all (λ (c : CallerEntry). each_after is_opened [] c.ops) callers) opened in
-    ap (λ (n : ℕ). n + load_in (requests ++ entry ∷ []) callers) (ops-load requests entry [] caller.ops split.0 have.0)
-    ∙ ap (λ (n : ℕ). total (load_of requests) caller.ops + n) (callers-load requests entry callers split.1 have.1)
+callers-have : (requests : List RequestEntry) (callers : List CallerEntry) → all_after role.Uses role.Opens callers ≡ true → all_after role.Joins role.Opens callers ≡ true → Each (λ (c : CallerEntry). HaveRequests requests c.ops) callers → Each (λ (c : CallerEntry). Each (HasHops requests) c.ops) callers
+callers-have requests [] opened onto have = tt
+callers-have requests (caller ∷ callers) opened onto have =
+    let uses = and_parts (each_after (is_after role.Uses role.Opens) [] caller.ops) (all_after role.Uses role.Opens callers) opened in
+    let joins = and_parts (each_after (is_after role.Joins role.Opens) [] caller.ops) (all_after role.Joins role.Opens callers) onto in
+    (ops-have requests [] caller.ops uses.0 joins.0 have.0, callers-have requests callers uses.1 joins.1 have.1)
+
+over-have : (requests : List RequestEntry) (callers : List CallerEntry) → Each (λ (c : CallerEntry). Each (HasHops requests) c.ops) callers → Each (HasHops requests) (ops_over callers)
+unfolding ops_over
+over-have requests [] have = tt
+over-have requests (caller ∷ callers) have = Each-append (HasHops requests) caller.ops (ops_over callers) have.0 (over-have requests callers have.1)
 
 -- what the callers of planned parts open has a request
 pub all-have : (parts : PlanParts) → ArePlanned parts → Each (λ (c : CallerEntry). HaveRequests parts.requests c.ops) parts.callers
@@ -365,13 +395,39 @@ all-have parts planned = Each-by_place (λ (c : CallerEntry). HaveRequests parts
     let has = opened-has parts n c caller planned found any in
     slice_get_within parts.requests c has.entry has.found)
 
+-- one request more doesn't change the load of callers whose requests are there
+pub callers-load : (parts : PlanParts) (entry : RequestEntry) → HasUsed parts → ArePlanned parts → load_in (parts.requests ++ entry ∷ []) parts.callers ≡ load_in parts.requests parts.callers
+callers-load parts entry used planned = load-more parts.requests entry [] (ops_over parts.callers) (over-have parts.requests parts.callers (callers-have parts.requests parts.callers used.opened used.onto_opened (all-have parts planned)))
+
+-- nor which moves fit
+moves-more : (parts : PlanParts) (entry : RequestEntry) → HasUsed parts → ArePlanned parts → list_all (λ (c : CallerEntry). list_all (move_is_fit parts.links parts.requests) c.ops) parts.callers ≡ true → list_all (λ (c : CallerEntry). list_all (move_is_fit parts.links (parts.requests ++ entry ∷ [])) c.ops) parts.callers ≡ true
+moves-more parts entry used planned fit = by parts.callers (callers-have parts.requests parts.callers used.opened used.onto_opened (all-have parts planned)) fit where
+  one : (o : Op) → HasHops parts.requests o → move_is_fit parts.links parts.requests o ≡ true → move_is_fit parts.links (parts.requests ++ entry ∷ []) o ≡ true
+  one (Open chan) there fits = refl
+  one (Send chan count gap size) there fits = refl
+  one (Close chan) there fits = refl
+  one (Pour link count gap size) there fits = refl
+  one (Move old new) there fits = rw (get-before parts.requests (entry ∷ []) (channel_number old) there.0, get-before parts.requests (entry ∷ []) (channel_number new) there.1) fits
+
+  ops : (os : List Op) → Each (HasHops parts.requests) os → list_all (move_is_fit parts.links parts.requests) os ≡ true → list_all (move_is_fit parts.links (parts.requests ++ entry ∷ [])) os ≡ true
+  ops [] have all = refl
+  ops (o ∷ os) have all =
+      (let split = and_parts (move_is_fit parts.links parts.requests o) (list_all (move_is_fit parts.links parts.requests) os) all in
+      and_from (move_is_fit parts.links (parts.requests ++ entry ∷ []) o) (list_all (move_is_fit parts.links (parts.requests ++ entry ∷ [])) os) (one o have.0 split.0) (ops os have.1 split.1))
+
+  by : (callers : List CallerEntry) → Each (λ (c : CallerEntry). Each (HasHops parts.requests) c.ops) callers → list_all (λ (c : CallerEntry). list_all (move_is_fit parts.links parts.requests) c.ops) callers ≡ true → list_all (λ (c : CallerEntry). list_all (move_is_fit parts.links (parts.requests ++ entry ∷ [])) c.ops) callers ≡ true
+  by [] have all = refl
+  by (caller ∷ callers) have all =
+      (let split = and_parts (list_all (move_is_fit parts.links parts.requests) caller.ops) (list_all (λ (c : CallerEntry). list_all (move_is_fit parts.links parts.requests) c.ops) callers) all in
+      and_from (list_all (move_is_fit parts.links (parts.requests ++ entry ∷ [])) caller.ops) (list_all (λ (c : CallerEntry). list_all (move_is_fit parts.links (parts.requests ++ entry ∷ [])) c.ops) callers) (ops caller.ops have.0 split.0) (by callers have.1 split.1))
+
 -- the openings of the callers with this open more
 opens-it : (chan : ChanNo) (by : ℕ) (callers : List CallerEntry) → suc by ≡ length callers → openings_of 0 (add_op (Open chan) callers) ≡ openings_of 0 callers ++ record { caller = by; chan = channel_number chan } ∷ []
 opens-it chan by [] last = absurd (omega (arith, last))
 opens-it chan by (caller ∷ callers) last = added-openings 0 by (Open chan) caller callers (omega (arith, last))
 
 pub open-keeps : (parts : PlanParts) (entry : RequestEntry) → KeepSoFar parts → MayOpen parts entry → KeepSoFar (with_open entry parts)
-unfolding have_version are_joined are_unclosed pours_are_taken
+unfolding have_version are_joined pours_are_taken
 open-keeps parts entry keep may =
     let op = Open entry.request.chan in
     let requests = parts.requests ++ entry ∷ [] in
@@ -380,8 +436,10 @@ open-keeps parts entry keep may =
     let ranges = ranges-in parts keep.range in
     let few = few-in parts keep.few in
     let version = version-in parts keep.version in
-    let same = callers-load parts.requests entry parts.callers used.opened (all-have parts keep.planned) in
-    let load = added-total (load_of requests) op parts.callers in
+    let same = callers-load parts entry used keep.planned in
+    let load = added-load requests op parts.callers in
+    let unclosed = unclosed-in parts keep.unclosed in
+    let moves = moves-in parts keep.moves in
     let longer = length-more parts.requests entry in
     record {
       version = version-from (with_open entry parts) (record { links = version.links; requests = all-more (request_has_version parts.version) parts.requests entry version.requests may.version; ops = added-all (op_has_version parts.version) op parts.callers version.ops refl });
@@ -393,14 +451,16 @@ open-keeps parts entry keep may =
       there = used-from (with_open entry parts) (record {
         routes = all-more (route_is_there parts.links) parts.requests entry used.routes may.there;
         pours = added-all (pour_is_there parts.links) op parts.callers used.pours refl;
-        opened = added-after is_opened op parts.callers used.opened refl;
+        opened = added-after (is_after role.Uses role.Opens) op parts.callers used.opened refl;
+        onto_opened = added-after (is_after role.Joins role.Opens) op parts.callers used.onto_opened refl;
       });
       range = ranges-from (with_open entry parts) (record { requests = all-more request_in_range parts.requests entry ranges.requests may.range; ops = added-all op_in_range op parts.callers ranges.ops refl; rounds = ranges.rounds; tail = ranges.tail });
       few = few-from (with_open entry parts) (record { links = few.links; callers = omega (arith, few.callers, added-length op parts.callers); requests = omega (arith, may.few, longer) });
       joined = all-more (λ (e : RequestEntry). is_joined parts.links e.request.route) parts.requests entry keep.joined may.joined;
-      unclosed = added-after is_unclosed op parts.callers keep.unclosed refl;
+      unclosed = unclosed-from (with_open entry parts) (record { closed = added-after (is_apart role.Uses role.Closes) op parts.callers unclosed.closed refl; left = added-after (is_apart role.Keeps role.Leaves) op parts.callers unclosed.left refl });
       load = omega (arith, load, same, keep.load);
       pours = added-all (pour_is_taken parts.links) op parts.callers keep.pours refl;
+      moves = moves-from (with_open entry parts) (record { fit = added-all (move_is_fit parts.links requests) op parts.callers (moves-more parts entry used keep.planned moves.fit) refl; unused = added-after (is_apart role.Joins role.Uses) op parts.callers moves.unused refl; unjoined = added-after (is_apart role.Joins role.Joins) op parts.callers moves.unjoined refl });
       groups = groups-with-op parts.version parts.groups parts.links parts.callers op keep.groups;
       planned = record {
         links = keep.planned.links;
@@ -421,7 +481,7 @@ open-keeps parts entry keep may =
 -- ---- rounds and tail
 
 pub rounds-keep : (parts : PlanParts) (rounds : ℕ) → KeepSoFar parts → rounds ≤ 524288 → KeepSoFar (with_rounds rounds parts)
-unfolding have_version have_names are_there are_few are_joined are_unclosed pours_are_taken
+unfolding have_version have_names are_there are_few are_joined are_unclosed pours_are_taken moves_are_fit
 rounds-keep parts rounds keep few =
     let ranges = ranges-in parts keep.range in
     record {
@@ -434,13 +494,14 @@ rounds-keep parts rounds keep few =
       unclosed = keep.unclosed;
       load = keep.load;
       pours = keep.pours;
+      moves = keep.moves;
       groups = keep.groups;
       planned = record { links = keep.planned.links; requests = keep.planned.requests; openings = keep.planned.openings; hops = keep.planned.hops; unused = keep.planned.unused };
       terms = keep.terms;
     }
 
 pub tail-keeps : (parts : PlanParts) (tail : ℕ) → KeepSoFar parts → tail ≤ 524288 → KeepSoFar (with_tail tail parts)
-unfolding have_version have_names are_there are_few are_joined are_unclosed pours_are_taken
+unfolding have_version have_names are_there are_few are_joined are_unclosed pours_are_taken moves_are_fit
 tail-keeps parts tail keep few =
     let ranges = ranges-in parts keep.range in
     record {
@@ -453,6 +514,7 @@ tail-keeps parts tail keep few =
       unclosed = keep.unclosed;
       load = keep.load;
       pours = keep.pours;
+      moves = keep.moves;
       groups = keep.groups;
       planned = record { links = keep.planned.links; requests = keep.planned.requests; openings = keep.planned.openings; hops = keep.planned.hops; unused = keep.planned.unused };
       terms = keep.terms;
@@ -471,7 +533,7 @@ grown-is-plan parts keep enough =
     let ticks = (parts.rounds + parts.tail) * length parts.links in
     let load = load_in parts.requests parts.callers in
     let within = and_from (nat_le load 262144) (nat_le ticks 524288) (le-leb load 262144 keep.load) (le-leb ticks 524288 enough.ticks) in
-    let uses = passes (are_unclosed parts) 13 _ keep.unclosed (passes (are_within_load parts) 14 _ within (passes (pours_are_taken parts) 19 _ keep.pours (passes (quotas_are_fit parts) 23 None groups.fit refl))) in
+    let uses = passes (are_unclosed parts) 13 _ keep.unclosed (passes (are_within_load parts) 14 _ within (passes (pours_are_taken parts) 19 _ keep.pours (passes (quotas_are_fit parts) 23 _ groups.fit (passes (moves_are_fit parts) 24 None keep.moves refl)))) in
     let range = passes (are_in_range parts) 8 _ keep.range (passes (quotas_are_in_range parts) 8 _ groups.range (passes (are_few parts) 9 _ keep.few (passes (groups_are_few parts) 9 _ groups.few (passes (are_joined parts) 12 _ keep.joined uses)))) in
     let names = passes (have_names parts) 6 _ keep.names (passes (groups_have_names parts) 6 _ groups.names (passes (are_there parts) 7 _ keep.there (passes (groups_are_there parts) 7 _ groups.there range))) in
     record {

@@ -6,8 +6,6 @@ use Rattle.std.proofs.lemmas.List.Folds.{list_all-append}
 use Rattle.std.proofs.lemmas.Option.{same_Some}
 use Rattle.std.specs.List.{list_all, slice_get}
 use Rattle.std.specs.Prelude.{◌&&◌}
-use Rattle.traffic_contract.proofs.AdmissionFacts.{total-push}
-use Rattle.traffic_contract.specs.Admission.{total}
 use Rattle.call_script.specs.Growing.{add_op, last_ops, new_caller, with_its_op}
 use Rattle.call_script.specs.Parts.{Opening, opened_by, openings_in, openings_of}
 use Rattle.call_script.specs.Rules.{each_after, caller_names}
@@ -86,11 +84,6 @@ pub added-length : (op : Op) (callers : List CallerEntry) → length (add_op op 
 added-length op [] = refl
 added-length op (caller ∷ []) = refl
 added-length op (caller ∷ next ∷ callers) = ap suc (added-length op (next ∷ callers))
-
-pub added-total : (load : Op → ℕ) (op : Op) (callers : List CallerEntry) → total (λ (c : CallerEntry). total load c.ops) (add_op op callers) ≤ total (λ (c : CallerEntry). total load c.ops) callers + load op
-added-total load op [] = omega arith
-added-total load op (caller ∷ []) = (let more : total load (caller.ops ++ op ∷ []) ≡ total load caller.ops + load op = total-push load caller.ops op in omega arith)
-added-total load op (caller ∷ next ∷ callers) = (let rest = added-total load op (next ∷ callers) in omega (arith, rest))
 
 -- ---- what is opened
 

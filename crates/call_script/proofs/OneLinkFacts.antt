@@ -1,21 +1,22 @@
--- The parts of one link, one request and one caller may be planned; and the request may be accepted at the first level.
-use Rattle.std.proofs.Common.{◌≡◌, ℕ, zero, suc, ◌≤◌, Some, List, [], ◌∷◌, ◌++◌, length, slice_index, refl, sym, ap, ◌∙◌, subst, arith}
+-- The parts of one link, one request or two, and one caller may be planned; and the one request may be accepted at the first level.
+use Rattle.std.proofs.Common.{◌≡◌, ℕ, zero, suc, ◌+◌, ◌≤◌, Option, Some, None, List, [], ◌∷◌, ◌++◌, length, map, slice_index, refl, sym, ap, ◌∙◌, subst, arith}
 use Rattle.std.proofs.lemmas.Option.{same_Some}
 use Rattle.std.specs.List.{All, slice_get}
 use Rattle.net_units.specs.Allotted.{levels_of}
 use Rattle.net_units.specs.LevelBounds.{bound_at}
-use Rattle.net_units.specs.Numbers.{link_number, channel_number}
+use Rattle.net_units.specs.Numbers.{link_number, channel_number, actor_number}
 use Rattle.net_units.specs.declared.levels.Levels.{Levels}
 use Rattle.hop_reservation.specs.Offers.{AreLevels, delay_over}
 use Rattle.hop_reservation.specs.declared.route.Hop.{Hop}
 use Rattle.setup_protocol.specs.Laws.{KeepsRequest}
 use Rattle.setup_protocol.specs.State.{HaveLevels}
+use Rattle.setup_protocol.specs.declared.request.Request.{Request}
 use Rattle.link_steps.proofs.ListFacts.{Each-if}
 use Rattle.link_steps.specs.Lists.{Each}
 use Rattle.link_steps.specs.declared.quota.Quota.{Quota}
 use Rattle.call_script.specs.Accepted.{AreAccepted}
-use Rattle.call_script.specs.OneLink.{IsThatLink, IsPerhapsSplit, IsOverIt, IsThatRequest, IsThatScript, AsksForOne, HasThatRequest}
-use Rattle.call_script.specs.Parts.{PlanParts, Opening, parts_of, parts_with, openings_of, opening_of, FollowsLink, LeavesUnused, ArePlanned}
+use Rattle.call_script.specs.OneLink.{IsThatLink, IsPerhapsSplit, IsOverIt, IsThatRequest, IsNextRequest, IsThatScript, OpensBoth, AsksForOne, HasThatRequest}
+use Rattle.call_script.specs.Parts.{PlanParts, Opening, parts_of, parts_with, openings_in, openings_of, opening_of, FollowsLink, LeavesUnused, ArePlanned}
 use Rattle.call_script.specs.declared.entries.LinkEntry.{LinkEntry}
 use Rattle.call_script.specs.declared.entries.RequestEntry.{RequestEntry}
 use Rattle.call_script.specs.declared.entries.CallerEntry.{CallerEntry}
@@ -25,6 +26,12 @@ use Rattle.call_script.specs.declared.version.Version.{Version}
 only : {X : Type 0} (P : ℕ → X → Type 0) (x : X) → P 0 x → (n : ℕ) (y : X) → slice_get (x ∷ []) n ≡ Some y → P n y
 only P x own zero y found = subst (P 0) (same_Some x y found) own
 only P x own (suc n) y found = cc
+
+-- and what each of two elements has
+both-of : {X : Type 0} (P : ℕ → X → Type 0) (x y : X) → P 0 x → P 1 y → (n : ℕ) (z : X) → slice_get (x ∷ y ∷ []) n ≡ Some z → P n z
+both-of P x y own other zero z found = subst (P 0) (same_Some x z found) own
+both-of P x y own other (suc zero) z found = subst (P 1) (same_Some y z found) other
+both-of P x y own other (suc (suc n)) z found = cc
 
 follows : (link : LinkEntry) (hop : Hop) → IsPerhapsSplit link → IsOverIt hop → FollowsLink (link ∷ []) hop
 follows link hop is over = record {
@@ -46,6 +53,22 @@ split-planned version link groups request caller rounds tail is asks opens = rec
 } where
   opening : opening_of request ≡ record { caller = 0; chan = 0 }
   opening = ap (λ (n : ℕ). record { caller = n; chan = channel_number request.request.chan }) asks.caller ∙ ap (λ (n : ℕ). record { caller = 0; chan = n }) asks.chan
+
+pub two-planned : (version : Version) (link : LinkEntry) (first second : RequestEntry) (caller : CallerEntry) (rounds tail : ℕ) → IsPerhapsSplit link → IsThatRequest first → IsNextRequest second → OpensBoth caller
+    → ArePlanned (parts_with version (link ∷ []) [] (first ∷ second ∷ []) (caller ∷ []) rounds tail)
+unfolding openings_of
+two-planned version link first second caller rounds tail is one two opens = record {
+  links = only (λ n (entry : LinkEntry). link_number entry.shape.link ≡ n) link is.number;
+  unused = only (λ n (entry : LinkEntry). All (LeavesUnused entry.shape.bounds) entry.quotas) link (subst (λ (bounds : List ℕ). All (LeavesUnused bounds) link.quotas) (sym is.bounds) is.unused);
+  requests = both-of (λ n (entry : RequestEntry). channel_number entry.request.chan ≡ n) first second one.chan two.chan;
+  openings = ap (λ os. os ++ []) opens ∙ ap (λ (o : Opening). o ∷ record { caller = 0; chan = 1 } ∷ []) (sym (opening first 0 one.caller one.chan)) ∙ ap (λ (o : Opening). opening_of first ∷ o ∷ []) (sym (opening second 1 two.caller two.chan));
+  hops = both-of (λ n (entry : RequestEntry). Each (FollowsLink (link ∷ [])) entry.request.route) first second (over first one.hops) (over second two.hops);
+} where
+  over : (entry : RequestEntry) → Each IsOverIt entry.request.route → Each (FollowsLink (link ∷ [])) entry.request.route
+  over entry = Each-if IsOverIt (FollowsLink (link ∷ [])) entry.request.route (λ hop at. follows link hop is at)
+
+  opening : (entry : RequestEntry) (n : ℕ) → actor_number entry.caller ≡ 0 → channel_number entry.request.chan ≡ n → opening_of entry ≡ record { caller = 0; chan = n }
+  opening entry n caller chan = ap (λ (a : ℕ). record { caller = a; chan = channel_number entry.request.chan }) caller ∙ ap (λ (c : ℕ). record { caller = 0; chan = c }) chan
 
 -- no quotas leave all unused
 pub none-leaves : (quotas : List Quota) → quotas ≡ [] → All (LeavesUnused (10 ∷ 20 ∷ 40 ∷ [])) quotas

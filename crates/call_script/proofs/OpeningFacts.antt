@@ -7,11 +7,12 @@ use Rattle.std.specs.List.{list_any, slice_get}
 use Rattle.net_units.specs.Numbers.{actor_number, channel_number}
 use Rattle.link_steps.proofs.ListFacts.{Among}
 use Rattle.call_script.specs.Parts.{PlanParts, Opening, openings_in, openings_of, opening_of, ArePlanned}
-use Rattle.call_script.specs.Rules.{opens}
+use Rattle.call_script.specs.Rules.{is_in}
 use Rattle.call_script.specs.declared.entries.CallerEntry.{CallerEntry}
 use Rattle.call_script.specs.declared.entries.RequestEntry.{RequestEntry}
 use Rattle.call_script.specs.declared.operations.Op.{Op}
-use Rattle.call_script.specs.declared.operations.Op.TheVariants.{Open, Send, Close, Pour}
+use Rattle.call_script.specs.declared.operations.Op.TheVariants.{Open, Send, Close, Pour, Move}
+use Rattle.call_script.specs.declared.roles.Role.TheVariants as role
 use Rattle.link_steps.proofs.ListParts.{Among-left, Among-right}
 
 -- ---- openings with numbers one after the other
@@ -53,7 +54,7 @@ caller-numbered parts n caller planned found =
 
 -- ---- what is opened has a request
 
-opens-among : (n c : ℕ) (ops : List Op) → list_any (opens c) ops ≡ true → Among (record { caller = n; chan = c }) (openings_in n ops)
+opens-among : (n c : ℕ) (ops : List Op) → list_any (is_in role.Opens c) ops ≡ true → Among (record { caller = n; chan = c }) (openings_in n ops)
 unfolding openings_in
 opens-among n c [] any = cc
 opens-among n c (Open chan ∷ ops) any =
@@ -64,6 +65,7 @@ opens-among n c (Open chan ∷ ops) any =
 opens-among n c (Send chan count gap size ∷ ops) any = opens-among n c ops any
 opens-among n c (Close chan ∷ ops) any = opens-among n c ops any
 opens-among n c (Pour link count gap size ∷ ops) any = opens-among n c ops any
+opens-among n c (Move old new ∷ ops) any = opens-among n c ops any
 
 caller-among : (first : ℕ) (callers : List CallerEntry) (n at : ℕ) (caller : CallerEntry) (opening : Opening) → slice_get callers n ≡ Some caller → first + n ≡ at → Among opening (openings_in at caller.ops) → Among opening (openings_of first callers)
 unfolding openings_of
@@ -93,7 +95,7 @@ pub record IsOpenedBy (parts : PlanParts) (n c : ℕ) : Type 0 where
   pub found : slice_get parts.requests c ≡ Some entry
   pub by : actor_number entry.caller ≡ n
 
-pub opened-has : (parts : PlanParts) (n c : ℕ) (caller : CallerEntry) → ArePlanned parts → slice_get parts.callers n ≡ Some caller → list_any (opens c) caller.ops ≡ true → IsOpenedBy parts n c
+pub opened-has : (parts : PlanParts) (n c : ℕ) (caller : CallerEntry) → ArePlanned parts → slice_get parts.callers n ≡ Some caller → list_any (is_in role.Opens c) caller.ops ≡ true → IsOpenedBy parts n c
 opened-has parts n c caller planned found any =
     let among = caller-among 0 parts.callers n n caller (record { caller = n; chan = c }) found (omega arith) (opens-among n c caller.ops any) in
     let at = opening-at parts.requests (record { caller = n; chan = c }) (subst (Among (record { caller = n; chan = c })) planned.openings among) in
@@ -110,6 +112,7 @@ own-caller n (Open chan ∷ ops) opening (inr among) = own-caller n ops opening 
 own-caller n (Send chan count gap size ∷ ops) opening among = own-caller n ops opening among
 own-caller n (Close chan ∷ ops) opening among = own-caller n ops opening among
 own-caller n (Pour link count gap size ∷ ops) opening among = own-caller n ops opening among
+own-caller n (Move old new ∷ ops) opening among = own-caller n ops opening among
 
 -- an opening among two lists is among the first or the second
 parted : {X : Type 0} (x : X) (xs ys : List X) → Among x (xs ++ ys) → Among x xs ⊎ Among x ys

@@ -1,5 +1,5 @@
--- Each channel of a plan has one owner: one caller opens its request, sends on it and then may close it, and no other caller
--- names it.
+-- Each channel of a plan has one owner: one caller opens its request, may move packets onto it, sends on it, and then may close
+-- it or move packets from it; and no other caller names it.
 use Rattle.std.proofs.Common.{◌≡◌, ◌≢◌, ℕ, suc, ◌<◌, ◌⊎◌, Bool, true, false, not, Option, Some, None, List, [], ◌∷◌, ◌++◌, map, refl, sym, ap, ◌∙◌, subst, inl, inr, nat_eq, option_map, arith}
 use Rattle.std.proofs.lemmas.Bool.{cases_Bool, eqb-true, eqb-false, eq-eqb, ne_eqb}
 use Rattle.std.proofs.lemmas.List.{append_assoc, length-map}
@@ -8,24 +8,28 @@ use Rattle.std.proofs.lemmas.Option.{slice_get-map, same_Some}
 use Rattle.std.specs.List.{list_all, list_any, slice_get}
 use Rattle.std.specs.Prelude.{◌||◌, ◌&&◌}
 use Rattle.net_units.specs.Numbers.{actor_number, channel_number}
+use Rattle.net_units.specs.declared.numbers.ChanNo.{ChanNo}
 use Rattle.hop_reservation.specs.declared.route.Hop.{Hop}
 use Rattle.link_steps.specs.Lists.{Each}
 use Rattle.setup_protocol.specs.declared.request.Request.{Request}
-use Rattle.call_script.specs.Owners.{TaskOff, SendsOnce, UsedOnce, FullScript, OwnedFully, IsOwned, IsUnnamed, AllOwned}
+use Rattle.call_script.specs.Owners.{TaskOff, IsSendOn, IsMoveFrom, IsMoveOnto, ClosesOnce, SendsOnce, UsedOnce, FullScript, OwnedFully, IsOwned, IsUnnamed, AllOwned}
 use Rattle.call_script.specs.Parts.{PlanParts, openings_in, ArePlanned}
 use Rattle.call_script.specs.Plans.{IsPlan}
-use Rattle.call_script.specs.Rules.{each_after, opens, is_opened, closes, is_unclosed, are_opened, are_there, are_unclosed, route_is_there, pour_is_there}
-use Rattle.call_script.specs.Tasks.{request_of, send_on, task_for, task_of, with_task, tasks_of, script_of, network_of}
+use Rattle.call_script.specs.Rules.{each_after, named, is_in, is_after, is_apart, may_move, move_is_fit}
+use Rattle.call_script.specs.Tasks.{request_of, send_on, task_for, move_for, task_of, with_task, tasks_of, script_of, network_of}
 use Rattle.call_script.specs.declared.entries.CallerEntry.{CallerEntry}
+use Rattle.call_script.specs.declared.entries.LinkEntry.{LinkEntry}
 use Rattle.call_script.specs.declared.entries.RequestEntry.{RequestEntry}
 use Rattle.call_script.specs.declared.operations.Op.{Op}
-use Rattle.call_script.specs.declared.operations.Op.TheVariants.{Open, Send, Close, Pour}
+use Rattle.call_script.specs.declared.operations.Op.TheVariants.{Open, Send, Close, Pour, Move}
+use Rattle.call_script.specs.declared.roles.Role.{Role}
+use Rattle.call_script.specs.declared.roles.Role.TheVariants as role
 use Rattle.call_script.specs.declared.tasks.Task.{Task}
-use Rattle.call_script.specs.declared.tasks.Task.TheVariants.{Opens, Sends, Closes}
+use Rattle.call_script.specs.declared.tasks.Task.TheVariants.{Opens, Sends, Closes, Moves}
 use Rattle.link_steps.proofs.ListParts.{Each-at, comes-from}
 use Rattle.call_script.proofs.FitFacts.{request-fits}
 use Rattle.call_script.proofs.OpeningFacts.{AreNumbered, caller-numbered, IsOpenedBy, opened-has, owner-inside}
-use Rattle.call_script.proofs.RuleFacts.{both, not-true, each-of, keeps-rules}
+use Rattle.call_script.proofs.RuleFacts.{both, not-true, each-of, keeps-rules, used-in, unclosed-in, moves-in}
 use Rattle.std.proofs.Math.Bool.{or-true}
 
 -- ---- operations of another channel
@@ -36,6 +40,7 @@ OpOff c (Open chan) = channel_number chan ≢ c
 OpOff c (Send chan count gap size) = channel_number chan ≢ c
 OpOff c (Close chan) = channel_number chan ≢ c
 OpOff c (Pour link count gap size) = Unit {0}
+OpOff c (Move old new) = (channel_number old ≢ c) × (channel_number new ≢ c)
 
 -- so does a task, if there is one
 OffIf : ℕ → Option Task → Type 0
@@ -61,12 +66,19 @@ unfolding OffIf
 sends-off c n requests count gap size ordered other None is = tt
 sends-off c n requests count gap size ordered other (Some request) is = send-off c request count gap size (slice_get request.route 0) (λ same. other (sym (ordered n request is) ∙ same))
 
+moves-off : (c : ℕ) (requests : List Request) (o n : ℕ) → AreInOrder requests → o ≢ c → n ≢ c → (old new : Option Request) → slice_get requests o ≡ old → slice_get requests n ≡ new → OffIf c (move_for old new)
+unfolding OffIf
+moves-off c requests o n ordered old_other new_other None new is to = tt
+moves-off c requests o n ordered old_other new_other (Some old) None is to = tt
+moves-off c requests o n ordered old_other new_other (Some old) (Some new) is to = (λ same. old_other (sym (ordered o old is) ∙ same), λ same. new_other (sym (ordered n new to) ∙ same))
+
 task-off : (c : ℕ) (requests : List Request) (op : Op) → AreInOrder requests → OpOff c op → OffIf c (task_of requests op)
 unfolding OpOff OffIf
 task-off c requests (Open chan) ordered off = found-off c (channel_number chan) requests _ ordered (λ request other. other) off (slice_get requests (channel_number chan)) refl
 task-off c requests (Send chan count gap size) ordered off = sends-off c (channel_number chan) requests count gap size ordered off (slice_get requests (channel_number chan)) refl
 task-off c requests (Close chan) ordered off = found-off c (channel_number chan) requests _ ordered (λ request other. other) off (slice_get requests (channel_number chan)) refl
 task-off c requests (Pour link count gap size) ordered off = tt
+task-off c requests (Move old new) ordered off = moves-off c requests (channel_number old) (channel_number new) ordered off.0 off.1 (slice_get requests (channel_number old)) (slice_get requests (channel_number new)) refl refl
 
 each-with : (c : ℕ) (task : Option Task) (tasks : List Task) → OffIf c task → Each (TaskOff c) tasks → Each (TaskOff c) (with_task task tasks)
 unfolding OffIf
@@ -83,13 +95,40 @@ unfolding OffIf
 full-with request None tasks off full = full
 full-with request (Some task) tasks off full = inl (off, full)
 
--- ---- what a send and a close say of the operations above
+closes-with : (request : Request) (task : Option Task) (tasks : List Task) → OffIf (channel_number request.chan) task → ClosesOnce request tasks → ClosesOnce request (with_task task tasks)
+unfolding OffIf
+closes-with request None tasks off closes = closes
+closes-with request (Some task) tasks off closes = inl (off, closes)
+
+used-with : (request : Request) (task : Option Task) (tasks : List Task) → OffIf (channel_number request.chan) task → UsedOnce request tasks → UsedOnce request (with_task task tasks)
+unfolding OffIf
+used-with request None tasks off used = used
+used-with request (Some task) tasks off used = inl (off, used)
+
+-- where a request was left by a move, its closing alone is left; and where it may be moved onto, it may be sent on
+pub closes-sends : (request : Request) (tasks : List Task) → ClosesOnce request tasks → SendsOnce request tasks
+closes-sends request [] closes = tt
+closes-sends request (task ∷ tasks) (inl off) = inl (off.0, closes-sends request tasks off.1)
+closes-sends request (task ∷ tasks) (inr own) = inr (inr (inl own))
+
+pub sends-used : (request : Request) (tasks : List Task) → SendsOnce request tasks → UsedOnce request tasks
+sends-used request [] sends = tt
+sends-used request (task ∷ tasks) (inl off) = inl (off.0, sends-used request tasks off.1)
+sends-used request (task ∷ tasks) (inr own) = inr (inr own)
+
+-- ---- what an operation says of those above
 
 pub twice-not : (b : Bool) → not (not b) ≡ true → b ≡ true
 twice-not true holds = refl
 twice-not false holds = cc
 
--- ---- other callers
+-- a channel to which it is `asks` is one to which one above is `adds`
+pub after-has : (asks adds : Role) (above : List Op) (op : Op) (c : ℕ) → named asks op ≡ Some c → is_after asks adds above op ≡ true → list_any (is_in adds c) above ≡ true
+after-has asks adds above op c is after = twice-not (list_any (is_in adds c) above) (rw is at after)
+
+-- or none is
+pub apart-none : (asks adds : Role) (above : List Op) (op : Op) (c : ℕ) → named asks op ≡ Some c → is_apart asks adds above op ≡ true → list_any (is_in adds c) above ≡ false
+apart-none asks adds above op c is apart = not-true (list_any (is_in adds c) above) (rw is at apart)
 
 -- one operation more
 any-end : (test : Op → Bool) (above : List Op) (op : Op) → list_any test (above ++ op ∷ []) ≡ (list_any test above || (test op || false))
@@ -101,19 +140,136 @@ any-later test above rest any = list_any-append test above rest ∙ ap (λ b. b 
 any-here : (test : Op → Bool) (above : List Op) (op : Op) (rest : List Op) → test op ≡ true → list_any test (above ++ op ∷ rest) ≡ true
 any-here test above op rest holds = list_any-append test above (op ∷ rest) ∙ ap (λ b. list_any test above || (b || list_any test rest)) holds ∙ or-true (list_any test above)
 
+-- it is this to its channel
+in-own : (role : Role) (c : ℕ) (op : Op) → named role op ≡ Some c → is_in role c op ≡ true
+in-own role c op is = rw is (eq-eqb c c refl)
+
+now-has : (role : Role) (c : ℕ) (above : List Op) (op : Op) → named role op ≡ Some c → list_any (is_in role c) (above ++ op ∷ []) ≡ true
+now-has role c above op is = any-here (is_in role c) above op [] (in-own role c op is)
+
+-- ---- what a script keeps
+
+-- a move is between two channels
+abbrev pub IsApartMove : Op → Type 0
+IsApartMove (Open chan) = Unit {0}
+IsApartMove (Send chan count gap size) = Unit {0}
+IsApartMove (Close chan) = Unit {0}
+IsApartMove (Pour link count gap size) = Unit {0}
+IsApartMove (Move old new) = channel_number old ≢ channel_number new
+
+-- an operation keeps the rules, after those above
+record OpKeeps (above : List Op) (op : Op) : Type 0 where
+  opened : is_after role.Uses role.Opens above op ≡ true
+  onto_opened : is_after role.Joins role.Opens above op ≡ true
+  unclosed : is_apart role.Uses role.Closes above op ≡ true
+  unleft : is_apart role.Keeps role.Leaves above op ≡ true
+  unused : is_apart role.Joins role.Uses above op ≡ true
+  unjoined : is_apart role.Joins role.Joins above op ≡ true
+  apart : IsApartMove op
+
+-- so do the operations from here on
+record KeepsOrder (above ops : List Op) : Type 0 where
+  opened : each_after (is_after role.Uses role.Opens) above ops ≡ true
+  onto_opened : each_after (is_after role.Joins role.Opens) above ops ≡ true
+  unclosed : each_after (is_apart role.Uses role.Closes) above ops ≡ true
+  unleft : each_after (is_apart role.Keeps role.Leaves) above ops ≡ true
+  unused : each_after (is_apart role.Joins role.Uses) above ops ≡ true
+  unjoined : each_after (is_apart role.Joins role.Joins) above ops ≡ true
+  apart : Each IsApartMove ops
+
+-- the first one does, and those after it
+each-first : (test : List Op → Op → Bool) (above : List Op) (op : Op) (ops : List Op) → each_after test above (op ∷ ops) ≡ true → (test above op ≡ true) × (each_after test (above ++ op ∷ []) ops ≡ true)
+unfolding each_after
+each-first test above op ops each = both (test above op) (each_after test (above ++ op ∷ []) ops) each
+
+order-first : (above : List Op) (op : Op) (ops : List Op) → KeepsOrder above (op ∷ ops) → OpKeeps above op
+order-first above op ops keeps = record {
+  opened = (each-first (is_after role.Uses role.Opens) above op ops keeps.opened).0;
+  onto_opened = (each-first (is_after role.Joins role.Opens) above op ops keeps.onto_opened).0;
+  unclosed = (each-first (is_apart role.Uses role.Closes) above op ops keeps.unclosed).0;
+  unleft = (each-first (is_apart role.Keeps role.Leaves) above op ops keeps.unleft).0;
+  unused = (each-first (is_apart role.Joins role.Uses) above op ops keeps.unused).0;
+  unjoined = (each-first (is_apart role.Joins role.Joins) above op ops keeps.unjoined).0;
+  apart = keeps.apart.0;
+}
+
+order-rest : (above : List Op) (op : Op) (ops : List Op) → KeepsOrder above (op ∷ ops) → KeepsOrder (above ++ op ∷ []) ops
+order-rest above op ops keeps = record {
+  opened = (each-first (is_after role.Uses role.Opens) above op ops keeps.opened).1;
+  onto_opened = (each-first (is_after role.Joins role.Opens) above op ops keeps.onto_opened).1;
+  unclosed = (each-first (is_apart role.Uses role.Closes) above op ops keeps.unclosed).1;
+  unleft = (each-first (is_apart role.Keeps role.Leaves) above op ops keeps.unleft).1;
+  unused = (each-first (is_apart role.Joins role.Uses) above op ops keeps.unused).1;
+  unjoined = (each-first (is_apart role.Joins role.Joins) above op ops keeps.unjoined).1;
+  apart = keeps.apart.1;
+}
+
+-- ---- what an operation is to one channel
+
+data OpIs (c : ℕ) (op : Op) : Type 0 where
+  IsOff : OpOff c op → OpIs c op
+  AnOpen : (chan : ChanNo) → op ≡ Open chan → channel_number chan ≡ c → OpIs c op
+  ASend : (chan : ChanNo) (count gap size : ℕ) → op ≡ Send chan count gap size → channel_number chan ≡ c → OpIs c op
+  AClose : (chan : ChanNo) → op ≡ Close chan → channel_number chan ≡ c → OpIs c op
+  From : (old new : ChanNo) → op ≡ Move old new → channel_number old ≡ c → channel_number new ≢ c → OpIs c op
+  Onto : (old new : ChanNo) → op ≡ Move old new → channel_number old ≢ c → channel_number new ≡ c → OpIs c op
+
+op-is : (c : ℕ) (op : Op) → IsApartMove op → OpIs c op
+unfolding OpOff
+op-is c (Open chan) apart = elim (cases_Bool (nat_eq (channel_number chan) c)) [
+  | inl same ↦ AnOpen chan refl (eqb-true (channel_number chan) c same)
+  | inr other ↦ IsOff (eqb-false (channel_number chan) c other)
+]
+op-is c (Send chan count gap size) apart = elim (cases_Bool (nat_eq (channel_number chan) c)) [
+  | inl same ↦ ASend chan count gap size refl (eqb-true (channel_number chan) c same)
+  | inr other ↦ IsOff (eqb-false (channel_number chan) c other)
+]
+op-is c (Close chan) apart = elim (cases_Bool (nat_eq (channel_number chan) c)) [
+  | inl same ↦ AClose chan refl (eqb-true (channel_number chan) c same)
+  | inr other ↦ IsOff (eqb-false (channel_number chan) c other)
+]
+op-is c (Pour link count gap size) apart = IsOff tt
+op-is c (Move old new) apart = elim (cases_Bool (nat_eq (channel_number old) c)) [
+  | inl same ↦ (let is = eqb-true (channel_number old) c same in From old new refl is (λ also. apart (is ∙ sym also)))
+  | inr other ↦ elim (cases_Bool (nat_eq (channel_number new) c)) [
+    | inl same ↦ Onto old new refl (eqb-false (channel_number old) c other) (eqb-true (channel_number new) c same)
+    | inr apart' ↦ IsOff (eqb-false (channel_number old) c other, eqb-false (channel_number new) c apart')
+  ]
+]
+
+-- what it is then named
+role-is : (role : Role) (op own : Op) (c n : ℕ) → op ≡ own → named role own ≡ Some n → n ≡ c → named role op ≡ Some c
+role-is role op own c n is own-named same = ap (named role) is ∙ own-named ∙ ap Some same
+
+-- true isn't false
+clash : (b : Bool) → b ≡ true → b ≡ false → ⊥
+clash b holds fails = (let same : true ≡ false = sym holds ∙ fails in cc)
+
+-- ---- other callers
+
 -- a script whose channels are all others names another channel in each operation
-ops-off : (c : ℕ) (requests : List Request) (above ops : List Op) → AreInOrder requests → each_after is_opened above ops ≡ true → ((chan : ℕ) → list_any (opens chan) (above ++ ops) ≡ true → chan ≢ c) → Each (TaskOff c) (tasks_of requests ops)
-unfolding each_after tasks_of OpOff
-ops-off c requests above [] ordered opened others = tt
-ops-off c requests above (op ∷ ops) ordered opened others =
-    let split = both (is_opened above op) (each_after is_opened (above ++ op ∷ []) ops) opened in
-    each-with c (task_of requests op) (tasks_of requests ops) (task-off c requests op ordered (one op split.0 others))
-    (ops-off c requests (above ++ op ∷ []) ops ordered split.1 (λ chan any. others chan (subst (λ os. list_any (opens chan) os ≡ true) (append_assoc above (op ∷ []) ops) any))) where
-      one : (o : Op) → is_opened above o ≡ true → ((chan : ℕ) → list_any (opens chan) (above ++ o ∷ ops) ≡ true → chan ≢ c) → OpOff c o
-      one (Open chan) own all = all (channel_number chan) (any-here (opens (channel_number chan)) above (Open chan) ops (eq-eqb (channel_number chan) (channel_number chan) refl))
-      one (Send chan count gap size) own all = all (channel_number chan) (any-later (opens (channel_number chan)) above (Send chan count gap size ∷ ops) (twice-not (list_any (opens (channel_number chan)) above) own))
-      one (Close chan) own all = all (channel_number chan) (any-later (opens (channel_number chan)) above (Close chan ∷ ops) (twice-not (list_any (opens (channel_number chan)) above) own))
-      one (Pour link count gap size) own all = tt
+ops-off : (c : ℕ) (requests : List Request) (above ops : List Op) → AreInOrder requests → KeepsOrder above ops → ((chan : ℕ) → list_any (is_in role.Opens chan) (above ++ ops) ≡ true → chan ≢ c) → Each (TaskOff c) (tasks_of requests ops)
+unfolding tasks_of
+ops-off c requests above [] ordered keeps others = tt
+ops-off c requests above (op ∷ ops) ordered keeps others =
+    each-with c (task_of requests op) (tasks_of requests ops) (task-off c requests op ordered (off (op-is c op keeps.apart.0)))
+    (ops-off c requests (above ++ op ∷ []) ops ordered (order-rest above op ops keeps) (λ chan any. others chan (subst (λ os. list_any (is_in role.Opens chan) os ≡ true) (append_assoc above (op ∷ []) ops) any))) where
+      first : OpKeeps above op
+      first = order-first above op ops keeps
+
+      opened-above : list_any (is_in role.Opens c) above ≡ true → ⊥
+      opened-above any = others c (any-later (is_in role.Opens c) above (op ∷ ops) any) refl
+
+      used : named role.Uses op ≡ Some c → ⊥
+      used is = opened-above (after-has role.Uses role.Opens above op c is first.opened)
+
+      off : OpIs c op → OpOff c op
+      off (IsOff other) = other
+      off (AnOpen chan is same) = absurd (others c (any-here (is_in role.Opens c) above op ops (in-own role.Opens c op (role-is role.Opens op (Open chan) c (channel_number chan) is refl same))) refl)
+      off (ASend chan count gap size is same) = absurd (used (role-is role.Uses op (Send chan count gap size) c (channel_number chan) is refl same))
+      off (AClose chan is same) = absurd (used (role-is role.Uses op (Close chan) c (channel_number chan) is refl same))
+      off (From old new is same other) = absurd (used (role-is role.Uses op (Move old new) c (channel_number old) is refl same))
+      off (Onto old new is other same) = absurd (opened-above (after-has role.Joins role.Opens above op c (role-is role.Joins op (Move old new) c (channel_number new) is refl same) first.onto_opened))
 
 -- ---- the owner
 
@@ -122,127 +278,226 @@ record IsAt (requests : List Request) (request : Request) : Type 0 where
   ordered : AreInOrder requests
   found : slice_get requests (channel_number request.chan) ≡ Some request
 
+abbrev number_of : Request → ℕ
+number_of request = channel_number request.chan
+
 -- a task of that request
 own-task : (requests : List Request) (request : Request) (own : Request → Task) (n : ℕ) → IsAt requests request → n ≡ channel_number request.chan → option_map own (slice_get requests n) ≡ Some (own request)
 own-task requests request own n at same = ap (λ k. option_map own (slice_get requests k)) same ∙ ap (option_map own) at.found
 
 -- a send on that request is one at the first hop of its route, if that is there
-own-send : (requests : List Request) (request : Request) (count gap size n : ℕ) (tasks : List Task) → IsAt requests request → n ≡ channel_number request.chan → SendsOnce request tasks → SendsOnce request (with_task (task_for (send_on count gap size) (slice_get requests n)) tasks)
-own-send requests request count gap size n tasks at same rest =
-    subst (λ found. SendsOnce request (with_task (task_for (send_on count gap size) found) tasks)) (sym (ap (slice_get requests) same ∙ at.found)) (by (slice_get request.route 0) refl) where
-      by : (hop : Option Hop) → slice_get request.route 0 ≡ hop → SendsOnce request (with_task (option_map (λ (h : Hop). Sends h.link (Some request.chan) count gap size) hop) tasks)
+own-send : (P : Request → List Task → Type 0) (requests : List Request) (request : Request) (count gap size n : ℕ) (tasks : List Task) → IsAt requests request → n ≡ channel_number request.chan → P request tasks → ((task : Task) → IsSendOn request task → P request (task ∷ tasks)) → P request (with_task (task_for (send_on count gap size) (slice_get requests n)) tasks)
+own-send P requests request count gap size n tasks at same rest sent =
+    subst (λ found. P request (with_task (task_for (send_on count gap size) found) tasks)) (sym (ap (slice_get requests) same ∙ at.found)) (by (slice_get request.route 0) refl) where
+      by : (hop : Option Hop) → slice_get request.route 0 ≡ hop → P request (with_task (option_map (λ (h : Hop). Sends h.link (Some request.chan) count gap size) hop) tasks)
       by None is = rest
-      by (Some hop) is = inr (inl (record { hop = hop; count = count; gap = gap; size = size; stands = is; is = refl }, rest))
+      by (Some hop) is = sent (Sends hop.link (Some request.chan) count gap size) (record { hop = hop; count = count; gap = gap; size = size; stands = is; is = refl })
 
--- one operation more closes the channel as those above do, where it doesn't close it
-same-closed : (c : ℕ) (above : List Op) (op : Op) (told : Bool) → closes c op ≡ false → list_any (closes c) above ≡ told → list_any (closes c) (above ++ op ∷ []) ≡ told
-same-closed c above op told other was = any-end (closes c) above op ∙ ap (λ b. list_any (closes c) above || (b || false)) other ∙ by (list_any (closes c) above) ∙ was where
-  by : (b : Bool) → (b || (false || false)) ≡ b
-  by true = refl
-  by false = refl
+-- a move from that request
+own-from : (P : Request → List Task → Type 0) (requests : List Request) (request : Request) (o n : ℕ) (tasks : List Task) → IsAt requests request → o ≡ channel_number request.chan → n ≢ channel_number request.chan → P request tasks → ((task : Task) → IsMoveFrom request task → P request (task ∷ tasks)) → P request (with_task (move_for (slice_get requests o) (slice_get requests n)) tasks)
+own-from P requests request o n tasks at same other rest moved =
+    subst (λ found. P request (with_task (move_for found (slice_get requests n)) tasks)) (sym (ap (slice_get requests) same ∙ at.found)) (by (slice_get requests n) refl) where
+      by : (new : Option Request) → slice_get requests n ≡ new → P request (with_task (move_for (Some request) new) tasks)
+      by None is = rest
+      by (Some new) is = moved (Moves request new 1 1) (record { new = new; gap = 1; size = 1; is = refl; other = λ also. other (sym (at.ordered n new is) ∙ also) })
 
-same-opened : (c : ℕ) (above : List Op) (op : Op) → opens c op ≡ false → list_any (opens c) above ≡ false → list_any (opens c) (above ++ op ∷ []) ≡ false
-same-opened c above op other was = any-end (opens c) above op ∙ ap (λ b. list_any (opens c) above || (b || false)) other ∙ ap (λ b. b || (false || false)) was
+-- and one onto it
+own-onto : (P : Request → List Task → Type 0) (requests : List Request) (request : Request) (o n : ℕ) (tasks : List Task) → IsAt requests request → o ≢ channel_number request.chan → n ≡ channel_number request.chan → P request tasks → ((task : Task) → IsMoveOnto request task → P request (task ∷ tasks)) → P request (with_task (move_for (slice_get requests o) (slice_get requests n)) tasks)
+own-onto P requests request o n tasks at other same rest moved =
+    subst (λ found. P request (with_task (move_for (slice_get requests o) found) tasks)) (sym (ap (slice_get requests) same ∙ at.found)) (by (slice_get requests o) refl) where
+      by : (old : Option Request) → slice_get requests o ≡ old → P request (with_task (move_for old (Some request)) tasks)
+      by None is = rest
+      by (Some old) is = moved (Moves old request 1 1) (record { old = old; gap = 1; size = 1; is = refl; other = λ also. other (sym (at.ordered o old is) ∙ also) })
+
+-- ---- the operations of the owner
+
+-- an operation opens another channel, or none
+abbrev OpenOff : ℕ → Op → Type 0
+OpenOff c (Open chan) = channel_number chan ≢ c
+OpenOff c (Send chan count gap size) = Unit {0}
+OpenOff c (Close chan) = Unit {0}
+OpenOff c (Pour link count gap size) = Unit {0}
+OpenOff c (Move old new) = Unit {0}
+
+numbered-off : (n c m : ℕ) (ops : List Op) → c < m → AreNumbered m (openings_in n ops) → Each (OpenOff c) ops
+unfolding openings_in
+numbered-off n c m [] below are = tt
+numbered-off n c m (Open chan ∷ ops) below are = (let number : channel_number chan ≡ m = are.0 in (λ same. absurd (omega (arith, number, same, below)), numbered-off n c (suc m) ops (omega (arith, below)) are.1))
+numbered-off n c m (Send chan count gap size ∷ ops) below are = (tt, numbered-off n c m ops below are)
+numbered-off n c m (Close chan ∷ ops) below are = (tt, numbered-off n c m ops below are)
+numbered-off n c m (Pour link count gap size ∷ ops) below are = (tt, numbered-off n c m ops below are)
+numbered-off n c m (Move old new ∷ ops) below are = (tt, numbered-off n c m ops below are)
 
 -- once the channel is closed, no operation names it
-closed-off : (c n m : ℕ) (requests : List Request) (above ops : List Op) → AreInOrder requests → c < m → AreNumbered m (openings_in n ops) → list_any (closes c) above ≡ true → each_after is_unclosed above ops ≡ true → Each (TaskOff c) (tasks_of requests ops)
-unfolding each_after tasks_of openings_in OpOff
-closed-off c n m requests above [] ordered below are closed kept = tt
-closed-off c n m requests above (Open chan ∷ ops) ordered below are closed kept =
-    let split = both (is_unclosed above (Open chan)) (each_after is_unclosed (above ++ Open chan ∷ []) ops) kept in
-    let number : channel_number chan ≡ m = are.0 in
-    each-with c (task_of requests (Open chan)) (tasks_of requests ops) (task-off c requests (Open chan) ordered (λ same. absurd (omega (arith, number, same, below))))
-    (closed-off c n (suc m) requests (above ++ Open chan ∷ []) ops ordered (omega (arith, below)) are.1 (same-closed c above (Open chan) true refl closed) split.1)
-closed-off c n m requests above (Send chan count gap size ∷ ops) ordered below are closed kept =
-    let split = both (is_unclosed above (Send chan count gap size)) (each_after is_unclosed (above ++ Send chan count gap size ∷ []) ops) kept in
-    let open' = not-true (list_any (closes (channel_number chan)) above) split.0 in
-    each-with c (task_of requests (Send chan count gap size)) (tasks_of requests ops)
-    (task-off c requests (Send chan count gap size) ordered (λ same. (let clash : true ≡ false = sym closed ∙ ap (λ k. list_any (closes k) above) (sym same) ∙ open' in cc)))
-    (closed-off c n m requests (above ++ Send chan count gap size ∷ []) ops ordered below are (same-closed c above (Send chan count gap size) true refl closed) split.1)
-closed-off c n m requests above (Close chan ∷ ops) ordered below are closed kept =
-    let split = both (is_unclosed above (Close chan)) (each_after is_unclosed (above ++ Close chan ∷ []) ops) kept in
-    let open' = not-true (list_any (closes (channel_number chan)) above) split.0 in
-    let other : channel_number chan ≢ c = λ same. (let clash : true ≡ false = sym closed ∙ ap (λ k. list_any (closes k) above) (sym same) ∙ open' in cc) in
-    each-with c (task_of requests (Close chan)) (tasks_of requests ops) (task-off c requests (Close chan) ordered other)
-    (closed-off c n m requests (above ++ Close chan ∷ []) ops ordered below are (same-closed c above (Close chan) true (ne_eqb (channel_number chan) c other) closed) split.1)
-closed-off c n m requests above (Pour link count gap size ∷ ops) ordered below are closed kept =
-    let split = both (is_unclosed above (Pour link count gap size)) (each_after is_unclosed (above ++ Pour link count gap size ∷ []) ops) kept in
-    (tt, closed-off c n m requests (above ++ Pour link count gap size ∷ []) ops ordered below are (same-closed c above (Pour link count gap size) true refl closed) split.1)
+closed-off : (c : ℕ) (requests : List Request) (above ops : List Op) → AreInOrder requests → Each (OpenOff c) ops → list_any (is_in role.Closes c) above ≡ true → list_any (is_in role.Uses c) above ≡ true → KeepsOrder above ops → Each (TaskOff c) (tasks_of requests ops)
+unfolding tasks_of
+closed-off c requests above [] ordered unopened closed used keeps = tt
+closed-off c requests above (op ∷ ops) ordered unopened closed used keeps =
+    each-with c (task_of requests op) (tasks_of requests ops) (task-off c requests op ordered (off (op-is c op keeps.apart.0)))
+    (closed-off c requests (above ++ op ∷ []) ops ordered unopened.1 (any-later (is_in role.Closes c) above (op ∷ []) closed) (any-later (is_in role.Uses c) above (op ∷ []) used) (order-rest above op ops keeps)) where
+      first : OpKeeps above op
+      first = order-first above op ops keeps
 
--- a request that no move is onto
-sends-used : (request : Request) (tasks : List Task) → SendsOnce request tasks → UsedOnce request tasks
-sends-used request [] sends = tt
-sends-used request (task ∷ tasks) (inl off) = inl (off.0, sends-used request tasks off.1)
-sends-used request (task ∷ tasks) (inr own) = inr (inr own)
+      uses : named role.Uses op ≡ Some c → ⊥
+      uses is = clash (list_any (is_in role.Closes c) above) closed (apart-none role.Uses role.Closes above op c is first.unclosed)
 
--- once it is opened, it is sent on and then closed
-opened-sends : (n m : ℕ) (requests : List Request) (request : Request) (above ops : List Op) → IsAt requests request → channel_number request.chan < m → AreNumbered m (openings_in n ops) → each_after is_unclosed above ops ≡ true → SendsOnce request (tasks_of requests ops)
-unfolding each_after tasks_of openings_in OpOff
-opened-sends n m requests request above [] at below are kept = tt
-opened-sends n m requests request above (Open chan ∷ ops) at below are kept =
-    let split = both (is_unclosed above (Open chan)) (each_after is_unclosed (above ++ Open chan ∷ []) ops) kept in
-    let number : channel_number chan ≡ m = are.0 in
-    sends-with request (task_of requests (Open chan)) (tasks_of requests ops) (task-off (channel_number request.chan) requests (Open chan) at.ordered (λ same. absurd (omega (arith, number, same, below))))
-    (opened-sends n (suc m) requests request (above ++ Open chan ∷ []) ops at (omega (arith, below)) are.1 split.1)
-opened-sends n m requests request above (Send chan count gap size ∷ ops) at below are kept =
-    let split = both (is_unclosed above (Send chan count gap size)) (each_after is_unclosed (above ++ Send chan count gap size ∷ []) ops) kept in
-    let rest = opened-sends n m requests request (above ++ Send chan count gap size ∷ []) ops at below are split.1 in
-    elim (cases_Bool (nat_eq (channel_number chan) (channel_number request.chan))) [
-      | inl same ↦ own-send requests request count gap size (channel_number chan) (tasks_of requests ops) at (eqb-true (channel_number chan) (channel_number request.chan) same) rest
-      | inr other ↦ sends-with request (task_of requests (Send chan count gap size)) (tasks_of requests ops) (task-off (channel_number request.chan) requests (Send chan count gap size) at.ordered (eqb-false (channel_number chan) (channel_number request.chan) other)) rest
-    ]
-opened-sends n m requests request above (Close chan ∷ ops) at below are kept =
-    let split = both (is_unclosed above (Close chan)) (each_after is_unclosed (above ++ Close chan ∷ []) ops) kept in
-    elim (cases_Bool (nat_eq (channel_number chan) (channel_number request.chan))) [
-      | inl same ↦
-          (let is = eqb-true (channel_number chan) (channel_number request.chan) same in
-          let own = own-task requests request (λ r. Closes r) (channel_number chan) at is in
-          let closed = any-here (closes (channel_number request.chan)) above (Close chan) [] (eq-eqb (channel_number chan) (channel_number request.chan) is) in
-          subst (λ t. SendsOnce request (with_task t (tasks_of requests ops))) (sym own) (inr (inr (inl (refl, closed-off (channel_number request.chan) n m requests (above ++ Close chan ∷ []) ops at.ordered below are closed split.1)))))
-      | inr other ↦
-          sends-with request (task_of requests (Close chan)) (tasks_of requests ops) (task-off (channel_number request.chan) requests (Close chan) at.ordered (eqb-false (channel_number chan) (channel_number request.chan) other))
-          (opened-sends n m requests request (above ++ Close chan ∷ []) ops at below are split.1)
-    ]
-opened-sends n m requests request above (Pour link count gap size ∷ ops) at below are kept =
-    let split = both (is_unclosed above (Pour link count gap size)) (each_after is_unclosed (above ++ Pour link count gap size ∷ []) ops) kept in
-    inl (tt, opened-sends n m requests request (above ++ Pour link count gap size ∷ []) ops at below are split.1)
+      off : OpIs c op → OpOff c op
+      off (IsOff other) = other
+      off (AnOpen chan is same) = absurd (subst (OpenOff c) is unopened.0 same)
+      off (ASend chan count gap size is same) = absurd (uses (role-is role.Uses op (Send chan count gap size) c (channel_number chan) is refl same))
+      off (AClose chan is same) = absurd (uses (role-is role.Uses op (Close chan) c (channel_number chan) is refl same))
+      off (From old new is same other) = absurd (uses (role-is role.Uses op (Move old new) c (channel_number old) is refl same))
+      off (Onto old new is other same) = absurd (clash (list_any (is_in role.Uses c) above) used (apart-none role.Joins role.Uses above op c (role-is role.Joins op (Move old new) c (channel_number new) is refl same) first.unused))
+
+-- a closing of the request, after which no operation names it
+own-close : (requests : List Request) (request : Request) (above ops : List Op) (op : Op) (chan : ChanNo) → IsAt requests request → Each (OpenOff (number_of request)) ops → op ≡ Close chan → channel_number chan ≡ number_of request → KeepsOrder (above ++ op ∷ []) ops → Each (TaskOff (number_of request)) (tasks_of requests ops)
+own-close requests request above ops op chan at unopened is same keeps =
+    closed-off (number_of request) requests (above ++ op ∷ []) ops at.ordered unopened
+    (now-has role.Closes (number_of request) above op (role-is role.Closes op (Close chan) (number_of request) (channel_number chan) is refl same))
+    (now-has role.Uses (number_of request) above op (role-is role.Uses op (Close chan) (number_of request) (channel_number chan) is refl same)) keeps
+
+-- the task of a closing
+close-task : (requests : List Request) (request : Request) (op : Op) (chan : ChanNo) → IsAt requests request → op ≡ Close chan → channel_number chan ≡ number_of request → task_of requests op ≡ Some (Closes request)
+close-task requests request op chan at is same = ap (task_of requests) is ∙ own-task requests request (λ r. Closes r) (channel_number chan) at same
+
+-- once a move has left it, it may be closed alone
+left-closes : (requests : List Request) (request : Request) (above ops : List Op) → IsAt requests request → Each (OpenOff (number_of request)) ops → list_any (is_in role.Leaves (number_of request)) above ≡ true → list_any (is_in role.Uses (number_of request)) above ≡ true → KeepsOrder above ops → ClosesOnce request (tasks_of requests ops)
+unfolding tasks_of
+left-closes requests request above [] at unopened left used keeps = tt
+left-closes requests request above (op ∷ ops) at unopened left used keeps =
+    by (left-closes requests request (above ++ op ∷ []) ops at unopened.1 (any-later (is_in role.Leaves (number_of request)) above (op ∷ []) left) (any-later (is_in role.Uses (number_of request)) above (op ∷ []) used) (order-rest above op ops keeps))
+    (op-is (number_of request) op keeps.apart.0) where
+      first : OpKeeps above op
+      first = order-first above op ops keeps
+
+      keeps-not : named role.Keeps op ≡ Some (number_of request) → ⊥
+      keeps-not is = clash (list_any (is_in role.Leaves (number_of request)) above) left (apart-none role.Keeps role.Leaves above op (number_of request) is first.unleft)
+
+      by : ClosesOnce request (tasks_of requests ops) → OpIs (number_of request) op → ClosesOnce request (with_task (task_of requests op) (tasks_of requests ops))
+      by rest (IsOff other) = closes-with request (task_of requests op) (tasks_of requests ops) (task-off (number_of request) requests op at.ordered other) rest
+      by rest (AnOpen chan is same) = absurd (subst (OpenOff (number_of request)) is unopened.0 same)
+      by rest (ASend chan count gap size is same) = absurd (keeps-not (role-is role.Keeps op (Send chan count gap size) (number_of request) (channel_number chan) is refl same))
+      by rest (AClose chan is same) = subst (λ t. ClosesOnce request (with_task t (tasks_of requests ops))) (sym (close-task requests request op chan at is same)) (inr (refl, own-close requests request above ops op chan at unopened.1 is same (order-rest above op ops keeps)))
+      by rest (From old new is same other) = absurd (keeps-not (role-is role.Keeps op (Move old new) (number_of request) (channel_number old) is refl same))
+      by rest (Onto old new is other same) = absurd (clash (list_any (is_in role.Uses (number_of request)) above) used (apart-none role.Joins role.Uses above op (number_of request) (role-is role.Joins op (Move old new) (number_of request) (channel_number new) is refl same) first.unused))
+
+-- a move from the request, after which it may be closed alone
+own-left : (requests : List Request) (request : Request) (above ops : List Op) (op : Op) (old new : ChanNo) → IsAt requests request → Each (OpenOff (number_of request)) ops → op ≡ Move old new → channel_number old ≡ number_of request → KeepsOrder (above ++ op ∷ []) ops → ClosesOnce request (tasks_of requests ops)
+own-left requests request above ops op old new at unopened is same keeps =
+    left-closes requests request (above ++ op ∷ []) ops at unopened
+    (now-has role.Leaves (number_of request) above op (role-is role.Leaves op (Move old new) (number_of request) (channel_number old) is refl same))
+    (now-has role.Uses (number_of request) above op (role-is role.Uses op (Move old new) (number_of request) (channel_number old) is refl same)) keeps
+
+-- what is used or joined stays so
+named-later : (c : ℕ) (above : List Op) (op : Op) → (list_any (is_in role.Uses c) above ≡ true) ⊎ (list_any (is_in role.Joins c) above ≡ true) → (list_any (is_in role.Uses c) (above ++ op ∷ []) ≡ true) ⊎ (list_any (is_in role.Joins c) (above ++ op ∷ []) ≡ true)
+named-later c above op (inl any) = inl (any-later (is_in role.Uses c) above (op ∷ []) any)
+named-later c above op (inr any) = inr (any-later (is_in role.Joins c) above (op ∷ []) any)
+
+-- once it is used or joined, it may be sent on, and then closed or left
+used-sends : (requests : List Request) (request : Request) (above ops : List Op) → IsAt requests request → Each (OpenOff (number_of request)) ops → (list_any (is_in role.Uses (number_of request)) above ≡ true) ⊎ (list_any (is_in role.Joins (number_of request)) above ≡ true) → KeepsOrder above ops → SendsOnce request (tasks_of requests ops)
+unfolding tasks_of
+used-sends requests request above [] at unopened used keeps = tt
+used-sends requests request above (op ∷ ops) at unopened used keeps =
+    by (used-sends requests request (above ++ op ∷ []) ops at unopened.1 (named-later (number_of request) above op used) (order-rest above op ops keeps)) (op-is (number_of request) op keeps.apart.0) where
+      first : OpKeeps above op
+      first = order-first above op ops keeps
+
+      joins-not : named role.Joins op ≡ Some (number_of request) → (list_any (is_in role.Uses (number_of request)) above ≡ true) ⊎ (list_any (is_in role.Joins (number_of request)) above ≡ true) → ⊥
+      joins-not is (inl any) = clash (list_any (is_in role.Uses (number_of request)) above) any (apart-none role.Joins role.Uses above op (number_of request) is first.unused)
+      joins-not is (inr any) = clash (list_any (is_in role.Joins (number_of request)) above) any (apart-none role.Joins role.Joins above op (number_of request) is first.unjoined)
+
+      by : SendsOnce request (tasks_of requests ops) → OpIs (number_of request) op → SendsOnce request (with_task (task_of requests op) (tasks_of requests ops))
+      by rest (IsOff other) = sends-with request (task_of requests op) (tasks_of requests ops) (task-off (number_of request) requests op at.ordered other) rest
+      by rest (AnOpen chan is same) = absurd (subst (OpenOff (number_of request)) is unopened.0 same)
+      by rest (ASend chan count gap size is same) = subst (λ o. SendsOnce request (with_task (task_of requests o) (tasks_of requests ops))) (sym is) (own-send SendsOnce requests request count gap size (channel_number chan) (tasks_of requests ops) at same rest (λ task send. inr (inl (send, rest))))
+      by rest (AClose chan is same) = subst (λ t. SendsOnce request (with_task t (tasks_of requests ops))) (sym (close-task requests request op chan at is same)) (inr (inr (inl (refl, own-close requests request above ops op chan at unopened.1 is same (order-rest above op ops keeps)))))
+      by rest (From old new is same other) =
+          (let closes = own-left requests request above ops op old new at unopened.1 is same (order-rest above op ops keeps) in
+          subst (λ o. SendsOnce request (with_task (task_of requests o) (tasks_of requests ops))) (sym is)
+          (own-from SendsOnce requests request (channel_number old) (channel_number new) (tasks_of requests ops) at same other rest (λ task move. inr (inr (inr (move, closes))))))
+      by rest (Onto old new is other same) = absurd (joins-not (role-is role.Joins op (Move old new) (number_of request) (channel_number new) is refl same) used)
+
+-- once it is opened, it may be joined before it is used
+opened-used : (requests : List Request) (request : Request) (above ops : List Op) → IsAt requests request → Each (OpenOff (number_of request)) ops → KeepsOrder above ops → UsedOnce request (tasks_of requests ops)
+unfolding tasks_of
+opened-used requests request above [] at unopened keeps = tt
+opened-used requests request above (op ∷ ops) at unopened keeps =
+    by (opened-used requests request (above ++ op ∷ []) ops at unopened.1 (order-rest above op ops keeps)) (op-is (number_of request) op keeps.apart.0) where
+      sends-by : (list_any (is_in role.Uses (number_of request)) (above ++ op ∷ []) ≡ true) ⊎ (list_any (is_in role.Joins (number_of request)) (above ++ op ∷ []) ≡ true) → SendsOnce request (tasks_of requests ops)
+      sends-by used = used-sends requests request (above ++ op ∷ []) ops at unopened.1 used (order-rest above op ops keeps)
+
+      by : UsedOnce request (tasks_of requests ops) → OpIs (number_of request) op → UsedOnce request (with_task (task_of requests op) (tasks_of requests ops))
+      by rest (IsOff other) = used-with request (task_of requests op) (tasks_of requests ops) (task-off (number_of request) requests op at.ordered other) rest
+      by rest (AnOpen chan is same) = absurd (subst (OpenOff (number_of request)) is unopened.0 same)
+      by rest (ASend chan count gap size is same) =
+          (let sends = sends-by (inl (now-has role.Uses (number_of request) above op (role-is role.Uses op (Send chan count gap size) (number_of request) (channel_number chan) is refl same))) in
+          subst (λ o. UsedOnce request (with_task (task_of requests o) (tasks_of requests ops))) (sym is) (own-send UsedOnce requests request count gap size (channel_number chan) (tasks_of requests ops) at same rest (λ task send. inr (inr (inl (send, sends))))))
+      by rest (AClose chan is same) = subst (λ t. UsedOnce request (with_task t (tasks_of requests ops))) (sym (close-task requests request op chan at is same)) (inr (inr (inr (inl (refl, own-close requests request above ops op chan at unopened.1 is same (order-rest above op ops keeps))))))
+      by rest (From old new is same other) =
+          (let closes = own-left requests request above ops op old new at unopened.1 is same (order-rest above op ops keeps) in
+          subst (λ o. UsedOnce request (with_task (task_of requests o) (tasks_of requests ops))) (sym is)
+          (own-from UsedOnce requests request (channel_number old) (channel_number new) (tasks_of requests ops) at same other rest (λ task move. inr (inr (inr (inr (move, closes)))))))
+      by rest (Onto old new is other same) =
+          (let sends = sends-by (inr (now-has role.Joins (number_of request) above op (role-is role.Joins op (Move old new) (number_of request) (channel_number new) is refl same))) in
+          subst (λ o. UsedOnce request (with_task (task_of requests o) (tasks_of requests ops))) (sym is)
+          (own-onto UsedOnce requests request (channel_number old) (channel_number new) (tasks_of requests ops) at other same rest (λ task move. inr (inl (move, sends)))))
+
+-- it isn't opened by an operation that doesn't open it
+same-opened : (c : ℕ) (above : List Op) (op : Op) → is_in role.Opens c op ≡ false → list_any (is_in role.Opens c) above ≡ false → list_any (is_in role.Opens c) (above ++ op ∷ []) ≡ false
+same-opened c above op other was = any-end (is_in role.Opens c) above op ∙ ap (λ b. list_any (is_in role.Opens c) above || (b || false)) other ∙ ap (λ b. b || (false || false)) was
+
+-- an operation that is none of the channel's opens another one or none
+opens-other : (c : ℕ) (op : Op) → OpOff c op → is_in role.Opens c op ≡ false
+unfolding OpOff
+opens-other c (Open chan) off = ne_eqb (channel_number chan) c off
+opens-other c (Send chan count gap size) off = refl
+opens-other c (Close chan) off = refl
+opens-other c (Pour link count gap size) off = refl
+opens-other c (Move old new) off = refl
+
+-- the openings after an operation are numbered
+after-numbered : (n m : ℕ) (op : Op) (ops : List Op) → AreNumbered m (openings_in n (op ∷ ops)) → (from : ℕ) × AreNumbered from (openings_in n ops)
+unfolding openings_in
+after-numbered n m (Open chan) ops are = (suc m, are.1)
+after-numbered n m (Send chan count gap size) ops are = (m, are)
+after-numbered n m (Close chan) ops are = (m, are)
+after-numbered n m (Pour link count gap size) ops are = (m, are)
+after-numbered n m (Move old new) ops are = (m, are)
+
+open-numbered : (n m : ℕ) (chan : ChanNo) (ops : List Op) → AreNumbered m (openings_in n (Open chan ∷ ops)) → (channel_number chan ≡ m) × AreNumbered (suc m) (openings_in n ops)
+unfolding openings_in
+open-numbered n m chan ops are = are
 
 -- before it is opened, no operation names it
-early-full : (n m : ℕ) (requests : List Request) (request : Request) (above ops : List Op) → IsAt requests request → AreNumbered m (openings_in n ops) → list_any (opens (channel_number request.chan)) above ≡ false → each_after is_opened above ops ≡ true → each_after is_unclosed above ops ≡ true
-    → FullScript request (tasks_of requests ops)
-unfolding each_after tasks_of openings_in OpOff
-early-full n m requests request above [] at are none opened kept = tt
-early-full n m requests request above (Open chan ∷ ops) at are none opened kept =
-    let split = both (is_unclosed above (Open chan)) (each_after is_unclosed (above ++ Open chan ∷ []) ops) kept in
-    let opens' = both (is_opened above (Open chan)) (each_after is_opened (above ++ Open chan ∷ []) ops) opened in
-    let number : channel_number chan ≡ m = are.0 in
-    elim (cases_Bool (nat_eq (channel_number chan) (channel_number request.chan))) [
-      | inl same ↦
-          (let is = eqb-true (channel_number chan) (channel_number request.chan) same in
-          let own = own-task requests request (λ r. Opens r) (channel_number chan) at is in
-          subst (λ t. FullScript request (with_task t (tasks_of requests ops))) (sym own) (inr (refl, sends-used request (tasks_of requests ops) (opened-sends n (suc m) requests request (above ++ Open chan ∷ []) ops at (omega (arith, number, is)) are.1 split.1))))
-      | inr other ↦
-          full-with request (task_of requests (Open chan)) (tasks_of requests ops) (task-off (channel_number request.chan) requests (Open chan) at.ordered (eqb-false (channel_number chan) (channel_number request.chan) other))
-          (early-full n (suc m) requests request (above ++ Open chan ∷ []) ops at are.1 (same-opened (channel_number request.chan) above (Open chan) other none) opens'.1 split.1)
-    ]
-early-full n m requests request above (Send chan count gap size ∷ ops) at are none opened kept =
-    let split = both (is_unclosed above (Send chan count gap size)) (each_after is_unclosed (above ++ Send chan count gap size ∷ []) ops) kept in
-    let opens' = both (is_opened above (Send chan count gap size)) (each_after is_opened (above ++ Send chan count gap size ∷ []) ops) opened in
-    let was = twice-not (list_any (opens (channel_number chan)) above) opens'.0 in
-    full-with request (task_of requests (Send chan count gap size)) (tasks_of requests ops)
-    (task-off (channel_number request.chan) requests (Send chan count gap size) at.ordered (λ same. (let clash : true ≡ false = sym was ∙ ap (λ k. list_any (opens k) above) same ∙ none in cc)))
-    (early-full n m requests request (above ++ Send chan count gap size ∷ []) ops at are (same-opened (channel_number request.chan) above (Send chan count gap size) refl none) opens'.1 split.1)
-early-full n m requests request above (Close chan ∷ ops) at are none opened kept =
-    let split = both (is_unclosed above (Close chan)) (each_after is_unclosed (above ++ Close chan ∷ []) ops) kept in
-    let opens' = both (is_opened above (Close chan)) (each_after is_opened (above ++ Close chan ∷ []) ops) opened in
-    let was = twice-not (list_any (opens (channel_number chan)) above) opens'.0 in
-    full-with request (task_of requests (Close chan)) (tasks_of requests ops)
-    (task-off (channel_number request.chan) requests (Close chan) at.ordered (λ same. (let clash : true ≡ false = sym was ∙ ap (λ k. list_any (opens k) above) same ∙ none in cc)))
-    (early-full n m requests request (above ++ Close chan ∷ []) ops at are (same-opened (channel_number request.chan) above (Close chan) refl none) opens'.1 split.1)
-early-full n m requests request above (Pour link count gap size ∷ ops) at are none opened kept =
-    let split = both (is_unclosed above (Pour link count gap size)) (each_after is_unclosed (above ++ Pour link count gap size ∷ []) ops) kept in
-    let opens' = both (is_opened above (Pour link count gap size)) (each_after is_opened (above ++ Pour link count gap size ∷ []) ops) opened in
-    inl (tt, early-full n m requests request (above ++ Pour link count gap size ∷ []) ops at are (same-opened (channel_number request.chan) above (Pour link count gap size) refl none) opens'.1 split.1)
+early-full : (n m : ℕ) (requests : List Request) (request : Request) (above ops : List Op) → IsAt requests request → AreNumbered m (openings_in n ops) → list_any (is_in role.Opens (number_of request)) above ≡ false → KeepsOrder above ops → FullScript request (tasks_of requests ops)
+unfolding tasks_of
+early-full n m requests request above [] at are none keeps = tt
+early-full n m requests request above (op ∷ ops) at are none keeps =
+    by (λ from numbered unopened. early-full n from requests request (above ++ op ∷ []) ops at numbered unopened (order-rest above op ops keeps)) (op-is (number_of request) op keeps.apart.0) where
+      first : OpKeeps above op
+      first = order-first above op ops keeps
+
+      unopened : list_any (is_in role.Opens (number_of request)) above ≡ true → ⊥
+      unopened any = clash (list_any (is_in role.Opens (number_of request)) above) any none
+
+      uses : named role.Uses op ≡ Some (number_of request) → ⊥
+      uses is = unopened (after-has role.Uses role.Opens above op (number_of request) is first.opened)
+
+      by : ((from : ℕ) → AreNumbered from (openings_in n ops) → list_any (is_in role.Opens (number_of request)) (above ++ op ∷ []) ≡ false → FullScript request (tasks_of requests ops)) → OpIs (number_of request) op → FullScript request (with_task (task_of requests op) (tasks_of requests ops))
+      by more (IsOff other) =
+          (let rest = after-numbered n m op ops are in
+          full-with request (task_of requests op) (tasks_of requests ops) (task-off (number_of request) requests op at.ordered other)
+          (more rest.0 rest.1 (same-opened (number_of request) above op (opens-other (number_of request) op other) none)))
+      by more (AnOpen chan is same) =
+          (let now = open-numbered n m chan ops (subst (λ o. AreNumbered m (openings_in n (o ∷ ops))) is are) in
+          let own = ap (task_of requests) is ∙ own-task requests request (λ r. Opens r) (channel_number chan) at same in
+          let number = now.0 in
+          subst (λ t. FullScript request (with_task t (tasks_of requests ops))) (sym own)
+          (inr (refl, opened-used requests request (above ++ op ∷ []) ops at (numbered-off n (number_of request) (suc m) ops (omega (arith, number, same)) now.1) (order-rest above op ops keeps))))
+      by more (ASend chan count gap size is same) = absurd (uses (role-is role.Uses op (Send chan count gap size) (number_of request) (channel_number chan) is refl same))
+      by more (AClose chan is same) = absurd (uses (role-is role.Uses op (Close chan) (number_of request) (channel_number chan) is refl same))
+      by more (From old new is same other) = absurd (uses (role-is role.Uses op (Move old new) (number_of request) (channel_number old) is refl same))
+      by more (Onto old new is other same) = absurd (unopened (after-has role.Joins role.Opens above op (number_of request) (role-is role.Joins op (Move old new) (number_of request) (channel_number new) is refl same) first.onto_opened))
 
 -- ---- plans
 
@@ -251,27 +506,42 @@ in-order parts planned n request found =
     let at = comes-from request_of parts.requests n request found in
     ap (λ (r : Request). channel_number r.chan) (sym at.is) ∙ planned.requests n at.from at.found
 
--- the script of a caller keeps the rules on its operations
-record KeepsOrder (caller : CallerEntry) : Type 0 where
-  opened : each_after is_opened [] caller.ops ≡ true
-  unclosed : each_after is_unclosed [] caller.ops ≡ true
+-- a move that fits is between two channels
+fit-apart : (links : List LinkEntry) (requests : List RequestEntry) (ops : List Op) → list_all (move_is_fit links requests) ops ≡ true → Each IsApartMove ops
+fit-apart links requests [] all = tt
+fit-apart links requests (op ∷ ops) all = (let split = both (move_is_fit links requests op) (list_all (move_is_fit links requests) ops) all in (one op split.0, fit-apart links requests ops split.1)) where
+  one : (o : Op) → move_is_fit links requests o ≡ true → IsApartMove o
+  one (Open chan) fit = tt
+  one (Send chan count gap size) fit = tt
+  one (Close chan) fit = tt
+  one (Pour link count gap size) fit = tt
+  one (Move old new) fit = eqb-false (channel_number old) (channel_number new) (not-true (nat_eq (channel_number old) (channel_number new)) (both (may_move links (slice_get requests (channel_number old)) (slice_get requests (channel_number new))) _ fit).1)
 
-keeps-order : (parts : PlanParts) (n : ℕ) (caller : CallerEntry) → IsPlan parts → slice_get parts.callers n ≡ Some caller → KeepsOrder caller
-unfolding are_there are_unclosed
+-- the script of a caller keeps the rules on its operations
+keeps-order : (parts : PlanParts) (n : ℕ) (caller : CallerEntry) → IsPlan parts → slice_get parts.callers n ≡ Some caller → KeepsOrder [] caller.ops
 keeps-order parts n caller plan found =
     let rules = keeps-rules parts plan.kept in
-    let there = both (list_all (route_is_there parts.links) parts.requests && list_all (λ (c : CallerEntry). list_all (pour_is_there parts.links) c.ops) parts.callers) (are_opened parts.callers) rules.there in
+    let there = used-in parts rules.there in
+    let unclosed = unclosed-in parts rules.unclosed in
+    let moves = moves-in parts rules.moves in
     record {
-      opened = Each-at (λ (c : CallerEntry). each_after is_opened [] c.ops ≡ true) parts.callers n caller (each-of (λ (c : CallerEntry). each_after is_opened [] c.ops) parts.callers there.1) found;
-      unclosed = Each-at (λ (c : CallerEntry). each_after is_unclosed [] c.ops ≡ true) parts.callers n caller (each-of (λ (c : CallerEntry). each_after is_unclosed [] c.ops) parts.callers rules.unclosed) found;
-    }
+      opened = each (is_after role.Uses role.Opens) there.opened;
+      onto_opened = each (is_after role.Joins role.Opens) there.onto_opened;
+      unclosed = each (is_apart role.Uses role.Closes) unclosed.closed;
+      unleft = each (is_apart role.Keeps role.Leaves) unclosed.left;
+      unused = each (is_apart role.Joins role.Uses) moves.unused;
+      unjoined = each (is_apart role.Joins role.Joins) moves.unjoined;
+      apart = fit-apart parts.links parts.requests caller.ops (Each-at (λ (c : CallerEntry). list_all (move_is_fit parts.links parts.requests) c.ops ≡ true) parts.callers n caller (each-of (λ (c : CallerEntry). list_all (move_is_fit parts.links parts.requests) c.ops) parts.callers moves.fit) found);
+    } where
+      each : (test : List Op → Op → Bool) → list_all (λ (c : CallerEntry). each_after test [] c.ops) parts.callers ≡ true → each_after test [] caller.ops ≡ true
+      each test all = Each-at (λ (c : CallerEntry). each_after test [] c.ops ≡ true) parts.callers n caller (each-of (λ (c : CallerEntry). each_after test [] c.ops) parts.callers all) found
 
 -- a caller that opens other channels alone names others alone
 caller-off : (parts : PlanParts) (c n : ℕ) (tasks : List Task) → IsPlan parts → (IsOpenedBy parts n c → ⊥) → slice_get (map (script_of (map request_of parts.requests)) parts.callers) n ≡ Some tasks → Each (TaskOff c) tasks
 caller-off parts c n tasks plan other found =
     let at = comes-from (script_of (map request_of parts.requests)) parts.callers n tasks found in
     subst (Each (TaskOff c)) at.is
-    (ops-off c (map request_of parts.requests) [] at.from.ops (in-order parts plan.planned) (keeps-order parts n at.from plan at.found).opened
+    (ops-off c (map request_of parts.requests) [] at.from.ops (in-order parts plan.planned) (keeps-order parts n at.from plan at.found)
     (λ chan any same. other (subst (IsOpenedBy parts n) same (opened-has parts n chan at.from plan.planned at.found any))))
 
 pub owned-by : (parts : PlanParts) (c : ℕ) (entry : RequestEntry) → IsPlan parts → slice_get parts.requests c ≡ Some entry → OwnedFully (network_of parts) entry.request (actor_number entry.caller)
@@ -293,7 +563,7 @@ owned-by parts c entry plan found =
           subst (FullScript entry.request) from.is
           (early-full (actor_number entry.caller) numbered.0 (map request_of parts.requests) entry.request [] from.from.ops
           (record { ordered = in-order parts plan.planned; found = slice_get-map request_of parts.requests (channel_number entry.request.chan) ∙ ap (λ k. option_map request_of (slice_get parts.requests k)) number ∙ ap (option_map request_of) found })
-          numbered.1 refl order.opened order.unclosed))
+          numbered.1 refl order))
 
 pub all-owned : (parts : PlanParts) → IsPlan parts → AllOwned (network_of parts)
 unfolding network_of

@@ -1,17 +1,19 @@
 -- Groups and quotas that are added keep the rules of a plan.
-use Rattle.std.proofs.Common.{◌≡◌, ℕ, zero, suc, ◌<◌, ◌≤◌, ◌⊎◌, Bool, true, Some, List, [], ◌∷◌, ◌++◌, length, get_or, refl, sym, ap, ◌∙◌, subst, inl, inr, nat_eq, arith}
+use Rattle.std.proofs.Common.{◌≡◌, ℕ, zero, suc, ◌+◌, ◌<◌, ◌≤◌, ◌⊎◌, Bool, true, false, Some, List, [], ◌∷◌, ◌++◌, length, get_or, refl, sym, ap, ◌∙◌, subst, inl, inr, nat_eq, arith}
 use Rattle.std.proofs.Math.Bool.{or-true}
 use Rattle.std.proofs.lemmas.Bool.{and_from, and_parts, le-leb, leb-true}
+use Rattle.std.proofs.lemmas.List.{length-append}
 use Rattle.std.proofs.lemmas.List.Elements.{All-append}
 use Rattle.std.proofs.lemmas.Option.{same_Some}
 use Rattle.std.specs.List.{All, list_all, slice_get}
-use Rattle.std.specs.Prelude.{nat_le, ◌||◌}
+use Rattle.std.specs.Prelude.{nat_le, ◌&&◌, ◌||◌}
 use Rattle.net_units.specs.Numbers.{link_number}
 use Rattle.link_steps.specs.declared.quota.Quota.{Quota}
 use Rattle.call_script.specs.Groups.{quotas_have_version, is_of_new_group, have_own_groups, quota_is_there, quota_in_range, quotas_fit, KeepGroups}
 use Rattle.call_script.specs.Growing.{with_its_quota, add_quota, with_group, with_quota, MayAddGroup, MayAddQuota, KeepSoFar}
 use Rattle.call_script.specs.Parts.{PlanParts, parts_with, openings_of, LeavesUnused}
-use Rattle.call_script.specs.Rules.{link_has_version, have_version, link_names, are_distinct, have_names, are_there, are_in_range, are_few, are_joined, are_unclosed, pours_are_taken}
+use Rattle.call_script.specs.Rules.{link_has_version, have_version, link_names, are_distinct, have_names, are_there, are_in_range, are_few, are_joined, are_unclosed, pours_are_taken, moves_are_fit}
+use Rattle.call_script.specs.Versions.{has_groups}
 use Rattle.call_script.specs.declared.entries.CallerEntry.{CallerEntry}
 use Rattle.call_script.specs.declared.entries.LinkEntry.{LinkEntry}
 use Rattle.call_script.specs.declared.entries.RequestEntry.{RequestEntry}
@@ -54,7 +56,7 @@ groups-with-group version groups links name rounds tail may keep = record {
 
 group-grown : (version : Version) (links : List LinkEntry) (groups : List (List ℕ)) (name : List ℕ) (rounds tail : ℕ) → KeepSoFar (parts_with version links groups [] [] rounds tail)
     → MayAddGroup (parts_with version links groups [] [] rounds tail) name → KeepSoFar (parts_with version links (groups ++ name ∷ []) [] [] rounds tail)
-unfolding have_version have_names are_there are_in_range are_few are_joined are_unclosed pours_are_taken
+unfolding have_version have_names are_there are_in_range are_few are_joined are_unclosed pours_are_taken moves_are_fit
 group-grown version links groups name rounds tail keep may = record {
   version = keep.version;
   names = keep.names;
@@ -65,6 +67,7 @@ group-grown version links groups name rounds tail keep may = record {
   unclosed = keep.unclosed;
   load = keep.load;
   pours = keep.pours;
+  moves = keep.moves;
   groups = groups-with-group version groups links name rounds tail may keep.groups;
   planned = record { links = keep.planned.links; requests = keep.planned.requests; openings = keep.planned.openings; hops = keep.planned.hops; unused = keep.planned.unused };
   terms = keep.terms;
@@ -142,7 +145,7 @@ groups-with-quota version groups links place quota rounds tail may keep = record
 
 quota-grown : (version : Version) (links : List LinkEntry) (groups : List (List ℕ)) (place : ℕ) (quota : Quota) (rounds tail : ℕ) → KeepSoFar (parts_with version links groups [] [] rounds tail)
     → MayAddQuota (parts_with version links groups [] [] rounds tail) place quota → KeepSoFar (parts_with version (add_quota place quota links) groups [] [] rounds tail)
-unfolding have_version are_there are_in_range are_joined are_unclosed pours_are_taken openings_of
+unfolding have_version are_there are_in_range are_joined are_unclosed pours_are_taken moves_are_fit openings_of
 quota-grown version links groups place quota rounds tail keep may =
     let few = few-in (parts_with version links groups [] [] rounds tail) keep.few in
     let names = names-in (parts_with version links groups [] [] rounds tail) keep.names in
@@ -164,6 +167,7 @@ quota-grown version links groups place quota rounds tail keep may =
       unclosed = refl;
       load = keep.load;
       pours = refl;
+      moves = refl;
       groups = groups-with-quota version groups links place quota rounds tail may keep.groups;
       planned = record {
         links = λ n e found. elim (quota-at place quota links n e found) [

@@ -1,6 +1,6 @@
 -- A plan that breaks no rule keeps each: what the tests say of its parts.
 use Rattle.std.proofs.Common.{◌≡◌, ℕ, ◌≤◌, Bool, true, false, not, Option, None, List, [], ◌∷◌, refl}
-use Rattle.std.proofs.lemmas.Bool.{leb-true}
+use Rattle.std.proofs.lemmas.Bool.{and_from, leb-true}
 use Rattle.std.specs.List.{list_all}
 use Rattle.std.specs.Prelude.{nat_le, ◌&&◌}
 use Rattle.net_units.specs.Limits.{is_within}
@@ -9,7 +9,9 @@ use Rattle.link_steps.specs.Lists.{Each}
 use Rattle.call_script.specs.Broken.{unless_broken, use_rule_broken, range_rule_broken, name_rule_broken, rule_broken}
 use Rattle.call_script.specs.Groups.{groups_have_version, groups_have_names, groups_are_there, quotas_are_in_range, groups_are_few, quotas_are_fit, KeepGroups}
 use Rattle.call_script.specs.Parts.{PlanParts}
-use Rattle.call_script.specs.Rules.{packets_in_range, have_version, have_links, have_names, are_there, are_in_range, are_few, are_joined, are_unclosed, are_within_load, pours_are_taken}
+use Rattle.call_script.specs.Rules.{packets_in_range, have_version, have_links, have_names, route_is_there, pour_is_there, are_opened, all_after, all_apart, are_there, are_in_range, are_few, are_joined, are_unclosed, are_within_load, pours_are_taken, move_is_fit, moves_are_fit}
+use Rattle.call_script.specs.declared.entries.CallerEntry.{CallerEntry}
+use Rattle.call_script.specs.declared.roles.Role.TheVariants as role
 use Rattle.call_script.proofs.GroupFacts.{groups-in}
 
 -- ---- tests
@@ -51,6 +53,7 @@ pub record KeepsRules (parts : PlanParts) : Type 0 where
   pub unclosed : are_unclosed parts ≡ true
   pub load : are_within_load parts ≡ true
   pub pours : pours_are_taken parts ≡ true
+  pub moves : moves_are_fit parts ≡ true
   pub groups : KeepGroups parts.version parts.groups parts.links parts.callers
 
 kept-rule : (kept : Bool) (rule : ℕ) (other : Option ℕ) → unless_broken kept rule other ≡ None → (kept ≡ true) × (other ≡ None)
@@ -76,5 +79,62 @@ keeps-rules parts none =
     let r14 = kept-rule (are_within_load parts) 14 _ r13.1 in
     let r19 = kept-rule (pours_are_taken parts) 19 _ r14.1 in
     let g23 = kept-rule (quotas_are_fit parts) 23 _ r19.1 in
+    let r24 = kept-rule (moves_are_fit parts) 24 None g23.1 in
     let groups = groups-in parts (record { version = g1.0; names = g6.0; there = g7.0; range = g8.0; few = g9.0; fit = g23.0 }) in
-    record { version = r1.0; links = r2.0; names = r6.0; there = r7.0; range = r8.0; few = r9.0; joined = r12.0; unclosed = r13.0; load = r14.0; pours = r19.0; groups = groups }
+    record { version = r1.0; links = r2.0; names = r6.0; there = r7.0; range = r8.0; few = r9.0; joined = r12.0; unclosed = r13.0; load = r14.0; pours = r19.0; moves = r24.0; groups = groups }
+
+-- ---- the rules on scripts, in their parts
+
+-- what routes, pours, sends, closes and moves use is there
+pub record HasUsed (parts : PlanParts) : Type 0 where
+  pub routes : list_all (route_is_there parts.links) parts.requests ≡ true
+  pub pours : list_all (λ (c : CallerEntry). list_all (pour_is_there parts.links) c.ops) parts.callers ≡ true
+  pub opened : all_after role.Uses role.Opens parts.callers ≡ true
+  pub onto_opened : all_after role.Joins role.Opens parts.callers ≡ true
+
+pub used-in : (parts : PlanParts) → are_there parts ≡ true → HasUsed parts
+unfolding are_there
+used-in parts there =
+    let first = both (list_all (route_is_there parts.links) parts.requests && list_all (λ (c : CallerEntry). list_all (pour_is_there parts.links) c.ops) parts.callers) (are_opened parts.callers) there in
+    let second = both (list_all (route_is_there parts.links) parts.requests) (list_all (λ (c : CallerEntry). list_all (pour_is_there parts.links) c.ops) parts.callers) first.0 in
+    let opened = both (all_after role.Uses role.Opens parts.callers) (all_after role.Joins role.Opens parts.callers) first.1 in
+    record { routes = second.0; pours = second.1; opened = opened.0; onto_opened = opened.1 }
+
+pub used-from : (parts : PlanParts) → HasUsed parts → are_there parts ≡ true
+unfolding are_there
+used-from parts has =
+    and_from (list_all (route_is_there parts.links) parts.requests && list_all (λ (c : CallerEntry). list_all (pour_is_there parts.links) c.ops) parts.callers) (are_opened parts.callers)
+    (and_from (list_all (route_is_there parts.links) parts.requests) (list_all (λ (c : CallerEntry). list_all (pour_is_there parts.links) c.ops) parts.callers) has.routes has.pours)
+    (and_from (all_after role.Uses role.Opens parts.callers) (all_after role.Joins role.Opens parts.callers) has.opened has.onto_opened)
+
+-- what is used wasn't closed, and what is kept in use wasn't left
+pub record AreUnclosed (parts : PlanParts) : Type 0 where
+  pub closed : all_apart role.Uses role.Closes parts.callers ≡ true
+  pub left : all_apart role.Keeps role.Leaves parts.callers ≡ true
+
+pub unclosed-in : (parts : PlanParts) → are_unclosed parts ≡ true → AreUnclosed parts
+unfolding are_unclosed
+unclosed-in parts kept = (let split = both (all_apart role.Uses role.Closes parts.callers) (all_apart role.Keeps role.Leaves parts.callers) kept in record { closed = split.0; left = split.1 })
+
+pub unclosed-from : (parts : PlanParts) → AreUnclosed parts → are_unclosed parts ≡ true
+unfolding are_unclosed
+unclosed-from parts are = and_from (all_apart role.Uses role.Closes parts.callers) (all_apart role.Keeps role.Leaves parts.callers) are.closed are.left
+
+-- moves fit, and what is joined was neither used nor joined
+pub record AreMoved (parts : PlanParts) : Type 0 where
+  pub fit : list_all (λ (c : CallerEntry). list_all (move_is_fit parts.links parts.requests) c.ops) parts.callers ≡ true
+  pub unused : all_apart role.Joins role.Uses parts.callers ≡ true
+  pub unjoined : all_apart role.Joins role.Joins parts.callers ≡ true
+
+pub moves-in : (parts : PlanParts) → moves_are_fit parts ≡ true → AreMoved parts
+unfolding moves_are_fit
+moves-in parts kept =
+    let first = both (list_all (λ (c : CallerEntry). list_all (move_is_fit parts.links parts.requests) c.ops) parts.callers && all_apart role.Joins role.Uses parts.callers) (all_apart role.Joins role.Joins parts.callers) kept in
+    let second = both (list_all (λ (c : CallerEntry). list_all (move_is_fit parts.links parts.requests) c.ops) parts.callers) (all_apart role.Joins role.Uses parts.callers) first.0 in
+    record { fit = second.0; unused = second.1; unjoined = first.1 }
+
+pub moves-from : (parts : PlanParts) → AreMoved parts → moves_are_fit parts ≡ true
+unfolding moves_are_fit
+moves-from parts are =
+    and_from (list_all (λ (c : CallerEntry). list_all (move_is_fit parts.links parts.requests) c.ops) parts.callers && all_apart role.Joins role.Uses parts.callers) (all_apart role.Joins role.Joins parts.callers)
+    (and_from (list_all (λ (c : CallerEntry). list_all (move_is_fit parts.links parts.requests) c.ops) parts.callers) (all_apart role.Joins role.Uses parts.callers) are.fit are.unused) are.unjoined

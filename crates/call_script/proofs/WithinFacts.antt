@@ -19,11 +19,11 @@ use Rattle.call_script.specs.Accounts.{IsWithin}
 use Rattle.call_script.specs.Parts.{PlanParts, ArePlanned}
 use Rattle.call_script.specs.Scripts.{Learnt, Standing, takes_step, ready, from_step, settled_as, planned_as, moved_as, outcome_by, continued, resumed, standing, task_ask}
 use Rattle.call_script.specs.Standing.{requests_of}
-use Rattle.call_script.specs.Tasks.{request_of, send_on, task_for, task_of, with_task, tasks_of}
+use Rattle.call_script.specs.Tasks.{request_of, send_on, move_for, task_for, task_of, with_task, tasks_of}
 use Rattle.call_script.specs.Work.{IsFinished}
 use Rattle.call_script.specs.declared.entries.RequestEntry.{RequestEntry}
 use Rattle.call_script.specs.declared.operations.Op.{Op}
-use Rattle.call_script.specs.declared.operations.Op.TheVariants.{Open, Send, Close, Pour}
+use Rattle.call_script.specs.declared.operations.Op.TheVariants.{Open, Send, Close, Pour, Move}
 use Rattle.call_script.specs.declared.tasks.Task.{Task}
 use Rattle.call_script.specs.declared.tasks.Task.TheVariants.{Opens, Sends, Closes, Moves}
 use Rattle.call_script.proofs.ReadyFacts.{ready-keeps}
@@ -72,6 +72,11 @@ task-within requests (Close chan) numbered = by (slice_get requests (channel_num
   by None is = tt
   by (Some request) is = found-within requests (channel_number chan) request numbered is
 task-within requests (Pour link number gap size) numbered = tt
+task-within requests (Move old new) numbered = by (slice_get requests (channel_number old)) (slice_get requests (channel_number new)) refl refl where
+  by : (from to : Option Request) → slice_get requests (channel_number old) ≡ from → slice_get requests (channel_number new) ≡ to → OptionWithin (length requests) (move_for from to)
+  by None to was is = tt
+  by (Some one) None was is = tt
+  by (Some one) (Some other) was is = (found-within requests (channel_number old) one numbered was, found-within requests (channel_number new) other numbered is)
 
 with-within : (count : ℕ) (task : Option Task) (tasks : List Task) → OptionWithin count task → Each (TaskWithin count) tasks → Each (TaskWithin count) (with_task task tasks)
 with-within count None tasks one rest = rest

@@ -13,18 +13,18 @@ use Rattle.setup_protocol.specs.declared.request.Control.TheVariants.{Rate}
 use Rattle.call_script.specs.Broken.{use_rule_broken, range_rule_broken, name_rule_broken, rule_broken}
 use Rattle.call_script.specs.Groups.{groups_have_version, groups_have_names, groups_are_there, quotas_are_in_range, groups_are_few, quotas_are_fit}
 use Rattle.call_script.specs.Parts.{PlanParts, parts_with}
-use Rattle.call_script.specs.Rules.{each_after, have_version, have_links, have_names, are_there, are_in_range, are_few, are_joined, are_unclosed, are_within_load, pours_are_taken}
+use Rattle.call_script.specs.Rules.{each_after, have_version, have_links, have_names, are_there, are_in_range, are_few, are_joined, are_unclosed, are_within_load, ops_load, ops_over, pours_are_taken, moves_are_fit}
 use Rattle.call_script.specs.declared.entries.LinkEntry.{LinkEntry}
 use Rattle.call_script.specs.declared.entries.RequestEntry.{RequestEntry}
 use Rattle.call_script.specs.declared.entries.CallerEntry.{CallerEntry}
 use Rattle.call_script.specs.declared.operations.Op.{Op}
-use Rattle.call_script.specs.declared.operations.Op.TheVariants.{Open, Send, Close, Pour}
+use Rattle.call_script.specs.declared.operations.Op.TheVariants.{Open, Send, Close, Pour, Move}
 use Rattle.call_script.specs.declared.version.Version.{Version}
-use Rattle.call_script.specs.declared.version.Version.TheVariants.{One, Three, Five}
+use Rattle.call_script.specs.declared.version.Version.TheVariants.{One, Three, Five, Six}
 
 -- the least rule that parts break, with all rules unfolded
 unfoldable told : PlanParts → Option ℕ
-unfolding rule_broken name_rule_broken range_rule_broken use_rule_broken each_after have_version groups_have_version have_links have_names groups_have_names are_there groups_are_there are_in_range quotas_are_in_range are_few groups_are_few are_joined are_unclosed are_within_load pours_are_taken quotas_are_fit all_from
+unfolding rule_broken name_rule_broken range_rule_broken use_rule_broken each_after have_version groups_have_version have_links have_names groups_have_names are_there groups_are_there are_in_range quotas_are_in_range are_few groups_are_few are_joined are_unclosed are_within_load ops_load ops_over pours_are_taken quotas_are_fit moves_are_fit all_from
 told parts = rule_broken parts
 
 -- ---- links of levels 10, 20 and 40 that carry a unit a tick; names are numbers
@@ -109,14 +109,18 @@ links_below (suc n) = links_below n ++ link strict n ∷ []
 abbrev hop : ℕ → Hop
 hop n = record { link = link_at n; bounds = 10 ∷ 20 ∷ 40 ∷ []; prop = 2 }
 
--- the first request, over the links of these numbers
-abbrev asks : List ℕ → RequestEntry
-asks route = record {
-  name = 1 ∷ [];
+-- the request of this channel, with this least gap between packets, over the links of these numbers
+abbrev request : ℕ → ℕ → List ℕ → RequestEntry
+request n xmin route = record {
+  name = suc n ∷ [];
   caller = actor_at 0;
-  request = record { chan = channel_at 0; route = map hop route; contract = terms_of 5 10 20 2; control = Rate; delay = 44 };
+  request = record { chan = channel_at n; route = map hop route; contract = terms_of xmin 10 20 2; control = Rate; delay = 44 };
   found = None;
 }
+
+-- the first request
+abbrev asks : List ℕ → RequestEntry
+asks route = request 0 5 route
 
 abbrev caller : ℕ → ℕ → List Op → CallerEntry
 caller name group ops = record { name = name ∷ []; group = group; ops = ops }
@@ -129,6 +133,12 @@ closes = Close (channel_at 0)
 
 abbrev pours_at : ℕ → Op
 pours_at n = Pour (link_at n) 1 1 1
+
+abbrev sends_on : ℕ → ℕ → Op
+sends_on n count = Send (channel_at n) count 1 1
+
+abbrev moves : ℕ → ℕ → Op
+moves old new = Move (channel_at old) (channel_at new)
 
 -- a quota of a group, with this load up to each level
 abbrev quota : ℕ → ℕ → Quota
@@ -218,6 +228,90 @@ groups-before-quotas = refl
 five-groups : told (parts_with Five (split_link (quota 1 7 ∷ []) open_to_all 0 ∷ []) ((1 ∷ []) ∷ (2 ∷ []) ∷ (3 ∷ []) ∷ (4 ∷ []) ∷ (5 ∷ []) ∷ []) [] [] 0 0) ≡ Some 9
 unfolding told
 five-groups = refl
+
+-- ---- moves: a caller opens two requests, or three, over one link
+
+abbrev moving : List Op → PlanParts
+moving ops = parts_with Six (link closed_to_pours 0 ∷ []) [] (request 0 5 (0 ∷ []) ∷ request 1 5 (0 ∷ []) ∷ request 2 5 (0 ∷ []) ∷ [])
+    (caller 1 0 (opens ∷ Open (channel_at 1) ∷ Open (channel_at 2) ∷ ops) ∷ []) 0 0
+
+-- the first one goes over link 0; the second one has this least gap, and goes over these of two links
+abbrev moving_over : ℕ → List ℕ → PlanParts
+moving_over xmin route = parts_with Six (link closed_to_pours 0 ∷ link closed_to_pours 1 ∷ []) [] (request 0 5 (0 ∷ []) ∷ request 1 xmin route ∷ [])
+    (caller 1 0 (opens ∷ Open (channel_at 1) ∷ moves 0 1 ∷ []) ∷ []) 0 0
+
+moves-keep-all : told (moving (sends_on 0 1 ∷ moves 0 1 ∷ closes ∷ sends_on 1 1 ∷ moves 1 2 ∷ [])) ≡ None
+unfolding told
+moves-keep-all = refl
+
+moves-before-version : told (parts_with Five (link closed_to_pours 0 ∷ []) [] (request 0 5 (0 ∷ []) ∷ request 1 5 (0 ∷ []) ∷ []) (caller 1 0 (opens ∷ Open (channel_at 1) ∷ moves 0 1 ∷ []) ∷ []) 0 0) ≡ Some 1
+unfolding told
+moves-before-version = refl
+
+-- a move to a request that the caller hasn't opened
+joining-before-ranges : told (parts_with Six (link closed_to_pours 0 ∷ []) [] (asks (0 ∷ []) ∷ []) (caller 1 0 (opens ∷ moves 0 1 ∷ []) ∷ []) 0 524289) ≡ Some 7
+unfolding told
+joining-before-ranges = refl
+
+-- a second move from a request, to one that was joined
+leaving-before-joining : told (moving (moves 0 1 ∷ moves 0 1 ∷ [])) ≡ Some 13
+unfolding told
+leaving-before-joining = refl
+
+nothing-is-sent-on-what-was-left : told (moving (moves 0 1 ∷ sends_on 0 1 ∷ [])) ≡ Some 13
+unfolding told
+nothing-is-sent-on-what-was-left = refl
+
+what-was-closed-is-not-moved : told (moving (closes ∷ moves 0 1 ∷ [])) ≡ Some 13
+unfolding told
+what-was-closed-is-not-moved = refl
+
+-- what may have to be sent again counts once more: the most packets of one send, and not all of them
+most-moved : told (moving (sends_on 0 65536 ∷ sends_on 0 65536 ∷ moves 0 1 ∷ moves 1 2 ∷ [])) ≡ None
+unfolding told
+most-moved = refl
+
+-- onto a request that is in use
+load-before-moves : told (moving (sends_on 2 1 ∷ sends_on 0 87382 ∷ moves 0 1 ∷ moves 1 2 ∷ [])) ≡ Some 14
+unfolding told
+load-before-moves = refl
+
+quotas-before-moves : told (parts_with Six (split_link (quota 1 7 ∷ []) closed_to_pours 0 ∷ []) ((1 ∷ []) ∷ []) (asks (0 ∷ []) ∷ []) (caller 1 0 (opens ∷ moves 0 0 ∷ []) ∷ []) 0 0) ≡ Some 23
+unfolding told
+quotas-before-moves = refl
+
+no-move-to-itself : told (moving (moves 0 0 ∷ [])) ≡ Some 24
+unfolding told
+no-move-to-itself = refl
+
+no-move-to-another-contract : told (moving_over 6 (0 ∷ [])) ≡ Some 24
+unfolding told
+no-move-to-another-contract = refl
+
+-- from the node where the other one ends
+no-move-to-another-start : told (moving_over 5 (1 ∷ [])) ≡ Some 24
+unfolding told
+no-move-to-another-start = refl
+
+no-move-to-another-end : told (moving_over 5 (0 ∷ 1 ∷ [])) ≡ Some 24
+unfolding told
+no-move-to-another-end = refl
+
+no-move-to-what-was-sent-on : told (moving (sends_on 1 1 ∷ moves 0 1 ∷ [])) ≡ Some 24
+unfolding told
+no-move-to-what-was-sent-on = refl
+
+no-move-to-what-was-closed : told (moving (Close (channel_at 1) ∷ moves 0 1 ∷ [])) ≡ Some 24
+unfolding told
+no-move-to-what-was-closed = refl
+
+no-move-to-what-was-left : told (moving (moves 1 2 ∷ moves 0 1 ∷ [])) ≡ Some 24
+unfolding told
+no-move-to-what-was-left = refl
+
+no-second-move-to-a-request : told (moving (moves 0 2 ∷ moves 1 2 ∷ [])) ≡ Some 24
+unfolding told
+no-second-move-to-a-request = refl
 
 -- ---- the largest plans, and those of one more
 

@@ -1,5 +1,5 @@
 -- How the parts of a plan grow, a line at a time. Links without quotas, groups, and quotas of the links that are there are added
--- while there is no caller; then callers, each first without operations; after the operations of the last caller an open, with its request, or a send, a close or a pour; and at last
+-- while there is no caller; then callers, each first without operations; after the operations of the last caller an open, with its request, or a send, a close, a pour or a move; and at last
 -- the numbers of rounds. Each addition has what a reader judges of its line. Parts that grew so keep all rules but two, that
 -- there is a link and that the ticks of all links are within the limit; with these they are those of a plan.
 use Rattle.std.specs.Prelude.{◌≡◌, ℕ, zero, suc, Some, ◌+◌, ◌*◌, ◌<◌, ◌≤◌, true, false, List, [], ◌∷◌, ◌++◌, length}
@@ -14,13 +14,15 @@ use Rattle.link_steps.specs.declared.quota.Quota.{Quota}
 use Rattle.call_script.specs.Groups.{most_groups, group_has_version, group_is_there, is_of_new_group, quota_is_there, quota_in_range, quotas_fit, KeepGroups}
 use Rattle.call_script.specs.Parts.{PlanParts, parts_of, FollowsLink, LeavesUnused, ArePlanned}
 use Rattle.call_script.specs.Plans.{HasTerms, IsPlan}
-use Rattle.call_script.specs.Rules.{have_version, have_names, are_there, are_in_range, are_few, are_joined, are_unclosed, pours_are_taken, link_names, caller_names, request_names, is_new, link_has_version, request_has_version, has_link, route_is_there, opens, request_in_range, packets_in_range, is_joined, closes, load_of, load_in, takes_best_effort}
-use Rattle.call_script.specs.Versions.{has_best_effort, has_groups}
+use Rattle.call_script.specs.Rules.{have_version, have_names, are_there, are_in_range, are_few, are_joined, are_unclosed, pours_are_taken, moves_are_fit, link_names, caller_names, request_names, is_new, link_has_version, request_has_version, has_link, route_is_there, is_in, request_in_range, packets_in_range, is_joined, load_of, load_in, loads_in, takes_best_effort, move_is_fit}
+use Rattle.call_script.specs.Versions.{has_best_effort, has_groups, has_moves}
 use Rattle.call_script.specs.declared.entries.CallerEntry.{CallerEntry}
 use Rattle.call_script.specs.declared.entries.LinkEntry.{LinkEntry}
 use Rattle.call_script.specs.declared.entries.RequestEntry.{RequestEntry}
 use Rattle.call_script.specs.declared.operations.Op.{Op}
-use Rattle.call_script.specs.declared.operations.Op.TheVariants.{Open, Send, Close, Pour}
+use Rattle.call_script.specs.declared.operations.Op.TheVariants.{Open, Send, Close, Pour, Move}
+use Rattle.call_script.specs.declared.roles.Role.TheVariants as role
+use Rattle.call_script.specs.declared.roles.Role.{Role}
 use Rattle.call_script.specs.declared.version.Version.{Version}
 
 -- ---- the ways to grow
@@ -132,17 +134,25 @@ pub record MayOpen (parts : PlanParts) (entry : RequestEntry) : Type 0 where
   pub hops : Each (FollowsLink parts.links) entry.request.route
   pub terms : HasTerms entry
 
+-- an operation of the last caller is this to the channel, or none is
+abbrev pub HasDone : Role → PlanParts → ChanNo → Type 0
+HasDone role parts chan = list_any (is_in role (channel_number chan)) (last_ops parts.callers) ≡ true
+
+abbrev pub HasNotDone : Role → PlanParts → ChanNo → Type 0
+HasNotDone role parts chan = list_any (is_in role (channel_number chan)) (last_ops parts.callers) ≡ false
+
 -- the last caller has opened the channel, and not closed it
 pub record IsOpenedThere (parts : PlanParts) (chan : ChanNo) : Type 0 where
-  pub opened : list_any (opens (channel_number chan)) (last_ops parts.callers) ≡ true
-  pub unclosed : list_any (closes (channel_number chan)) (last_ops parts.callers) ≡ false
+  pub opened : HasDone role.Opens parts chan
+  pub unclosed : HasNotDone role.Closes parts chan
 
 -- the load with this operation is within the limit
 abbrev pub IsWithinLoad : PlanParts → Op → Type 0
-IsWithinLoad parts op = load_in parts.requests parts.callers + load_of parts.requests op ≤ most_packets
+IsWithinLoad parts op = load_in parts.requests parts.callers + load_of parts.requests (loads_in parts.callers) op ≤ most_packets
 
 pub record MaySend (parts : PlanParts) (chan : ChanNo) (count gap size : ℕ) : Type 0 where
   pub channel : IsOpenedThere parts chan
+  pub unleft : HasNotDone role.Leaves parts chan
   pub range : packets_in_range count gap size ≡ true
   pub load : IsWithinLoad parts (Send chan count gap size)
 
@@ -153,6 +163,17 @@ pub record MayPour (parts : PlanParts) (link : LinkNo) (count gap size : ℕ) : 
   pub range : packets_in_range count gap size ≡ true
   pub load : IsWithinLoad parts (Pour link count gap size)
   pub taken : takes_best_effort (slice_get parts.links (link_number link)) ≡ true
+
+-- the last caller has opened both requests; it neither closed nor left the old one, and did nothing with the new one since
+pub record MayMove (parts : PlanParts) (old new : ChanNo) : Type 0 where
+  pub version : has_moves parts.version ≡ true
+  pub channel : IsOpenedThere parts old
+  pub unleft : HasNotDone role.Leaves parts old
+  pub joined : HasDone role.Opens parts new
+  pub fit : move_is_fit parts.links parts.requests (Move old new) ≡ true
+  pub unused : HasNotDone role.Uses parts new
+  pub unjoined : HasNotDone role.Joins parts new
+  pub load : IsWithinLoad parts (Move old new)
 
 -- ---- what parts that grow keep
 
@@ -167,6 +188,7 @@ pub record KeepSoFar (parts : PlanParts) : Type 0 where
   pub unclosed : are_unclosed parts ≡ true
   pub load : load_in parts.requests parts.callers ≤ most_packets
   pub pours : pours_are_taken parts ≡ true
+  pub moves : moves_are_fit parts ≡ true
   pub groups : KeepGroups parts.version parts.groups parts.links parts.callers
   pub planned : ArePlanned parts
   pub terms : Each HasTerms parts.requests
@@ -204,6 +226,9 @@ ClosesKeep = (parts : PlanParts) (chan : ChanNo) → KeepSoFar parts → IsOpene
 
 abbrev pub PoursKeep : Type 0
 PoursKeep = (parts : PlanParts) (link : LinkNo) (count gap size : ℕ) → KeepSoFar parts → MayPour parts link count gap size → KeepSoFar (with_op (Pour link count gap size) parts)
+
+abbrev pub MovesKeep : Type 0
+MovesKeep = (parts : PlanParts) (old new : ChanNo) → KeepSoFar parts → MayMove parts old new → KeepSoFar (with_op (Move old new) parts)
 
 abbrev pub RoundsKeep : Type 0
 RoundsKeep = (parts : PlanParts) (rounds : ℕ) → KeepSoFar parts → rounds ≤ most_rounds → KeepSoFar (with_rounds rounds parts)

@@ -2,6 +2,7 @@ pub mod Versions
 pub mod Parts
 pub mod Draft
 pub mod Rules
+pub mod Loads
 pub mod Groups
 pub mod Broken
 pub mod Splits

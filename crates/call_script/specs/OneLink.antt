@@ -1,6 +1,7 @@
 -- A plan of one link, one request and one caller, as the tests have it: link 0 has levels of 10, 20 and 40 ticks, a
 -- propagation of 2 and no quotas, or quotas without load after its levels; channel 0 goes over it, and caller 0 opens that channel and no other.
-use Rattle.std.specs.Prelude.{◌≡◌, None, [], ◌∷◌, length}
+-- Or a plan of two requests: channel 1 goes over it too, and caller 0 opens both.
+use Rattle.std.specs.Prelude.{◌≡◌, ℕ, None, List, [], ◌∷◌, length}
 use Rattle.std.specs.List.{All}
 use Rattle.net_units.specs.Numbers.{link_number, actor_number, channel_number}
 use Rattle.hop_reservation.specs.declared.route.Hop.{Hop}
@@ -35,8 +36,16 @@ pub record IsThatRequest (entry : RequestEntry) : Type 0 where
   pub chan : channel_number entry.request.chan ≡ 0
   pub hops : Each IsOverIt entry.request.route
 
+pub record IsNextRequest (entry : RequestEntry) : Type 0 where
+  pub caller : actor_number entry.caller ≡ 0
+  pub chan : channel_number entry.request.chan ≡ 1
+  pub hops : Each IsOverIt entry.request.route
+
 abbrev pub IsThatScript : CallerEntry → Type 0
 IsThatScript caller = openings_in 0 caller.ops ≡ record { caller = 0; chan = 0 } ∷ []
+
+abbrev pub OpensBoth : CallerEntry → Type 0
+OpensBoth caller = openings_in 0 caller.ops ≡ record { caller = 0; chan = 0 } ∷ record { caller = 0; chan = 1 } ∷ []
 
 -- it asks for one hop, for at most 12 ticks, and for no bound on its jitter
 pub record AsksForOne (request : Request) : Type 0 where

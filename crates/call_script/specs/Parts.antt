@@ -13,7 +13,7 @@ use Rattle.call_script.specs.declared.entries.LinkEntry.{LinkEntry}
 use Rattle.call_script.specs.declared.entries.RequestEntry.{RequestEntry}
 use Rattle.call_script.specs.declared.entries.CallerEntry.{CallerEntry}
 use Rattle.call_script.specs.declared.operations.Op.{Op}
-use Rattle.call_script.specs.declared.operations.Op.TheVariants.{Open, Send, Close, Pour}
+use Rattle.call_script.specs.declared.operations.Op.TheVariants.{Open, Send, Close, Pour, Move}
 use Rattle.call_script.specs.declared.version.Version.{Version}
 
 pub record PlanParts : Type 0 where
@@ -47,6 +47,7 @@ opened_by n (Open chan) = record { caller = n; chan = channel_number chan } ∷ 
 opened_by n (Send chan count gap size) = []
 opened_by n (Close chan) = []
 opened_by n (Pour link count gap size) = []
+opened_by n (Move old new) = []
 
 unfoldable pub openings_in : ℕ → List Op → List Opening
 openings_in n [] = []

@@ -1,34 +1,41 @@
 -- A plan keeps the rules of the scenario's language, as far as a plan can break them. Each has the number of the cause by
 -- which a line is refused that breaks it. (A plan has numbers and names where a scenario has text, so it breaks no rule on
 -- text. Those on groups and quotas are in `Groups`, and `Broken` has them all in their order.)
---   1 a link's test is its version's; best-effort packets come from version three on, and routes that are found from version four on
+--   1 a link's test is its version's; best-effort packets come from version three on, routes that are found from version four
+--     on, and moves from version six on
 --   2 there is a link
 --   6 no two links, callers or requests have one name
---   7 a route and a pour go over links that are there; a send and a close are of a request that the caller has opened above
+--   7 a route and a pour go over links that are there; a send, a close and both sides of a move are of requests that the caller
+--     has opened above
 --   8 numbers are in their ranges
 --   9 there are no more links, callers and requests than may be
 --  12 each hop of a route begins at the node where the one before it ends
---  13 a send and a close are of a request that wasn't closed above
---  14 the packets that are sent, once for each hop that they cross, and those that are poured are within the limit, and so
---     are the ticks of all links together
+--  13 a send, a close and a move are of a request that wasn't closed above, and a send and a move of one that no move above left
+--  14 the packets that are sent or moved, once for each hop that they may cross, and those that are poured are within the limit,
+--     and so are the ticks of all links together
 --  19 a pour is at a link that takes best-effort packets
-use Rattle.std.specs.Prelude.{ℕ, ◌+◌, ◌*◌, Bool, true, false, not, nat_eq, nat_le, nat_lt, ◌&&◌, ◌||◌, if◌then◌else◌, Option, Some, None, is_none, List, [], ◌∷◌, ◌++◌, length, map}
+--  24 a move is between two requests of one contract whose routes begin and end at the same nodes; and no send, close or move
+--     above names the one that is joined
+use Rattle.std.specs.Prelude.{ℕ, ◌+◌, ◌-◌, ◌*◌, Bool, true, false, not, nat_eq, nat_le, nat_lt, ◌&&◌, ◌||◌, if◌then◌else◌, Option, Some, None, is_none, List, [], ◌∷◌, ◌++◌, length, map, max, set, get_or}
 use Rattle.std.specs.List.{list_any, list_all, slice_get}
 use Rattle.std.specs.Cmp.Lexicographic.{pointwise}
 use Rattle.net_units.specs.Numbers.{link_number, channel_number}
+use Rattle.net_units.specs.declared.numbers.ChanNo.{ChanNo}
 use Rattle.net_units.specs.declared.numbers.LinkNo.{LinkNo}
 use Rattle.net_units.specs.Limits.{most_links, most_callers, most_requests, most_delay, most_packets, most_gap, most_size, most_rounds, is_within}
-use Rattle.traffic_contract.specs.Admission.{total}
+use Rattle.traffic_contract.specs.Contract.{Traffic}
 use Rattle.hop_reservation.specs.declared.route.Hop.{Hop}
 use Rattle.setup_protocol.specs.declared.request.Control.{Control}
 use Rattle.setup_protocol.specs.declared.request.Control.TheVariants.{Rate, Jitter}
 use Rattle.call_script.specs.Parts.{PlanParts}
-use Rattle.call_script.specs.Versions.{test_of, has_best_effort, has_found_routes, is_test}
+use Rattle.call_script.specs.Versions.{test_of, has_best_effort, has_found_routes, has_moves, is_test}
 use Rattle.call_script.specs.declared.entries.LinkEntry.{LinkEntry}
 use Rattle.call_script.specs.declared.entries.RequestEntry.{RequestEntry}
 use Rattle.call_script.specs.declared.entries.CallerEntry.{CallerEntry}
 use Rattle.call_script.specs.declared.operations.Op.{Op}
-use Rattle.call_script.specs.declared.operations.Op.TheVariants.{Open, Send, Close, Pour}
+use Rattle.call_script.specs.declared.operations.Op.TheVariants.{Open, Send, Close, Pour, Move}
+use Rattle.call_script.specs.declared.roles.Role.{Role}
+use Rattle.call_script.specs.declared.roles.Role.TheVariants as role
 use Rattle.call_script.specs.declared.version.Version.{Version}
 
 -- ---- words on lists
@@ -55,6 +62,7 @@ op_has_version version (Open chan) = true
 op_has_version version (Send chan count gap size) = true
 op_has_version version (Close chan) = true
 op_has_version version (Pour link count gap size) = has_best_effort version
+op_has_version version (Move old new) = has_moves version
 
 unfoldable pub have_version : PlanParts → Bool
 have_version parts = list_all (link_has_version parts.version) parts.links && list_all (request_has_version parts.version) parts.requests && all_ops (op_has_version parts.version) parts.callers
@@ -101,13 +109,61 @@ pour_is_there links (Open chan) = true
 pour_is_there links (Send chan count gap size) = true
 pour_is_there links (Close chan) = true
 pour_is_there links (Pour link count gap size) = has_link links link
+pour_is_there links (Move old new) = true
 
--- the channel that a send or a close is of
-abbrev pub used_by : Op → Option ℕ
-used_by (Open chan) = None
-used_by (Send chan count gap size) = Some (channel_number chan)
-used_by (Close chan) = Some (channel_number chan)
-used_by (Pour link count gap size) = None
+-- ---- what an operation is to a channel
+
+-- the channel that it opens; that it uses, as a send, a close and a move from the channel do; that it closes; that it leaves, as a
+-- move from it does; that it keeps in use, as a send and a move from it do; and that it joins, as a move onto it does
+abbrev pub opened_in : Op → Option ℕ
+opened_in (Open chan) = Some (channel_number chan)
+opened_in (Send chan count gap size) = None
+opened_in (Close chan) = None
+opened_in (Pour link count gap size) = None
+opened_in (Move old new) = None
+
+abbrev pub used_in : Op → Option ℕ
+used_in (Open chan) = None
+used_in (Send chan count gap size) = Some (channel_number chan)
+used_in (Close chan) = Some (channel_number chan)
+used_in (Pour link count gap size) = None
+used_in (Move old new) = Some (channel_number old)
+
+abbrev pub closed_in : Op → Option ℕ
+closed_in (Open chan) = None
+closed_in (Send chan count gap size) = None
+closed_in (Close chan) = Some (channel_number chan)
+closed_in (Pour link count gap size) = None
+closed_in (Move old new) = None
+
+abbrev pub left_in : Op → Option ℕ
+left_in (Open chan) = None
+left_in (Send chan count gap size) = None
+left_in (Close chan) = None
+left_in (Pour link count gap size) = None
+left_in (Move old new) = Some (channel_number old)
+
+abbrev pub kept_in : Op → Option ℕ
+kept_in (Open chan) = None
+kept_in (Send chan count gap size) = Some (channel_number chan)
+kept_in (Close chan) = None
+kept_in (Pour link count gap size) = None
+kept_in (Move old new) = Some (channel_number old)
+
+abbrev pub joined_in : Op → Option ℕ
+joined_in (Open chan) = None
+joined_in (Send chan count gap size) = None
+joined_in (Close chan) = None
+joined_in (Pour link count gap size) = None
+joined_in (Move old new) = Some (channel_number new)
+
+abbrev pub named : Role → Op → Option ℕ
+named role.Opens op = opened_in op
+named role.Uses op = used_in op
+named role.Closes op = closed_in op
+named role.Leaves op = left_in op
+named role.Keeps op = kept_in op
+named role.Joins op = joined_in op
 
 -- a channel, if there is one, is in a set, or isn't
 abbrev pub hits : (ℕ → Bool) → Option ℕ → Bool
@@ -118,22 +174,25 @@ abbrev pub misses : (ℕ → Bool) → Option ℕ → Bool
 misses has None = false
 misses has (Some chan) = not (has chan)
 
--- whether an operation opens the channel of this number
-abbrev pub opened_in : Op → Option ℕ
-opened_in (Open chan) = Some (channel_number chan)
-opened_in (Send chan count gap size) = None
-opened_in (Close chan) = None
-opened_in (Pour link count gap size) = None
+-- whether an operation is this to the channel of this number
+abbrev pub is_in : Role → ℕ → Op → Bool
+is_in role chan op = hits (λ own. nat_eq own chan) (named role op)
 
-abbrev pub opens : ℕ → Op → Bool
-opens chan op = hits (λ opened. nat_eq opened chan) (opened_in op)
+-- the channel to which it is `asks` is one to which an operation above is `adds`; or it is none
+abbrev pub is_after : Role → Role → List Op → Op → Bool
+is_after asks adds above op = not (misses (λ chan. list_any (is_in adds chan) above) (named asks op))
 
--- what a send or a close is of was opened above
-abbrev pub is_opened : List Op → Op → Bool
-is_opened above op = not (misses (λ chan. list_any (opens chan) above) (used_by op))
+abbrev pub is_apart : Role → Role → List Op → Op → Bool
+is_apart asks adds above op = not (hits (λ chan. list_any (is_in adds chan) above) (named asks op))
+
+abbrev pub all_after : Role → Role → List CallerEntry → Bool
+all_after asks adds callers = list_all (λ caller. each_after (is_after asks adds) [] caller.ops) callers
+
+abbrev pub all_apart : Role → Role → List CallerEntry → Bool
+all_apart asks adds callers = list_all (λ caller. each_after (is_apart asks adds) [] caller.ops) callers
 
 abbrev pub are_opened : List CallerEntry → Bool
-are_opened callers = list_all (λ caller. each_after is_opened [] caller.ops) callers
+are_opened callers = all_after role.Uses role.Opens callers && all_after role.Joins role.Opens callers
 
 unfoldable pub are_there : PlanParts → Bool
 are_there parts = list_all (route_is_there parts.links) parts.requests && all_ops (pour_is_there parts.links) parts.callers && are_opened parts.callers
@@ -155,6 +214,7 @@ op_in_range (Open chan) = true
 op_in_range (Send chan count gap size) = packets_in_range count gap size
 op_in_range (Close chan) = true
 op_in_range (Pour link count gap size) = packets_in_range count gap size
+op_in_range (Move old new) = true
 
 abbrev pub rounds_in_range : ℕ → ℕ → Bool
 rounds_in_range rounds tail = nat_le rounds most_rounds && nat_le tail most_rounds
@@ -194,24 +254,10 @@ is_joined links (hop ∷ hops) = goes_on links hop hops
 unfoldable pub are_joined : PlanParts → Bool
 are_joined parts = list_all (λ entry. is_joined parts.links entry.request.route) parts.requests
 
--- ---- 13: what was closed
-
--- whether an operation closes the channel of this number
-abbrev pub closed_in : Op → Option ℕ
-closed_in (Open chan) = None
-closed_in (Send chan count gap size) = None
-closed_in (Close chan) = Some (channel_number chan)
-closed_in (Pour link count gap size) = None
-
-abbrev pub closes : ℕ → Op → Bool
-closes chan op = hits (λ closed. nat_eq closed chan) (closed_in op)
-
--- what a send or a close is of wasn't closed above
-abbrev pub is_unclosed : List Op → Op → Bool
-is_unclosed above op = not (hits (λ chan. list_any (closes chan) above) (used_by op))
+-- ---- 13: what was closed or left
 
 unfoldable pub are_unclosed : PlanParts → Bool
-are_unclosed parts = list_all (λ caller. each_after is_unclosed [] caller.ops) parts.callers
+are_unclosed parts = all_apart role.Uses role.Closes parts.callers && all_apart role.Keeps role.Leaves parts.callers
 
 -- ---- 14: the load
 
@@ -219,15 +265,48 @@ abbrev pub hops_of : Option RequestEntry → ℕ
 hops_of None = 0
 hops_of (Some entry) = length entry.request.route
 
+-- what each request has to carry, by its number: the most packets of one of its sends so far, or of the request whose packets
+-- moved to it
+abbrev pub load_at : List ℕ → ChanNo → ℕ
+load_at loads chan = get_or loads (channel_number chan) 0
+
+abbrev pub raised : ChanNo → ℕ → List ℕ → List ℕ
+raised chan n loads = set loads (channel_number chan) (max n (load_at loads chan))
+
+abbrev pub loads_with : List ℕ → Op → List ℕ
+loads_with loads (Open chan) = loads ++ 0 ∷ []
+loads_with loads (Send chan count gap size) = raised chan count loads
+loads_with loads (Close chan) = loads
+loads_with loads (Pour link count gap size) = loads
+loads_with loads (Move old new) = raised new (load_at loads old) loads
+
+unfoldable pub loads_after : List ℕ → List Op → List ℕ
+loads_after loads [] = loads
+loads_after loads (op ∷ ops) = loads_after (loads_with loads op) ops
+
 -- the packets of an operation, once for each hop
-abbrev pub load_of : List RequestEntry → Op → ℕ
-load_of requests (Open chan) = 0
-load_of requests (Send chan count gap size) = count * hops_of (slice_get requests (channel_number chan))
-load_of requests (Close chan) = 0
-load_of requests (Pour link count gap size) = count
+abbrev pub load_of : List RequestEntry → List ℕ → Op → ℕ
+load_of requests loads (Open chan) = 0
+load_of requests loads (Send chan count gap size) = count * hops_of (slice_get requests (channel_number chan))
+load_of requests loads (Close chan) = 0
+load_of requests loads (Pour link count gap size) = count
+load_of requests loads (Move old new) = load_at loads old * hops_of (slice_get requests (channel_number new))
+
+unfoldable pub ops_load : List RequestEntry → List ℕ → List Op → ℕ
+ops_load requests loads [] = 0
+ops_load requests loads (op ∷ ops) = load_of requests loads op + ops_load requests (loads_with loads op) ops
+
+-- the operations of all callers, one caller after the other
+unfoldable pub ops_over : List CallerEntry → List Op
+ops_over [] = []
+ops_over (caller ∷ callers) = caller.ops ++ ops_over callers
 
 abbrev pub load_in : List RequestEntry → List CallerEntry → ℕ
-load_in requests callers = total (λ caller. total (load_of requests) caller.ops) callers
+load_in requests callers = ops_load requests [] (ops_over callers)
+
+-- what each request has to carry after them
+abbrev pub loads_in : List CallerEntry → List ℕ
+loads_in callers = loads_after [] (ops_over callers)
 
 unfoldable pub are_within_load : PlanParts → Bool
 are_within_load parts = nat_le (load_in parts.requests parts.callers) most_packets && nat_le ((parts.rounds + parts.tail) * length parts.links) most_rounds
@@ -243,6 +322,46 @@ pour_is_taken links (Open chan) = true
 pour_is_taken links (Send chan count gap size) = true
 pour_is_taken links (Close chan) = true
 pour_is_taken links (Pour link count gap size) = takes_best_effort (slice_get links (link_number link))
+pour_is_taken links (Move old new) = true
 
 unfoldable pub pours_are_taken : PlanParts → Bool
 pours_are_taken parts = all_ops (pour_is_taken parts.links) parts.callers
+
+-- ---- 24: moves
+
+abbrev pub same_contract : Traffic → Traffic → Bool
+same_contract a b = nat_eq a.xmin b.xmin && nat_eq a.xave b.xave && nat_eq a.interval b.interval && nat_eq a.smax b.smax
+
+-- two links begin at one node, or end at one
+abbrev pub begin_together : List LinkEntry → LinkNo → LinkNo → Bool
+begin_together links link other = pointwise nat_eq (start_of (slice_get links (link_number link))) (start_of (slice_get links (link_number other)))
+
+abbrev pub end_together : List LinkEntry → LinkNo → LinkNo → Bool
+end_together links link other = pointwise nat_eq (end_of (slice_get links (link_number link))) (end_of (slice_get links (link_number other)))
+
+-- so do two hops, if they are there
+abbrev pub hops_agree : (LinkNo → LinkNo → Bool) → Option Hop → Option Hop → Bool
+hops_agree agree None other = false
+hops_agree agree (Some hop) None = false
+hops_agree agree (Some hop) (Some other) = agree hop.link other.link
+
+-- two routes begin at one node, and end at one
+abbrev pub same_ends : List LinkEntry → List Hop → List Hop → Bool
+same_ends links route other =
+    hops_agree (begin_together links) (slice_get route 0) (slice_get other 0) && hops_agree (end_together links) (slice_get route (length route - 1)) (slice_get other (length other - 1))
+
+-- packets may move between these requests, if they are there
+abbrev pub may_move : List LinkEntry → Option RequestEntry → Option RequestEntry → Bool
+may_move links None new = false
+may_move links (Some old) None = false
+may_move links (Some old) (Some new) = same_contract old.request.contract new.request.contract && same_ends links old.request.route new.request.route
+
+abbrev pub move_is_fit : List LinkEntry → List RequestEntry → Op → Bool
+move_is_fit links requests (Open chan) = true
+move_is_fit links requests (Send chan count gap size) = true
+move_is_fit links requests (Close chan) = true
+move_is_fit links requests (Pour link count gap size) = true
+move_is_fit links requests (Move old new) = may_move links (slice_get requests (channel_number old)) (slice_get requests (channel_number new)) && not (nat_eq (channel_number old) (channel_number new))
+
+unfoldable pub moves_are_fit : PlanParts → Bool
+moves_are_fit parts = all_ops (move_is_fit parts.links parts.requests) parts.callers && all_apart role.Joins role.Uses parts.callers && all_apart role.Joins role.Joins parts.callers

@@ -1,6 +1,7 @@
 -- What a caller asks next follows from its own replies alone. It goes through its tasks in order. The one under way has
 -- the replies since it began; with its last reply the next task begins that takes a step at all.
 use Rattle.std.specs.Prelude.{ℕ, Bool, true, false, not, ◌&&◌, nat_eq, if◌then◌else◌, Option, Some, None, List, [], ◌∷◌, ◌++◌}
+use Rattle.std.specs.List.{slice_get}
 use Rattle.net_units.specs.Numbers.{channel_number}
 use Rattle.net_units.specs.declared.numbers.LinkNo.{LinkNo}
 use Rattle.net_units.specs.declared.numbers.ChanNo.{ChanNo}
@@ -206,11 +207,20 @@ standing_of (Some tasks) replies = standing tasks replies
 abbrev pub script_ask : Option (List Task) → List Reply → Option (LinkNo × Ask)
 script_ask script replies = ask_at (standing_of script replies)
 
--- ---- verdicts
+-- ---- verdicts, and what moves have told
 
 -- what a request has come to, where nothing of its setup is left to ask
 unfoldable pub outcome_in : ChanNo → List Learnt → Option Outcome
 outcome_in chan outcomes = newest (settled_by chan) outcomes
+
+-- what a move from a channel has told, if one was made
+abbrev pub moved_by : ChanNo → Learnt → Option Shifted
+moved_by chan (Settles own outcome) = None
+moved_by chan (PlannedOn own gap size) = None
+moved_by chan (MovedTo old new told gap size) = if is_that chan old then Some told else None
+
+unfoldable pub moved_off : ChanNo → List Learnt → Option Shifted
+moved_off chan outcomes = newest (moved_by chan) outcomes
 
 -- ---- the replies of a task
 

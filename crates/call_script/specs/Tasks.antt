@@ -12,9 +12,9 @@ use Rattle.call_script.specs.Splits.{entry_link, groups_in}
 use Rattle.call_script.specs.declared.entries.RequestEntry.{RequestEntry}
 use Rattle.call_script.specs.declared.entries.CallerEntry.{CallerEntry}
 use Rattle.call_script.specs.declared.operations.Op.{Op}
-use Rattle.call_script.specs.declared.operations.Op.TheVariants.{Open, Send, Close, Pour}
+use Rattle.call_script.specs.declared.operations.Op.TheVariants.{Open, Send, Close, Pour, Move}
 use Rattle.call_script.specs.declared.tasks.Task.{Task}
-use Rattle.call_script.specs.declared.tasks.Task.TheVariants.{Opens, Sends, Closes}
+use Rattle.call_script.specs.declared.tasks.Task.TheVariants.{Opens, Sends, Closes, Moves}
 
 pub record Network : Type 0 where
   pub links : List Link
@@ -34,12 +34,19 @@ task_for own (Some request) = own request
 abbrev pub send_on : ℕ → ℕ → ℕ → Request → Option Task
 send_on count gap size request = option_map (λ (hop : Hop). Sends hop.link (Some request.chan) count gap size) (slice_get request.route 0)
 
+-- a move between two requests, if they are there; the gap and the size of its packets are told where it begins
+abbrev pub move_for : Option Request → Option Request → Option Task
+move_for None new = None
+move_for (Some old) None = None
+move_for (Some old) (Some new) = Some (Moves old new 1 1)
+
 -- the task of an operation
 abbrev pub task_of : List Request → Op → Option Task
 task_of requests (Open chan) = option_map (λ request. Opens request) (slice_get requests (channel_number chan))
 task_of requests (Send chan count gap size) = task_for (send_on count gap size) (slice_get requests (channel_number chan))
 task_of requests (Close chan) = option_map (λ request. Closes request) (slice_get requests (channel_number chan))
 task_of requests (Pour link count gap size) = Some (Sends link None count gap size)
+task_of requests (Move old new) = move_for (slice_get requests (channel_number old)) (slice_get requests (channel_number new))
 
 abbrev pub with_task : Option Task → List Task → List Task
 with_task None tasks = tasks

@@ -8,6 +8,7 @@ ghost use Rattle.call_script.specs.Scripts.{Learnt};
 ghost use Rattle.call_script.specs.Work.{learnt_of};
 
 use crate::work::{Known, Note};
+use channel_move::Shifted;
 use net_units::{ChanNo, OutOfMemory};
 use setup_protocol::Verdict;
 use std::alloc::Global;
@@ -22,6 +23,8 @@ pub(crate) struct Account {
     // The gap and the size of the last packets that were planned on it, or 1 and 1 where none were.
     pub(crate) gap: u64,
     pub(crate) size: u32,
+    // What the move has told that has left it.
+    pub(crate) moved: Option<Shifted>,
 }
 
 // One account a channel, in the order of their numbers: so a look at one takes one step, whatever has been learnt.
@@ -91,6 +94,7 @@ impl Accounts {
                     *old,
                     Account {
                         established: false,
+                        moved: Some(*told),
                         ..was
                     },
                 );
@@ -127,6 +131,7 @@ fn blank() -> Account
         established: false,
         gap: 1,
         size: 1,
+        moved: None,
     }
 }
 

@@ -9,7 +9,7 @@ ghost use Rattle.setup_protocol.specs.State.{outcome_of};
 ghost use Rattle.call_script.specs.Accounts.{AreAccounts};
 ghost use Rattle.call_script.specs.Parts.{PlanParts};
 ghost use Rattle.call_script.specs.Plans.{HasTerms};
-ghost use Rattle.call_script.specs.Scripts.{Learnt, ask_at, begun, expects, from_step, is_established, is_ready, outcome_in, ready, takes_step};
+ghost use Rattle.call_script.specs.Scripts.{Learnt, ask_at, begun, expects, from_step, is_established, is_ready, moved_off, outcome_in, ready, takes_step};
 ghost use Rattle.call_script.specs.Tasks.{request_of, send_on, task_of, tasks_of};
 ghost use Rattle.call_script.specs.Work.{HasRoute};
 
@@ -19,6 +19,7 @@ use crate::operations::Op;
 use crate::plan::Plan;
 use crate::tasks::Task;
 use crate::work::{Turn, Work};
+use channel_move::Shifted;
 use link_steps::{Ask, Reply, Unexpected};
 use net_units::{ActorNo, ChanNo, LinkNo, OutOfMemory};
 use setup_protocol::{Request, Verdict};
@@ -74,6 +75,13 @@ impl Actor {
         ensures verdict { (parts : PlanParts) (replies : List Replied) → CallerStands parts self.now replies → option_map outcome_of result ≡ outcome_in chan (standing_in parts (actor_number self.now.caller) replies).outcomes }
     {
         self.accounts.of(chan).verdict
+    }
+
+    /// What the move from this channel has come to by the replies taken: None where none was made, or one is under way.
+    pub fn moved(&self, chan: ChanNo) -> Option<Shifted>
+        ensures moved { (parts : PlanParts) (replies : List Replied) → CallerStands parts self.now replies → result ≡ moved_off chan (standing_in parts (actor_number self.now.caller) replies).outcomes }
+    {
+        self.accounts.of(chan).moved
     }
 
     /// Takes the reply to the next ask. One that isn't a reply to it changes nothing. An ask has to be left. It takes no
@@ -246,6 +254,12 @@ fn task_of(requests: &[RequestEntry], op: &Op) -> Option<Task>
             count: *count,
             gap: *gap,
             size: *size,
+        }),
+        Op::Move { old, new } => Some(Task::Moves {
+            old: request_of(requests, *old)?,
+            new: request_of(requests, *new)?,
+            gap: 1,
+            size: 1,
         }),
     }
 }

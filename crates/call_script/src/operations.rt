@@ -19,6 +19,12 @@ pub enum Op {
     },
     /// Close an established channel.
     Close(ChanNo),
+    /// Move the packets of an established channel that aren't sent yet to another one of the same contract, which begins and
+    /// ends at the same nodes.
+    Move {
+        old: ChanNo,
+        new: ChanNo,
+    },
     /// Send best-effort packets over a link, with the ranges of a send.
     Pour {
         link: LinkNo,

@@ -4,15 +4,17 @@ ghost use Rattle.link_steps.specs.Lists.{Each};
 ghost use Rattle.call_script.specs.Broken.{use_rule_broken, range_rule_broken, name_rule_broken, rule_broken};
 ghost use Rattle.call_script.specs.Draft.{parts_in};
 ghost use Rattle.call_script.specs.Plans.{HasTerms};
-ghost use Rattle.call_script.specs.Rules.{have_version, have_links, have_names, are_there, are_in_range, are_few, are_joined, are_unclosed, are_within_load, pours_are_taken};
+ghost use Rattle.call_script.specs.Rules.{have_version, have_links, have_names, are_there, are_in_range, are_few, are_joined, are_unclosed, are_within_load, pours_are_taken, moves_are_fit};
 
 use crate::parts::Parts;
+use crate::roles::Role;
 use net_units::OutOfMemory;
 use net_units::limits::{MOST_CALLERS, MOST_LINKS, MOST_REQUESTS, MOST_ROUNDS};
 use std::alloc::Global;
 
 pub(crate) mod groups;
 pub(crate) mod load;
+pub(crate) mod moves;
 pub(crate) mod names;
 pub(crate) mod quotas;
 pub(crate) mod ranges;
@@ -84,7 +86,8 @@ impl Parts {
         self.broken_use_rule(alloc)
     }
 
-    // The least of the rules on how the scripts use the channels and load the links, and on what the quotas come to.
+    // The least of the rules on how the scripts use the channels and load the links, on what the quotas come to, and on
+    // moves.
     #[tactic(auto, unfolding(crate::specs::Broken::use_rule_broken))]
     fn broken_use_rule(&self, alloc: Global) -> Result<Option<u8>, OutOfMemory>
         requires range { IsTrue (are_in_range (parts_in self.now)) }
@@ -94,7 +97,7 @@ impl Parts {
         if !self.are_unclosed(alloc)? {
             return Ok(Some(13));
         }
-        if !self.are_within_load() {
+        if !self.are_within_load(alloc)? {
             return Ok(Some(14));
         }
         if !self.pours_are_taken() {
@@ -102,6 +105,9 @@ impl Parts {
         }
         if !self.quotas_are_fit() {
             return Ok(Some(23));
+        }
+        if !self.moves_are_fit(alloc)? {
+            return Ok(Some(24));
         }
         Ok(None)
     }
@@ -140,10 +146,11 @@ impl Parts {
     fn are_there(&self, alloc: Global) -> Result<bool, OutOfMemory>
         ensures { IfOk result (λ kept. kept ≡ are_there (parts_in self.now)) }
     {
+        let opened = scripts::are_opened(alloc, &self.callers)?;
         Ok(
             routes::are_there(&self.links, &self.requests)
                 && load::pours_are_there(&self.links, &self.callers)
-                && scripts::are_opened(alloc, &self.callers)?,
+                && opened,
         )
     }
 
@@ -178,17 +185,20 @@ impl Parts {
     fn are_unclosed(&self, alloc: Global) -> Result<bool, OutOfMemory>
         ensures { IfOk result (λ kept. kept ≡ are_unclosed (parts_in self.now)) }
     {
-        scripts::are_unclosed(alloc, &self.callers)
+        Ok(
+            scripts::all_apart(alloc, Role::Uses, Role::Closes, &self.callers)?
+                && scripts::all_apart(alloc, Role::Keeps, Role::Leaves, &self.callers)?,
+        )
     }
 
     #[tactic(auto, unfolding(crate::specs::Rules::are_within_load, crate::specs::Rules::are_in_range, crate::specs::Rules::are_few))]
-    fn are_within_load(&self) -> bool
+    fn are_within_load(&self, alloc: Global) -> Result<bool, OutOfMemory>
         requires range { IsTrue (are_in_range (parts_in self.now)) }
         requires few { IsTrue (are_few (parts_in self.now)) }
-        ensures { result ≡ are_within_load (parts_in self.now) }
+        ensures { IfOk result (λ kept. kept ≡ are_within_load (parts_in self.now)) }
     {
         let ticks = (self.rounds + self.tail) * self.links.len() as u64;
-        load::is_small(&self.requests, &self.callers) && ticks <= MOST_ROUNDS
+        Ok(load::is_small(alloc, &self.requests, &self.callers)? && ticks <= MOST_ROUNDS)
     }
 
     #[tactic(auto, unfolding(crate::specs::Rules::pours_are_taken))]
@@ -196,5 +206,14 @@ impl Parts {
         ensures { result ≡ pours_are_taken (parts_in self.now) }
     {
         load::pours_are_taken(&self.links, &self.callers)
+    }
+
+    #[tactic(auto, unfolding(crate::specs::Rules::moves_are_fit))]
+    fn moves_are_fit(&self, alloc: Global) -> Result<bool, OutOfMemory>
+        ensures { IfOk result (λ kept. kept ≡ moves_are_fit (parts_in self.now)) }
+    {
+        let unused = scripts::all_apart(alloc, Role::Joins, Role::Uses, &self.callers)?;
+        let once = scripts::all_apart(alloc, Role::Joins, Role::Joins, &self.callers)?;
+        Ok(moves::are_fit(&self.links, &self.requests, &self.callers) && unused && once)
     }
 }

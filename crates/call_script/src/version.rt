@@ -1,6 +1,6 @@
 //! The versions of the scenario's language.
 ghost use Rattle.std.specs.Prelude.{◌≡◌};
-ghost use Rattle.call_script.specs.Versions.{test_of, has_best_effort, has_found_routes, has_groups};
+ghost use Rattle.call_script.specs.Versions.{test_of, has_best_effort, has_found_routes, has_groups, has_moves};
 
 use traffic_contract::Test;
 
@@ -17,6 +17,8 @@ pub enum Version {
     Four,
     /// As version four; callers may be of groups, between which links may be split.
     Five,
+    /// As version five; callers may move the packets of a channel to another one.
+    Six,
 }
 
 impl Version {
@@ -26,7 +28,8 @@ impl Version {
     {
         match self {
             Version::One => Test::Whole,
-            Version::Two | Version::Three | Version::Four | Version::Five => Test::Least,
+            Version::Two | Version::Three | Version::Four | Version::Five | Version::Six =>
+                Test::Least,
         }
     }
 
@@ -36,7 +39,7 @@ impl Version {
     {
         match self {
             Version::One | Version::Two => false,
-            Version::Three | Version::Four | Version::Five => true,
+            Version::Three | Version::Four | Version::Five | Version::Six => true,
         }
     }
 
@@ -46,7 +49,7 @@ impl Version {
     {
         match self {
             Version::One | Version::Two | Version::Three => false,
-            Version::Four | Version::Five => true,
+            Version::Four | Version::Five | Version::Six => true,
         }
     }
 
@@ -56,7 +59,17 @@ impl Version {
     {
         match self {
             Version::One | Version::Two | Version::Three | Version::Four => false,
-            Version::Five => true,
+            Version::Five | Version::Six => true,
+        }
+    }
+
+    /// Whether callers of its plans may move the packets of a channel to another one.
+    pub fn has_moves(&self) -> bool
+        ensures { result ≡ has_moves self.now }
+    {
+        match self {
+            Version::One | Version::Two | Version::Three | Version::Four | Version::Five => false,
+            Version::Six => true,
         }
     }
 }

@@ -1,4 +1,4 @@
-//! Plans and a caller over one link, worked by hand. The link has levels of 10, 20 and 40 ticks and a propagation of 2.
+//! Plans and callers over one link, worked by hand. The link has levels of 10, 20 and 40 ticks and a propagation of 2.
 ghost use Rattle.std.specs.Prelude.{◌≡◌, [], ◌∷◌, IfOk, OnOk, List, length};
 ghost use Rattle.std.specs.List.{All};
 ghost use Rattle.call_script.specs.Parts.{LeavesUnused};
@@ -20,6 +20,8 @@ use std::alloc::Global;
 use std::process::Abort;
 use std::test::Fail;
 use traffic_contract::{Contract, Test};
+
+mod moves;
 
 fn name(text: &str) -> Result<Name, Fail> {
     Ok(Name::new(text.as_bytes()).ok_or("name")?)
@@ -76,8 +78,14 @@ fn link_with(test: Test, best: u32, quotas: Quotas) -> Result<LinkEntry, Fail>
     })
 }
 
-fn asked() -> Result<Request, Fail>
-    ensures { IfOk result (λ made. channel_number made.chan ≡ 0 × Each IsOverIt made.route) }
+fn channel() -> Result<ChanNo, Fail>
+    ensures { IfOk result (λ chan. channel_number chan ≡ 0) }
+{
+    Ok(ChanNo::new(0).ok_or("channel")?)
+}
+
+fn asked(chan: ChanNo) -> Result<Request, Fail>
+    ensures { IfOk result (λ made. (made.chan ≡ chan) × Each IsOverIt made.route) }
 {
     let hop = Hop {
         link: link_no()?,
@@ -85,7 +93,7 @@ fn asked() -> Result<Request, Fail>
         prop: 2,
     };
     Ok(Request {
-        chan: ChanNo::new(0).ok_or("channel")?,
+        chan,
         route: Route::new(&[hop])?,
         contract: Contract::new(5, 10, 20, 2)?,
         control: Control::Rate,
@@ -100,7 +108,7 @@ fn request(found: Option<(Name, Name)>) -> Result<RequestEntry, Fail>
     Ok(RequestEntry {
         name: name("r1")?,
         caller: ActorNo::new(0).ok_or("caller")?,
-        request: asked()?,
+        request: asked(channel()?)?,
         found,
     })
 }
@@ -193,6 +201,7 @@ fn a_plan_keeps_the_rules_of_its_version(rt: HostRuntime) -> Result<(), Fail> {
         (Version::Three, Test::Least, 1, true, true, 0, Some(1)),
         (Version::Four, Test::Least, 1, true, true, 0, None),
         (Version::Five, Test::Least, 1, true, true, 0, None),
+        (Version::Six, Test::Least, 1, true, true, 0, None),
     ] {
         let link = link(rt.alloc(), test, best)?;
         let nodes = if found {
@@ -320,6 +329,15 @@ fn reserve(request: &Request) -> Ask {
     }
 }
 
+// The last ask of its setup.
+fn relax(chan: ChanNo) -> Ask {
+    Ask::Relax {
+        chan,
+        level: Level::LEAST,
+        up_bound: 0,
+    }
+}
+
 const OFFER: Reply = Reply::Offer {
     level: Level::LEAST,
     reach: Level::LEAST,
@@ -328,7 +346,7 @@ const OFFER: Reply = Reply::Offer {
 #[test]
 fn a_reply_of_another_ask_changes_nothing(rt: HostRuntime) -> Result<(), Fail> {
     let alloc = rt.alloc();
-    let request = asked()?;
+    let request = asked(channel()?)?;
     let caller = ActorNo::new(0).ok_or("caller")?;
     let plan = plan(
         alloc,
@@ -346,7 +364,7 @@ fn a_reply_of_another_ask_changes_nothing(rt: HostRuntime) -> Result<(), Fail> {
 #[test]
 fn a_caller_opens_its_request(rt: HostRuntime) -> Result<(), Fail> {
     let alloc = rt.alloc();
-    let request = asked()?;
+    let request = asked(channel()?)?;
     let caller = ActorNo::new(0).ok_or("caller")?;
     let plan = plan(
         alloc,
@@ -359,12 +377,13 @@ fn a_caller_opens_its_request(rt: HostRuntime) -> Result<(), Fail> {
     let mut actor = Actor::new(alloc, &plan, caller)?;
     asks(&rt, &mut actor, &plan, &reserve(&request), OFFER)?;
     assert!(rt; actor.verdict(request.chan).is_none());
-    let relax = Ask::Relax {
-        chan: request.chan,
-        level: Level::LEAST,
-        up_bound: 0,
-    };
-    asks(&rt, &mut actor, &plan, &relax, Reply::Relaxed { clock: 0 })?;
+    asks(
+        &rt,
+        &mut actor,
+        &plan,
+        &relax(request.chan),
+        Reply::Relaxed { clock: 0 },
+    )?;
     assert!(rt; actor.next_ask(&plan).is_none());
     match actor.verdict(request.chan) {
         Some(Verdict::Accepted { levels, delay }) => {

@@ -3,6 +3,7 @@ pub mod Verdicts
 pub mod Links
 pub mod Report
 pub mod Routes
+pub mod Moves
 pub mod Schedule
 pub mod Telling
 pub mod Tallies

@@ -1,5 +1,5 @@
 -- The report of a run of a plan: a line for each request with what it has come to, a line for each route that was found, a line for
--- each channel that was established, a line for each link, the number of steps, and, where it is asked for, the table of the packets.
+-- each move that was made, a line for each channel that was established, a line for each link, the number of steps, and, where it is asked for, the table of the packets.
 -- It is a function of the plan and of the run's entries, which are listed in the order of time.
 use Rattle.std.specs.Prelude.{ℕ, Bool, true, false, List, [], ◌∷◌, ◌++◌, length, reverse, codes}
 use Rattle.std.specs.List.{flat_map}
@@ -10,6 +10,7 @@ use Rattle.run_record.specs.declared.done.Done.{Done}
 use Rattle.channel_report.specs.Channels.{channel_lines}
 use Rattle.channel_report.specs.Lines.{whole_line}
 use Rattle.channel_report.specs.Links.{link_line}
+use Rattle.channel_report.specs.Moves.{move_lines}
 use Rattle.channel_report.specs.Routes.{route_lines}
 use Rattle.channel_report.specs.Table.{table_of}
 use Rattle.channel_report.specs.Verdicts.{request_line}
@@ -36,7 +37,8 @@ abbrev pub report_of : PlanParts → List Done → Bool → List ℕ
 report_of parts entries packets =
     request_lines parts (reverse entries)
     ++ (route_lines parts.links parts.requests
+    ++ (move_lines parts (reverse entries)
     ++ (channel_lines parts (rows_of entries) (reverse entries)
     ++ (link_lines parts (reverse entries)
     ++ (end_line (length entries)
-    ++ table_if packets parts entries))))
+    ++ table_if packets parts entries)))))

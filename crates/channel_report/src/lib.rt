@@ -14,6 +14,7 @@ pub mod fault;
 mod findings;
 mod link_lines;
 mod link_tally;
+mod move_lines;
 pub mod report;
 mod request_lines;
 mod route_lines;

@@ -6,6 +6,7 @@ ghost use Rattle.run_record.specs.declared.done.Done.{Done as Step};
 ghost use Rattle.run_record.specs.Rows.{rows_of};
 ghost use Rattle.channel_report.specs.Channels.{channel_lines};
 ghost use Rattle.channel_report.specs.Findings.{AreFound};
+ghost use Rattle.channel_report.specs.Moves.{move_lines};
 ghost use Rattle.channel_report.specs.Report.{end_line, link_lines, report_of, request_lines, table_if};
 ghost use Rattle.channel_report.specs.Routes.{route_lines};
 ghost use Rattle.channel_report.specs.Telling.{Tells, WritesText};
@@ -15,6 +16,7 @@ use crate::end_line::tell_end;
 use crate::fault::ReportFault;
 use crate::findings::Findings;
 use crate::link_lines::tell_links;
+use crate::move_lines::tell_moves;
 use crate::request_lines::tell_requests;
 use crate::route_lines::tell_routes;
 use crate::table::tell_table;
@@ -24,7 +26,7 @@ use call_script::Plan;
 use run_record::Record;
 use std::alloc::Global;
 
-/// Writes the report of a run of this plan: its requests, the routes that were found, its established channels, its links, the
+/// Writes the report of a run of this plan: its requests, the routes that were found, the moves that were made, its established channels, its links, the
 /// number of its steps, and, where it is asked for, the table of its packets. A write fault comes only where the sink's count of
 /// faults rose in this call. Where the report isn't written whole, a prefix of it is.
 pub fn write_report<K: Sink>(
@@ -69,9 +71,25 @@ fn tell_found<K: Sink>(
     sink: &mut K,
 ) -> Result<(), ReportFault>
     requires { (entries : List Step) × AreFound plan.now entries findings.now }
-    ensures { (entries : List Step) → AreFound plan.now entries findings.now → Tells result (K.written sink.old) (K.written sink.new) gather.old gather.new (K.faults sink.old) (K.faults sink.new) (route_lines plan.now.links plan.now.requests ++ (channel_lines plan.now (rows_of entries) (reverse entries) ++ (link_lines plan.now (reverse entries) ++ (end_line (length entries) ++ table_if packets plan.now entries)))) }
+    ensures { (entries : List Step) → AreFound plan.now entries findings.now → Tells result (K.written sink.old) (K.written sink.new) gather.old gather.new (K.faults sink.old) (K.faults sink.new) (route_lines plan.now.links plan.now.requests ++ (move_lines plan.now (reverse entries) ++ (channel_lines plan.now (rows_of entries) (reverse entries) ++ (link_lines plan.now (reverse entries) ++ (end_line (length entries) ++ table_if packets plan.now entries))))) }
 {
     tell_routes(alloc, plan.links(), plan.requests(), gather, sink)?;
+    tell_moved(alloc, plan, findings, packets, gather, sink)
+}
+
+// Tells the lines of the moves that were made, and those after them.
+fn tell_moved<K: Sink>(
+    alloc: Global,
+    plan: &Plan,
+    findings: &Findings,
+    packets: bool,
+    gather: &mut Gather,
+    sink: &mut K,
+) -> Result<(), ReportFault>
+    requires { (entries : List Step) × AreFound plan.now entries findings.now }
+    ensures { (entries : List Step) → AreFound plan.now entries findings.now → Tells result (K.written sink.old) (K.written sink.new) gather.old gather.new (K.faults sink.old) (K.faults sink.new) (move_lines plan.now (reverse entries) ++ (channel_lines plan.now (rows_of entries) (reverse entries) ++ (link_lines plan.now (reverse entries) ++ (end_line (length entries) ++ table_if packets plan.now entries)))) }
+{
+    tell_moves(alloc, plan, &findings.callers, gather, sink)?;
     tell_carried(alloc, plan, findings, packets, gather, sink)
 }
 

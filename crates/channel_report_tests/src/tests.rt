@@ -23,6 +23,7 @@ use std::process::Abort;
 use std::test::Fail;
 use traffic_contract::Contract;
 
+mod moves;
 mod summaries;
 
 fn name(text: &str) -> Result<Name, Fail> {

@@ -55,4 +55,5 @@ mod EngineFacts
 pub mod TotalLaw
 pub mod Emptied
 pub mod MoveTotal
+pub mod LastPackets
 mod WorkedMoves

@@ -19,7 +19,7 @@ use Rattle.setup_protocol.specs.Teardown.{first_count}
 use Rattle.setup_protocol.specs.declared.request.Request.{Request}
 use Rattle.call_script.specs.Fits.{NetworkFits}
 use Rattle.call_script.specs.Owners.{TaskOff, SendsOnce, UsedOnce, FullScript, OwnedFully}
-use Rattle.call_script.specs.Scripts.{Learnt, Settles, PlannedOn, MovedTo, Standing, is_that, newest, is_established, outcome_in, task_ask, takes_step, ready, from_step, begun, settled_as, planned_as, moved_as, outcome_by, continued, resumed, standing, first_ask, ask_at}
+use Rattle.call_script.specs.Scripts.{Learnt, Settles, PlannedOn, MovedTo, Standing, is_that, newest, is_established, outcome_in, task_ask, takes_step, ready, from_step, begun, settled_as, planned_as, moved_as, outcome_by, continued, resumed, standing, first_ask, ask_at, moved_by, moved_off}
 use Rattle.call_script.specs.Tasks.{Network}
 use Rattle.call_script.specs.declared.tasks.Task.{Task}
 use Rattle.call_script.specs.declared.tasks.Task.TheVariants.{Opens, Sends, Closes, Moves}
@@ -27,7 +27,7 @@ use Rattle.run_record.specs.Runs.{replies_to}
 use Rattle.run_record.specs.declared.done.Done.{Done}
 use Rattle.channel_laws.specs.Asks.{IsOff, IsMild}
 use Rattle.tick_plane.specs.Planes.{next_due}
-use Rattle.interleave_core.specs.Moves.{moved_by, moved_off, EveryMoveKeeps}
+use Rattle.interleave_core.specs.Moves.{EveryMoveKeeps}
 use Rattle.interleave_core.specs.Paths.{HopAt}
 use Rattle.interleave_core.specs.Runs.{plane_no, plane_at, IsNext, IsRun}
 use Rattle.interleave_core.proofs.CallerFacts.{standing-more}

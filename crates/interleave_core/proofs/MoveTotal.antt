@@ -30,7 +30,7 @@ use Rattle.channel_laws.specs.Asks.{MayReplyTo, IsOff}
 use Rattle.channel_laws.specs.Reservations.{held_by}
 use Rattle.call_script.specs.Fits.{NetworkFits}
 use Rattle.call_script.specs.Owners.{OwnedFully}
-use Rattle.call_script.specs.Scripts.{Learnt, Standing, task_ask, continued, resumed, standing, first_ask, ask_at}
+use Rattle.call_script.specs.Scripts.{Learnt, Standing, task_ask, continued, resumed, standing, first_ask, ask_at, moved_off}
 use Rattle.call_script.specs.Tasks.{Network}
 use Rattle.call_script.specs.declared.tasks.Task.{Task}
 use Rattle.call_script.specs.declared.tasks.Task.TheVariants.{Moves}
@@ -38,7 +38,7 @@ use Rattle.run_record.specs.Runs.{replies_to, part_of}
 use Rattle.run_record.specs.declared.done.Done.{Done}
 use Rattle.tick_plane.specs.Planes.{next_due}
 use Rattle.interleave_core.specs.Hops.{terms_at, ChannelAsked}
-use Rattle.interleave_core.specs.Moves.{cancelled_with, cancelled_in, moved_off, NoneIsLostInAMove}
+use Rattle.interleave_core.specs.Moves.{cancelled_with, cancelled_in, NoneIsLostInAMove}
 use Rattle.interleave_core.specs.Paths.{HopAt}
 use Rattle.interleave_core.specs.Runs.{plane_no, plane_at, IsNext, IsRun}
 use Rattle.interleave_core.proofs.CallerFacts.{StandingFits, standing-more}

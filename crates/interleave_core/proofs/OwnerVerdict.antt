@@ -9,10 +9,12 @@ use Rattle.call_script.proofs.FitFacts.{request-fits}
 use Rattle.call_script.proofs.OwnerFacts.{owned-by}
 use Rattle.call_script.specs.Parts.{PlanParts}
 use Rattle.call_script.specs.Plans.{IsPlan}
-use Rattle.call_script.specs.Scripts.{outcome_in, standing_of}
+use Rattle.call_script.specs.Scripts.{moved_off, outcome_in, standing_of}
 use Rattle.call_script.specs.Standing.{standing_in}
 use Rattle.call_script.specs.Tasks.{network_of}
 use Rattle.call_script.specs.declared.entries.RequestEntry.{RequestEntry}
+use Rattle.channel_move.specs.declared.shifted.Shifted.{Shifted}
+use Rattle.interleave_core.specs.Moves.{moved_in}
 use Rattle.interleave_core.specs.Runs.{IsRun}
 use Rattle.interleave_core.specs.Verdicts.{setup_replies}
 use Rattle.interleave_core.proofs.ActorFacts.{plane-number}
@@ -41,3 +43,9 @@ pub read-verdict : (parts : PlanParts) (number : ℕ) (read entry : RequestEntry
 read-verdict parts number read entry run outcome owner plan found same is owns known =
     known ∙ ap (λ n. outcome_in read.request.chan (standing_in parts n (replies_to (actor_number read.caller) run)).outcomes) owns ∙ owner-verdict parts number read run plan found is
     ∙ ap (λ (e : RequestEntry). verdict_of e.request (setup_replies (channel_number e.request.chan) run)) (same_Some read entry (sym found ∙ same))
+
+-- and what a move from its channel has come to
+pub read-moved : (parts : PlanParts) (number : ℕ) (read entry : RequestEntry) (run : List Done) (told : Option Shifted) (owner : ℕ) → slice_get parts.requests number ≡ Some read → slice_get parts.requests number ≡ Some entry → owner ≡ actor_number read.caller
+    → told ≡ moved_off read.request.chan (standing_in parts owner (replies_to (actor_number read.caller) run)).outcomes → told ≡ moved_in parts run entry
+read-moved parts number read entry run told owner found same owns known =
+    known ∙ ap (λ n. moved_off read.request.chan (standing_in parts n (replies_to (actor_number read.caller) run)).outcomes) owns ∙ ap (moved_in parts run) (same_Some read entry (sym found ∙ same))

@@ -38,9 +38,8 @@ use Rattle.link_steps.specs.Split.{whole}
 use Rattle.setup_protocol.specs.Setup.{offers_in, after_offers, reach_after}
 use Rattle.setup_protocol.specs.declared.request.Request.{Request}
 use Rattle.setup_protocol.specs.declared.request.Control.TheVariants.{Rate}
-use Rattle.interleave_core.specs.Moves.{moved_off}
 use Rattle.channel_move.specs.declared.shifted.Shifted.{Shifted}
-use Rattle.call_script.specs.Scripts.{last_packets, Learnt, standing, resumed, from_step, is_established, outcome_in, newest}
+use Rattle.call_script.specs.Scripts.{last_packets, Learnt, standing, resumed, from_step, is_established, outcome_in, newest, moved_off}
 use Rattle.call_script.specs.Tasks.{Network}
 use Rattle.call_script.specs.declared.tasks.Task.{Task}
 use Rattle.call_script.specs.declared.tasks.Task.TheVariants.{Opens, Sends}

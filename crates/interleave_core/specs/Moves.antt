@@ -18,9 +18,12 @@ use Rattle.channel_move.specs.declared.shifted.Shifted.{Shifted}
 use Rattle.setup_protocol.specs.Hops.{RequestFits}
 use Rattle.setup_protocol.specs.declared.request.Request.{Request}
 use Rattle.call_script.specs.Fits.{NetworkFits}
+use Rattle.call_script.specs.Parts.{PlanParts}
+use Rattle.call_script.specs.Standing.{standing_in}
+use Rattle.call_script.specs.declared.entries.RequestEntry.{RequestEntry}
 use Rattle.call_script.specs.Owners.{OwnedFully, AllOwned}
 use Rattle.call_script.specs.declared.tasks.Task.TheVariants.{Moves}
-use Rattle.call_script.specs.Scripts.{Learnt, Settles, PlannedOn, MovedTo, is_that, newest, standing}
+use Rattle.call_script.specs.Scripts.{Packets, moved_off, standing}
 use Rattle.call_script.specs.Tasks.{Network}
 use Rattle.call_script.specs.declared.tasks.Task.{Task}
 use Rattle.run_record.specs.Runs.{part_of, replies_to}
@@ -67,14 +70,9 @@ NonePlannedIsLost = (shape : LinkShape) (c : ℕ) (h : List Entry) → IsAdmissi
 
 -- ---- moves
 
--- what a move from the channel has told, if one was made
-abbrev pub moved_by : ChanNo → Learnt → Option Shifted
-moved_by chan (Settles own outcome) = None
-moved_by chan (PlannedOn own gap size) = None
-moved_by chan (MovedTo old new told gap size) = if is_that chan old then Some told else None
-
-unfoldable pub moved_off : ChanNo → List Learnt → Option Shifted
-moved_off chan outcomes = newest (moved_by chan) outcomes
+-- what the move from a request's channel has come to in a run, if one was made, as its caller knows it
+abbrev pub moved_in : PlanParts → List Done → RequestEntry → Option Shifted
+moved_in parts run entry = moved_off entry.request.chan (standing_in parts (actor_number entry.caller) (replies_to (actor_number entry.caller) run)).outcomes
 
 -- the first hop of a channel that was left has taken as many packets as were kept, and takes no more
 abbrev pub EveryMoveKeeps : Type 0
@@ -94,6 +92,20 @@ plan_in (Some row) = row.plan
 
 abbrev pub plan_at : ChanNo → LinkShape → List Entry → List SourcePacket
 plan_at chan shape h = plan_in (find (is_row_at_hop chan true) (scan_of shape h).rows)
+
+-- the gap and the size of the last packets that a submit on the channel of this number has planned, or 1 and 1 where none has
+abbrev pub last_with : ℕ → Packets → Ask → Reply → Packets
+last_with c was (Submit chan count gap size) (Planned clock) = if nat_eq (channel_number chan) c then record { gap = gap; size = size } else was
+last_with c was _ _ = was
+
+unfoldable pub last_planned : ℕ → List Entry → Packets
+last_planned c [] = record { gap = 1; size = 1 }
+last_planned c (e ∷ past) = last_with c (last_planned c past) e.ask e.reply
+
+-- a move is of packets like the last ones that were planned on the channel that it leaves
+abbrev pub EveryMoveTakesTheLast : Type 0
+EveryMoveTakesTheLast = (network : Network) (request new : Request) (owner gap size : ℕ) (first : HopAt network request 0) (run : List Done) (tasks rest : List Task) → NetworkFits network → AllOwned network → RequestFits network.links request → OwnedFully network request owner → IsRun network run → slice_get network.scripts owner ≡ Some tasks
+    → (standing tasks (replies_to owner run)).tasks ≡ Moves request new gap size ∷ rest → last_planned (channel_number request.chan) (part_of (link_number first.hop.link) run) ≡ record { gap = gap; size = size }
 
 -- the submit of a move is planned, and then its channel's plan has exactly its packets
 abbrev pub EveryMovePlansTheShifted : Type 0

@@ -7,12 +7,14 @@ ghost use Rattle.setup_protocol.specs.State.{outcome_of};
 ghost use Rattle.call_script.specs.Plans.{IsPlan};
 ghost use Rattle.call_script.specs.Tasks.{network_of};
 ghost use Rattle.call_script.specs.declared.entries.RequestEntry.{RequestEntry as Asked};
+ghost use Rattle.interleave_core.specs.Moves.{moved_in};
 ghost use Rattle.interleave_core.specs.Runs.{IsRun};
 ghost use Rattle.interleave_core.specs.Verdicts.{setup_replies};
 ghost use Rattle.interleave_core.specs.Standing.{CallersStand, IsNextStep};
 ghost use Rattle.run_record.specs.declared.done.Done.{Done as Entry};
 
 use call_script::{Actor, Plan};
+use channel_move::Shifted;
 use net_units::{ActorNo, OutOfMemory};
 use run_record::{Done, Record};
 use setup_protocol::Verdict;
@@ -48,6 +50,18 @@ impl Callers {
         let entry = &plan.requests()[number];
         let owner = usize::from(entry.caller.get());
         self.by_number[owner].verdict(entry.request.chan)
+    }
+
+    /// What the move from the channel of the request of this number has come to in the run so far: None where none was made, or
+    /// one is under way. The plan is the one that the callers were made for.
+    pub fn moved(&self, plan: &Plan, number: usize) -> Option<Shifted>
+        requires stands { (run : List Entry) × CallersStand plan.now self.now run }
+        requires inside { number < length plan.now.requests }
+        ensures { (run : List Entry) (entry : Asked) → CallersStand plan.now self.now run → slice_get plan.now.requests number ≡ Some entry → result ≡ moved_in plan.now run entry }
+    {
+        let entry = &plan.requests()[number];
+        let owner = usize::from(entry.caller.get());
+        self.by_number[owner].moved(entry.request.chan)
     }
 
     // Hands the reply of the next step to the caller that made it. That of a step of the plane goes to none of them.

@@ -1,6 +1,6 @@
 //! Laws of every run, each as the contract of a function that does nothing.
 ghost use Rattle.interleave_core.specs.Laws.{EveryPartIsLegal, EveryAskFits, ClocksFollowThePlane, HeldRowsPassOnEveryLink, EveryHopIsGuaranteed, NoFlightIsLate, EveryAskIsAnswered, EveryReplyIsExpected, VerdictsFollowTheReplies, AcceptedRequestsAreKept, AcceptedChannelsKeepTheirDelays, EveryRunIsGuaranteed, RunsFollowTheirActors, FittingPartsMakeARun};
-ghost use Rattle.interleave_core.specs.Moves.{EveryMoveKeeps, EveryMovePlansTheShifted, NonePlannedIsLost, NoneIsLostInAMove};
+ghost use Rattle.interleave_core.specs.Moves.{EveryMoveKeeps, EveryMovePlansTheShifted, NonePlannedIsLost, NoneIsLostInAMove, EveryMoveTakesTheLast};
 ghost use Rattle.interleave_core.specs.Schedules.{SchedulesComeToOneEnd};
 ghost use Rattle.interleave_core.specs.Turns.{StepsComeToAnEnd};
 ghost use Rattle.interleave_core.specs.Sent.{TicksTellWhatHasLeft};
@@ -156,4 +156,10 @@ pub fn every_move_plans_what_was_shifted()
 /// that the move has told were shifted are all that its submits planned there.
 pub fn no_packet_is_lost_in_a_move()
     ensures { NoneIsLostInAMove }
+{}
+
+/// Where each channel has one owner, the packets of a move have the gap and the size of the last submit on the channel that it
+/// leaves which the run has answered as planned; where it has answered none so, they are 1 and 1.
+pub fn every_move_takes_the_last_packets()
+    ensures { EveryMoveTakesTheLast }
 {}

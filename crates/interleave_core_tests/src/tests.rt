@@ -16,7 +16,9 @@ use setup_protocol::{Control, Request};
 use std::alloc::Global;
 use std::process::Abort;
 use std::test::Fail;
-use traffic_contract::{Contract, Test};
+use traffic_contract::Contract;
+
+mod moves;
 
 fn name(text: &str) -> Result<Name, Fail> {
     Ok(Name::new(text.as_bytes()).ok_or("name")?)
@@ -34,14 +36,14 @@ fn link_no() -> Result<LinkNo, Fail>
     Ok(LinkNo::new(0).ok_or("link")?)
 }
 
-fn link(alloc: Global) -> Result<LinkEntry, Fail>
+fn link(alloc: Global, version: Version) -> Result<LinkEntry, Fail>
     ensures { IfOk result IsThatLink }
 {
     Ok(LinkEntry {
         name: name("A")?,
         from: name("n1")?,
         to: name("n2")?,
-        shape: LinkShape::new(link_no()?, 1, 4, 2, 100, bounds()?, Test::Whole, 0)?,
+        shape: LinkShape::new(link_no()?, 1, 4, 2, 100, bounds()?, version.test(), 0)?,
         quotas: Quotas::none(alloc),
     })
 }
@@ -89,7 +91,7 @@ fn plan(alloc: Global) -> Result<Plan, Fail> {
     let request = request(None)?;
     let caller = caller(alloc, request.request.chan)?;
     let mut links = Vec::new(alloc);
-    links.push(link(alloc)?)?;
+    links.push(link(alloc, Version::One)?)?;
     let mut requests = Vec::new(alloc);
     push_request(&mut requests, request)?;
     let mut callers = Vec::new(alloc);

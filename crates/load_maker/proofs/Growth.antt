@@ -10,23 +10,24 @@ use Rattle.net_units.specs.Numbers.{link_number, channel_number, channel_at}
 use Rattle.net_units.specs.declared.numbers.ChanNo.{ChanNo}
 use Rattle.link_steps.proofs.ListFacts.{Each-append}
 use Rattle.link_steps.specs.Lists.{Each}
-use Rattle.traffic_contract.proofs.AdmissionFacts.{total-append}
-use Rattle.traffic_contract.specs.Admission.{total}
+use Rattle.call_script.proofs.LoadFacts.{load-append, over-push}
 use Rattle.call_script.proofs.Growing.{caller-keeps, open-keeps, send-keeps, close-keeps, rounds-keep, tail-keeps, grown-is-plan}
 use Rattle.call_script.specs.Growing.{last_ops, with_rounds, MayOpen, MaySend, IsOpenedThere, KeepSoFar}
 use Rattle.call_script.specs.Groups.{KeepGroups}
 use Rattle.call_script.specs.Parts.{PlanParts, parts_of, openings_of, LeavesUnused}
 use Rattle.call_script.specs.Plans.{IsPlan}
-use Rattle.call_script.specs.Rules.{each_after, have_version, have_names, are_there, are_in_range, are_few, are_joined, are_unclosed, pours_are_taken, is_new, caller_names, opens, closes, load_of, load_in}
+use Rattle.call_script.specs.Rules.{each_after, have_version, have_names, are_there, are_in_range, are_few, are_joined, are_unclosed, pours_are_taken, is_new, caller_names, is_in, loads_after, ops_load, ops_over, load_in, moves_are_fit}
 use Rattle.call_script.specs.declared.entries.CallerEntry.{CallerEntry}
 use Rattle.call_script.specs.declared.entries.LinkEntry.{LinkEntry}
 use Rattle.call_script.specs.declared.entries.RequestEntry.{RequestEntry}
 use Rattle.call_script.specs.declared.operations.Op.{Op}
 use Rattle.call_script.specs.declared.operations.Op.TheVariants.{Open, Send, Close}
+use Rattle.call_script.specs.declared.roles.Role.TheVariants as role
+use Rattle.call_script.specs.declared.roles.Role.{Role}
 use Rattle.call_script.specs.declared.version.Version.TheVariants.{One}
 use Rattle.load_maker.proofs.LoadFacts.{load-fits}
 use Rattle.load_maker.proofs.RouteFits.{crosses}
-use Rattle.load_maker.proofs.ScriptFacts.{channel-is, actor-is, own-length, requests-length, callers-length, new-entries, own-new, requests-new, IsShort, entry-short, own-short, requests-short, send-load, own-load, callers-load, closed-off, opened-at}
+use Rattle.load_maker.proofs.ScriptFacts.{channel-is, actor-is, own-length, requests-length, callers-length, new-entries, own-new, requests-new, IsShort, entry-short, own-short, requests-short, send-load, own-load, callers-load, closed-off, left-off, opened-at}
 use Rattle.load_maker.proofs.ShareFacts.{share-below, first-below}
 use Rattle.load_maker.specs.Draws.{state_after}
 use Rattle.load_maker.specs.Loads.{load_at}
@@ -44,14 +45,18 @@ caller_of name ops = record { name = name; group = 0; ops = ops }
 abbrev at_hand : List RequestEntry → List CallerEntry → List ℕ → List Op → PlanParts
 at_hand requests before name ops = parts_of One made_links requests (before ++ caller_of name ops ∷ []) 0 0
 
+-- what the operations of the caller at hand are to the channel of this number
+at-last : (requests : List RequestEntry) (before : List CallerEntry) (name : List ℕ) (ops : List Op) (n : ℕ) (what : Role) → n < 1048576
+    → list_any (is_in what (channel_number (channel_at n))) (last_ops (before ++ caller_of name ops ∷ [])) ≡ list_any (is_in what n) ops
+at-last requests before name ops n what few =
+    ap (λ k. list_any (is_in what k) (last_ops (before ++ caller_of name ops ∷ []))) (channel-is n few) ∙ ap (list_any (is_in what n)) (last-of before (caller_of name ops))
+
 -- a channel of this number is opened, and not closed
-opened-there : (requests : List RequestEntry) (before : List CallerEntry) (name : List ℕ) (ops : List Op) (n : ℕ) → n < 1048576 → list_any (opens n) ops ≡ true → list_any (closes n) ops ≡ false → IsOpenedThere (at_hand requests before name ops) (channel_at n)
+opened-there : (requests : List RequestEntry) (before : List CallerEntry) (name : List ℕ) (ops : List Op) (n : ℕ) → n < 1048576 → list_any (is_in role.Opens n) ops ≡ true → list_any (is_in role.Closes n) ops ≡ false → IsOpenedThere (at_hand requests before name ops) (channel_at n)
 opened-there requests before name ops n few opened closed =
-    let is = channel-is n few in
-    let own = last-of before (caller_of name ops) in
     record {
-      opened = ap (λ k. list_any (opens k) (last_ops (before ++ caller_of name ops ∷ []))) is ∙ ap (list_any (opens n)) own ∙ opened;
-      unclosed = ap (λ k. list_any (closes k) (last_ops (before ++ caller_of name ops ∷ []))) is ∙ ap (list_any (closes n)) own ∙ closed;
+      opened = at-last requests before name ops n role.Opens few ∙ opened;
+      unclosed = at-last requests before name ops n role.Closes few ∙ closed;
     }
 
 -- ---- a send and a close more
@@ -69,7 +74,7 @@ none-more : (requests : List RequestEntry) (before : List CallerEntry) (name : L
 none-more requests before name ops keep = subst (λ all. KeepSoFar (at_hand requests before name all)) (sym (append-nil ops)) keep
 
 close-more : (requests : List RequestEntry) (before : List CallerEntry) (name : List ℕ) (ops : List Op) (first place : ℕ) → first + place < 1048576 → KeepSoFar (at_hand requests before name ops)
-    → ((earlier : ℕ) → place ≡ suc (suc earlier) → list_any (opens (first + earlier)) ops ≡ true) → ((earlier : ℕ) → place ≡ suc (suc earlier) → list_any (closes (first + earlier)) ops ≡ false)
+    → ((earlier : ℕ) → place ≡ suc (suc earlier) → list_any (is_in role.Opens (first + earlier)) ops ≡ true) → ((earlier : ℕ) → place ≡ suc (suc earlier) → list_any (is_in role.Closes (first + earlier)) ops ≡ false)
     → KeepSoFar (at_hand requests before name (ops ++ close_before first place))
 close-more requests before name ops first zero small keep opened closed = none-more requests before name ops keep
 close-more requests before name ops first (suc zero) small keep opened closed = none-more requests before name ops keep
@@ -145,15 +150,24 @@ may-open number size caller n name next =
     }
 
 -- the packets so far, and those of one request more, are few
-load-few : (number size caller n : ℕ) (requests : List RequestEntry) (name : List ℕ) (more : List Op) (extra : ℕ) → Next number size caller n → Each IsShort requests → total (load_of requests) more ≡ 0 → extra ≤ 64
+load-few : (number size caller n : ℕ) (requests : List RequestEntry) (name : List ℕ) (more : List Op) (extra : ℕ) → Next number size caller n → Each IsShort requests → ((loads : List ℕ) → ops_load requests loads more ≡ 0) → extra ≤ 64
     → load_in requests (callers_to number size caller ++ caller_of name (ops_far number size caller n ++ more) ∷ []) + extra ≤ 262144
 load-few number size caller n requests name more extra next short none few =
+    let earlier = ops_over (callers_to number size caller) in
+    let own_ones = ops_far number size caller n in
     let before = callers-load requests number size caller short in
-    let own = own-load requests number (first_of size caller) caller n short in
+    let own = own-load requests (loads_after [] earlier) number (first_of size caller) caller n short in
     let small = next-few number size caller n next in
-    let ops = total-append (load_of requests) (ops_far number size caller n) more in
-    let both = total-append (λ (c : CallerEntry). total (load_of requests) c.ops) (callers_to number size caller) (caller_of name (ops_far number size caller n ++ more) ∷ []) in
-    omega (arith, before, own, small, ops, both, none, few)
+    let over = ap (ops_load requests []) (over-push (callers_to number size caller) (caller_of name (own_ones ++ more))) in
+    let both = load-append requests [] earlier (own_ones ++ more) in
+    let ops = load-append requests (loads_after [] earlier) own_ones more in
+    let last = none (loads_after (loads_after [] earlier) own_ones) in
+    omega (arith, before, own, small, over, both, ops, last, few)
+
+-- an open adds none
+opens-load : (requests : List RequestEntry) (loads : List ℕ) (chan : ℕ) → ops_load requests loads (Open (channel_at chan) ∷ []) ≡ 0
+unfolding ops_load
+opens-load requests loads chan = refl
 
 request-more : (number size caller n : ℕ) (name : List ℕ) → Next number size caller n → KeepSoFar (at_hand (so_far number size caller n) (callers_to number size caller) name (ops_far number size caller n))
     → KeepSoFar (at_hand (so_far number size caller n ++ entry_at number size caller n ∷ []) (callers_to number size caller) name (ops_far number size caller n ++ ops_for (load_at number n) (first_of size caller) (share caller n)))
@@ -171,20 +185,22 @@ request-more number size caller n name next keep =
     let is = channel-is chan (omega (arith, small)) in
     let first_opened : KeepSoFar (at_hand requests before name (ops ++ opens_it ∷ [])) =
     subst (λ callers. KeepSoFar (parts_of One made_links requests callers 0 0)) (added-last opens_it before (caller_of name ops)) (open-keeps (at_hand (so_far number size caller n) before name ops) (entry_at number size caller n) keep (may-open number size caller n name next)) in
-    let opened_now : list_any (opens chan) (ops ++ opens_it ∷ []) ≡ true = list_any-append (opens chan) ops (opens_it ∷ []) ∙ or_right (list_any (opens chan) ops) _ (or_left _ _ (eq-eqb (channel_number (channel_at chan)) chan is)) in
-    let closed_not : list_any (closes chan) (ops ++ opens_it ∷ []) ≡ false = list_any-append (closes chan) ops (opens_it ∷ []) ∙ ap (λ b. b || false) (closed-off number (first_of size caller) caller n chan (omega (arith, small)) (omega arith)) in
+    let opened_now : list_any (is_in role.Opens chan) (ops ++ opens_it ∷ []) ≡ true = list_any-append (is_in role.Opens chan) ops (opens_it ∷ []) ∙ or_right (list_any (is_in role.Opens chan) ops) _ (or_left _ _ (eq-eqb (channel_number (channel_at chan)) chan is)) in
+    let closed_not : list_any (is_in role.Closes chan) (ops ++ opens_it ∷ []) ≡ false = list_any-append (is_in role.Closes chan) ops (opens_it ∷ []) ∙ ap (λ b. b || false) (closed-off number (first_of size caller) caller n chan (omega (arith, small)) (omega arith)) in
+    let left_not : list_any (is_in role.Leaves chan) (ops ++ opens_it ∷ []) ≡ false = list_any-append (is_in role.Leaves chan) ops (opens_it ∷ []) ∙ ap (λ b. b || false) (left-off number (first_of size caller) caller n chan) in
     let may_send : MaySend (at_hand requests before name (ops ++ opens_it ∷ [])) (channel_at chan) load.count load.contract.xave load.contract.smax = record {
       channel = opened-there requests before name (ops ++ opens_it ∷ []) chan (omega (arith, small)) opened_now closed_not;
+      unleft = at-last requests before name (ops ++ opens_it ∷ []) chan role.Leaves (omega (arith, small)) ∙ left_not;
       range = fits.packets;
-      load = load-few number size caller n requests name (opens_it ∷ []) _ next short refl (send-load requests short load.count (channel_number (channel_at chan)) fits.count);
+      load = load-few number size caller n requests name (opens_it ∷ []) _ next short (λ loads. opens-load requests loads chan) (send-load requests short load.count (channel_number (channel_at chan)) fits.count);
     } in
     let then_sent = send-more requests before name (ops ++ opens_it ∷ []) (channel_at chan) load.count load.contract.xave load.contract.smax first_opened may_send in
     let both : (ops ++ opens_it ∷ []) ++ sends_it ∷ [] ≡ ops ++ (opens_it ∷ sends_it ∷ []) = append_assoc ops (opens_it ∷ []) (sends_it ∷ []) in
     let now_sent : KeepSoFar (at_hand requests before name (ops ++ (opens_it ∷ sends_it ∷ []))) = subst (λ all. KeepSoFar (at_hand requests before name all)) both then_sent in
     let closed : KeepSoFar (at_hand requests before name ((ops ++ (opens_it ∷ sends_it ∷ [])) ++ close_before (first_of size caller) (share caller n))) =
     close-more requests before name (ops ++ (opens_it ∷ sends_it ∷ [])) (first_of size caller) (share caller n) (omega (arith, small)) now_sent
-    (λ earlier same. list_any-append (opens (first_of size caller + earlier)) ops (opens_it ∷ sends_it ∷ []) ∙ or_left _ _ (opened-at number (first_of size caller) caller n earlier (omega (arith, same)) (omega (arith, small, same))))
-    (λ earlier same. list_any-append (closes (first_of size caller + earlier)) ops (opens_it ∷ sends_it ∷ []) ∙ ap (λ b. b || false) (closed-off number (first_of size caller) caller n (first_of size caller + earlier) (omega (arith, small)) (omega (arith, same)))) in
+    (λ earlier same. list_any-append (is_in role.Opens (first_of size caller + earlier)) ops (opens_it ∷ sends_it ∷ []) ∙ or_left _ _ (opened-at number (first_of size caller) caller n earlier (omega (arith, same)) (omega (arith, small, same))))
+    (λ earlier same. list_any-append (is_in role.Closes (first_of size caller + earlier)) ops (opens_it ∷ sends_it ∷ []) ∙ ap (λ b. b || false) (closed-off number (first_of size caller) caller n (first_of size caller + earlier) (omega (arith, small)) (omega (arith, same)))) in
     subst (λ all. KeepSoFar (at_hand requests before name all)) (append_assoc ops (opens_it ∷ sends_it ∷ []) (close_before (first_of size caller) (share caller n))) closed
 
 -- ---- the requests of a caller
@@ -237,7 +253,7 @@ groups-none =
     (groups-with-link One [] (link_entry 0 ∷ []) (link_entry 1) [] refl (groups-with-link One [] [] (link_entry 0) [] refl (no-groups One))))
 
 links-keep : (number size : ℕ) → KeepSoFar (parts_to number size 0)
-unfolding requests_to callers_to have_version have_names are_there are_in_range are_few are_joined are_unclosed pours_are_taken openings_of each_after
+unfolding requests_to callers_to have_version have_names are_there are_in_range are_few are_joined are_unclosed pours_are_taken moves_are_fit openings_of each_after ops_over ops_load
 links-keep number size = record {
   version = refl;
   names = refl;
@@ -248,6 +264,7 @@ links-keep number size = record {
   unclosed = refl;
   load = omega arith;
   pours = refl;
+  moves = refl;
   groups = groups-none;
   planned = record { links = numbered; requests = λ n entry found. cc; openings = refl; hops = λ n entry found. cc; unused = unused-all };
   terms = tt;

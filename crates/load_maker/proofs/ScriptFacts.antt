@@ -11,11 +11,11 @@ use Rattle.std.specs.Prelude.{◌%◌}
 use Rattle.net_units.specs.Numbers.{actor_number, channel_number, actor_at, channel_at}
 use Rattle.link_steps.proofs.ListFacts.{Each-append}
 use Rattle.link_steps.specs.Lists.{Each}
-use Rattle.traffic_contract.proofs.AdmissionFacts.{total-append}
-use Rattle.traffic_contract.specs.Admission.{total}
-use Rattle.call_script.specs.Rules.{is_named, is_new, request_names, opens, closes, hops_of, load_of, load_in}
-use Rattle.call_script.specs.declared.entries.CallerEntry.{CallerEntry}
+use Rattle.call_script.proofs.LoadFacts.{load-append, over-push}
+use Rattle.call_script.specs.Rules.{is_named, is_new, request_names, is_in, hops_of, loads_with, loads_after, ops_load, ops_over, load_in}
 use Rattle.call_script.specs.declared.entries.RequestEntry.{RequestEntry}
+use Rattle.call_script.specs.declared.operations.Op.TheVariants.{Open, Send}
+use Rattle.call_script.specs.declared.roles.Role.TheVariants as role
 use Rattle.load_maker.proofs.LoadFacts.{load-fits}
 use Rattle.load_maker.proofs.NameText.{names-apart}
 use Rattle.load_maker.proofs.RouteFits.{crosses}
@@ -144,47 +144,53 @@ hops-few [] short (suc n) = omega arith
 hops-few (entry ∷ requests) short zero = short.0
 hops-few (entry ∷ requests) short (suc n) = hops-few requests short.1 n
 
--- ---- the packets
+-- ---- the packets, whatever the requests have to carry so far: none move
 
-close-load : (requests : List RequestEntry) (first place : ℕ) → total (load_of requests) (close_before first place) ≡ 0
-close-load requests first zero = refl
-close-load requests first (suc zero) = refl
-close-load requests first (suc (suc place)) = refl
+close-load : (requests : List RequestEntry) (loads : List ℕ) (first place : ℕ) → ops_load requests loads (close_before first place) ≡ 0
+unfolding ops_load
+close-load requests loads first zero = refl
+close-load requests loads first (suc zero) = refl
+close-load requests loads first (suc (suc place)) = refl
 
 pub send-load : (requests : List RequestEntry) → Each IsShort requests → (count n : ℕ) → count ≤ 16 → count * hops_of (slice_get requests n) ≤ 64
 send-load requests short count n few = mul-le count (hops_of (slice_get requests n)) 16 4 few (hops-few requests short n)
 
-ops-load : (requests : List RequestEntry) (load : Load) (first place : ℕ) → Each IsShort requests → load.count ≤ 16 → total (load_of requests) (ops_for load first place) ≤ 64
-ops-load requests load first place short few =
+one-load : (requests : List RequestEntry) (loads : List ℕ) (load : Load) (first place : ℕ) → Each IsShort requests → load.count ≤ 16 → ops_load requests loads (ops_for load first place) ≤ 64
+unfolding ops_load
+one-load requests loads load first place short few =
     let sent = send-load requests short load.count (channel_number (channel_at (first + place))) few in
-    let closed = close-load requests first place in
+    let opened = loads_with loads (Open (channel_at (first + place))) in
+    let closed = close-load requests (loads_with opened (Send (channel_at (first + place)) load.count load.contract.xave load.contract.smax)) first place in
     omega (arith, sent, closed)
 
-pub own-load : (requests : List RequestEntry) (number first caller n : ℕ) → Each IsShort requests → total (load_of requests) (own_ops number first caller n) ≤ 64 * share caller n
-unfolding own_ops share
-own-load requests number first caller zero short = omega arith
-own-load requests number first caller (suc n) short =
-    let rest = own-load requests number first caller n short in
+pub own-load : (requests : List RequestEntry) (loads : List ℕ) (number first caller n : ℕ) → Each IsShort requests → ops_load requests loads (own_ops number first caller n) ≤ 64 * share caller n
+unfolding own_ops share ops_load
+own-load requests loads number first caller zero short = omega arith
+own-load requests loads number first caller (suc n) short =
+    let rest = own-load requests loads number first caller n short in
+    let so_far = own_ops number first caller n in
     elim (cases_Bool (belongs_to caller n)) [
       | inl own ↦
-          (let one = ops-load requests (load_at number n) first (share caller n) short (load-fits (state_after (6 * n) number)).count in
-          let both = total-append (load_of requests) (own_ops number first caller n) (ops_for (load_at number n) first (share caller n)) in
+          (let one = one-load requests (loads_after loads so_far) (load_at number n) first (share caller n) short (load-fits (state_after (6 * n) number)).count in
+          let both = load-append requests loads so_far (ops_for (load_at number n) first (share caller n)) in
           rw own (omega (arith, rest, one, both)))
-      | inr other ↦ (let both = total-append (load_of requests) (own_ops number first caller n) [] in rw other (omega (arith, rest, both)))
+      | inr other ↦ rw (other, append-nil so_far) rest
     ]
 
 pub callers-load : (requests : List RequestEntry) (number size n : ℕ) → Each IsShort requests → load_in requests (callers_to number size n) ≤ 64 * first_channel size n
-unfolding callers_to first_channel
+unfolding callers_to first_channel ops_over ops_load
 callers-load requests number size zero short = omega arith
 callers-load requests number size (suc n) short =
     let rest = callers-load requests number size n short in
-    let own = own-load requests number (first_channel size n) n size short in
-    let both = total-append (λ (c : CallerEntry). total (load_of requests) c.ops) (callers_to number size n) (caller_entry number size n ∷ []) in
-    omega (arith, rest, own, both)
+    let before = ops_over (callers_to number size n) in
+    let own = own-load requests (loads_after [] before) number (first_channel size n) n size short in
+    let over = ap (ops_load requests []) (over-push (callers_to number size n) (caller_entry number size n)) in
+    let both = load-append requests [] before (own_ops number (first_channel size n) n size) in
+    omega (arith, rest, own, over, both)
 
 -- ---- what is opened and closed
 
-close-off : (first place chan : ℕ) → first + place < 1048576 → suc (first + place) ≤ chan + 2 → list_any (closes chan) (close_before first place) ≡ false
+close-off : (first place chan : ℕ) → first + place < 1048576 → suc (first + place) ≤ chan + 2 → list_any (is_in role.Closes chan) (close_before first place) ≡ false
 close-off first zero chan small below = refl
 close-off first (suc zero) chan small below = refl
 close-off first (suc (suc place)) chan small below =
@@ -193,7 +199,7 @@ close-off first (suc (suc place)) chan small below =
     rw off refl
 
 -- a channel that isn't two before the next one isn't closed yet
-pub closed-off : (number first caller n chan : ℕ) → first + share caller n < 1048576 → first + share caller n ≤ chan + 2 → list_any (closes chan) (own_ops number first caller n) ≡ false
+pub closed-off : (number first caller n chan : ℕ) → first + share caller n < 1048576 → first + share caller n ≤ chan + 2 → list_any (is_in role.Closes chan) (own_ops number first caller n) ≡ false
 unfolding own_ops
 closed-off number first caller zero chan small below = refl
 closed-off number first caller (suc n) chan small below =
@@ -202,15 +208,31 @@ closed-off number first caller (suc n) chan small below =
           (let more = share-own caller n own in
           let rest = closed-off number first caller n chan (omega (arith, small, more)) (omega (arith, below, more)) in
           let one = close-off first (share caller n) chan (omega (arith, small, more)) (omega (arith, below, more)) in
-          rw (own, list_any-append (closes chan) (own_ops number first caller n) (ops_for (load_at number n) first (share caller n)), rest) one)
+          rw (own, list_any-append (is_in role.Closes chan) (own_ops number first caller n) (ops_for (load_at number n) first (share caller n)), rest) one)
       | inr other ↦
           (let same = share-other caller n other in
           let rest = closed-off number first caller n chan (omega (arith, small, same)) (omega (arith, below, same)) in
           rw (other, append-nil (own_ops number first caller n)) rest)
     ]
 
+-- no channel is left by a move
+none-left : (load : Load) (first place chan : ℕ) → list_any (is_in role.Leaves chan) (ops_for load first place) ≡ false
+none-left load first zero chan = refl
+none-left load first (suc zero) chan = refl
+none-left load first (suc (suc place)) chan = refl
+
+pub left-off : (number first caller n chan : ℕ) → list_any (is_in role.Leaves chan) (own_ops number first caller n) ≡ false
+unfolding own_ops
+left-off number first caller zero chan = refl
+left-off number first caller (suc n) chan =
+    let rest = left-off number first caller n chan in
+    elim (cases_Bool (belongs_to caller n)) [
+      | inl own ↦ rw (own, list_any-append (is_in role.Leaves chan) (own_ops number first caller n) (ops_for (load_at number n) first (share caller n)), rest) (none-left (load_at number n) first (share caller n) chan)
+      | inr other ↦ rw (other, append-nil (own_ops number first caller n)) rest
+    ]
+
 -- each channel of a caller so far is opened
-pub opened-at : (number first caller n place : ℕ) → place < share caller n → first + place < 1048576 → list_any (opens (first + place)) (own_ops number first caller n) ≡ true
+pub opened-at : (number first caller n place : ℕ) → place < share caller n → first + place < 1048576 → list_any (is_in role.Opens (first + place)) (own_ops number first caller n) ≡ true
 unfolding own_ops share
 opened-at number first caller zero place below small = absurd (omega (arith, below))
 opened-at number first caller (suc n) place below small =
@@ -218,10 +240,10 @@ opened-at number first caller (suc n) place below small =
       | inl own ↦
           (let more : share caller (suc n) ≡ suc (share caller n) = share-own caller n own in
           let open_it = ops_for (load_at number n) first (share caller n) in
-          rw (own, list_any-append (opens (first + place)) (own_ops number first caller n) open_it) (
+          rw (own, list_any-append (is_in role.Opens (first + place)) (own_ops number first caller n) open_it) (
           elim (cases_lt place (share caller n)) [
             | inl before ↦ or_left _ _ (opened-at number first caller n place before small)
-            | inr last ↦ or_right (list_any (opens (first + place)) (own_ops number first caller n)) _ (or_left _ _ (
+            | inr last ↦ or_right (list_any (is_in role.Opens (first + place)) (own_ops number first caller n)) _ (or_left _ _ (
                 let is = channel-is (first + share caller n) (let same : place ≡ share caller n = omega (arith, last, below, more) in omega (arith, same, small)) in
                 eq-eqb (channel_number (channel_at (first + share caller n))) (first + place) (omega (arith, is, last, below, more))))
           ]))

@@ -16,12 +16,12 @@ use Rattle.call_script.proofs.FitFacts.{plan-fits}
 use Rattle.call_script.proofs.OwnerFacts.{all-owned}
 use Rattle.call_script.specs.Parts.{PlanParts}
 use Rattle.call_script.specs.Plans.{IsPlan}
-use Rattle.call_script.specs.Tasks.{Network, network_of, request_of, send_on, task_for, task_of, with_task, tasks_of, script_of}
+use Rattle.call_script.specs.Tasks.{Network, network_of, request_of, send_on, task_for, move_for, task_of, with_task, tasks_of, script_of}
 use Rattle.hop_reservation.specs.declared.route.Hop.{Hop}
 use Rattle.call_script.specs.declared.entries.CallerEntry.{CallerEntry}
 use Rattle.call_script.specs.declared.entries.RequestEntry.{RequestEntry}
 use Rattle.call_script.specs.declared.operations.Op.{Op}
-use Rattle.call_script.specs.declared.operations.Op.TheVariants.{Open, Send, Close, Pour}
+use Rattle.call_script.specs.declared.operations.Op.TheVariants.{Open, Send, Close, Pour, Move}
 use Rattle.call_script.specs.declared.tasks.Task.{Task}
 use Rattle.call_script.specs.declared.tasks.Task.TheVariants.{Sends, Closes}
 use Rattle.tick_plane.specs.Kept.{KeptPlane}
@@ -96,6 +96,11 @@ task-spaced gap requests (Close chan) tasks spaced each = other (slice_get (map 
   other None = each
   other (Some request) = (tt, each)
 task-spaced gap requests (Pour link count g size) tasks spaced each = (tt, each)
+task-spaced gap requests (Move old new) tasks spaced each = other (slice_get (map request_of requests) (channel_number old)) (slice_get (map request_of requests) (channel_number new)) where
+  other : (from to : Option Request) → Each (TaskSpaced gap) (with_task (move_for from to) tasks)
+  other None to = each
+  other (Some from) None = each
+  other (Some from) (Some to) = (tt, each)
 
 tasks-spaced : (gap : ℕ) (requests : List RequestEntry) (ops : List Op) → Each (λ (entry : RequestEntry). IsSpaced gap entry.request.route) requests → Each (TaskSpaced gap) (tasks_of (map request_of requests) ops)
 unfolding tasks_of

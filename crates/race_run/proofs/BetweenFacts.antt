@@ -1,5 +1,5 @@
 -- A caller between two operations goes on over one task: one that takes no step, and one that is made.
-use Rattle.std.proofs.Common.{◌≡◌, ℕ, ◌+◌, Bool, true, false, List, [], ◌∷◌, ◌++◌, map, reverse, take, drop, get_or, length, Option, Some, None, refl, sym, ap, ◌∙◌, subst, arith}
+use Rattle.std.proofs.Common.{◌≡◌, ℕ, ◌+◌, true, false, List, [], ◌∷◌, ◌++◌, map, reverse, take, drop, length, Option, Some, None, refl, sym, ap, ◌∙◌, subst, arith}
 use Rattle.std.proofs.lemmas.Bool.{ne_eqb}
 use Rattle.std.proofs.lemmas.List.{append_assoc, append-nil, length-map, take-append-drop}
 use Rattle.std.proofs.lemmas.Option.{same_Some, slice_get-map, slice_get_within}
@@ -23,7 +23,10 @@ use Rattle.call_script.specs.declared.operations.Op.{Op}
 use Rattle.call_script.specs.declared.tasks.Task.{Task}
 use Rattle.call_script.specs.declared.tasks.Task.TheVariants.{Opens}
 use Rattle.call_script.proofs.Walks.{left-at, before-at, read-at}
-use Rattle.race_run.specs.Callers.{StandsBetween, CallerIsAt, HasOp, LeavesOpen}
+use Rattle.race_run.specs.Callers.{StandsBetween, CallerIsAt, HasOp, LeavesOpen, PacketsStand}
+use Rattle.race_run.specs.Channels.{AreTold}
+use Rattle.race_run.specs.declared.channels.Channel.{Channel}
+use Rattle.race_run.proofs.PacketFacts.{packets-skip}
 use Rattle.race_run.proofs.ScriptFacts.{each-front, has-front}
 use Rattle.race_run.proofs.TaskFacts.{HasTasks, Past, task-made}
 
@@ -47,10 +50,10 @@ unfolding tasks_of
 tasks-none requests = refl
 
 -- the tasks of a caller at a place of its script
-pub caller-tasks : (parts : PlanParts) (caller place : ℕ) (pass : Token) (accepted : List Bool) (at : CallerIsAt parts caller place pass accepted)
+pub caller-tasks : (parts : PlanParts) (caller place : ℕ) (pass : Token) (channels : List Channel) (at : CallerIsAt parts caller place pass channels)
     → HasTasks (network_of parts) pass.actor (tasks_of (requests_of parts) (take place at.entry.ops) ++ tasks_of (requests_of parts) (drop place at.entry.ops))
 unfolding network_of
-caller-tasks parts caller place pass accepted at =
+caller-tasks parts caller place pass channels at =
     let requests = requests_of parts in
     let entry = at.entry in
     let all : tasks_of requests (take place entry.ops) ++ tasks_of requests (drop place entry.ops) ≡ tasks_of requests entry.ops = sym (tasks-append requests (take place entry.ops) (drop place entry.ops)) ∙ ap (tasks_of requests) (take-append-drop place entry.ops) in
@@ -60,16 +63,16 @@ caller-tasks parts caller place pass accepted at =
     }
 
 -- the caller before an operation: what its script has before and after it, and that it goes on after it
-pub record Here (parts : PlanParts) (caller place : ℕ) (op : Op) (pass : Token) (accepted : List Bool) : Type 0 where
+pub record Here (parts : PlanParts) (caller place : ℕ) (op : Op) (pass : Token) (channels : List Channel) : Type 0 where
   pub front : List Task
   pub rest : List Task
   pub tasks : HasTasks (network_of parts) pass.actor (front ++ with_task (task_of (requests_of parts) op) rest)
-  pub between : StandsBetween (network_of parts) front (with_task (task_of (requests_of parts) op) rest) pass accepted
-  pub next : (pass' : Token) (accepted' : List Bool) → pass'.actor ≡ pass.actor → length accepted' ≡ length accepted → StandsBetween (network_of parts) (front ++ with_task (task_of (requests_of parts) op) []) rest pass' accepted' → CallerIsAt parts caller (place + 1) pass' accepted'
+  pub between : StandsBetween (network_of parts) front (with_task (task_of (requests_of parts) op) rest) pass channels
+  pub next : (pass' : Token) (channels' : List Channel) → pass'.actor ≡ pass.actor → length channels' ≡ length channels → StandsBetween (network_of parts) (front ++ with_task (task_of (requests_of parts) op) []) rest pass' channels' → CallerIsAt parts caller (place + 1) pass' channels'
 
-pub here : (parts : PlanParts) (caller place : ℕ) (op : Op) (pass : Token) (accepted : List Bool) → CallerIsAt parts caller place pass accepted → HasOp parts caller place op → Here parts caller place op pass accepted
+pub here : (parts : PlanParts) (caller place : ℕ) (op : Op) (pass : Token) (channels : List Channel) → CallerIsAt parts caller place pass channels → HasOp parts caller place op → Here parts caller place op pass channels
 unfolding network_of
-here parts caller place op pass accepted at has =
+here parts caller place op pass channels at has =
     let requests = requests_of parts in
     let entry = at.entry in
     let same : has.entry ≡ entry = same_Some has.entry entry (sym has.found ∙ at.found) in
@@ -82,21 +85,21 @@ here parts caller place op pass accepted at has =
     record {
       front = tasks_of requests (take place entry.ops);
       rest = tasks_of requests (drop (place + 1) entry.ops);
-      tasks = subst (λ ts. HasTasks (network_of parts) pass.actor (tasks_of requests (take place entry.ops) ++ ts)) after (caller-tasks parts caller place pass accepted at);
-      between = subst (λ rest. StandsBetween (network_of parts) (tasks_of requests (take place entry.ops)) rest pass accepted) after at.between;
-      next = λ pass' accepted' by long between. record {
+      tasks = subst (λ ts. HasTasks (network_of parts) pass.actor (tasks_of requests (take place entry.ops) ++ ts)) after (caller-tasks parts caller place pass channels at);
+      between = subst (λ rest. StandsBetween (network_of parts) (tasks_of requests (take place entry.ops)) rest pass channels) after at.between;
+      next = λ pass' channels' by long between. record {
         entry = entry;
         found = at.found;
         is = ap actor_number by ∙ at.is;
         all = long ∙ at.all;
-        between = subst (λ front. StandsBetween (network_of parts) front (tasks_of requests (drop (place + 1) entry.ops)) pass' accepted') (sym before) between;
+        between = subst (λ front. StandsBetween (network_of parts) front (tasks_of requests (drop (place + 1) entry.ops)) pass' channels') (sym before) between;
       };
     }
 
 -- ---- over no task, and over one that takes no step
 
-pub between-none : (network : Network) (front rest : List Task) (pass : Token) (accepted : List Bool) → StandsBetween network front rest pass accepted → StandsBetween network (front ++ []) rest pass accepted
-between-none network front rest pass accepted between = subst (λ ts. StandsBetween network ts rest pass accepted) (sym (append-nil front)) between
+pub between-none : (network : Network) (front rest : List Task) (pass : Token) (channels : List Channel) → StandsBetween network front rest pass channels → StandsBetween network (front ++ []) rest pass channels
+between-none network front rest pass channels between = subst (λ ts. StandsBetween network ts rest pass channels) (sym (append-nil front)) between
 
 begun-over : (outcomes : List Learnt) (task : Task) (rest : List Task) → takes_step outcomes task ≡ false → begun outcomes (task ∷ rest) ≡ begun outcomes rest
 unfolding from_step
@@ -106,28 +109,30 @@ begun-at : (outcomes : List Learnt) (task : Task) (rest : List Task) → takes_s
 unfolding from_step
 begun-at outcomes task rest takes = rw takes refl
 
-pub between-skipped : (network : Network) (front : List Task) (task : Task) (rest : List Task) (pass : Token) (accepted : List Bool) (between : StandsBetween network front (task ∷ rest) pass accepted) → takes_step between.outcomes task ≡ false → ((request : Request) → task ≡ Opens request → ⊥) → StandsBetween network (front ++ task ∷ []) rest pass accepted
-between-skipped network front task rest pass accepted between passes apart = record {
+pub between-skipped : (network : Network) (front : List Task) (task : Task) (rest : List Task) (pass : Token) (channels : List Channel) (between : StandsBetween network front (task ∷ rest) pass channels) → takes_step between.outcomes task ≡ false → ((request : Request) → task ≡ Opens request → ⊥) → StandsBetween network (front ++ task ∷ []) rest pass channels
+between-skipped network front task rest pass channels between passes apart = record {
   outcomes = between.outcomes;
   asked = between.asked;
   stands = ap (λ ts. standing ts (reverse (map reply_in pass.own))) (append_assoc front (task ∷ []) rest) ∙ between.stands ∙ begun-over between.outcomes task rest passes;
   known = between.known;
   fresh = λ chan each. between.fresh chan (each-front _ front task each).0;
   live = λ request has each is. between.live request (has-front (Opens request) front task has (apart request)) (each-front _ front task each).0 is;
+  packets = packets-skip network.requests front task pass.own between.outcomes between.packets;
 }
 
 -- ---- over one that is made
 
 -- what a task that is made leaves of the rest
-pub record Leaves (front : List Task) (task : Task) (pass pass' : Token) (outcomes : List Learnt) (accepted : List Bool) : Type 0 where
-  pub known : (chan : ChanNo) → is_established chan outcomes ≡ get_or accepted (channel_number chan) false
+pub record Leaves (requests : List Request) (front : List Task) (task : Task) (pass pass' : Token) (outcomes : List Learnt) (channels : List Channel) : Type 0 where
+  pub known : AreTold channels outcomes
   pub fresh : (chan : ChanNo) → TaskOff (channel_number chan) task → HasNone chan pass.own → HasNone chan pass'.own
   pub live : (request : Request) → Has (Opens request) (front ++ task ∷ []) → Each (LeavesOpen (channel_number request.chan)) (front ++ task ∷ []) → is_established request.chan outcomes ≡ true → IsEstablished request pass'.own
+  pub packets : PacketsStand requests (front ++ task ∷ []) pass'.own outcomes
 
-pub between-made : (network : Network) (front : List Task) (task own : Task) (rest : List Task) (pass pass' : Token) (accepted accepted' : List Bool) (entries : List OwnEntry) (between : StandsBetween network front (task ∷ rest) pass accepted) → HasTasks network pass.actor (front ++ task ∷ rest) → pass'.actor ≡ pass.actor → pass'.own ≡ pass.own ++ entries
-    → takes_step between.outcomes task ≡ true → ready between.outcomes task ≡ own → Follows (task_ask own) [] entries → task_ask own (map reply_in entries) ≡ None → (entries ≡ [] → ⊥) → Leaves front task pass pass' (outcome_by own (map reply_in entries) ++ between.outcomes) accepted' → StandsBetween network (front ++ task ∷ []) rest pass' accepted'
-between-made network front task own rest pass pass' accepted accepted' [] between tasks by added takes begins follows none some leaves = absurd (some refl)
-between-made network front task own rest pass pass' accepted accepted' (e ∷ left) between tasks by added takes begins follows none some leaves =
+pub between-made : (network : Network) (front : List Task) (task own : Task) (rest : List Task) (pass pass' : Token) (channels channels' : List Channel) (entries : List OwnEntry) (between : StandsBetween network front (task ∷ rest) pass channels) → HasTasks network pass.actor (front ++ task ∷ rest) → pass'.actor ≡ pass.actor → pass'.own ≡ pass.own ++ entries
+    → takes_step between.outcomes task ≡ true → ready between.outcomes task ≡ own → Follows (task_ask own) [] entries → task_ask own (map reply_in entries) ≡ None → (entries ≡ [] → ⊥) → Leaves network.requests front task pass pass' (outcome_by own (map reply_in entries) ++ between.outcomes) channels' → StandsBetween network (front ++ task ∷ []) rest pass' channels'
+between-made network front task own rest pass pass' channels channels' [] between tasks by added takes begins follows none some leaves = absurd (some refl)
+between-made network front task own rest pass pass' channels channels' (e ∷ left) between tasks by added takes begins follows none some leaves =
     let past : Past network (front ++ task ∷ rest) pass.actor pass.own (record { tasks = own ∷ rest; replies = []; outcomes = between.outcomes }) = record { asked = between.asked; stands = between.stands ∙ begun-at between.outcomes task rest takes ∙ ap (λ t. record { tasks = t ∷ rest; replies = []; outcomes = between.outcomes }) begins } in
     let made = task-made network pass.actor (front ++ task ∷ rest) between.outcomes own rest pass.own [] e left pass'.own (map reply_in (e ∷ left)) tasks past follows added refl none in
     let mine = subst (λ a. Past network (front ++ task ∷ rest) a pass'.own (begun (outcome_by own (map reply_in (e ∷ left)) ++ between.outcomes) rest)) (sym by) made in
@@ -138,4 +143,5 @@ between-made network front task own rest pass pass' accepted accepted' (e ∷ le
       known = leaves.known;
       fresh = λ chan each. (let both = each-front _ front task each in leaves.fresh chan both.1 (between.fresh chan both.0));
       live = leaves.live;
+      packets = leaves.packets;
     }

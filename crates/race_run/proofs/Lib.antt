@@ -4,10 +4,17 @@ mod MergeFacts
 pub mod TurnFacts
 mod RunFacts
 mod Sources
+mod ChannelFacts
 mod ScriptFacts
+mod PacketFacts
 mod TaskFacts
 mod BetweenFacts
 mod OpFacts
+mod OpenOver
+mod SendOver
+mod CloseOver
+mod MoveOver
+mod NamedOnce
 mod OpsFew
 mod StepCounts
 mod ScriptEnds

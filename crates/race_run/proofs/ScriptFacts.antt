@@ -1,6 +1,6 @@
 -- What a caller's script tells of a channel at an operation: before it is opened no task names it, and where it is sent on or
--- closed it was opened above and not closed.
-use Rattle.std.proofs.Common.{◌≡◌, ℕ, Some, List, [], ◌∷◌, ◌++◌, refl, sym, subst, inl, inr}
+-- closed it was opened above and not closed. Before packets are moved onto it none are sent on it.
+use Rattle.std.proofs.Common.{◌≡◌, ◌≢◌, ℕ, Some, List, [], ◌∷◌, ◌++◌, refl, sym, ap, subst, inl, inr}
 use Rattle.net_units.specs.Numbers.{channel_number}
 use Rattle.net_units.specs.declared.numbers.LinkNo.{LinkNo}
 use Rattle.link_steps.specs.Lists.{Each}
@@ -9,7 +9,7 @@ use Rattle.step_stamp.specs.Lists.{Has}
 use Rattle.call_script.specs.Owners.{TaskOff, IsSendOn, IsMoveFrom, IsMoveOnto, ClosesOnce, SendsOnce, UsedOnce, FullScript}
 use Rattle.call_script.specs.declared.tasks.Task.{Task}
 use Rattle.call_script.specs.declared.tasks.Task.TheVariants.{Opens, Sends, Closes, Moves}
-use Rattle.race_run.specs.Callers.{LeavesOpen}
+use Rattle.race_run.specs.Callers.{LeavesOpen, LeavesUnsent}
 
 chan_of : Request → ℕ
 chan_of request = channel_number request.chan
@@ -128,6 +128,44 @@ used-live request (first ∷ front) task rest uses (inr opens) = record {
   opened = inl opens.0;
   unclosed = (subst (LeavesOpen (channel_number request.chan)) (sym opens.0) tt, used-open request front task rest (uses-names request task uses) opens.1);
 }
+
+-- ---- up to a move onto the channel nothing is sent on it
+
+off-unsent : (c : ℕ) (task : Task) → TaskOff c task → LeavesUnsent c task
+off-unsent c (Opens request) off = tt
+off-unsent c (Sends link chan count gap size) off = off
+off-unsent c (Closes request) off = tt
+off-unsent c (Moves old new gap size) off = off.1
+
+closes-no-onto : (request old : Request) (gap size : ℕ) (front rest : List Task) → ClosesOnce request (front ++ Moves old request gap size ∷ rest) → ⊥
+closes-no-onto request old gap size [] rest (inl off) = off.0.1 refl
+closes-no-onto request old gap size [] rest (inr close) = (let is : Moves old request gap size ≡ Closes request = close.0 in cc)
+closes-no-onto request old gap size (task ∷ front) rest (inl off) = closes-no-onto request old gap size front rest off.1
+closes-no-onto request old gap size (task ∷ front) rest (inr close) = (each-middle (TaskOff (channel_number request.chan)) front (Moves old request gap size) rest close.1).1 refl
+
+same-old : (one other new onto : Request) (gap other_gap size other_size : ℕ) → Moves one new gap size ≡ Moves other onto other_gap other_size → one ≡ other
+same-old one other new onto gap other_gap size other_size same = cc
+
+sends-no-onto : (request old : Request) (gap size : ℕ) (front rest : List Task) → channel_number old.chan ≢ channel_number request.chan → SendsOnce request (front ++ Moves old request gap size ∷ rest) → ⊥
+sends-no-onto request old gap size [] rest apart (inl off) = off.0.1 refl
+sends-no-onto request old gap size [] rest apart (inr (inl send)) = (let is : Moves old request gap size ≡ Sends send.0.hop.link (Some request.chan) send.0.count send.0.gap send.0.size = send.0.is in cc)
+sends-no-onto request old gap size [] rest apart (inr (inr (inl close))) = (let is : Moves old request gap size ≡ Closes request = close.0 in cc)
+sends-no-onto request old gap size [] rest apart (inr (inr (inr move))) = (let is : Moves old request gap size ≡ Moves request move.0.new move.0.gap move.0.size = move.0.is in apart (ap (λ (r : Request). channel_number r.chan) (same-old old request request move.0.new gap move.0.gap size move.0.size is)))
+sends-no-onto request old gap size (task ∷ front) rest apart (inl off) = sends-no-onto request old gap size front rest apart off.1
+sends-no-onto request old gap size (task ∷ front) rest apart (inr (inl send)) = sends-no-onto request old gap size front rest apart send.1
+sends-no-onto request old gap size (task ∷ front) rest apart (inr (inr (inl close))) = (each-middle (TaskOff (channel_number request.chan)) front (Moves old request gap size) rest close.1).1 refl
+sends-no-onto request old gap size (task ∷ front) rest apart (inr (inr (inr move))) = closes-no-onto request old gap size front rest move.1
+
+used-unsent : (request old : Request) (gap size : ℕ) (front rest : List Task) → channel_number old.chan ≢ channel_number request.chan → UsedOnce request (front ++ Moves old request gap size ∷ rest) → Each (LeavesUnsent (channel_number request.chan)) front
+used-unsent request old gap size [] rest apart used = tt
+used-unsent request old gap size (task ∷ front) rest apart (inl off) = (off-unsent (channel_number request.chan) task off.0, used-unsent request old gap size front rest apart off.1)
+used-unsent request old gap size (task ∷ front) rest apart (inr (inl move)) = absurd (sends-no-onto request old gap size front rest apart move.1)
+used-unsent request old gap size (task ∷ front) rest apart (inr (inr used)) = absurd (sends-no-onto request old gap size (task ∷ front) rest apart (inr used))
+
+pub joined-unsent : (request old : Request) (gap size : ℕ) (front rest : List Task) → channel_number old.chan ≢ channel_number request.chan → FullScript request (front ++ Moves old request gap size ∷ rest) → Each (LeavesUnsent (channel_number request.chan)) front
+joined-unsent request old gap size [] rest apart full = tt
+joined-unsent request old gap size (task ∷ front) rest apart (inl off) = (off-unsent (channel_number request.chan) task off.0, joined-unsent request old gap size front rest apart off.1)
+joined-unsent request old gap size (task ∷ front) rest apart (inr opens) = (subst (LeavesUnsent (channel_number request.chan)) (sym opens.0) tt, used-unsent request old gap size front rest apart opens.1)
 
 -- ---- what a task more changes
 

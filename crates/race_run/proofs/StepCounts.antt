@@ -1,12 +1,11 @@
--- How many steps an actor of a plan makes in all: 32 to open a request, 16 to close one and one for each send and pour, and two
--- for each link and round of the plane. So it is at most 1,048,576, and no item of a schedule asks for more.
-use Rattle.std.proofs.Common.{◌≡◌, ℕ, zero, suc, eqb, ◌+◌, ◌*◌, ◌-◌, ◌<◌, ◌≤◌, true, false, Some, None, Option, List, [], ◌∷◌, ◌++◌, length, map, refl, sym, ap, ◌∙◌, subst, inl, inr, append_assoc, arith}
+-- How many steps an actor of a plan makes in all: 32 to open a request, 16 to close one, 17 for each move and one for each send and
+-- pour, and two for each link and round of the plane. So it is at most 1,048,576, and no item of a schedule asks for more.
+use Rattle.std.proofs.Common.{◌≡◌, ℕ, zero, suc, eqb, ◌+◌, ◌*◌, ◌-◌, ◌<◌, ◌≤◌, Some, None, Option, List, [], ◌∷◌, ◌++◌, length, map, refl, sym, ap, ◌∙◌, subst, inl, inr, arith}
 use Rattle.std.proofs.lemmas.Bool.{cases_Bool, and_parts, eq-eqb, eqb-true, eqb-false, leb-true}
 use Rattle.std.proofs.lemmas.List.{length-append, length-map, reverse-append}
 use Rattle.std.proofs.lemmas.List.Elements.{filter-append}
-use Rattle.std.proofs.lemmas.Map.Steps.{length-le_from_distinct_below}
-use Rattle.std.proofs.lemmas.Option.{same_Some, slice_get-map, slice_get_within}
-use Rattle.std.specs.List.{list_all, list_any, slice_get}
+use Rattle.std.proofs.lemmas.Option.{same_Some, slice_get-map}
+use Rattle.std.specs.List.{slice_get}
 use Rattle.std.specs.Prelude.{filter, nat_le, option_map, reverse}
 use Rattle.net_units.specs.Limits.{most_steps}
 use Rattle.net_units.specs.Numbers.{actor_number, channel_number}
@@ -17,24 +16,20 @@ use Rattle.link_steps.specs.Lists.{Each}
 use Rattle.link_steps.proofs.ListFacts.{Each-if, Each-both}
 use Rattle.link_steps.proofs.ListParts.{Each-at}
 use Rattle.setup_protocol.specs.declared.request.Request.{Request}
-use Rattle.traffic_contract.specs.Admission.{total}
 use Rattle.call_script.proofs.FitFacts.{plan-fits}
-use Rattle.call_script.proofs.Growing.{few-in, ranges-in, used-in}
-use Rattle.call_script.proofs.OpeningFacts.{opened-has}
-use Rattle.call_script.proofs.OwnerFacts.{any-later, twice-not}
-use Rattle.call_script.proofs.RuleFacts.{each-of, keeps-rules}
+use Rattle.call_script.proofs.RuleFacts.{keeps-rules}
 use Rattle.call_script.specs.Fits.{NetworkFits}
 use Rattle.call_script.specs.Parts.{PlanParts, openings_in}
 use Rattle.call_script.specs.Plans.{HasTerms, IsPlan}
-use Rattle.call_script.specs.Rules.{are_unclosed, are_within_load, each_after, is_opened, is_unclosed, load_in, load_of, op_in_range, opens}
+use Rattle.call_script.specs.Rules.{are_within_load, load_in, loads_with, ops_load}
 use Rattle.interleave_core.proofs.TurnFacts.{from-step-most}
 use Rattle.call_script.specs.Scripts.{standing, standing_of}
 use Rattle.call_script.specs.Splits.{entry_link, groups_in}
-use Rattle.call_script.specs.Tasks.{Network, network_of, request_of, script_of, send_on, task_for, tasks_of, with_task}
+use Rattle.call_script.specs.Tasks.{Network, network_of, move_for, request_of, script_of, send_on, task_for, tasks_of, with_task}
 use Rattle.call_script.specs.declared.entries.CallerEntry.{CallerEntry}
 use Rattle.call_script.specs.declared.entries.RequestEntry.{RequestEntry}
 use Rattle.call_script.specs.declared.operations.Op.{Op}
-use Rattle.call_script.specs.declared.operations.Op.TheVariants.{Open, Send, Close, Pour}
+use Rattle.call_script.specs.declared.operations.Op.TheVariants.{Open, Send, Close, Pour, Move}
 use Rattle.call_script.specs.declared.schedule.Do.{Do}
 use Rattle.call_script.specs.declared.tasks.Task.{Task}
 use Rattle.call_script.specs.declared.tasks.Task.TheVariants.{Opens, Sends, Closes}
@@ -49,7 +44,7 @@ use Rattle.run_record.specs.Runs.{is_by, replies_to}
 use Rattle.run_record.specs.declared.done.Done.{Done}
 use Rattle.tick_plane.specs.Planes.{plane_of}
 use Rattle.race_run.specs.Turns.{AreMaximalRuns, IsUnwritten, IsWritable, actors_of}
-use Rattle.race_run.proofs.OpsFew.{IsLoaded, closings, closed-once, all-loaded, openings-few, load-few}
+use Rattle.race_run.proofs.OpsFew.{IsLoaded, closings, joinings, has-few}
 use Rattle.race_run.proofs.RunFacts.{some-of, turned-actors}
 
 -- ---- the steps of a caller's tasks
@@ -77,50 +72,36 @@ send-most : (found : Option Request) (count gap size : ℕ) (tasks : List Task) 
 send-most None count gap size tasks = omega arith
 send-most (Some request) count gap size tasks = hop-most (slice_get request.route 0) request.chan count gap size tasks
 
-tasks-most : (requests : List Request) (entries : List RequestEntry) (n : ℕ) (ops : List Op) → ShortRoutes requests → Each (IsLoaded entries) ops
-    → most_over (tasks_of requests ops) ≤ 32 * length (openings_in n ops) + 16 * length (closings ops) + total (load_of entries) ops
-unfolding ShortRoutes tasks_of openings_in most_over
-tasks-most requests entries n [] short each = omega arith
-tasks-most requests entries n (Open chan ∷ ops) short each =
-    let rest = tasks-most requests entries n ops short each.1 in
+move-most : (old new : Option Request) (tasks : List Task) → ((request : Request) → old ≡ Some request → length request.route ≤ 16) → most_over (with_task (move_for old new) tasks) ≤ 17 + most_over tasks
+unfolding most_over
+move-most None new tasks short = omega arith
+move-most (Some old) None tasks short = omega arith
+move-most (Some old) (Some new) tasks short = (let few = short old refl in omega (arith, few))
+
+tasks-most : (requests : List Request) (entries : List RequestEntry) (loads : List ℕ) (n : ℕ) (ops : List Op) → ShortRoutes requests → Each (IsLoaded entries) ops
+    → most_over (tasks_of requests ops) ≤ 32 * length (openings_in n ops) + 16 * length (closings ops) + 17 * length (joinings ops) + ops_load entries loads ops
+unfolding ShortRoutes tasks_of openings_in most_over ops_load
+tasks-most requests entries loads n [] short each = omega arith
+tasks-most requests entries loads n (Open chan ∷ ops) short each =
+    let rest = tasks-most requests entries (loads_with loads (Open chan)) n ops short each.1 in
     let here = open-most requests (slice_get requests (channel_number chan)) (tasks_of requests ops) (short (channel_number chan)) in
     omega (arith, rest, here)
-tasks-most requests entries n (Send chan count gap size ∷ ops) short each =
-    let rest = tasks-most requests entries n ops short each.1 in
+tasks-most requests entries loads n (Send chan count gap size ∷ ops) short each =
+    let rest = tasks-most requests entries (loads_with loads (Send chan count gap size)) n ops short each.1 in
     let here = send-most (slice_get requests (channel_number chan)) count gap size (tasks_of requests ops) in
     let loaded = each.0 in
     omega (arith, rest, here, loaded)
-tasks-most requests entries n (Close chan ∷ ops) short each =
-    let rest = tasks-most requests entries n ops short each.1 in
+tasks-most requests entries loads n (Close chan ∷ ops) short each =
+    let rest = tasks-most requests entries loads n ops short each.1 in
     let here = close-most requests (slice_get requests (channel_number chan)) (tasks_of requests ops) (short (channel_number chan)) in
     omega (arith, rest, here)
-tasks-most requests entries n (Pour link count gap size ∷ ops) short each = (let rest = tasks-most requests entries n ops short each.1 in let loaded = each.0 in omega (arith, rest, loaded))
+tasks-most requests entries loads n (Pour link count gap size ∷ ops) short each = (let rest = tasks-most requests entries loads n ops short each.1 in let loaded = each.0 in omega (arith, rest, loaded))
+tasks-most requests entries loads n (Move old new ∷ ops) short each =
+    let rest = tasks-most requests entries (loads_with loads (Move old new)) n ops short each.1 in
+    let here = move-most (slice_get requests (channel_number old)) (slice_get requests (channel_number new)) (tasks_of requests ops) (short (channel_number old)) in
+    omega (arith, rest, here)
 
--- ---- the channels that a caller closes
-
-module _ (parts : PlanParts) (n : ℕ) (caller : CallerEntry) (plan : IsPlan parts) (found : slice_get parts.callers n ≡ Some caller) where
-  closing-opened : (above ops : List Op) → caller.ops ≡ above ++ ops → each_after is_opened above ops ≡ true → Each (λ q. q < length parts.requests) (closings ops)
-  unfolding each_after
-  closing-opened above [] are opened = tt
-  closing-opened above (Open chan ∷ ops) are opened = closing-opened (above ++ Open chan ∷ []) ops (are ∙ sym (append_assoc above (Open chan ∷ []) ops)) (and_parts (is_opened above (Open chan)) (each_after is_opened (above ++ Open chan ∷ []) ops) opened).1
-  closing-opened above (Send chan count gap size ∷ ops) are opened =
-      closing-opened (above ++ Send chan count gap size ∷ []) ops (are ∙ sym (append_assoc above (Send chan count gap size ∷ []) ops)) (and_parts (is_opened above (Send chan count gap size)) (each_after is_opened (above ++ Send chan count gap size ∷ []) ops) opened).1
-  closing-opened above (Close chan ∷ ops) are opened =
-      let split = and_parts (is_opened above (Close chan)) (each_after is_opened (above ++ Close chan ∷ []) ops) opened in
-      let there = any-later (opens (channel_number chan)) above (Close chan ∷ ops) (twice-not (list_any (opens (channel_number chan)) above) split.0) in
-      let is = opened-has parts n (channel_number chan) caller plan.planned found (ap (list_any (opens (channel_number chan))) are ∙ there) in (
-        slice_get_within parts.requests (channel_number chan) is.entry is.found,
-        closing-opened (above ++ Close chan ∷ []) ops (are ∙ sym (append_assoc above (Close chan ∷ []) ops)) split.1,
-      )
-  closing-opened above (Pour link count gap size ∷ ops) are opened =
-      closing-opened (above ++ Pour link count gap size ∷ []) ops (are ∙ sym (append_assoc above (Pour link count gap size ∷ []) ops)) (and_parts (is_opened above (Pour link count gap size)) (each_after is_opened (above ++ Pour link count gap size ∷ []) ops) opened).1
-
-each-any : (P : ℕ → Type 0) (ns : List ℕ) (q : ℕ) → Each P ns → list_any (eqb q) ns ≡ true → P q
-each-any P [] q each any = absurd (let clash : false ≡ true = any in cc)
-each-any P (m ∷ ns) q each any = elim (cases_Bool (eqb q m)) [
-  | inl same ↦ subst P (sym (eqb-true q m same)) each.0
-  | inr other ↦ each-any P ns q each.1 (rw other at any)
-]
+-- ---- the steps of a caller
 
 short-routes : (parts : PlanParts) → IsPlan parts → ShortRoutes (map request_of parts.requests)
 unfolding ShortRoutes
@@ -131,20 +112,16 @@ short-routes parts plan k request found =
     short None at is = absurd (let clash : None ≡ Some request = is in cc)
     short (Some entry) at is = subst (λ (r : Request). length r.route ≤ 16) (same_Some (request_of entry) request is) (Each-at HasTerms parts.requests k entry plan.terms at).route.most
 
--- 32,768 to open, 16,384 to close, and 262,144 to send and pour
+-- 32,768 to open, 16,384 to close, 17,408 to move, and 262,144 to send and pour
 caller-steps : (parts : PlanParts) (n : ℕ) (caller : CallerEntry) → IsPlan parts → slice_get parts.callers n ≡ Some caller → most_over (script_of (map request_of parts.requests) caller) ≤ most_steps
-unfolding are_unclosed
 caller-steps parts n caller plan found =
-    let rules = keeps-rules parts plan.kept in
-    let range = Each-at (λ (c : CallerEntry). list_all op_in_range c.ops ≡ true) parts.callers n caller (each-of (λ (c : CallerEntry). list_all op_in_range c.ops) parts.callers (ranges-in parts rules.range).ops) found in
-    let opened = Each-at (λ (c : CallerEntry). each_after is_opened [] c.ops ≡ true) parts.callers n caller (each-of (λ (c : CallerEntry). each_after is_opened [] c.ops) parts.callers (used-in parts rules.there).opened) found in
-    let unclosed = Each-at (λ (c : CallerEntry). each_after is_unclosed [] c.ops ≡ true) parts.callers n caller (each-of (λ (c : CallerEntry). each_after is_unclosed [] c.ops) parts.callers rules.unclosed) found in
-    let most = tasks-most (map request_of parts.requests) parts.requests n caller.ops (short-routes parts plan) (all-loaded parts n caller plan found [] caller.ops refl range opened) in
-    let requests = (few-in parts rules.few).requests in
-    let closes = length-le_from_distinct_below (closings caller.ops) (length parts.requests) (closed-once [] caller.ops unclosed) (λ q any. each-any (λ m. m < length parts.requests) (closings caller.ops) q (closing-opened parts n caller plan found [] caller.ops refl opened) any) in
-    let openings = openings-few parts n caller plan found in
-    let load = load-few parts n caller plan found in
-    omega (arith, most, requests, closes, openings, load)
+    let few = has-few parts n caller plan found in
+    let most = tasks-most (map request_of parts.requests) parts.requests few.load.loads n caller.ops (short-routes parts plan) few.loaded in
+    let openings = few.openings in
+    let closes = few.closes in
+    let joins = few.joins in
+    let load = few.load.within in
+    omega (arith, most, openings, closes, joins, load)
 
 -- ---- the steps of any actor
 

@@ -6,6 +6,7 @@
 #![tactic(auto)]
 
 pub mod callers;
+pub mod channels;
 pub mod merging;
 pub mod opening;
 pub mod pieces;

@@ -8,6 +8,7 @@ ghost use Rattle.link_ledger.specs.Tokens.{stamps_drawn};
 ghost use Rattle.shared_network.specs.Ready.{MayStep, PassGoesOn};
 
 use crate::callers::make_op;
+use crate::channels::Channels;
 use call_script::Plan;
 use link_ledger::{Home, Pass};
 use link_steps::LinkStep;
@@ -37,7 +38,7 @@ pub(crate) fn make_script<L: LinkStep + Send, H: Home, W: Wait, G: Gate>(
     ensures ready { OnOk result (PassGoesOn H.table H.owners H.links pass.old pass.new) }
     ensures actor { OnOk result (pass.new.actor ≡ pass.old.actor) }
 {
-    let mut accepted = vec![in alloc; false; plan.requests().len()]?;
+    let mut channels = Channels::new(alloc, plan.requests().len())?;
     let count = plan.callers()[caller].ops.as_slice().len();
     make_ops(
         rt,
@@ -46,7 +47,7 @@ pub(crate) fn make_script<L: LinkStep + Send, H: Home, W: Wait, G: Gate>(
         gate,
         (caller, count),
         pass,
-        &mut accepted,
+        &mut channels,
     )
 }
 
@@ -58,19 +59,19 @@ fn make_ops<L: LinkStep + Send, H: Home, W: Wait, G: Gate>(
     gate: &G,
     all: (usize, usize),
     pass: &mut Pass,
-    accepted: &mut [bool],
+    channels: &mut Channels,
 ) -> Result<(), OutOfMemory>
     requires network { IsNetworkOf plan.now H.links H.owners }
     requires pass { MayStep H.table H.owners H.links pass.old }
     requires drawn { stamps_drawn pass.old ≡ 0 }
     requires all { HasOps plan.now all.0 all.1 }
-    requires at { CallerIsAt plan.now all.0 0 pass.old accepted.old }
+    requires at { CallerIsAt plan.now all.0 0 pass.old channels.old.by_number.items }
     ensures made { OnOk result (HasMadeAll (network_of plan.now) pass.new) }
     ensures ready { OnOk result (PassGoesOn H.table H.owners H.links pass.old pass.new) }
     ensures actor { OnOk result (pass.new.actor ≡ pass.old.actor) }
 {
     for place in 0..all.1 {
-        make_op(rt, network, plan, gate, (all.0, place), pass, accepted)?;
+        make_op(rt, network, plan, gate, (all.0, place), pass, channels)?;
     }
     Ok(())
 }

@@ -4,7 +4,7 @@ use Rattle.std.proofs.lemmas.List.{length-map}
 use Rattle.std.proofs.lemmas.Option.{same_Some, slice_get-map}
 use Rattle.std.specs.List.{slice_get}
 use Rattle.std.specs.Prelude.{option_map}
-use Rattle.net_units.specs.Numbers.{link_number}
+use Rattle.net_units.specs.Numbers.{channel_number, link_number}
 use Rattle.hop_reservation.specs.declared.route.Hop.{Hop}
 use Rattle.link_steps.specs.Journals.{JournalGoesOn}
 use Rattle.link_steps.specs.Legal.{AskFits}
@@ -26,7 +26,7 @@ use Rattle.call_script.specs.declared.version.Version.{Version}
 use Rattle.call_script.proofs.GroupFacts.{none-unused}
 use Rattle.race_run.specs.Whole.{IsWhole}
 use Rattle.race_run.proofs.WholeFacts.{whole-length}
-use Rattle.race_run_tests.specs.Worked.{AreNumbered, IsWorkedCaller, IsWorkedHop, IsWorkedLink, IsWorkedRequest}
+use Rattle.race_run_tests.specs.Worked.{AreMovers, AreNumbered, IsMovedRequest, IsWorkedCaller, IsWorkedHop, IsWorkedLink, IsWorkedRequest}
 
 pub numbered-more : {X : Type 0} (P : ℕ → X → Type 0) (n : ℕ) (xs : List X) (x : X) → AreNumbered P n xs → P (n + length xs) x → AreNumbered P n (xs ++ x ∷ [])
 numbered-more P n [] x all last = (subst (λ k. P k x) (omega arith) last, tt)
@@ -56,14 +56,44 @@ follows links hop all over = record {
   prop = λ entry found. over.prop ∙ sym (first-get IsWorkedLink links (link_number hop.link) entry all found).prop;
 }
 
-pub worked-planned : (version : Version) (links : List LinkEntry) (requests : List RequestEntry) (callers : List CallerEntry) (rounds tail : ℕ) → AreNumbered IsWorkedLink 0 links → AreNumbered IsWorkedRequest 0 requests → AreNumbered IsWorkedCaller 0 callers → length callers ≡ length requests → ArePlanned (parts_of version links requests callers rounds tail)
-worked-planned version links requests callers rounds tail are asks open_all long = record {
+-- the request of a number asks for its channel, over hops of the links
+record IsOver (n : ℕ) (entry : RequestEntry) : Type 0 where
+  chan : channel_number entry.request.chan ≡ n
+  hops : Each IsWorkedHop entry.request.route
+
+planned-over : (version : Version) (links : List LinkEntry) (requests : List RequestEntry) (callers : List CallerEntry) (rounds tail : ℕ) → AreNumbered IsWorkedLink 0 links → AreNumbered IsOver 0 requests → openings_of 0 callers ≡ map opening_of requests → ArePlanned (parts_of version links requests callers rounds tail)
+planned-over version links requests callers rounds tail are over opened = record {
   links = λ n entry found. (first-get IsWorkedLink links n entry are found).number;
   unused = λ n entry found. none-unused entry (first-get IsWorkedLink links n entry are found).unsplit;
-  requests = λ n entry found. (first-get IsWorkedRequest requests n entry asks found).chan;
-  openings = openings-told 0 callers requests long open_all asks;
-  hops = λ n entry found. Each-if IsWorkedHop (FollowsLink links) entry.request.route (λ hop over. follows links hop are over) (first-get IsWorkedRequest requests n entry asks found).hops;
+  requests = λ n entry found. (first-get IsOver requests n entry over found).chan;
+  openings = opened;
+  hops = λ n entry found. Each-if IsWorkedHop (FollowsLink links) entry.request.route (λ hop on. follows links hop are on) (first-get IsOver requests n entry over found).hops;
 }
+
+over-all : (n : ℕ) (requests : List RequestEntry) → AreNumbered IsWorkedRequest n requests → AreNumbered IsOver n requests
+over-all n [] all = tt
+over-all n (r ∷ requests) all = (record { chan = all.0.chan; hops = all.0.hops }, over-all (suc n) requests all.1)
+
+pub worked-planned : (version : Version) (links : List LinkEntry) (requests : List RequestEntry) (callers : List CallerEntry) (rounds tail : ℕ) → AreNumbered IsWorkedLink 0 links → AreNumbered IsWorkedRequest 0 requests → AreNumbered IsWorkedCaller 0 callers → length callers ≡ length requests → ArePlanned (parts_of version links requests callers rounds tail)
+worked-planned version links requests callers rounds tail are asks open_all long = planned-over version links requests callers rounds tail are (over-all 0 requests asks) (openings-told 0 callers requests long open_all asks)
+
+moved-over : (n : ℕ) (requests : List RequestEntry) → AreNumbered IsMovedRequest n requests → AreNumbered IsOver n requests
+moved-over n [] all = tt
+moved-over n (r ∷ requests) all = (record { chan = all.0.chan; hops = all.0.hops }, moved-over (suc n) requests all.1)
+
+moved-openings : (callers : List CallerEntry) (requests : List RequestEntry) → AreMovers callers → AreNumbered IsMovedRequest 0 requests → length requests ≡ 2 → openings_of 0 callers ≡ map opening_of requests
+unfolding openings_of
+moved-openings (c ∷ []) (old ∷ new ∷ []) opens asks long =
+    ap (λ os. os ++ []) opens.opens ∙ (λ i. record { caller = sym asks.0.caller i; chan = sym asks.0.chan i } ∷ record { caller = sym asks.1.0.caller i; chan = sym asks.1.0.chan i } ∷ [])
+moved-openings [] requests opens asks long = absurd opens
+moved-openings (c ∷ d ∷ callers) requests opens asks long = absurd opens
+moved-openings (c ∷ []) [] opens asks long = absurd (omega (arith, long))
+moved-openings (c ∷ []) (old ∷ []) opens asks long = absurd (omega (arith, long))
+moved-openings (c ∷ []) (old ∷ new ∷ r ∷ requests) opens asks long = absurd (omega (arith, long))
+
+-- a caller that opens two channels
+pub moving-planned : (version : Version) (links : List LinkEntry) (requests : List RequestEntry) (callers : List CallerEntry) (rounds tail : ℕ) → AreNumbered IsWorkedLink 0 links → AreNumbered IsMovedRequest 0 requests → length requests ≡ 2 → AreMovers callers → ArePlanned (parts_of version links requests callers rounds tail)
+moving-planned version links requests callers rounds tail are asks long opens = planned-over version links requests callers rounds tail are (moved-over 0 requests asks) (moved-openings callers requests opens asks long)
 
 -- ---- the asks of a journal
 

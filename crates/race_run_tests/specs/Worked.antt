@@ -32,3 +32,21 @@ pub record IsWorkedRequest (n : ℕ) (entry : RequestEntry) : Type 0 where
 -- the caller opens its channel alone
 pub record IsWorkedCaller (n : ℕ) (entry : CallerEntry) : Type 0 where
   pub opens : openings_in n entry.ops ≡ record { caller = n; chan = n } ∷ []
+
+-- ---- a plan with a move
+
+-- the one caller opens the request
+pub record IsMovedRequest (n : ℕ) (entry : RequestEntry) : Type 0 where
+  pub caller : actor_number entry.caller ≡ 0
+  pub chan : channel_number entry.request.chan ≡ n
+  pub hops : Each IsWorkedHop entry.request.route
+
+-- it opens two channels
+pub record IsMover (entry : CallerEntry) : Type 0 where
+  pub opens : openings_in 0 entry.ops ≡ record { caller = 0; chan = 0 } ∷ record { caller = 0; chan = 1 } ∷ []
+
+-- it is the one caller
+abbrev pub AreMovers : List CallerEntry → Type 0
+AreMovers [] = ⊥
+AreMovers (caller ∷ []) = IsMover caller
+AreMovers (caller ∷ next ∷ callers) = ⊥

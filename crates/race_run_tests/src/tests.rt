@@ -8,6 +8,7 @@ ghost use Rattle.call_script.specs.Tasks.{network_of};
 ghost use Rattle.race_run.specs.Whole.{IsWhole};
 ghost use Rattle.race_run_tests.specs.Worked.{AreNumbered, IsWorkedCaller, IsWorkedHop, IsWorkedLink, IsWorkedRequest};
 
+mod moves;
 mod orders;
 
 use call_script::{
@@ -49,15 +50,15 @@ fn link_no(number: u8) -> Result<LinkNo, Fail>
     Ok(LinkNo::new(number).ok_or("a link")?)
 }
 
-// A link of rate 1, from the node of its number to the next.
-fn link(alloc: Global, number: u8) -> Result<LinkEntry, Fail>
+// A link of rate 1 with this test, from this node to the next.
+fn link(alloc: Global, number: u8, node: u8, test: Test) -> Result<LinkEntry, Fail>
     ensures { IfOk result (IsWorkedLink number) }
 {
     Ok(LinkEntry {
         name: name(b'l', number)?,
-        from: name(b'n', number)?,
-        to: name(b'n', number.wrapping_add(1))?,
-        shape: LinkShape::new(link_no(number)?, 1, 4, 2, 100, bounds()?, Test::Whole, 0)?,
+        from: name(b'n', node)?,
+        to: name(b'n', node.wrapping_add(1))?,
+        shape: LinkShape::new(link_no(number)?, 1, 4, 2, 100, bounds()?, test, 0)?,
         quotas: Quotas::none(alloc),
     })
 }
@@ -67,7 +68,7 @@ fn links(alloc: Global, count: u8) -> Result<Vec<LinkEntry>, Fail>
 {
     let mut links = Vec::new(alloc);
     for number in 0..count {
-        links.push(link(alloc, number)?)?;
+        links.push(link(alloc, number, number, Test::Whole)?)?;
     }
     Ok(links)
 }

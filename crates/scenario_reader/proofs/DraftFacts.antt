@@ -19,7 +19,7 @@ use Rattle.call_script.specs.declared.operations.Op.TheVariants as op
 use Rattle.call_script.specs.declared.schedule.Do.{Do}
 use Rattle.call_script.specs.declared.version.Version.{Version}
 use Rattle.call_script.specs.declared.version.Version.TheVariants.{One}
-use Rattle.call_script.proofs.Growing.{nothing-keeps, link-keeps, caller-keeps, open-keeps, send-keeps, close-keeps, pour-keeps, rounds-keep, tail-keeps, grown-is-plan}
+use Rattle.call_script.proofs.Growing.{nothing-keeps, link-keeps, caller-keeps, open-keeps, send-keeps, close-keeps, pour-keeps, move-keeps, rounds-keep, tail-keeps, grown-is-plan}
 use Rattle.call_script.proofs.QuotaGrowth.{group-keeps, quota-keeps}
 use Rattle.scenario_reader.specs.Drafts.{Said, nothing_said, with_item, is_complete, rounds_of, parts_said, schedule_said}
 use Rattle.scenario_reader.specs.Kept.{IsDo, IsScheduleOf, IsDraft, MayDo, MayPutLink, MayPutGroup, MayPutQuota, MayPutCaller, MayPutOpen, MayPutOp, MayPutRounds, MayPutTail, MayPutSchedule, MayPutDo, MayAdd}
@@ -130,6 +130,7 @@ op_keeps said (op.Open chan) d may = absurd may
 op_keeps said (op.Send chan count gap size) d may = send-keeps (parts_said said) chan count gap size d.keeps may
 op_keeps said (op.Close chan) d may = close-keeps (parts_said said) chan d.keeps may
 op_keeps said (op.Pour link count gap size) d may = pour-keeps (parts_said said) link count gap size d.keeps may
+op_keeps said (op.Move old new) d may = move-keeps (parts_said said) old new d.keeps may
 
 draft_op : (said : Said) (what : Op) → IsDraft said → MayPutOp said what → IsDraft (with_item (item.Op what) said)
 draft_op said what d may = record {

@@ -1,45 +1,50 @@
 -- What is kept beside a draft, with each line more.
-use Rattle.std.proofs.Common.{◌≡◌, ℕ, zero, suc, ◌+◌, ◌-◌, ◌<◌, ◌≤◌, Bool, true, false, ◌||◌, nat_eq, List, [], ◌∷◌, ◌++◌, length, Some, Result, Ok, Err, OnOk, refl, sym, ◌∙◌, ap, subst, arith, inl, inr, set, get_or, append_assoc, get_or-set_same, get_or-set_other, length-set}
-use Rattle.std.proofs.Math.Bool.{or-false, or-true}
-use Rattle.std.proofs.lemmas.Bool.{cases_Bool, eqb-true, eqb-false, and_parts, or_cases}
-use Rattle.std.proofs.lemmas.List.{length-append, map-append}
-use Rattle.std.proofs.lemmas.List.Folds.{list_any-append}
-use Rattle.std.proofs.lemmas.Option.{same_Some}
-use Rattle.std.specs.List.{list_all, list_any, slice_get, slice_index_or}
-use Rattle.std.specs.Prelude.{◌&&◌}
+use Rattle.std.proofs.Common.{◌≡◌, ℕ, zero, suc, ◌+◌, ◌-◌, ◌<◌, ◌≤◌, Bool, true, false, ◌||◌, nat_eq, Option, None, List, [], ◌∷◌, ◌++◌, length, Some, Result, Ok, Err, OnOk, refl, sym, ◌∙◌, ap, subst, arith, inl, inr, set, get_or, append_assoc}
+use Rattle.std.proofs.Math.Bool.{or-false}
+use Rattle.std.proofs.lemmas.Bool.{cases_Bool, eqb-true, and_parts, or_cases}
+use Rattle.std.proofs.lemmas.List.{length-append, map-append, get_or_past}
+use Rattle.std.proofs.lemmas.Option.{same_Some, slice_get_within}
+use Rattle.std.specs.List.{list_any, slice_get}
 use Rattle.net_units.specs.Numbers.{link_number, actor_number, channel_number}
+use Rattle.net_units.specs.declared.numbers.ChanNo.{ChanNo}
 use Rattle.net_units.specs.declared.numbers.LinkNo.{LinkNo}
-use Rattle.traffic_contract.specs.Admission.{total}
 use Rattle.link_steps.specs.declared.quota.Quota.{Quota}
+use Rattle.link_steps.specs.Lists.{Each}
+use Rattle.link_steps.proofs.ListFacts.{Each-append}
 use Rattle.call_script.specs.Growing.{with_its_quota, new_caller, add_quota, add_op, last_ops}
-use Rattle.call_script.specs.Parts.{PlanParts}
-use Rattle.call_script.specs.Rules.{each_after, is_opened, opens, are_opened, route_is_there, pour_is_there, are_there, closes, load_of, load_in}
+use Rattle.call_script.specs.Rules.{each_after, is_in, is_after, hits, named, load_at, loads_in, load_of, load_in, ops_load, ops_over}
 use Rattle.call_script.specs.declared.entries.CallerEntry.{CallerEntry}
 use Rattle.call_script.specs.declared.entries.LinkEntry.{LinkEntry}
 use Rattle.call_script.specs.declared.entries.RequestEntry.{RequestEntry}
 use Rattle.call_script.specs.declared.operations.Op.{Op}
+use Rattle.call_script.specs.declared.operations.Op.TheVariants.{Open, Send, Close, Pour, Move}
+use Rattle.call_script.specs.declared.roles.Role.{Role}
+use Rattle.call_script.specs.declared.roles.Role.TheVariants as role
 use Rattle.call_script.specs.declared.version.Version.{Version}
-use Rattle.call_script.specs.declared.operations.Op.TheVariants.{Open, Send, Close, Pour}
-use Rattle.link_steps.specs.Lists.{Each}
-use Rattle.net_units.specs.declared.numbers.ChanNo.{ChanNo}
-use Rattle.call_script.proofs.OwnerFacts.{any-later, twice-not}
+use Rattle.call_script.proofs.OwnerFacts.{any-later, after-has}
 use Rattle.call_script.proofs.GrowthFacts.{last-passes, get-more, added-names, added-length}
 use Rattle.call_script.proofs.Growing.{HaveRequests, callers-load, all-have}
+use Rattle.call_script.proofs.LoadFacts.{new-over}
 use Rattle.call_script.proofs.OpeningFacts.{owner-inside}
 use Rattle.call_script.proofs.QuotaGrowth.{quota-names, quota-length}
-use Rattle.scenario_reader.specs.Drafts.{Said, nothing_said, with_item, parts_said}
+use Rattle.call_script.proofs.RuleFacts.{used-in}
+use Rattle.scenario_reader.specs.Drafts.{Said, nothing_said, with_item, parts_said, uses_said}
 use Rattle.scenario_reader.specs.Kept.{IsDraft, IsKeptBeside, MayPutLink, MayPutCaller, MayPutOpen, MayPutOp, MayDo}
+use Rattle.scenario_reader.specs.Uses.{IsLight, blank, used_by}
 use Rattle.scenario_reader.specs.declared.item.Item.TheVariants as item
-use Rattle.traffic_contract.proofs.AdmissionFacts.{total-push}
+use Rattle.scenario_reader.specs.declared.uses.Uses.{Uses}
+use Rattle.scenario_reader.proofs.UseFacts.{after_op, uses_added, op_used, used_length, loads_are, used_light, op_carries, op_load, load_before, same_use}
 
 -- before the first line
 pub kept_begins : IsKeptBeside nothing_said [] [] [] [] 0
+unfolding ops_load ops_over
 kept_begins = record {
   same_links = refl;
   same_requests = refl;
   same_callers = refl;
-  all_closed = refl;
-  same_closed = λ n entry found by. cc;
+  all_used = refl;
+  same_uses = λ n entry found by. cc;
+  light = tt;
   same_load = refl;
   few_links = omega arith;
   few_requests = omega arith;
@@ -49,14 +54,15 @@ kept_begins = record {
 }
 
 -- a link more
-pub kept_link : (said : Said) (links requests callers : List (List ℕ)) (closed : List Bool) (load : ℕ) (entry : LinkEntry) → IsKeptBeside said links requests callers closed load → MayPutLink said entry
-    → IsKeptBeside (with_item (item.Link entry) said) (links ++ entry.name ∷ []) requests callers closed load
-kept_link said links requests callers closed load entry k may = record {
+pub kept_link : (said : Said) (links requests callers : List (List ℕ)) (uses : List Uses) (load : ℕ) (entry : LinkEntry) → IsKeptBeside said links requests callers uses load → MayPutLink said entry
+    → IsKeptBeside (with_item (item.Link entry) said) (links ++ entry.name ∷ []) requests callers uses load
+kept_link said links requests callers uses load entry k may = record {
   same_links = ap (λ names. names ++ entry.name ∷ []) k.same_links ∙ sym (map-append (λ (e : LinkEntry). e.name) said.links (entry ∷ []));
   same_requests = k.same_requests;
   same_callers = k.same_callers;
-  all_closed = k.all_closed;
-  same_closed = k.same_closed;
+  all_used = k.all_used;
+  same_uses = k.same_uses;
+  light = k.light;
   same_load = k.same_load;
   few_links = omega (arith, may.link.few, length-append said.links (entry ∷ []));
   few_requests = k.few_requests;
@@ -66,14 +72,15 @@ kept_link said links requests callers closed load entry k may = record {
 }
 
 -- a group more
-pub kept_group : (said : Said) (links requests callers : List (List ℕ)) (closed : List Bool) (load : ℕ) (name : List ℕ) → IsKeptBeside said links requests callers closed load
-    → IsKeptBeside (with_item (item.Group name) said) links requests callers closed load
-kept_group said links requests callers closed load name k = record {
+pub kept_group : (said : Said) (links requests callers : List (List ℕ)) (uses : List Uses) (load : ℕ) (name : List ℕ) → IsKeptBeside said links requests callers uses load
+    → IsKeptBeside (with_item (item.Group name) said) links requests callers uses load
+kept_group said links requests callers uses load name k = record {
   same_links = k.same_links;
   same_requests = k.same_requests;
   same_callers = k.same_callers;
-  all_closed = k.all_closed;
-  same_closed = k.same_closed;
+  all_used = k.all_used;
+  same_uses = k.same_uses;
+  light = k.light;
   same_load = k.same_load;
   few_links = k.few_links;
   few_requests = k.few_requests;
@@ -83,14 +90,15 @@ kept_group said links requests callers closed load name k = record {
 }
 
 -- a quota more
-pub kept_quota : (said : Said) (links requests callers : List (List ℕ)) (closed : List Bool) (load : ℕ) (link : LinkNo) (quota : Quota) → IsKeptBeside said links requests callers closed load
-    → IsKeptBeside (with_item (item.Quota link quota) said) links requests callers closed load
-kept_quota said links requests callers closed load link quota k = record {
+pub kept_quota : (said : Said) (links requests callers : List (List ℕ)) (uses : List Uses) (load : ℕ) (link : LinkNo) (quota : Quota) → IsKeptBeside said links requests callers uses load
+    → IsKeptBeside (with_item (item.Quota link quota) said) links requests callers uses load
+kept_quota said links requests callers uses load link quota k = record {
   same_links = k.same_links ∙ sym (quota-names (link_number link) quota said.links);
   same_requests = k.same_requests;
   same_callers = k.same_callers;
-  all_closed = k.all_closed;
-  same_closed = k.same_closed;
+  all_used = k.all_used;
+  same_uses = k.same_uses;
+  light = k.light;
   same_load = k.same_load;
   few_links = omega (arith, k.few_links, quota-length (link_number link) quota said.links);
   few_requests = k.few_requests;
@@ -102,17 +110,18 @@ kept_quota said links requests callers closed load link quota k = record {
 -- ---- callers
 
 -- a caller more
-pub kept_caller : (said : Said) (links requests callers : List (List ℕ)) (closed : List Bool) (load : ℕ) (name : List ℕ) (group : ℕ) → IsDraft said → IsKeptBeside said links requests callers closed load → MayPutCaller said name group
-    → IsKeptBeside (with_item (item.Caller name group) said) links requests (callers ++ name ∷ []) closed load
-kept_caller said links requests callers closed load name group d k may = record {
+pub kept_caller : (said : Said) (links requests callers : List (List ℕ)) (uses : List Uses) (load : ℕ) (name : List ℕ) (group : ℕ) → IsDraft said → IsKeptBeside said links requests callers uses load → MayPutCaller said name group
+    → IsKeptBeside (with_item (item.Caller name group) said) links requests (callers ++ name ∷ []) uses load
+kept_caller said links requests callers uses load name group d k may = record {
   same_links = k.same_links;
   same_requests = k.same_requests;
   same_callers = ap (λ names. names ++ name ∷ []) k.same_callers ∙ sym (map-append (λ (c : CallerEntry). c.name) said.callers (new_caller name group ∷ []));
-  all_closed = k.all_closed;
-  same_closed = λ n entry found by.
+  all_used = k.all_used;
+  light = k.light;
+  same_uses = λ n entry found by.
       let inside = owner-inside (parts_said said) n entry d.keeps.planned found in
       absurd (omega (arith, inside, by, length-append said.callers (new_caller name group ∷ [])));
-  same_load = (let more = total-push (λ (c : CallerEntry). total (load_of said.requests) c.ops) said.callers (new_caller name group) in omega (arith, k.same_load, more));
+  same_load = k.same_load ∙ sym (ap (ops_load said.requests []) (new-over name group said.callers));
   few_links = k.few_links;
   few_requests = k.few_requests;
   few_callers = omega (arith, may.caller.few, length-append said.callers (new_caller name group ∷ []));
@@ -122,70 +131,28 @@ kept_caller said links requests callers closed load name group d k may = record 
 
 -- ---- operations
 
--- the operations of the last caller, with one more
-last_added : (op : Op) (callers : List CallerEntry) → 1 ≤ length callers → last_ops (add_op op callers) ≡ last_ops callers ++ op ∷ []
-last_added op [] some = absurd (omega arith)
-last_added op (caller ∷ []) some = refl
-last_added op (caller ∷ next ∷ callers) some = last_more op caller (next ∷ callers) (omega arith) ∙ last_added op (next ∷ callers) (omega arith)
-  where
-    last_more : (op : Op) (caller : CallerEntry) (callers : List CallerEntry) → 1 ≤ length callers → last_ops (caller ∷ add_op op callers) ≡ last_ops (add_op op callers)
-    last_more op caller [] some = absurd (omega arith)
-    last_more op caller (next ∷ []) some = refl
-    last_more op caller (next ∷ other ∷ callers) some = refl
+-- uses with a blank one after them
+use_more : (uses : List Uses) (n : ℕ) → get_or (uses ++ blank ∷ []) n blank ≡ get_or uses n blank
+use_more [] zero = refl
+use_more [] (suc n) = refl
+use_more (one ∷ uses) zero = refl
+use_more (one ∷ uses) (suc n) = use_more uses n
 
--- the load with one operation more
-load_added : (load : Op → ℕ) (op : Op) (callers : List CallerEntry) → 1 ≤ length callers
-    → total (λ (c : CallerEntry). total load c.ops) (add_op op callers) ≡ total (λ (c : CallerEntry). total load c.ops) callers + load op
-load_added load op [] some = absurd (omega arith)
-load_added load op (caller ∷ []) some = (let more = total-push load caller.ops op in omega (arith, more))
-load_added load op (caller ∷ next ∷ callers) some = (let rest = load_added load op (next ∷ callers) (omega arith) in omega (arith, rest))
-
--- whether a channel is closed, with one operation more
-closed_added : (said : Said) (op : Op) (c : ℕ) → 1 ≤ length said.callers → list_any (closes c) (last_ops (add_op op said.callers)) ≡ (list_any (closes c) (last_ops said.callers) || closes c op)
-closed_added said op c some =
-    ap (list_any (closes c)) (last_added op said.callers some) ∙ list_any-append (closes c) (last_ops said.callers) (op ∷ [])
-    ∙ ap (λ b. list_any (closes c) (last_ops said.callers) || b) (or-false (closes c op))
-
--- an operation that closes no channel leaves each as it is
-closed_same : (said : Said) (op : Op) (c : ℕ) → 1 ≤ length said.callers → closes c op ≡ false → list_any (closes c) (last_ops (add_op op said.callers)) ≡ list_any (closes c) (last_ops said.callers)
-closed_same said op c some none = closed_added said op c some ∙ ap (λ b. list_any (closes c) (last_ops said.callers) || b) none ∙ or-false (list_any (closes c) (last_ops said.callers))
-
--- what was opened before its use
-opened_in_parts : (parts : PlanParts) → are_there parts ≡ true → are_opened parts.callers ≡ true
-unfolding are_there
-opened_in_parts parts there =
-    (and_parts (list_all (route_is_there parts.links) parts.requests && list_all (λ (c : CallerEntry). list_all (pour_is_there parts.links) c.ops) parts.callers) (are_opened parts.callers) there).1
-
--- marks with one more after them
-mark_more : (closed : List Bool) (n : ℕ) → slice_index_or (closed ++ false ∷ []) n false ≡ slice_index_or closed n false
-mark_more [] zero = refl
-mark_more [] (suc n) = refl
-mark_more (b ∷ closed) zero = refl
-mark_more (b ∷ closed) (suc n) = mark_more closed n
-
--- after the marks stands none
-mark_none : (closed : List Bool) (n : ℕ) → length closed ≤ n → slice_index_or closed n false ≡ false
-mark_none [] n h = refl
-mark_none (b ∷ closed) zero h = absurd (omega arith)
-mark_none (b ∷ closed) (suc n) h = mark_none closed n (omega arith)
-
--- what is closed was opened above
-closed_opened : (c : ℕ) (above ops : List Op) → each_after is_opened above ops ≡ true → list_any (closes c) ops ≡ true → list_any (opens c) (above ++ ops) ≡ true
+-- a channel to which an operation is this was opened above
+done_opened : (what : Role) (c : ℕ) (above ops : List Op) → each_after (is_after what role.Opens) above ops ≡ true → list_any (is_in what c) ops ≡ true → list_any (is_in role.Opens c) (above ++ ops) ≡ true
 unfolding each_after
-closed_opened c above [] opened any = cc
-closed_opened c above (op ∷ ops) opened any =
-    let split = and_parts (is_opened above op) (each_after is_opened (above ++ op ∷ []) ops) opened in
-    elim (or_cases (closes c op) (list_any (closes c) ops) any) [
-      | inl here ↦ any-later (opens c) above (op ∷ ops) (closed_here c above op split.0 here)
-      | inr later ↦ subst (λ os. list_any (opens c) os ≡ true) (append_assoc above (op ∷ []) ops) (closed_opened c (above ++ op ∷ []) ops split.1 later)
+done_opened what c above [] opened any = cc
+done_opened what c above (op ∷ ops) opened any =
+    let split = and_parts (is_after what role.Opens above op) (each_after (is_after what role.Opens) (above ++ op ∷ []) ops) opened in
+    elim (or_cases (is_in what c op) (list_any (is_in what c) ops) any) [
+      | inl here ↦ any-later (is_in role.Opens c) above (op ∷ ops) (own (named what op) refl here split.0)
+      | inr later ↦ subst (λ os. list_any (is_in role.Opens c) os ≡ true) (append_assoc above (op ∷ []) ops) (done_opened what c (above ++ op ∷ []) ops split.1 later)
     ]
   where
-    closed_here : (c : ℕ) (above : List Op) (op : Op) → is_opened above op ≡ true → closes c op ≡ true → list_any (opens c) above ≡ true
-    closed_here c above (Open chan) opened closes = cc
-    closed_here c above (Send chan count gap size) opened closes = cc
-    closed_here c above (Close chan) opened closes =
-        subst (λ n. list_any (opens n) above ≡ true) (eqb-true (channel_number chan) c closes) (twice-not (list_any (opens (channel_number chan)) above) opened)
-    closed_here c above (Pour link count gap size) opened closes = cc
+    own : (chan : Option ℕ) → named what op ≡ chan → hits (λ n. nat_eq n c) (named what op) ≡ true → is_after what role.Opens above op ≡ true → list_any (is_in role.Opens c) above ≡ true
+    own None is here after = absurd (let clash : false ≡ true = sym (ap (hits (λ n. nat_eq n c)) is) ∙ here in cc)
+    own (Some n) is here after =
+        (let same : n ≡ c = eqb-true n c (sym (ap (hits (λ m. nat_eq m c)) is) ∙ here) in subst (λ m. list_any (is_in role.Opens m) above ≡ true) same (after-has what role.Opens above op n is after))
 
 -- what holds of the operations of each caller holds of those of the last
 each_last : (P : List Op → Type 0) (callers : List CallerEntry) → P [] → Each (λ (c : CallerEntry). P c.ops) callers → P (last_ops callers)
@@ -194,125 +161,144 @@ each_last P (caller ∷ []) none each = each.0
 each_last P (caller ∷ next ∷ callers) none each = each_last P (next ∷ callers) none each.1
 
 -- a channel that the last caller has opened has a request
-pub opened_within : (said : Said) (c : ℕ) → IsDraft said → list_any (opens c) (last_ops said.callers) ≡ true → c < length said.requests
+pub opened_within : (said : Said) (c : ℕ) → IsDraft said → list_any (is_in role.Opens c) (last_ops said.callers) ≡ true → c < length said.requests
 opened_within said c d any =
     each_last (HaveRequests said.requests) said.callers (λ n none. cc) (all-have (parts_said said) d.keeps.planned) c any
 
--- it has closed none that is to be opened
-fresh_channel : (said : Said) (c : ℕ) → IsDraft said → c ≡ length said.requests → list_any (closes c) (last_ops said.callers) ≡ false
-unfolding each_after
-fresh_channel said c d new =
-    elim (cases_Bool (list_any (closes c) (last_ops said.callers))) [
-      | inl any ↦ absurd (
-          let opened = last-passes (each_after is_opened []) said.callers refl (opened_in_parts (parts_said said) d.keeps.there) in
-          let within = opened_within said c d (closed_opened c [] (last_ops said.callers) opened any) in
-          omega (arith, within, new))
+-- a closing and a leaving are uses
+pub use_of : (what : Role) (c : ℕ) (ops : List Op) → ((op : Op) → is_in what c op ≡ true → is_in role.Uses c op ≡ true) → list_any (is_in role.Uses c) ops ≡ false → list_any (is_in what c) ops ≡ false
+use_of what c [] is none = refl
+use_of what c (op ∷ ops) is none =
+    elim (cases_Bool (is_in what c op)) [
+      | inl here ↦ absurd (let clash : true ≡ false = sym (ap (λ b. b || list_any (is_in role.Uses c) ops) (is op here)) ∙ none in cc)
+      | inr off ↦ ap (λ b. b || list_any (is_in what c) ops) off ∙ use_of what c ops is (rest (is_in role.Uses c op) (list_any (is_in role.Uses c) ops) none)
+    ]
+  where
+    rest : (a b : Bool) → (a || b) ≡ false → b ≡ false
+    rest true b none = cc
+    rest false b none = none
+
+pub closing_uses : (c : ℕ) (op : Op) → is_in role.Closes c op ≡ true → is_in role.Uses c op ≡ true
+closing_uses c (Open chan) is = cc
+closing_uses c (Send chan count gap size) is = cc
+closing_uses c (Close chan) is = is
+closing_uses c (Pour link count gap size) is = cc
+closing_uses c (Move old new) is = cc
+
+leaving_uses : (c : ℕ) (op : Op) → is_in role.Leaves c op ≡ true → is_in role.Uses c op ≡ true
+leaving_uses c (Open chan) is = cc
+leaving_uses c (Send chan count gap size) is = cc
+leaving_uses c (Close chan) is = cc
+leaving_uses c (Pour link count gap size) is = cc
+leaving_uses c (Move old new) is = is
+
+-- the last caller has done nothing with a channel that is to be opened
+fresh_done : (what : Role) (said : Said) (c : ℕ) → IsDraft said → c ≡ length said.requests → each_after (is_after what role.Opens) [] (last_ops said.callers) ≡ true → list_any (is_in what c) (last_ops said.callers) ≡ false
+fresh_done what said c d new after =
+    elim (cases_Bool (list_any (is_in what c) (last_ops said.callers))) [
+      | inl any ↦ absurd (let within = opened_within said c d (done_opened what c [] (last_ops said.callers) after any) in omega (arith, within, new))
       | inr none ↦ none
     ]
 
+fresh_use : (said : Said) (chan : ChanNo) → IsDraft said → channel_number chan ≡ length said.requests → uses_said said chan ≡ blank
+unfolding each_after
+fresh_use said chan d new =
+    let used = used-in (parts_said said) d.keeps.there in
+    let c = channel_number chan in
+    let uses = fresh_done role.Uses said c d new (last-passes (each_after (is_after role.Uses role.Opens) []) said.callers refl used.opened) in
+    let joins = fresh_done role.Joins said c d new (last-passes (each_after (is_after role.Joins role.Opens) []) said.callers refl used.onto_opened) in
+    same_use (uses_said said chan) blank (use_of role.Closes c (last_ops said.callers) (closing_uses c) uses) (use_of role.Leaves c (last_ops said.callers) (leaving_uses c) uses) uses joins
+    (get_or_past (loads_in said.callers) c 0 (let long = loads_are said d in omega (arith, long, new)))
+
 -- a request more
-pub kept_open : (said : Said) (links requests callers : List (List ℕ)) (closed : List Bool) (load : ℕ) (entry : RequestEntry) → IsDraft said → IsKeptBeside said links requests callers closed load → MayPutOpen said entry
-    → IsKeptBeside (with_item (item.Open entry) said) links (requests ++ entry.name ∷ []) callers (closed ++ false ∷ []) load
-kept_open said links requests callers closed load entry d k may =
+pub kept_open : (said : Said) (links requests callers : List (List ℕ)) (uses : List Uses) (load : ℕ) (entry : RequestEntry) → IsDraft said → IsKeptBeside said links requests callers uses load → MayPutOpen said entry
+    → IsKeptBeside (with_item (item.Open entry) said) links (requests ++ entry.name ∷ []) callers (uses ++ blank ∷ []) load
+kept_open said links requests callers uses load entry d k may =
     let op = Open entry.request.chan in
     let some : 1 ≤ length said.callers = omega (arith, may.request.caller) in
     let longer = added-length (Open entry.request.chan) said.callers in
+    let opened : (chan : ChanNo) → uses_said said chan ≡ uses_said (with_item (item.Open entry) said) chan =
+    λ chan. after_open said chan ∙ sym (uses_added said (with_item (item.Open entry) said) op chan some refl) in
     record {
       same_links = k.same_links;
       same_requests = ap (λ names. names ++ entry.name ∷ []) k.same_requests ∙ sym (map-append (λ (e : RequestEntry). e.name) said.requests (entry ∷ []));
       same_callers = k.same_callers ∙ sym (added-names op said.callers);
-      all_closed = omega (arith, k.all_closed, length-append closed (false ∷ []), length-append said.requests (entry ∷ []));
-      same_closed = λ n e found by.
+      all_used = omega (arith, k.all_used, length-append uses (blank ∷ []), length-append said.requests (entry ∷ []));
+      same_uses = λ n e found by.
           let own : actor_number e.caller ≡ length said.callers - 1 = omega (arith, by, longer) in
-          mark_more closed n ∙ elim (get-more said.requests entry n e found) [
-            | inl old ↦ k.same_closed n e old own ∙ sym (closed_same said op (channel_number e.request.chan) some refl)
-            | inr new ↦ mark_none closed n (omega (arith, new.0, k.all_closed))
-                ∙ sym (closed_same said op (channel_number e.request.chan) some refl
-                ∙ fresh_channel said (channel_number e.request.chan) d (ap (λ (x : RequestEntry). channel_number x.request.chan) (sym new.1) ∙ may.request.number))
+          use_more uses n ∙ elim (get-more said.requests entry n e found) [
+            | inl old ↦ k.same_uses n e old own ∙ opened e.request.chan
+            | inr new ↦ get_or_past uses n blank (omega (arith, new.0, k.all_used))
+                ∙ sym (fresh_use said e.request.chan d (ap (λ (x : RequestEntry). channel_number x.request.chan) (sym new.1) ∙ may.request.number)) ∙ opened e.request.chan
           ];
+      light = Each-append IsLight uses (blank ∷ []) k.light (omega arith, tt);
       same_load =
-          let more = load_added (load_of (said.requests ++ entry ∷ [])) op said.callers some in
-          let same = callers-load said.requests entry said.callers (opened_in_parts (parts_said said) d.keeps.there) (all-have (parts_said said) d.keeps.planned) in
-          omega (arith, k.same_load, more, same);
+          let more = open_load said.requests entry said.callers some in
+          let same = callers-load (parts_said said) entry (used-in (parts_said said) d.keeps.there) d.keeps.planned in
+          k.same_load ∙ sym same ∙ sym more;
       few_links = k.few_links;
       few_requests = omega (arith, may.request.few, length-append said.requests (entry ∷ []));
       few_callers = omega (arith, k.few_callers, longer);
       small_load = k.small_load;
       few_rounds = k.few_rounds;
     }
+  where
+    -- an open is nothing to a channel but the opening
+    after_open : (s : Said) (chan : ChanNo) → uses_said s chan ≡ after_op (Open entry.request.chan) chan (loads_in s.callers) (uses_said s chan)
+    after_open s chan =
+        same_use (uses_said s chan) (after_op (Open entry.request.chan) chan (loads_in s.callers) (uses_said s chan)) (sym (or-false _)) (sym (or-false _)) (sym (or-false _)) (sym (or-false _)) (sym (load_before (loads_in s.callers) (channel_number chan)))
+
+    -- and has no load
+    open_load : (requests : List RequestEntry) (e : RequestEntry) (cs : List CallerEntry) → 1 ≤ length cs → load_in (requests ++ e ∷ []) (add_op (Open e.request.chan) cs) ≡ load_in (requests ++ e ∷ []) cs
+    open_load requests e [] some = absurd (omega arith)
+    open_load requests e (c ∷ cs) some = (let more = op_load (requests ++ e ∷ []) (Open e.request.chan) (c ∷ cs) (omega arith) in omega (arith, more))
 
 -- the load with an operation that may be added is within the limit
-pub op_load : (said : Said) (what : Op) → IsDraft said → MayDo (parts_said said) what → load_in said.requests said.callers + load_of said.requests what ≤ 262144
-op_load said (Open chan) d may = absurd may
-op_load said (Send chan count gap size) d may = may.load
-op_load said (Close chan) d may = omega (arith, d.keeps.load)
-op_load said (Pour link count gap size) d may = may.load
+pub op_fits : (said : Said) (what : Op) → IsDraft said → MayDo (parts_said said) what → load_in said.requests said.callers + load_of said.requests (loads_in said.callers) what ≤ 262144
+op_fits said (Open chan) d may = absurd may
+op_fits said (Send chan count gap size) d may = may.load
+op_fits said (Close chan) d may = omega (arith, d.keeps.load)
+op_fits said (Pour link count gap size) d may = may.load
+op_fits said (Move old new) d may = may.load
 
--- an operation more that closes no channel
-pub kept_packets : (said : Said) (links requests callers : List (List ℕ)) (closed : List Bool) (load packets : ℕ) (what : Op) → IsDraft said → IsKeptBeside said links requests callers closed load → MayPutOp said what
-    → packets ≡ load_of said.requests what → ((c : ℕ) → closes c what ≡ false) → IsKeptBeside (with_item (item.Op what) said) links requests callers closed (load + packets)
-kept_packets said links requests callers closed load packets what d k may of none =
+-- an operation more
+pub kept_op : (said : Said) (links requests callers : List (List ℕ)) (uses : List Uses) (load packets : ℕ) (what : Op) → IsDraft said → IsKeptBeside said links requests callers uses load → MayPutOp said what
+    → packets ≡ load_of said.requests (loads_in said.callers) what → IsKeptBeside (with_item (item.Op what) said) links requests callers (used_by what uses) (load + packets)
+kept_op said links requests callers uses load packets what d k may of =
     let longer = added-length what said.callers in
-    let more = load_added (load_of said.requests) what said.callers may.some in
+    let more = op_load said.requests what said.callers may.some in
+    let carries = op_carries said links requests callers uses load what d k may.some may.op in
     record {
       same_links = k.same_links;
       same_requests = k.same_requests;
       same_callers = k.same_callers ∙ sym (added-names what said.callers);
-      all_closed = k.all_closed;
-      same_closed = λ n e found by.
+      all_used = used_length what uses ∙ k.all_used;
+      same_uses = λ n e found by.
           let own : actor_number e.caller ≡ length said.callers - 1 = omega (arith, by, longer) in
-          k.same_closed n e found own ∙ sym (closed_same said what (channel_number e.request.chan) may.some (none (channel_number e.request.chan)));
+          let number : channel_number e.request.chan ≡ n = d.keeps.planned.requests n e found in
+          let inside = slice_get_within said.requests n e found in
+          ap (λ m. get_or (used_by what uses) m blank) (sym number)
+          ∙ op_used uses (loads_in said.callers) e.request.chan (uses_said said e.request.chan) (loads_are said d ∙ sym k.all_used) (omega (arith, inside, number, k.all_used)) (ap (λ m. get_or uses m blank) number ∙ k.same_uses n e found own) refl what carries
+          ∙ sym (uses_added said (with_item (item.Op what) said) what e.request.chan may.some refl);
+      light = used_light said what uses may.op k.light;
       same_load = omega (arith, k.same_load, more, of);
       few_links = k.few_links;
       few_requests = k.few_requests;
       few_callers = omega (arith, k.few_callers, longer);
-      small_load = omega (arith, k.same_load, of, op_load said what d may.op);
-      few_rounds = k.few_rounds;
-    }
-
--- a close more
-pub kept_close : (said : Said) (links requests callers : List (List ℕ)) (closed : List Bool) (load : ℕ) (chan : ChanNo) → IsDraft said → IsKeptBeside said links requests callers closed load → MayPutOp said (Close chan)
-    → IsKeptBeside (with_item (item.Op (Close chan)) said) links requests callers (set closed (channel_number chan) true) load
-kept_close said links requests callers closed load chan d k may =
-    let op = Close chan in
-    let longer = added-length (Close chan) said.callers in
-    let more = load_added (load_of said.requests) (Close chan) said.callers may.some in
-    let within : channel_number chan < length closed = omega (arith, opened_within said (channel_number chan) d may.op.opened, k.all_closed) in
-    record {
-      same_links = k.same_links;
-      same_requests = k.same_requests;
-      same_callers = k.same_callers ∙ sym (added-names op said.callers);
-      all_closed = length-set closed (channel_number chan) true ∙ k.all_closed;
-      same_closed = λ n e found by.
-          let own : actor_number e.caller ≡ length said.callers - 1 = omega (arith, by, longer) in
-          let number : channel_number e.request.chan ≡ n = d.keeps.planned.requests n e found in
-          let old = k.same_closed n e found own in
-          elim (cases_Bool (nat_eq (channel_number chan) (channel_number e.request.chan))) [
-            | inl same ↦
-                (let at : channel_number chan ≡ n = eqb-true (channel_number chan) (channel_number e.request.chan) same ∙ number in
-                ap (λ m. get_or (set closed m true) n false) at ∙ get_or-set_same closed n true false (omega (arith, at, within))
-                ∙ sym (closed_added said op (channel_number e.request.chan) may.some ∙ ap (λ b. list_any (closes (channel_number e.request.chan)) (last_ops said.callers) || b) same ∙ or-true (list_any (closes (channel_number e.request.chan)) (last_ops said.callers))))
-            | inr other ↦
-                (get_or-set_other closed (channel_number chan) n true false (λ at. eqb-false (channel_number chan) (channel_number e.request.chan) other (sym at ∙ sym number))
-                ∙ old ∙ sym (closed_same said op (channel_number e.request.chan) may.some other))
-          ];
-      same_load = omega (arith, k.same_load, more);
-      few_links = k.few_links;
-      few_requests = k.few_requests;
-      few_callers = omega (arith, k.few_callers, longer);
-      small_load = k.small_load;
+      small_load = omega (arith, k.same_load, of, op_fits said what d may.op);
       few_rounds = k.few_rounds;
     }
 
 -- rounds
-pub kept_rounds : (said : Said) (links requests callers : List (List ℕ)) (closed : List Bool) (load count : ℕ) → IsKeptBeside said links requests callers closed load → count ≤ 524288
-    → IsKeptBeside (with_item (item.Rounds count) said) links requests callers closed load
-kept_rounds said links requests callers closed load count k few = record {
+pub kept_rounds : (said : Said) (links requests callers : List (List ℕ)) (uses : List Uses) (load count : ℕ) → IsKeptBeside said links requests callers uses load → count ≤ 524288
+    → IsKeptBeside (with_item (item.Rounds count) said) links requests callers uses load
+kept_rounds said links requests callers uses load count k few = record {
   same_links = k.same_links;
   same_requests = k.same_requests;
   same_callers = k.same_callers;
-  all_closed = k.all_closed;
-  same_closed = k.same_closed;
+  all_used = k.all_used;
+  same_uses = k.same_uses;
+  light = k.light;
   same_load = k.same_load;
   few_links = k.few_links;
   few_requests = k.few_requests;
@@ -322,14 +308,15 @@ kept_rounds said links requests callers closed load count k few = record {
 }
 
 -- the header
-pub kept_header : (said : Said) (links requests callers : List (List ℕ)) (closed : List Bool) (load : ℕ) (version : Version) → IsKeptBeside said links requests callers closed load
-    → IsKeptBeside (with_item (item.Header version) said) links requests callers closed load
-kept_header said links requests callers closed load version k = record {
+pub kept_header : (said : Said) (links requests callers : List (List ℕ)) (uses : List Uses) (load : ℕ) (version : Version) → IsKeptBeside said links requests callers uses load
+    → IsKeptBeside (with_item (item.Header version) said) links requests callers uses load
+kept_header said links requests callers uses load version k = record {
   same_links = k.same_links;
   same_requests = k.same_requests;
   same_callers = k.same_callers;
-  all_closed = k.all_closed;
-  same_closed = k.same_closed;
+  all_used = k.all_used;
+  same_uses = k.same_uses;
+  light = k.light;
   same_load = k.same_load;
   few_links = k.few_links;
   few_requests = k.few_requests;
@@ -339,14 +326,15 @@ kept_header said links requests callers closed load version k = record {
 }
 
 -- the tail
-pub kept_tail : (said : Said) (links requests callers : List (List ℕ)) (closed : List Bool) (load : ℕ) (count : ℕ) → IsKeptBeside said links requests callers closed load
-    → IsKeptBeside (with_item (item.Tail count) said) links requests callers closed load
-kept_tail said links requests callers closed load count k = record {
+pub kept_tail : (said : Said) (links requests callers : List (List ℕ)) (uses : List Uses) (load : ℕ) (count : ℕ) → IsKeptBeside said links requests callers uses load
+    → IsKeptBeside (with_item (item.Tail count) said) links requests callers uses load
+kept_tail said links requests callers uses load count k = record {
   same_links = k.same_links;
   same_requests = k.same_requests;
   same_callers = k.same_callers;
-  all_closed = k.all_closed;
-  same_closed = k.same_closed;
+  all_used = k.all_used;
+  same_uses = k.same_uses;
+  light = k.light;
   same_load = k.same_load;
   few_links = k.few_links;
   few_requests = k.few_requests;

@@ -12,7 +12,7 @@ pub mod ShapeFacts
 pub mod FormText
 pub mod LineForms
 pub mod RuleFacts
-pub mod ClosedFacts
+pub mod UseFacts
 pub mod DraftFacts
 pub mod KeptFacts
 pub mod PassFacts

@@ -18,7 +18,7 @@ use Rattle.call_script.proofs.RuleFacts.{from-low}
 use Rattle.scenario_reader.specs.BothWays.{AreNodesNamed}
 use Rattle.scenario_reader.specs.BothWays.{HasNames}
 use Rattle.scenario_reader.specs.Fields.{is_field, are_fields}
-use Rattle.scenario_reader.specs.PlanText.{best_fields, bounds_fields, link_fields, with_name, route_names, way_fields, contract_fields, control_fields, delay_fields, open_fields, send_fields, close_fields, pour_fields, rounds_fields, tail_fields}
+use Rattle.scenario_reader.specs.PlanText.{best_fields, bounds_fields, link_fields, with_name, route_names, way_fields, contract_fields, control_fields, delay_fields, open_fields, send_fields, close_fields, move_fields, pour_fields, rounds_fields, tail_fields}
 use Rattle.scenario_reader.proofs.FieldText.{name_field, number_field}
 use Rattle.scenario_reader.proofs.LinesBack.{ArePackets}
 use Rattle.scenario_reader.proofs.OpenBack.{IsHopHere}
@@ -75,6 +75,9 @@ open_is_line links entry is named here c range =
     both_fields (codes "open" ∷ entry.name ∷ []) (way_fields links entry.request.route entry.found ++ (contract_fields entry.request.contract ++ delay_fields entry.request))
     (rw (name_field entry.name is) refl)
     (both_fields (way_fields links entry.request.route entry.found) (contract_fields entry.request.contract ++ delay_fields entry.request) (way_is_fields links entry.request.route entry.found named here) (both_fields (contract_fields entry.request.contract) (delay_fields entry.request) contract bound))
+
+pub move_is_line : (old new : RequestEntry) → is_name old.name ≡ true → is_name new.name ≡ true → are_fields (move_fields old new) ≡ true
+move_is_line old new is also = rw (name_field old.name is, name_field new.name also) refl
 
 pub send_is_line : (count gap size : ℕ) (entry : RequestEntry) → is_name entry.name ≡ true → ArePackets count gap size → are_fields (send_fields count gap size entry) ≡ true
 send_is_line count gap size entry is are = rw (name_field entry.name is, number_field count (omega (arith, are.count_most)), number_field gap (omega (arith, are.gap_most)), number_field size (omega (arith, are.size_most))) refl

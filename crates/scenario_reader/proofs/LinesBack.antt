@@ -1,5 +1,5 @@
 -- The lines of a plan's operations, `rounds` and `tail` pass, and say what they are of.
-use Rattle.std.proofs.Common.{◌≡◌, ℕ, ◌+◌, ◌*◌, ◌<◌, ◌≤◌, true, false, not, nat_lt, nat_le, List, [], ◌∷◌, length, Option, Some, None, decimal, codes, refl, sym, ◌∙◌, ap, subst, arith}
+use Rattle.std.proofs.Common.{◌≡◌, ℕ, ◌+◌, ◌*◌, ◌<◌, ◌≤◌, true, false, not, ◌||◌, nat_lt, nat_le, List, [], ◌∷◌, length, Option, Some, None, decimal, codes, refl, sym, ◌∙◌, ap, subst, arith}
 use Rattle.std.specs.Prelude.{is_some}
 use Rattle.std.proofs.lemmas.Bool.{le-leb, lt-ltb, not_from_false}
 use Rattle.std.specs.List.{list_any}
@@ -8,18 +8,19 @@ use Rattle.net_units.specs.Text.{is_name}
 use Rattle.net_units.specs.declared.numbers.ChanNo.{ChanNo}
 use Rattle.net_units.specs.declared.numbers.LinkNo.{LinkNo}
 use Rattle.call_script.specs.Growing.{last_ops}
-use Rattle.call_script.specs.Rules.{hops_of, load_in, takes_best_effort, packets_in_range, closes}
+use Rattle.call_script.specs.Rules.{hops_of, load_in, takes_best_effort, packets_in_range, is_in, load_at, loads_in}
 use Rattle.call_script.specs.declared.entries.LinkEntry.{LinkEntry}
 use Rattle.call_script.specs.declared.entries.RequestEntry.{RequestEntry}
 use Rattle.call_script.specs.declared.operations.Op.TheVariants as op
+use Rattle.call_script.specs.declared.roles.Role.TheVariants as role
 use Rattle.call_script.proofs.RuleFacts.{packets-fit}
 use Rattle.scenario_reader.specs.Causes.{unless}
 use Rattle.scenario_reader.specs.Decimal.{value_of}
-use Rattle.scenario_reader.specs.Drafts.{Said, rounds_of, link_named, own_request, is_closed}
+use Rattle.scenario_reader.specs.Drafts.{Said, rounds_of, link_named, own_request, is_closed, is_left}
 use Rattle.scenario_reader.specs.Fields.{field_at}
 use Rattle.scenario_reader.specs.Forms.{has_form, used_name_rule, number_rule}
-use Rattle.scenario_reader.specs.Grammar.{send_form, packets_rule, is_closed_request, load_rule, send_rule, send_said, close_form, close_rule, close_said, pour_form, pour_rule, pour_said, rounds_form, rounds_rule, are_few_ticks, tail_form, tail_rule}
-use Rattle.scenario_reader.specs.PlanText.{send_fields, close_fields, pour_fields, rounds_fields, tail_fields}
+use Rattle.scenario_reader.specs.Grammar.{send_form, packets_rule, is_closed_request, is_over_request, load_rule, send_rule, send_said, close_form, close_rule, close_said, move_form, may_join, carried, move_rule, move_between, move_said, pour_form, pour_rule, pour_said, rounds_form, rounds_rule, are_few_ticks, tail_form, tail_rule}
+use Rattle.scenario_reader.specs.PlanText.{send_fields, close_fields, move_fields, pour_fields, rounds_fields, tail_fields}
 use Rattle.scenario_reader.specs.declared.cause.Cause.TheVariants as cause
 use Rattle.scenario_reader.proofs.NumberText.{value-decimal, decimal_passes}
 use Rattle.scenario_reader.proofs.RulesBack.{pass_all, unless_holds, used_name_back}
@@ -71,26 +72,38 @@ pub record IsOpenHere (said : Said) (chan : ChanNo) (entry : RequestEntry) : Typ
   pub name : is_name entry.name ≡ true
   pub own : own_request said entry.name ≡ Some entry
   pub same : chan ≡ entry.request.chan
-  pub unclosed : list_any (closes (channel_number chan)) (last_ops said.callers) ≡ false
+  pub unclosed : list_any (is_in role.Closes (channel_number chan)) (last_ops said.callers) ≡ false
 
 not_closed : (said : Said) (chan : ChanNo) (entry : RequestEntry) → IsOpenHere said chan entry → unless (not (is_closed_request said (own_request said entry.name))) cause.Closed ≡ None
 not_closed said chan entry is =
     ap (λ (found : Option RequestEntry). unless (not (is_closed_request said found)) cause.Closed) is.own
     ∙ unless_holds (not (is_closed said entry.request.chan)) cause.Closed
-    (not_from_false (is_closed said entry.request.chan) (subst (λ (c : ChanNo). list_any (closes (channel_number c)) (last_ops said.callers) ≡ false) is.same is.unclosed))
+    (not_from_false (is_closed said entry.request.chan) (subst (λ (c : ChanNo). list_any (is_in role.Closes (channel_number c)) (last_ops said.callers) ≡ false) is.same is.unclosed))
 
-pub send_back : (said : Said) (chan : ChanNo) (count gap size : ℕ) (entry : RequestEntry) → IsOpenHere said chan entry → ArePackets count gap size → load_in said.requests said.callers + count * hops_of (Some entry) ≤ 262144
+-- nor left by a move
+abbrev pub IsUnleft : Said → ChanNo → Type 0
+IsUnleft said chan = list_any (is_in role.Leaves (channel_number chan)) (last_ops said.callers) ≡ false
+
+not_over : (said : Said) (chan : ChanNo) (entry : RequestEntry) → IsOpenHere said chan entry → IsUnleft said chan → unless (not (is_over_request said (own_request said entry.name))) cause.Closed ≡ None
+not_over said chan entry is unleft =
+    let closed : is_closed said entry.request.chan ≡ false = subst (λ (c : ChanNo). list_any (is_in role.Closes (channel_number c)) (last_ops said.callers) ≡ false) is.same is.unclosed in
+    let left : is_left said entry.request.chan ≡ false = subst (IsUnleft said) is.same unleft in
+    ap (λ (found : Option RequestEntry). unless (not (is_over_request said found)) cause.Closed) is.own
+    ∙ unless_holds (not (is_closed said entry.request.chan || is_left said entry.request.chan)) cause.Closed
+    (not_from_false (is_closed said entry.request.chan || is_left said entry.request.chan) (ap (λ b. b || is_left said entry.request.chan) closed ∙ left))
+
+pub send_back : (said : Said) (chan : ChanNo) (count gap size : ℕ) (entry : RequestEntry) → IsOpenHere said chan entry → IsUnleft said chan → ArePackets count gap size → load_in said.requests said.callers + count * hops_of (Some entry) ≤ 262144
     → send_rule said (send_fields count gap size entry) ≡ None
-send_back said chan count gap size entry is are load =
+send_back said chan count gap size entry is unleft are load =
     let fields = send_fields count gap size entry in
     let counted : value_of (decimal count) * hops_of (own_request said entry.name) ≡ count * hops_of (Some entry) =
     ap (λ (n : ℕ). n * hops_of (own_request said entry.name)) (value-decimal count (omega (arith, are.count_most))) ∙ ap (λ (found : Option RequestEntry). count * hops_of found) is.own in
     pass_all (unless (has_form send_form fields) cause.Shape ∷ used_name_rule (is_some (own_request said entry.name)) entry.name ∷ packets_rule fields
-    ∷ unless (not (is_closed_request said (own_request said entry.name))) cause.Closed ∷ load_rule said (value_of (decimal count) * hops_of (own_request said entry.name)) ∷ []) (
+    ∷ unless (not (is_over_request said (own_request said entry.name))) cause.Closed ∷ load_rule said (value_of (decimal count) * hops_of (own_request said entry.name)) ∷ []) (
       refl,
       (
         used_name_back (is_some (own_request said entry.name)) entry.name is.name (ap is_some is.own),
-        (packets_pass (codes "send") entry.name count gap size are, (not_closed said chan entry is, (load_passes said (count * hops_of (Some entry)) (value_of (decimal count) * hops_of (own_request said entry.name)) counted load, tt))),
+        (packets_pass (codes "send") entry.name count gap size are, (not_over said chan entry is unleft, (load_passes said (count * hops_of (Some entry)) (value_of (decimal count) * hops_of (own_request said entry.name)) counted load, tt))),
       ),
     )
 
@@ -106,6 +119,35 @@ close_back said chan entry is =
 
 pub close_says : (said : Said) (chan : ChanNo) (entry : RequestEntry) → IsOpenHere said chan entry → close_said said (close_fields entry) ≡ Some (op.Close chan)
 close_says said chan entry is = rw is.own (ap (λ (c : ChanNo). Some (op.Close c)) (sym is.same))
+
+-- ---- moves
+
+pub move_back : (said : Said) (old new : ChanNo) (from to : RequestEntry) → IsOpenHere said old from → IsUnleft said old → IsOpenHere said new to → may_join said (Some from) (Some to) ≡ true
+    → load_in said.requests said.callers + load_at (loads_in said.callers) old * hops_of (Some to) ≤ 262144 → move_rule said (move_fields from to) ≡ None
+move_back said old new from to is unleft onto joins load =
+    let fields = move_fields from to in
+    let one = own_request said from.name in
+    let other = own_request said to.name in
+    let counted : carried said one * hops_of other ≡ load_at (loads_in said.callers) old * hops_of (Some to) =
+    ap (λ (found : Option RequestEntry). carried said found * hops_of other) is.own ∙ ap (λ (found : Option RequestEntry). load_at (loads_in said.callers) from.request.chan * hops_of found) onto.own
+    ∙ ap (λ (c : ChanNo). load_at (loads_in said.callers) c * hops_of (Some to)) (sym is.same) in
+    let passes : may_join said one other ≡ true = ap (λ (found : Option RequestEntry). may_join said found other) is.own ∙ ap (may_join said (Some from)) onto.own ∙ joins in
+    pass_all (unless (has_form move_form fields) cause.Shape ∷ used_name_rule (is_some one) from.name ∷ used_name_rule (is_some other) to.name ∷ unless (not (is_over_request said one)) cause.Closed
+    ∷ unless (may_join said one other) cause.Move ∷ load_rule said (carried said one * hops_of other) ∷ []) (
+      refl,
+      (
+        used_name_back (is_some one) from.name is.name (ap is_some is.own),
+        (
+          used_name_back (is_some other) to.name onto.name (ap is_some onto.own),
+          (not_over said old from is unleft, (unless_holds (may_join said one other) cause.Move passes, (load_passes said (load_at (loads_in said.callers) old * hops_of (Some to)) (carried said one * hops_of other) counted load, tt))),
+        ),
+      ),
+    )
+
+pub move_says : (said : Said) (old new : ChanNo) (from to : RequestEntry) → IsOpenHere said old from → IsOpenHere said new to → move_said said (move_fields from to) ≡ Some (op.Move old new)
+move_says said old new from to is onto =
+    ap (λ (found : Option RequestEntry). move_between found (own_request said to.name)) is.own ∙ ap (move_between (Some from)) onto.own
+    ∙ ap (λ (c : ChanNo). Some (op.Move c to.request.chan)) (sym is.same) ∙ ap (λ (c : ChanNo). Some (op.Move old c)) (sym onto.same)
 
 -- ---- pours
 

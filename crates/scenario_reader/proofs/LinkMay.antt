@@ -13,7 +13,7 @@ use Rattle.call_script.specs.Rules.{link_names, link_has_version}
 use Rattle.call_script.specs.Versions.{test_of, has_best_effort, is_test}
 use Rattle.call_script.specs.declared.entries.LinkEntry.{LinkEntry}
 use Rattle.call_script.specs.declared.version.Version.{Version}
-use Rattle.call_script.specs.declared.version.Version.TheVariants.{One, Two, Three, Four, Five}
+use Rattle.call_script.specs.declared.version.Version.TheVariants.{One, Two, Three, Four, Five, Six}
 use Rattle.scenario_reader.specs.Causes.{unless}
 use Rattle.scenario_reader.specs.Drafts.{Said, parts_said}
 use Rattle.scenario_reader.specs.Entries.{LinkNumbers, has_rate, has_room, has_bounds, shape_with, shape_where, shape_of}
@@ -77,6 +77,7 @@ no_best Two fields e = plain fields (or_cases (has_form plain_form fields) false
 no_best Three fields e = refl
 no_best Four fields e = refl
 no_best Five fields e = refl
+no_best Six fields e = refl
 
 -- ---- links
 

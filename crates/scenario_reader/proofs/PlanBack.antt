@@ -5,20 +5,21 @@ use Rattle.std.proofs.lemmas.List.{append-nil, map-append}
 use Rattle.std.specs.List.{slice_get, list_all}
 use Rattle.net_units.specs.Numbers.{link_number}
 use Rattle.net_units.specs.Text.{is_name}
-use Rattle.traffic_contract.specs.Admission.{total}
 use Rattle.link_steps.specs.Lists.{Each}
 use Rattle.call_script.specs.Groups.{group_has_version, group_is_there}
 use Rattle.call_script.specs.Growing.{new_caller, with_its_op, KeepSoFar}
 use Rattle.call_script.specs.Parts.{parts_with, Opening, opened_by, openings_in, openings_of, opening_of}
-use Rattle.call_script.specs.Rules.{each_after, is_new, link_names, caller_names, link_has_version, is_opened, is_unclosed, load_of, load_in}
+use Rattle.call_script.specs.Rules.{each_after, is_new, link_names, caller_names, link_has_version, is_after, is_apart, move_is_fit, load_of, load_in, loads_after, loads_in, loads_with, ops_load, ops_over}
 use Rattle.call_script.specs.declared.entries.CallerEntry.{CallerEntry}
 use Rattle.call_script.specs.declared.entries.LinkEntry.{LinkEntry}
 use Rattle.call_script.specs.declared.entries.RequestEntry.{RequestEntry}
 use Rattle.call_script.specs.declared.operations.Op.{Op}
+use Rattle.call_script.specs.declared.roles.Role.{Role}
+use Rattle.call_script.specs.declared.roles.Role.TheVariants as role
 use Rattle.call_script.specs.declared.version.Version.{Version}
-use Rattle.call_script.proofs.GrowthFacts.{added-total, added-last}
+use Rattle.call_script.proofs.GrowthFacts.{added-last}
+use Rattle.call_script.proofs.LoadFacts.{load-append, load-push, loads-append, loads-push, over-push, new-over}
 use Rattle.call_script.proofs.Growing.{caller-keeps, length-more}
-use Rattle.traffic_contract.proofs.AdmissionFacts.{total-append}
 use Rattle.scenario_reader.specs.BothWays.{HasNames}
 use Rattle.scenario_reader.specs.PlanText.{link_fields, op_lines, caller_fields, caller_lines}
 use Rattle.scenario_reader.proofs.GroupBack.{GroupsStand}
@@ -65,9 +66,14 @@ with_ops caller ops = record { name = caller.name; group = caller.group; ops = c
 
 pub record OpsLeft (version : Version) (links : List LinkEntry) (groups : List (List ℕ)) (all : List RequestEntry) (callers : List CallerEntry) (caller : CallerEntry) (ops : List Op) (later : ℕ) : Type 0 where
   pub sound : Each (OpSound version links) ops
-  pub opened : each_after is_opened caller.ops ops ≡ true
-  pub unclosed : each_after is_unclosed caller.ops ops ≡ true
-  pub load : load_in all (callers ++ caller ∷ []) + total (load_of all) ops + later ≤ 262144
+  pub opened : each_after (is_after role.Uses role.Opens) caller.ops ops ≡ true
+  pub onto_opened : each_after (is_after role.Joins role.Opens) caller.ops ops ≡ true
+  pub unclosed : each_after (is_apart role.Uses role.Closes) caller.ops ops ≡ true
+  pub unleft : each_after (is_apart role.Keeps role.Leaves) caller.ops ops ≡ true
+  pub unused : each_after (is_apart role.Joins role.Uses) caller.ops ops ≡ true
+  pub unjoined : each_after (is_apart role.Joins role.Joins) caller.ops ops ≡ true
+  pub fit : list_all (move_is_fit links all) ops ≡ true
+  pub load : load_in all (callers ++ caller ∷ []) + ops_load all (loads_in (callers ++ caller ∷ [])) ops + later ≤ 262144
 
 pub record OpsRead (version : Version) (links : List LinkEntry) (groups : List (List ℕ)) (all requests : List RequestEntry) (callers : List CallerEntry) (caller : CallerEntry) (ops : List Op) (following : List Opening) : Type 0 where
   pub after : List RequestEntry
@@ -82,13 +88,19 @@ same_caller caller = ap (λ (ops : List Op). record { name = caller.name; group 
 step_caller : (caller : CallerEntry) (op : Op) (ops : List Op) → with_ops (with_its_op op caller) ops ≡ with_ops caller (op ∷ ops)
 step_caller caller op ops = ap (λ (all : List Op). record { name = caller.name; group = caller.group; ops = all }) (append_assoc caller.ops (op ∷ []) ops)
 
--- the load with an operation more
-load_step : (all : List RequestEntry) (callers : List CallerEntry) (caller : CallerEntry) (op : Op) → load_in all (callers ++ with_its_op op caller ∷ []) ≤ load_in all (callers ++ caller ∷ []) + load_of all op
-load_step all callers caller op = subst (λ (cs : List CallerEntry). load_in all cs ≤ load_in all (callers ++ caller ∷ []) + load_of all op) (added-last op callers caller) (added-total (load_of all) op (callers ++ caller ∷ []))
+-- the load with an operation more, and what the requests have to carry
+over_step : (callers : List CallerEntry) (caller : CallerEntry) (op : Op) → ops_over (callers ++ with_its_op op caller ∷ []) ≡ ops_over (callers ++ caller ∷ []) ++ op ∷ []
+over_step callers caller op = over-push callers (with_its_op op caller) ∙ sym (append_assoc (ops_over callers) caller.ops (op ∷ [])) ∙ ap (λ ops. ops ++ op ∷ []) (sym (over-push callers caller))
+
+load_step : (all : List RequestEntry) (callers : List CallerEntry) (caller : CallerEntry) (op : Op) → load_in all (callers ++ with_its_op op caller ∷ []) ≡ load_in all (callers ++ caller ∷ []) + load_of all (loads_in (callers ++ caller ∷ [])) op
+load_step all callers caller op = ap (ops_load all []) (over_step callers caller op) ∙ load-push all [] (ops_over (callers ++ caller ∷ [])) op
+
+loads_step : (callers : List CallerEntry) (caller : CallerEntry) (op : Op) → loads_in (callers ++ with_its_op op caller ∷ []) ≡ loads_with (loads_in (callers ++ caller ∷ [])) op
+loads_step callers caller op = ap (loads_after []) (over_step callers caller op) ∙ loads-push [] (ops_over (callers ++ caller ∷ [])) op
 
 ops_read : (version : Version) (links : List LinkEntry) (groups : List (List ℕ)) (all requests rest : List RequestEntry) (callers : List CallerEntry) (caller : CallerEntry) (ops : List Op) (later : ℕ) (following : List Opening) → LinksStand links
     → Stands version links groups all requests rest callers caller → OpsLeft version links groups all callers caller ops later → openings_in (length callers) ops ++ following ≡ map opening_of rest → OpsRead version links groups all requests callers caller ops following
-unfolding each_after openings_in
+unfolding each_after openings_in ops_load
 ops_read version links groups all requests rest callers caller [] later following stand s left is = record {
   after = requests;
   rest = rest;
@@ -97,15 +109,21 @@ ops_read version links groups all requests rest callers caller [] later followin
   reads = subst (λ (c : CallerEntry). Reads [] (front version links groups requests (callers ++ caller ∷ [])) (front version links groups requests (callers ++ c ∷ []))) (same_caller caller) (reads_none (front version links groups requests (callers ++ caller ∷ [])));
 }
 ops_read version links groups all requests rest callers caller (op ∷ ops) later following stand s left is =
-    let opened = and_parts (is_opened caller.ops op) (each_after is_opened (caller.ops ++ op ∷ []) ops) left.opened in
-    let unclosed = and_parts (is_unclosed caller.ops op) (each_after is_unclosed (caller.ops ++ op ∷ []) ops) left.unclosed in
+    let opened = and_parts (is_after role.Uses role.Opens caller.ops op) (each_after (is_after role.Uses role.Opens) (caller.ops ++ op ∷ []) ops) left.opened in
+    let onto_opened = and_parts (is_after role.Joins role.Opens caller.ops op) (each_after (is_after role.Joins role.Opens) (caller.ops ++ op ∷ []) ops) left.onto_opened in
+    let unclosed = and_parts (is_apart role.Uses role.Closes caller.ops op) (each_after (is_apart role.Uses role.Closes) (caller.ops ++ op ∷ []) ops) left.unclosed in
+    let unleft = and_parts (is_apart role.Keeps role.Leaves caller.ops op) (each_after (is_apart role.Keeps role.Leaves) (caller.ops ++ op ∷ []) ops) left.unleft in
+    let unused = and_parts (is_apart role.Joins role.Uses caller.ops op) (each_after (is_apart role.Joins role.Uses) (caller.ops ++ op ∷ []) ops) left.unused in
+    let unjoined = and_parts (is_apart role.Joins role.Joins caller.ops op) (each_after (is_apart role.Joins role.Joins) (caller.ops ++ op ∷ []) ops) left.unjoined in
+    let fit = and_parts (move_is_fit links all op) (list_all (move_is_fit links all) ops) left.fit in
     let load = left.load in
     let step = op_step version links groups all requests rest callers caller op (openings_in (length callers) ops ++ following) stand s
-    (record { sound = left.sound.0; opened = opened.0; unclosed = unclosed.0; load = omega (arith, load) })
+    (record { sound = left.sound.0; opened = opened.0; onto_opened = onto_opened.0; unclosed = unclosed.0; unleft = unleft.0; unused = unused.0; unjoined = unjoined.0; fit = fit.0; load = omega (arith, load) })
     (sym (append_assoc (opened_by (length callers) op) (openings_in (length callers) ops) following) ∙ is) in
     let more = load_step all callers caller op in
+    let carried = ap (λ (loads : List ℕ). ops_load all loads ops) (loads_step callers caller op) in
     let others = ops_read version links groups all step.after step.rest callers (with_its_op op caller) ops later following stand step.stands
-    (record { sound = left.sound.1; opened = opened.1; unclosed = unclosed.1; load = omega (arith, load, more) }) step.left in
+    (record { sound = left.sound.1; opened = opened.1; onto_opened = onto_opened.1; unclosed = unclosed.1; unleft = unleft.1; unused = unused.1; unjoined = unjoined.1; fit = fit.1; load = omega (arith, load, more, carried) }) step.left in
     record {
       after = others.after;
       rest = others.rest;
@@ -125,9 +143,14 @@ pub record CallersLeft (version : Version) (links : List LinkEntry) (groups : Li
   pub kept : list_all (λ (caller : CallerEntry). group_has_version version caller.group) left ≡ true
   pub there : list_all (λ (caller : CallerEntry). group_is_there groups caller.group) left ≡ true
   pub sound : Each (λ (caller : CallerEntry). Each (OpSound version links) caller.ops) left
-  pub opened : list_all (λ (caller : CallerEntry). each_after is_opened [] caller.ops) left ≡ true
-  pub unclosed : list_all (λ (caller : CallerEntry). each_after is_unclosed [] caller.ops) left ≡ true
-  pub load : load_in all callers + load_in all left ≤ 262144
+  pub opened : list_all (λ (caller : CallerEntry). each_after (is_after role.Uses role.Opens) [] caller.ops) left ≡ true
+  pub onto_opened : list_all (λ (caller : CallerEntry). each_after (is_after role.Joins role.Opens) [] caller.ops) left ≡ true
+  pub unclosed : list_all (λ (caller : CallerEntry). each_after (is_apart role.Uses role.Closes) [] caller.ops) left ≡ true
+  pub unleft : list_all (λ (caller : CallerEntry). each_after (is_apart role.Keeps role.Leaves) [] caller.ops) left ≡ true
+  pub unused : list_all (λ (caller : CallerEntry). each_after (is_apart role.Joins role.Uses) [] caller.ops) left ≡ true
+  pub unjoined : list_all (λ (caller : CallerEntry). each_after (is_apart role.Joins role.Joins) [] caller.ops) left ≡ true
+  pub fit : list_all (λ (caller : CallerEntry). list_all (move_is_fit links all) caller.ops) left ≡ true
+  pub load : load_in all callers + ops_load all (loads_in callers) (ops_over left) ≤ 262144
 
 -- what was read of the requests
 pub record RequestsStand (version : Version) (links : List LinkEntry) (groups : List (List ℕ)) (all requests rest : List RequestEntry) : Type 0 where
@@ -140,14 +163,17 @@ pub record CallersRead (version : Version) (links : List LinkEntry) (groups : Li
   pub reads : Reads (flat_map (caller_lines links groups all) left) (front version links groups requests callers) (front version links groups all (callers ++ left))
 
 load_new : (all : List RequestEntry) (callers : List CallerEntry) (name : List ℕ) (group : ℕ) → load_in all (callers ++ new_caller name group ∷ []) ≡ load_in all callers
-load_new all callers name group = (let both : load_in all (callers ++ new_caller name group ∷ []) ≡ load_in all callers + (0 + 0) = total-append (λ (c : CallerEntry). total (load_of all) c.ops) callers (new_caller name group ∷ []) in omega (arith, both))
+load_new all callers name group = ap (ops_load all []) (new-over name group callers)
 
-load_both : (all : List RequestEntry) (callers : List CallerEntry) (caller : CallerEntry) → load_in all (callers ++ caller ∷ []) ≡ load_in all callers + total (load_of all) caller.ops
-load_both all callers caller = (let both : load_in all (callers ++ caller ∷ []) ≡ load_in all callers + (total (load_of all) caller.ops + 0) = total-append (λ (c : CallerEntry). total (load_of all) c.ops) callers (caller ∷ []) in omega (arith, both))
+load_both : (all : List RequestEntry) (callers : List CallerEntry) (caller : CallerEntry) → load_in all (callers ++ caller ∷ []) ≡ load_in all callers + ops_load all (loads_in callers) caller.ops
+load_both all callers caller = ap (ops_load all []) (over-push callers caller) ∙ load-append all [] (ops_over callers) caller.ops
+
+loads_both : (callers : List CallerEntry) (caller : CallerEntry) → loads_in (callers ++ caller ∷ []) ≡ loads_after (loads_in callers) caller.ops
+loads_both callers caller = ap (loads_after []) (over-push callers caller) ∙ loads-append [] (ops_over callers) caller.ops
 
 pub callers_read : (version : Version) (links : List LinkEntry) (groups : List (List ℕ)) (all requests rest : List RequestEntry) (callers left : List CallerEntry) → LinksStand links → GroupsStand groups → KeepSoFar (parts_with version links groups requests callers 0 0) → RequestsStand version links groups all requests rest
     → CallersLeft version links groups all callers left → openings_of (length callers) left ≡ map opening_of rest → CallersRead version links groups all requests callers left
-unfolding each_after openings_of
+unfolding each_after openings_of ops_over
 callers_read version links groups all requests [] callers [] stand gs keeps rs cs is =
     let whole : requests ≡ all = sym (append-nil requests) ∙ sym rs.same in
     record {
@@ -163,8 +189,13 @@ callers_read version links groups all requests rest callers (caller ∷ left) st
     let new = and_parts (is_new (caller_names callers) caller.name) (each_after is_new (caller_names callers ++ caller.name ∷ []) (caller_names left)) cs.new in
     let all_few = cs.few in
     let few : length callers < 64 = omega (arith, all_few) in
-    let opened = and_parts (each_after is_opened [] caller.ops) (list_all (λ (c : CallerEntry). each_after is_opened [] c.ops) left) cs.opened in
-    let unclosed = and_parts (each_after is_unclosed [] caller.ops) (list_all (λ (c : CallerEntry). each_after is_unclosed [] c.ops) left) cs.unclosed in
+    let opened = and_parts (each_after (is_after role.Uses role.Opens) [] caller.ops) (list_all (λ (c : CallerEntry). each_after (is_after role.Uses role.Opens) [] c.ops) left) cs.opened in
+    let onto_opened = and_parts (each_after (is_after role.Joins role.Opens) [] caller.ops) (list_all (λ (c : CallerEntry). each_after (is_after role.Joins role.Opens) [] c.ops) left) cs.onto_opened in
+    let unclosed = and_parts (each_after (is_apart role.Uses role.Closes) [] caller.ops) (list_all (λ (c : CallerEntry). each_after (is_apart role.Uses role.Closes) [] c.ops) left) cs.unclosed in
+    let unleft = and_parts (each_after (is_apart role.Keeps role.Leaves) [] caller.ops) (list_all (λ (c : CallerEntry). each_after (is_apart role.Keeps role.Leaves) [] c.ops) left) cs.unleft in
+    let unused = and_parts (each_after (is_apart role.Joins role.Uses) [] caller.ops) (list_all (λ (c : CallerEntry). each_after (is_apart role.Joins role.Uses) [] c.ops) left) cs.unused in
+    let unjoined = and_parts (each_after (is_apart role.Joins role.Joins) [] caller.ops) (list_all (λ (c : CallerEntry). each_after (is_apart role.Joins role.Joins) [] c.ops) left) cs.unjoined in
+    let fit = and_parts (list_all (move_is_fit links all) caller.ops) (list_all (λ (c : CallerEntry). list_all (move_is_fit links all) c.ops) left) cs.fit in
     let load = cs.load in
     let grown = caller-keeps (parts_with version links groups requests callers 0 0) caller.name caller.group keeps (record {
       new = new.0;
@@ -179,11 +210,16 @@ callers_read version links groups all requests rest callers (caller ∷ left) st
       member = record { kept = kept.0; there = there.0; stand = gs };
     }) in
     let empty = load_new all callers caller.name caller.group in
-    let ops = ops_read version links groups all requests rest callers begun caller.ops (load_in all left) (openings_of (suc (length callers)) left) stand
+    let none = ap (loads_after []) (new-over caller.name caller.group callers) in
+    let first_loads = ap (λ (loads : List ℕ). ops_load all loads caller.ops) none in
+    let both = load-append all (loads_in callers) caller.ops (ops_over left) in
+    let last = ops_load all (loads_after (loads_in callers) caller.ops) (ops_over left) in
+    let ops = ops_read version links groups all requests rest callers begun caller.ops last (openings_of (suc (length callers)) left) stand
     (record { keeps = grown; same = rs.same; stand = rs.stand; named = rs.named; few = few })
-    (record { sound = cs.sound.0; opened = opened.0; unclosed = unclosed.0; load = omega (arith, load, empty) }) is in
+    (record { sound = cs.sound.0; opened = opened.0; onto_opened = onto_opened.0; unclosed = unclosed.0; unleft = unleft.0; unused = unused.0; unjoined = unjoined.0; fit = fit.0; load = omega (arith, load, empty, first_loads, both) }) is in
     let longer = length-more callers caller in
     let more = load_both all callers caller in
+    let after = ap (λ (loads : List ℕ). ops_load all loads (ops_over left)) (loads_both callers caller) in
     let others = callers_read version links groups all ops.after ops.rest (callers ++ caller ∷ []) left stand gs ops.stands.keeps (record { same = ops.stands.same; stand = ops.stands.stand; named = ops.stands.named })
     (record {
       named = cs.named.1;
@@ -193,8 +229,13 @@ callers_read version links groups all requests rest callers (caller ∷ left) st
       there = there.1;
       sound = cs.sound.1;
       opened = opened.1;
+      onto_opened = onto_opened.1;
       unclosed = unclosed.1;
-      load = omega (arith, load, more);
+      unleft = unleft.1;
+      unused = unused.1;
+      unjoined = unjoined.1;
+      fit = fit.1;
+      load = omega (arith, load, more, after, both);
     })
     (ap (λ (n : ℕ). openings_of n left) longer ∙ ops.left) in
     record {

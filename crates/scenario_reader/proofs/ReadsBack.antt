@@ -6,27 +6,27 @@ use Rattle.net_units.specs.Text.{is_name}
 use Rattle.net_units.specs.declared.numbers.ChanNo.{ChanNo}
 use Rattle.net_units.specs.declared.numbers.LinkNo.{LinkNo}
 use Rattle.call_script.specs.Growing.{new_caller, add_op}
-use Rattle.call_script.specs.Rules.{caller_names, hops_of, load_in}
-use Rattle.call_script.specs.Versions.{has_best_effort}
+use Rattle.call_script.specs.Rules.{caller_names, hops_of, load_at, load_in, loads_in}
+use Rattle.call_script.specs.Versions.{has_best_effort, has_moves}
 use Rattle.call_script.specs.declared.entries.CallerEntry.{CallerEntry}
 use Rattle.call_script.specs.declared.entries.LinkEntry.{LinkEntry}
 use Rattle.call_script.specs.declared.entries.RequestEntry.{RequestEntry}
 use Rattle.call_script.specs.declared.operations.Op.TheVariants as op
 use Rattle.call_script.specs.declared.version.Version.{Version}
-use Rattle.call_script.specs.declared.version.Version.TheVariants.{One, Two, Three, Four, Five}
+use Rattle.call_script.specs.declared.version.Version.TheVariants.{One, Two, Three, Four, Five, Six}
 use Rattle.scenario_reader.specs.Drafts.{Said, nothing_said, with_item}
 use Rattle.scenario_reader.specs.Forms.{is_among}
 use Rattle.scenario_reader.specs.Fields.{field_at}
 use Rattle.scenario_reader.specs.GroupLines.{group_in, caller_rule}
-use Rattle.scenario_reader.specs.Grammar.{judge, send_rule, send_said, close_rule, close_said, pour_rule, pour_said, rounds_rule, tail_rule}
+use Rattle.scenario_reader.specs.Grammar.{judge, send_rule, send_said, close_rule, close_said, may_join, move_rule, move_said, pour_rule, pour_said, rounds_rule, tail_rule}
 use Rattle.scenario_reader.specs.LinkLine.{link_rule, link_said}
 use Rattle.scenario_reader.specs.OpenLine.{open_rule, request_said}
-use Rattle.scenario_reader.specs.PlanText.{header_fields, link_fields, caller_fields, open_fields, send_fields, close_fields, pour_fields, rounds_fields, tail_fields}
+use Rattle.scenario_reader.specs.PlanText.{header_fields, link_fields, caller_fields, open_fields, send_fields, close_fields, move_fields, pour_fields, rounds_fields, tail_fields}
 use Rattle.scenario_reader.specs.declared.form.Keyword.TheVariants as word
 use Rattle.scenario_reader.specs.declared.item.Item.TheVariants as item
-use Rattle.scenario_reader.proofs.LineFields.{link_is_line, open_is_line, send_is_line, close_is_line, pour_is_line, rounds_is_line, tail_is_line}
+use Rattle.scenario_reader.proofs.LineFields.{link_is_line, open_is_line, send_is_line, close_is_line, move_is_line, pour_is_line, rounds_is_line, tail_is_line}
 use Rattle.scenario_reader.proofs.GroupBack.{IsMember, caller_back}
-use Rattle.scenario_reader.proofs.LinesBack.{rounds_back, tail_back, ArePackets, IsOpenHere, send_back, send_says, close_back, close_says, IsLinkHere, pour_back, pour_says}
+use Rattle.scenario_reader.proofs.LinesBack.{rounds_back, tail_back, ArePackets, IsOpenHere, IsUnleft, send_back, send_says, close_back, close_says, move_back, move_says, IsLinkHere, pour_back, pour_says}
 use Rattle.scenario_reader.proofs.LinkBack.{IsNextLink, link_back}
 use Rattle.scenario_reader.proofs.NumberText.{value-decimal}
 use Rattle.scenario_reader.proofs.OpenBack.{IsNextOpen, open_back}
@@ -48,6 +48,7 @@ header_read Two = reads_one (header_fields Two) nothing_said (item.Header Two) r
 header_read Three = reads_one (header_fields Three) nothing_said (item.Header Three) refl (λ number. refl)
 header_read Four = reads_one (header_fields Four) nothing_said (item.Header Four) refl (λ number. refl)
 header_read Five = reads_one (header_fields Five) nothing_said (item.Header Five) refl (λ number. refl)
+header_read Six = reads_one (header_fields Six) nothing_said (item.Header Six) refl (λ number. refl)
 
 pub link_read : (version : Version) (links : List LinkEntry) (entry : LinkEntry) → IsNextLink version links entry → Reads (link_fields entry ∷ []) (front version links [] [] []) (front version (links ++ entry ∷ []) [] [] [])
 link_read version links entry is =
@@ -84,14 +85,14 @@ open_read version links groups requests callers entry some is =
     judged_as version said number (open_fields links entry) word.Open (item.Open entry) are refl refl refl (and_from (not (nat_eq (length callers) 0)) true (not_none callers some) refl)
     (judged_back (open_rule version said (open_fields links entry)) (item.Open (request_said said (open_fields links entry))) back.passes ∙ ap (λ (e : RequestEntry). Ok (item.Open e)) back.says))
 
-pub send_read : (version : Version) (links : List LinkEntry) (groups : List (List ℕ)) (requests : List RequestEntry) (callers : List CallerEntry) (chan : ChanNo) (count gap size : ℕ) (entry : RequestEntry) → 1 ≤ length callers → IsOpenHere (front version links groups requests callers) chan entry → ArePackets count gap size
+pub send_read : (version : Version) (links : List LinkEntry) (groups : List (List ℕ)) (requests : List RequestEntry) (callers : List CallerEntry) (chan : ChanNo) (count gap size : ℕ) (entry : RequestEntry) → 1 ≤ length callers → IsOpenHere (front version links groups requests callers) chan entry → IsUnleft (front version links groups requests callers) chan → ArePackets count gap size
     → load_in requests callers + count * hops_of (Some entry) ≤ 262144 → Reads (send_fields count gap size entry ∷ []) (front version links groups requests callers) (front version links groups requests (add_op (op.Send chan count gap size) callers))
-send_read version links groups requests callers chan count gap size entry some is are load =
+send_read version links groups requests callers chan count gap size entry some is unleft are load =
     let said = front version links groups requests callers in
     let line = send_is_line count gap size entry is.name are in
     reads_one (send_fields count gap size entry) said (item.Op (op.Send chan count gap size)) line (λ number.
     judged_as version said number (send_fields count gap size entry) word.Send (item.Op (op.Send chan count gap size)) line refl refl refl (and_from (not (nat_eq (length callers) 0)) true (not_none callers some) refl)
-    (stated_back (send_rule said (send_fields count gap size entry)) (option_map item.Op (send_said said (send_fields count gap size entry))) (item.Op (op.Send chan count gap size)) (send_back said chan count gap size entry is are load) (ap (option_map item.Op) (send_says said chan count gap size entry is are))))
+    (stated_back (send_rule said (send_fields count gap size entry)) (option_map item.Op (send_said said (send_fields count gap size entry))) (item.Op (op.Send chan count gap size)) (send_back said chan count gap size entry is unleft are load) (ap (option_map item.Op) (send_says said chan count gap size entry is are))))
 
 pub close_read : (version : Version) (links : List LinkEntry) (groups : List (List ℕ)) (requests : List RequestEntry) (callers : List CallerEntry) (chan : ChanNo) (entry : RequestEntry) → 1 ≤ length callers → IsOpenHere (front version links groups requests callers) chan entry
     → Reads (close_fields entry ∷ []) (front version links groups requests callers) (front version links groups requests (add_op (op.Close chan) callers))
@@ -101,6 +102,17 @@ close_read version links groups requests callers chan entry some is =
     reads_one (close_fields entry) said (item.Op (op.Close chan)) line (λ number.
     judged_as version said number (close_fields entry) word.Close (item.Op (op.Close chan)) line refl refl refl (and_from (not (nat_eq (length callers) 0)) true (not_none callers some) refl)
     (stated_back (close_rule said (close_fields entry)) (option_map item.Op (close_said said (close_fields entry))) (item.Op (op.Close chan)) (close_back said chan entry is) (ap (option_map item.Op) (close_says said chan entry is))))
+
+pub move_read : (version : Version) (links : List LinkEntry) (groups : List (List ℕ)) (requests : List RequestEntry) (callers : List CallerEntry) (old new : ChanNo) (from to : RequestEntry) → 1 ≤ length callers → has_moves version ≡ true → IsOpenHere (front version links groups requests callers) old from → IsUnleft (front version links groups requests callers) old
+    → IsOpenHere (front version links groups requests callers) new to → may_join (front version links groups requests callers) (Some from) (Some to) ≡ true → load_in requests callers + load_at (loads_in callers) old * hops_of (Some to) ≤ 262144
+    → Reads (move_fields from to ∷ []) (front version links groups requests callers) (front version links groups requests (add_op (op.Move old new) callers))
+move_read version links groups requests callers old new from to some has is unleft onto joins load =
+    let said = front version links groups requests callers in
+    let line = move_is_line from to is.name onto.name in
+    reads_one (move_fields from to) said (item.Op (op.Move old new)) line (λ number.
+    judged_as version said number (move_fields from to) word.Move (item.Op (op.Move old new)) line refl refl refl
+    (and_from (has_moves version && not (nat_eq (length callers) 0)) true (and_from (has_moves version) (not (nat_eq (length callers) 0)) has (not_none callers some)) refl)
+    (stated_back (move_rule said (move_fields from to)) (option_map item.Op (move_said said (move_fields from to))) (item.Op (op.Move old new)) (move_back said old new from to is unleft onto joins load) (ap (option_map item.Op) (move_says said old new from to is onto))))
 
 pub pour_read : (version : Version) (links : List LinkEntry) (groups : List (List ℕ)) (requests : List RequestEntry) (callers : List CallerEntry) (link : LinkNo) (count gap size : ℕ) (entry : LinkEntry) → 1 ≤ length callers → has_best_effort version ≡ true → IsLinkHere (front version links groups requests callers) link entry → ArePackets count gap size
     → load_in requests callers + count ≤ 262144 → Reads (pour_fields count gap size entry ∷ []) (front version links groups requests callers) (front version links groups requests (add_op (op.Pour link count gap size) callers))

@@ -15,7 +15,7 @@ use Rattle.scenario_reader.specs.Decimal.{value_of}
 use Rattle.scenario_reader.specs.Drafts.{Said, rounds_of, caller_named}
 use Rattle.scenario_reader.specs.Fields.{fields_of, are_fields, field_at}
 use Rattle.scenario_reader.specs.Forms.{has_form, number_rule}
-use Rattle.scenario_reader.specs.Grammar.{header_version, header_said, send_rule, send_said, close_rule, close_said, pour_rule, pour_said, rounds_form, rounds_rule, are_few_ticks, tail_form, tail_rule, schedule_rule, do_form, is_plane, actor_rule, actor_named, actor_said, do_rule, do_by, do_said, may_stand, line_word, judge_as, judge_word, judge_after, judge_fields, is_passed_over, judge}
+use Rattle.scenario_reader.specs.Grammar.{header_version, header_said, send_rule, send_said, close_rule, close_said, move_rule, move_said, pour_rule, pour_said, rounds_form, rounds_rule, are_few_ticks, tail_form, tail_rule, schedule_rule, do_form, is_plane, actor_rule, actor_named, actor_said, do_rule, do_by, do_said, may_stand, line_word, judge_as, judge_word, judge_after, judge_fields, is_passed_over, judge}
 use Rattle.scenario_reader.specs.GroupLines.{group_rule, group_in, caller_rule}
 use Rattle.scenario_reader.specs.QuotaLine.{quota_rule, quota_said}
 use Rattle.scenario_reader.specs.Kept.{IsDraft, MayPutRounds, MayPutTail, MayPutSchedule, MayPutDo, MayAdd}
@@ -30,7 +30,7 @@ use Rattle.scenario_reader.specs.declared.item.Item.TheVariants as item
 use Rattle.scenario_reader.proofs.GroupMay.{group_may, caller_may}
 use Rattle.scenario_reader.proofs.LinkMay.{headed_is, some_items, is_some_said, link_may}
 use Rattle.scenario_reader.proofs.QuotaMay.{quota_may}
-use Rattle.scenario_reader.proofs.OpMay.{send_may, close_may, pour_may}
+use Rattle.scenario_reader.proofs.OpMay.{send_may, close_may, move_may, pour_may}
 use Rattle.scenario_reader.proofs.OpenMay.{open_may}
 use Rattle.scenario_reader.proofs.PassFacts.{judged_ok, stated_ok, made_some, unless_passes, all_pass, number_passes, not_said}
 
@@ -116,6 +116,10 @@ says_as word.Close version said number fields what draft v m e =
     let p = stated_ok (close_rule said fields) (option_map item.Op (close_said said fields)) what e in
     let made = made_some item.Op (close_said said fields) what p.1 in
     subst (MayAdd said) made.2 (close_may version said fields made.0 draft v m p.0 made.1)
+says_as word.Move version said number fields what draft v m e =
+    let p = stated_ok (move_rule said fields) (option_map item.Op (move_said said fields)) what e in
+    let made = made_some item.Op (move_said said fields) what p.1 in
+    subst (MayAdd said) made.2 (move_may version said fields made.0 draft v m p.0 made.1)
 says_as word.Pour version said number fields what draft v m e =
     let p = stated_ok (pour_rule said fields) (option_map item.Op (pour_said said fields)) what e in
     let made = made_some item.Op (pour_said said fields) what p.1 in

@@ -12,7 +12,7 @@ use Rattle.call_script.specs.Parts.{PlanParts, parts_with, openings_of, LeavesUn
 use Rattle.call_script.specs.Versions.{has_groups}
 use Rattle.call_script.specs.Plans.{HasTerms, IsPlan}
 use Rattle.scenario_reader.specs.BothWays.{HasEightLoads, AreNodesNamed, IsFoundRoute, HaveFoundRoutes}
-use Rattle.call_script.specs.Rules.{each_after, are_distinct, link_has_version, request_has_version, have_version, have_links, have_names, are_there, are_in_range, are_few, route_is_there, pour_is_there, is_unclosed, op_has_version, op_in_range, request_in_range, is_joined, are_joined, are_unclosed, load_in, are_within_load, pour_is_taken, pours_are_taken}
+use Rattle.call_script.specs.Rules.{each_after, are_distinct, link_has_version, request_has_version, have_version, have_links, have_names, are_there, are_in_range, are_few, route_is_there, pour_is_there, op_has_version, op_in_range, request_in_range, is_joined, are_joined, are_unclosed, load_in, are_within_load, loads_after, loads_in, ops_load, ops_over, pour_is_taken, pours_are_taken, moves_are_fit}
 use Rattle.call_script.specs.declared.entries.CallerEntry.{CallerEntry}
 use Rattle.call_script.specs.declared.entries.LinkEntry.{LinkEntry}
 use Rattle.call_script.specs.declared.entries.RequestEntry.{RequestEntry}
@@ -20,8 +20,8 @@ use Rattle.call_script.specs.declared.operations.Op.{Op}
 use Rattle.call_script.specs.declared.schedule.Schedule.{Schedule}
 use Rattle.call_script.specs.declared.version.Version.{Version}
 use Rattle.link_steps.proofs.ListParts.{Each-at, Each-by_place}
-use Rattle.call_script.proofs.Growing.{version-in, version-from, names-in, names-from, used-in, ranges-in, few-in, few-from}
-use Rattle.call_script.proofs.RuleFacts.{each-of, keeps-rules}
+use Rattle.call_script.proofs.Growing.{version-in, version-from, names-in, names-from, ranges-in, few-in, few-from}
+use Rattle.call_script.proofs.RuleFacts.{each-of, keeps-rules, used-in, unclosed-in, moves-in}
 use Rattle.scenario_reader.specs.BothWays.{AreNamed, unnumbered, APlansTextIsRead, ATextIsOfOnePlan}
 use Rattle.scenario_reader.specs.Drafts.{Said, nothing_said, is_complete, parts_said, schedule_said}
 use Rattle.scenario_reader.specs.Kept.{IsScheduleOf}
@@ -46,13 +46,12 @@ record PlanSays (parts : PlanParts) : Type 0 where
   ops_kept : list_all (λ (c : CallerEntry). list_all (op_has_version parts.version) c.ops) parts.callers ≡ true
   some : 1 ≤ length parts.links
   joined : list_all (λ (e : RequestEntry). is_joined parts.links e.request.route) parts.requests ≡ true
-  unclosed : list_all (λ (c : CallerEntry). each_after is_unclosed [] c.ops) parts.callers ≡ true
   load : load_in parts.requests parts.callers ≤ 262144
   ticks : (parts.rounds + parts.tail) * length parts.links ≤ 524288
   taken : list_all (λ (c : CallerEntry). list_all (pour_is_taken parts.links) c.ops) parts.callers ≡ true
 
 plan_says : (parts : PlanParts) → IsPlan parts → PlanSays parts
-unfolding have_version have_links are_joined are_unclosed are_within_load pours_are_taken
+unfolding have_version have_links are_joined are_within_load pours_are_taken
 plan_says parts plan =
     let rules = keeps-rules parts plan.kept in
     let version = version-in parts rules.version in
@@ -62,7 +61,6 @@ plan_says parts plan =
       ops_kept = version.ops;
       some = leb-true 1 (length parts.links) rules.links;
       joined = rules.joined;
-      unclosed = rules.unclosed;
       load = leb-true (load_in parts.requests parts.callers) 262144 load.0;
       ticks = leb-true ((parts.rounds + parts.tail) * length parts.links) 524288 load.1;
       taken = rules.pours;
@@ -91,7 +89,7 @@ callers_sound version links (caller ∷ callers) kept there range taken =
 
 -- the links, groups and quotas of a plan keep the rules so far
 begun_keeps : (parts : PlanParts) → IsPlan parts → KeepSoFar (parts_with parts.version parts.links parts.groups [] [] 0 0)
-unfolding have_version have_names are_there are_in_range are_few are_joined are_unclosed pours_are_taken openings_of each_after
+unfolding have_version have_names are_there are_in_range are_few are_joined are_unclosed pours_are_taken moves_are_fit openings_of each_after ops_over ops_load
 begun_keeps parts plan =
     let rules = keeps-rules parts plan.kept in
     let keep = rules.groups in
@@ -108,6 +106,7 @@ begun_keeps parts plan =
       unclosed = refl;
       load = omega arith;
       pours = refl;
+      moves = refl;
       groups = record {
         version_groups = keep.version_groups;
         version_links = keep.version_links;
@@ -147,6 +146,11 @@ quotas_left parts plan named =
       eight = Each-at (λ (x : LinkEntry). Each HasEightLoads x.quotas) ls n e named.quotas found;
       unused = each_in (LeavesUnused e.shape.bounds) e.quotas (plan.planned.unused n e found);
     })
+
+-- before any caller nothing is loaded
+load_all : (requests : List RequestEntry) (callers : List CallerEntry) → load_in requests callers ≤ 262144 → load_in requests [] + ops_load requests (loads_in []) (ops_over callers) ≤ 262144
+unfolding loads_after ops_load ops_over
+load_all requests callers few = omega (arith, few)
 
 -- ---- all lines
 
@@ -199,10 +203,12 @@ plan_leads parts schedule plan named routes is =
       nodes = Each-at (λ (x : RequestEntry). AreNodesNamed x.found) rs n e named.nodes found;
       found = Each-at (λ (x : RequestEntry). IsFoundRoute l x.request.route x.found) rs n e routes found;
     }) in
+    let unclosed = unclosed-in parts rules.unclosed in
+    let moves = moves-in parts rules.moves in
     let load = says.load in
     let callers = callers_read v l gs rs [] rs [] cs stand groups_stand (begun_keeps parts plan)
     (record { same = refl; stand = record { sound = sound; new = names.requests; few = omega (arith, requests_few); numbers = λ k e found. plan.planned.requests k e found ∙ omega arith }; named = tt })
-    (record { named = named.callers; new = names.callers; few = omega (arith, callers_few); kept = keep.version_callers; there = keep.callers_there; sound = callers_sound v l cs says.ops_kept used.pours ranges.ops says.taken; opened = used.opened; unclosed = says.unclosed; load = omega (arith, load) })
+    (record { named = named.callers; new = names.callers; few = omega (arith, callers_few); kept = keep.version_callers; there = keep.callers_there; sound = callers_sound v l cs says.ops_kept used.pours ranges.ops says.taken; opened = used.opened; onto_opened = used.onto_opened; unclosed = unclosed.closed; unleft = unclosed.left; unused = moves.unused; unjoined = moves.unjoined; fit = moves.fit; load = load_all rs cs load })
     plan.planned.openings in
     let end = schedule_back parts schedule named.callers names.callers few.callers is.items is.unwritten in
     let tails = then_some (tail_fields parts.tail ∷ []) (schedule_lines cs schedule) rounded done (IsWhole parts schedule) (tail_read v l gs rs cs parts.rounds parts.tail ranges.tail says.ticks) end in

@@ -1,8 +1,8 @@
 -- The callers of a plan are read one after another, each with its operations: what was read so far keeps the rules, and what
 -- is left of the plan is after it.
 use Rattle.std.proofs.Common.{◌≡◌, ℕ, suc, zero, ◌+◌, ◌*◌, ◌-◌, ◌<◌, ◌≤◌, true, false, nat_eq, List, [], ◌∷◌, ◌++◌, length, map, Option, Some, refl, sym, ◌∙◌, ap, subst, inl, inr, append_assoc, arith}
-use Rattle.std.specs.Prelude.{◌&&◌, option_map}
-use Rattle.std.proofs.lemmas.Bool.{and_parts, eq-eqb, not-true, ltb-true}
+use Rattle.std.specs.Prelude.{◌&&◌, not, option_map}
+use Rattle.std.proofs.lemmas.Bool.{and_parts, and_from, eq-eqb, not-true, not_from_false, ltb-true}
 use Rattle.std.proofs.lemmas.List.{map-append}
 use Rattle.std.proofs.lemmas.Option.{slice_get_cases, slice_get_within}
 use Rattle.std.specs.List.{slice_get, list_any, list_all}
@@ -10,34 +10,37 @@ use Rattle.net_units.specs.Numbers.{link_number, actor_number, channel_number}
 use Rattle.net_units.specs.Text.{is_name}
 use Rattle.net_units.specs.declared.numbers.ChanNo.{ChanNo}
 use Rattle.net_units.specs.declared.numbers.LinkNo.{LinkNo}
-use Rattle.traffic_contract.specs.Admission.{total}
 use Rattle.hop_reservation.specs.declared.route.Hop.{Hop}
 use Rattle.link_steps.specs.Lists.{Each}
 use Rattle.link_steps.proofs.ListFacts.{Each-append}
 use Rattle.call_script.specs.Growing.{with_its_op, add_op, last_ops, IsOpenedThere, KeepSoFar}
 use Rattle.call_script.specs.Parts.{PlanParts, parts_with, Opening, opened_by, opening_of, FollowsLink}
 use Rattle.call_script.specs.Plans.{HasTerms}
-use Rattle.call_script.specs.Rules.{each_after, is_named, is_new, are_distinct, link_names, caller_names, request_names, have_names, has_link, route_is_there, pour_is_there, opens, is_opened, closes, is_unclosed, op_has_version, op_in_range, request_in_range, is_joined, hops_of, load_of, load_in, takes_best_effort, pour_is_taken}
+use Rattle.call_script.specs.Rules.{each_after, is_named, is_new, are_distinct, link_names, caller_names, request_names, have_names, has_link, route_is_there, pour_is_there, is_in, is_after, is_apart, op_has_version, op_in_range, request_in_range, is_joined, hops_of, load_at, load_of, load_in, loads_in, loads_with, ops_load, ops_over, may_move, move_is_fit, takes_best_effort, pour_is_taken}
 use Rattle.call_script.specs.declared.entries.CallerEntry.{CallerEntry}
 use Rattle.call_script.specs.declared.entries.LinkEntry.{LinkEntry}
 use Rattle.call_script.specs.declared.entries.RequestEntry.{RequestEntry}
 use Rattle.call_script.specs.declared.operations.Op.{Op}
-use Rattle.call_script.specs.declared.operations.Op.TheVariants.{Open, Send, Close, Pour}
+use Rattle.call_script.specs.declared.operations.Op.TheVariants.{Open, Send, Close, Pour, Move}
+use Rattle.call_script.specs.declared.roles.Role.{Role}
+use Rattle.call_script.specs.declared.roles.Role.TheVariants as role
 use Rattle.call_script.specs.declared.version.Version.{Version}
 use Rattle.link_steps.proofs.ListParts.{Each-at}
 use Rattle.call_script.proofs.GrowthFacts.{get-before, added-last, last-of}
-use Rattle.call_script.proofs.Growing.{few-in, open-keeps, send-keeps, close-keeps, pour-keeps, length-more}
+use Rattle.call_script.proofs.Growing.{few-in, open-keeps, send-keeps, close-keeps, pour-keeps, move-keeps, length-more}
 use Rattle.call_script.proofs.OpeningFacts.{opened-has}
-use Rattle.call_script.proofs.OwnerFacts.{twice-not}
+use Rattle.call_script.proofs.OwnerFacts.{after-has, apart-none}
 use Rattle.call_script.specs.Rules.{request_has_version}
 use Rattle.scenario_reader.specs.BothWays.{AreNodesNamed, IsFoundRoute}
 use Rattle.scenario_reader.specs.BothWays.{HasNames}
-use Rattle.scenario_reader.specs.Drafts.{link_named, if_own}
-use Rattle.scenario_reader.specs.PlanText.{op_fields, lines_if, op_lines, open_fields, send_fields, close_fields, pour_fields}
-use Rattle.scenario_reader.proofs.LinesBack.{are_packets, IsOpenHere}
+use Rattle.scenario_reader.specs.Drafts.{Said, link_named, if_own, is_used, is_joined_to}
+use Rattle.scenario_reader.specs.Grammar.{may_join}
+use Rattle.scenario_reader.proofs.KeptFacts.{use_of, closing_uses}
+use Rattle.scenario_reader.specs.PlanText.{op_fields, lines_if, op_lines, open_fields, send_fields, close_fields, move_fields, fields_between, pour_fields}
+use Rattle.scenario_reader.proofs.LinesBack.{are_packets, IsOpenHere, IsUnleft}
 use Rattle.scenario_reader.proofs.NamedBack.{find_back}
 use Rattle.scenario_reader.proofs.OpenBack.{IsHopHere}
-use Rattle.scenario_reader.proofs.ReadsBack.{front, open_read, send_read, close_read, pour_read}
+use Rattle.scenario_reader.proofs.ReadsBack.{front, open_read, send_read, close_read, move_read, pour_read}
 use Rattle.scenario_reader.proofs.SaysBack.{Reads}
 use Rattle.net_units.proofs.NumberFacts.{same-link, same-channel}
 
@@ -124,23 +127,24 @@ rest_next version links requests entry rest stand =
 
 -- ---- the load of what was read is no more than with all requests
 
-load_less : (requests rest : List RequestEntry) (op : Op) → load_of requests op ≤ load_of (requests ++ rest) op
-load_less requests rest (Open chan) = omega arith
-load_less requests rest (Send chan count gap size) =
-    elim (slice_get_cases requests (channel_number chan)).1 [
-      | inl at ↦ (let same : load_of requests (Send chan count gap size) ≡ load_of (requests ++ rest) (Send chan count gap size) = ap (λ (found : Option RequestEntry). count * hops_of found) (sym (get-before requests rest (channel_number chan) at.1)) in omega (arith, same))
-      | inr past ↦ (let none : load_of requests (Send chan count gap size) ≡ count * 0 = ap (λ (found : Option RequestEntry). count * hops_of found) past.1 in let zero_load : count * 0 ≡ 0 = omega arith in omega (arith, none, zero_load))
+hops_less : (requests rest : List RequestEntry) (load n : ℕ) → load * hops_of (slice_get requests n) ≤ load * hops_of (slice_get (requests ++ rest) n)
+hops_less requests rest load n =
+    elim (slice_get_cases requests n).1 [
+      | inl at ↦ (let same : load * hops_of (slice_get requests n) ≡ load * hops_of (slice_get (requests ++ rest) n) = ap (λ (found : Option RequestEntry). load * hops_of found) (sym (get-before requests rest n at.1)) in omega (arith, same))
+      | inr past ↦ (let none : load * hops_of (slice_get requests n) ≡ load * 0 = ap (λ (found : Option RequestEntry). load * hops_of found) past.1 in let zero_load : load * 0 ≡ 0 = omega arith in omega (arith, none, zero_load))
     ]
-load_less requests rest (Close chan) = omega arith
-load_less requests rest (Pour link count gap size) = omega arith
 
-ops_less : (requests rest : List RequestEntry) (ops : List Op) → total (load_of requests) ops ≤ total (load_of (requests ++ rest)) ops
-ops_less requests rest [] = omega arith
-ops_less requests rest (op ∷ ops) = (let one = load_less requests rest op in let others = ops_less requests rest ops in omega (arith, one, others))
+load_less : (requests rest : List RequestEntry) (loads : List ℕ) (op : Op) → load_of requests loads op ≤ load_of (requests ++ rest) loads op
+load_less requests rest loads (Open chan) = omega arith
+load_less requests rest loads (Send chan count gap size) = hops_less requests rest count (channel_number chan)
+load_less requests rest loads (Close chan) = omega arith
+load_less requests rest loads (Pour link count gap size) = omega arith
+load_less requests rest loads (Move old new) = hops_less requests rest (load_at loads old) (channel_number new)
 
-callers_less : (requests rest : List RequestEntry) (callers : List CallerEntry) → load_in requests callers ≤ load_in (requests ++ rest) callers
-callers_less requests rest [] = omega arith
-callers_less requests rest (caller ∷ callers) = (let one = ops_less requests rest caller.ops in let others = callers_less requests rest callers in omega (arith, one, others))
+ops_less : (requests rest : List RequestEntry) (loads : List ℕ) (ops : List Op) → ops_load requests loads ops ≤ ops_load (requests ++ rest) loads ops
+unfolding ops_load
+ops_less requests rest loads [] = omega arith
+ops_less requests rest loads (op ∷ ops) = (let one = load_less requests rest loads op in let others = ops_less requests rest (loads_with loads op) ops in omega (arith, one, others))
 
 -- ---- within a caller
 
@@ -161,9 +165,14 @@ pub record OpSound (version : Version) (links : List LinkEntry) (op : Op) : Type
 -- an operation that comes next
 pub record IsNextOp (version : Version) (links : List LinkEntry) (groups : List (List ℕ)) (all : List RequestEntry) (callers : List CallerEntry) (caller : CallerEntry) (op : Op) : Type 0 where
   pub sound : OpSound version links op
-  pub opened : is_opened caller.ops op ≡ true
-  pub unclosed : is_unclosed caller.ops op ≡ true
-  pub load : load_in all (callers ++ caller ∷ []) + load_of all op ≤ 262144
+  pub opened : is_after role.Uses role.Opens caller.ops op ≡ true
+  pub onto_opened : is_after role.Joins role.Opens caller.ops op ≡ true
+  pub unclosed : is_apart role.Uses role.Closes caller.ops op ≡ true
+  pub unleft : is_apart role.Keeps role.Leaves caller.ops op ≡ true
+  pub unused : is_apart role.Joins role.Uses caller.ops op ≡ true
+  pub unjoined : is_apart role.Joins role.Joins caller.ops op ≡ true
+  pub fit : move_is_fit links all op ≡ true
+  pub load : load_in all (callers ++ caller ∷ []) + load_of all (loads_in (callers ++ caller ∷ [])) op ≤ 262144
 
 -- the operation was read
 pub record Stepped (version : Version) (links : List LinkEntry) (groups : List (List ℕ)) (all requests : List RequestEntry) (callers : List CallerEntry) (caller : CallerEntry) (op : Op) (openings : List Opening) : Type 0 where
@@ -189,17 +198,17 @@ record IsOurs (version : Version) (links : List LinkEntry) (groups : List (List 
   among_all : slice_get all (channel_number chan) ≡ Some entry
 
 is_ours : (version : Version) (links : List LinkEntry) (groups : List (List ℕ)) (all requests rest : List RequestEntry) (callers : List CallerEntry) (caller : CallerEntry) (chan : ChanNo) → Stands version links groups all requests rest callers caller
-    → list_any (opens (channel_number chan)) caller.ops ≡ true → list_any (closes (channel_number chan)) caller.ops ≡ false → IsOurs version links groups all requests callers caller chan
+    → list_any (is_in role.Opens (channel_number chan)) caller.ops ≡ true → list_any (is_in role.Closes (channel_number chan)) caller.ops ≡ false → IsOurs version links groups all requests callers caller chan
 is_ours version links groups all requests rest callers caller chan s opened unclosed =
     let parts = parts_with version links groups requests (callers ++ caller ∷ []) 0 0 in
     let has = opened-has parts (length callers) (channel_number chan) caller s.keeps.planned (at_seam callers caller [] (length callers) refl) opened in
-    let last : list_any (closes (channel_number chan)) (last_ops (callers ++ caller ∷ [])) ≡ false = ap (list_any (closes (channel_number chan))) (last-of callers caller) ∙ unclosed in
+    let last : list_any (is_in role.Closes (channel_number chan)) (last_ops (callers ++ caller ∷ [])) ≡ false = ap (list_any (is_in role.Closes (channel_number chan))) (last-of callers caller) ∙ unclosed in
     let find = find_back (λ (e : RequestEntry). e.name) [] requests (channel_number chan) has.entry (distinct_requests parts s.keeps.names) has.found in
     let longer = length-more callers caller in
     let ours : nat_eq (actor_number has.entry.caller) (length (callers ++ caller ∷ []) - 1) ≡ true = eq-eqb (actor_number has.entry.caller) (length (callers ++ caller ∷ []) - 1) (omega (arith, has.by, longer)) in
     record {
       entry = has.entry;
-      there = record { opened = ap (list_any (opens (channel_number chan))) (last-of callers caller) ∙ opened; unclosed = last };
+      there = record { opened = ap (list_any (is_in role.Opens (channel_number chan))) (last-of callers caller) ∙ opened; unclosed = last };
       here = record {
         name = Each-at (λ (e : RequestEntry). is_name e.name ≡ true) requests (channel_number chan) has.entry s.named has.found;
         own = ap (if_own (length (callers ++ caller ∷ []) - 1)) find ∙ rw ours refl;
@@ -225,33 +234,76 @@ plain_step version links groups all requests rest callers caller op openings fie
 
 -- the load with one operation more, of what was read
 load_so_far : (version : Version) (links : List LinkEntry) (groups : List (List ℕ)) (all requests rest : List RequestEntry) (callers : List CallerEntry) (caller : CallerEntry) (op : Op) → Stands version links groups all requests rest callers caller
-    → load_in all (callers ++ caller ∷ []) + load_of all op ≤ 262144 → load_in requests (callers ++ caller ∷ []) + load_of requests op ≤ 262144
+    → load_in all (callers ++ caller ∷ []) + load_of all (loads_in (callers ++ caller ∷ [])) op ≤ 262144 → load_in requests (callers ++ caller ∷ []) + load_of requests (loads_in (callers ++ caller ∷ [])) op ≤ 262144
 load_so_far version links groups all requests rest callers caller op s load =
-    let whole : load_in (requests ++ rest) (callers ++ caller ∷ []) + load_of (requests ++ rest) op ≤ 262144 = subst (λ (es : List RequestEntry). load_in es (callers ++ caller ∷ []) + load_of es op ≤ 262144) s.same load in
-    let one = load_less requests rest op in
-    let others = callers_less requests rest (callers ++ caller ∷ []) in
+    let loads = loads_in (callers ++ caller ∷ []) in
+    let whole : load_in (requests ++ rest) (callers ++ caller ∷ []) + load_of (requests ++ rest) loads op ≤ 262144 = subst (λ (es : List RequestEntry). load_in es (callers ++ caller ∷ []) + load_of es loads op ≤ 262144) s.same load in
+    let one = load_less requests rest loads op in
+    let others = ops_less requests rest [] (ops_over (callers ++ caller ∷ [])) in
     omega (arith, whole, one, others)
+
+-- what the operations of the last caller are not to a channel
+in_last : (what : Role) (callers : List CallerEntry) (caller : CallerEntry) (c : ℕ) → list_any (is_in what c) caller.ops ≡ false → list_any (is_in what c) (last_ops (callers ++ caller ∷ [])) ≡ false
+in_last what callers caller c none = ap (list_any (is_in what c)) (last-of callers caller) ∙ none
+
+-- a request may be joined that was neither used nor joined
+joins_here : (said : Said) (old new : ChanNo) (from to : RequestEntry) → old ≡ from.request.chan → new ≡ to.request.chan → may_move said.links (Some from) (Some to) ≡ true → not (nat_eq (channel_number old) (channel_number new)) ≡ true → is_used said new ≡ false → is_joined_to said new ≡ false → may_join said (Some from) (Some to) ≡ true
+joins_here said old new from to is onto may apart unused unjoined =
+    let other : not (nat_eq (channel_number from.request.chan) (channel_number to.request.chan)) ≡ true = subst (λ (c : ChanNo). not (nat_eq (channel_number c) (channel_number to.request.chan)) ≡ true) is (subst (λ (c : ChanNo). not (nat_eq (channel_number old) (channel_number c)) ≡ true) onto apart) in
+    let plain : not (is_used said to.request.chan) ≡ true = not_from_false (is_used said to.request.chan) (subst (λ (c : ChanNo). is_used said c ≡ false) onto unused) in
+    let single : not (is_joined_to said to.request.chan) ≡ true = not_from_false (is_joined_to said to.request.chan) (subst (λ (c : ChanNo). is_joined_to said c ≡ false) onto unjoined) in
+    and_from (may_move said.links (Some from) (Some to) && not (nat_eq (channel_number from.request.chan) (channel_number to.request.chan)) && not (is_used said to.request.chan)) (not (is_joined_to said to.request.chan))
+    (and_from (may_move said.links (Some from) (Some to) && not (nat_eq (channel_number from.request.chan) (channel_number to.request.chan))) (not (is_used said to.request.chan))
+    (and_from (may_move said.links (Some from) (Some to)) (not (nat_eq (channel_number from.request.chan) (channel_number to.request.chan))) may other) plain) single
 
 send_step : (version : Version) (links : List LinkEntry) (groups : List (List ℕ)) (all requests rest : List RequestEntry) (callers : List CallerEntry) (caller : CallerEntry) (chan : ChanNo) (count gap size : ℕ) (openings : List Opening)
     → Stands version links groups all requests rest callers caller → IsNextOp version links groups all callers caller (Send chan count gap size) → openings ≡ map opening_of rest → Stepped version links groups all requests callers caller (Send chan count gap size) openings
 send_step version links groups all requests rest callers caller chan count gap size openings s is later =
     let parts = parts_with version links groups requests (callers ++ caller ∷ []) 0 0 in
-    let ours = is_ours version links groups all requests rest callers caller chan s (twice-not (list_any (opens (channel_number chan)) caller.ops) is.opened) (not-true (list_any (closes (channel_number chan)) caller.ops) is.unclosed) in
+    let ours = is_ours version links groups all requests rest callers caller chan s (after-has role.Uses role.Opens caller.ops (Send chan count gap size) (channel_number chan) refl is.opened) (apart-none role.Uses role.Closes caller.ops (Send chan count gap size) (channel_number chan) refl is.unclosed) in
+    let unleft = in_last role.Leaves callers caller (channel_number chan) (apart-none role.Keeps role.Leaves caller.ops (Send chan count gap size) (channel_number chan) refl is.unleft) in
     let are = are_packets count gap size is.sound.range in
     let load = load_so_far version links groups all requests rest callers caller (Send chan count gap size) s is.load in
     let here : load_in requests (callers ++ caller ∷ []) + count * hops_of (Some ours.entry) ≤ 262144 = subst (λ (found : Option RequestEntry). load_in requests (callers ++ caller ∷ []) + count * hops_of found ≤ 262144) ours.found load in
     plain_step version links groups all requests rest callers caller (Send chan count gap size) openings (send_fields count gap size ours.entry) s later (ap (option_map (send_fields count gap size)) ours.among_all)
-    (send-keeps parts chan count gap size s.keeps (record { channel = ours.there; range = is.sound.range; load = load }))
-    (send_read version links groups requests (callers ++ caller ∷ []) chan count gap size ours.entry (some_callers callers caller) ours.here are here)
+    (send-keeps parts chan count gap size s.keeps (record { channel = ours.there; unleft = unleft; range = is.sound.range; load = load }))
+    (send_read version links groups requests (callers ++ caller ∷ []) chan count gap size ours.entry (some_callers callers caller) ours.here unleft are here)
 
 close_step : (version : Version) (links : List LinkEntry) (groups : List (List ℕ)) (all requests rest : List RequestEntry) (callers : List CallerEntry) (caller : CallerEntry) (chan : ChanNo) (openings : List Opening)
     → Stands version links groups all requests rest callers caller → IsNextOp version links groups all callers caller (Close chan) → openings ≡ map opening_of rest → Stepped version links groups all requests callers caller (Close chan) openings
 close_step version links groups all requests rest callers caller chan openings s is later =
     let parts = parts_with version links groups requests (callers ++ caller ∷ []) 0 0 in
-    let ours = is_ours version links groups all requests rest callers caller chan s (twice-not (list_any (opens (channel_number chan)) caller.ops) is.opened) (not-true (list_any (closes (channel_number chan)) caller.ops) is.unclosed) in
+    let ours = is_ours version links groups all requests rest callers caller chan s (after-has role.Uses role.Opens caller.ops (Close chan) (channel_number chan) refl is.opened) (apart-none role.Uses role.Closes caller.ops (Close chan) (channel_number chan) refl is.unclosed) in
     plain_step version links groups all requests rest callers caller (Close chan) openings (close_fields ours.entry) s later (ap (option_map close_fields) ours.among_all)
     (close-keeps parts chan s.keeps ours.there)
     (close_read version links groups requests (callers ++ caller ∷ []) chan ours.entry (some_callers callers caller) ours.here)
+
+-- a move between two requests of the caller
+move_step : (version : Version) (links : List LinkEntry) (groups : List (List ℕ)) (all requests rest : List RequestEntry) (callers : List CallerEntry) (caller : CallerEntry) (old new : ChanNo) (openings : List Opening)
+    → Stands version links groups all requests rest callers caller → IsNextOp version links groups all callers caller (Move old new) → openings ≡ map opening_of rest → Stepped version links groups all requests callers caller (Move old new) openings
+move_step version links groups all requests rest callers caller old new openings s is later =
+    let parts = parts_with version links groups requests (callers ++ caller ∷ []) 0 0 in
+    let op = Move old new in
+    let unused = apart-none role.Joins role.Uses caller.ops (Move old new) (channel_number new) refl is.unused in
+    let ours = is_ours version links groups all requests rest callers caller old s (after-has role.Uses role.Opens caller.ops (Move old new) (channel_number old) refl is.opened) (apart-none role.Uses role.Closes caller.ops (Move old new) (channel_number old) refl is.unclosed) in
+    let onto = is_ours version links groups all requests rest callers caller new s (after-has role.Joins role.Opens caller.ops (Move old new) (channel_number new) refl is.onto_opened) (use_of role.Closes (channel_number new) caller.ops (closing_uses (channel_number new)) unused) in
+    let unleft = in_last role.Leaves callers caller (channel_number old) (apart-none role.Keeps role.Leaves caller.ops (Move old new) (channel_number old) refl is.unleft) in
+    let last_unused = in_last role.Uses callers caller (channel_number new) unused in
+    let last_unjoined = in_last role.Joins callers caller (channel_number new) (apart-none role.Joins role.Joins caller.ops (Move old new) (channel_number new) refl is.unjoined) in
+    let load = load_so_far version links groups all requests rest callers caller (Move old new) s is.load in
+    let loads = loads_in (callers ++ caller ∷ []) in
+    let here : load_in requests (callers ++ caller ∷ []) + load_at loads old * hops_of (Some onto.entry) ≤ 262144 = subst (λ (found : Option RequestEntry). load_in requests (callers ++ caller ∷ []) + load_at loads old * hops_of found ≤ 262144) onto.found load in
+    let fits = and_parts (may_move links (slice_get all (channel_number old)) (slice_get all (channel_number new))) (not (nat_eq (channel_number old) (channel_number new))) is.fit in
+    let may : may_move links (Some ours.entry) (Some onto.entry) ≡ true = ap (λ (found : Option RequestEntry). may_move links found (Some onto.entry)) (sym ours.among_all) ∙ ap (may_move links (slice_get all (channel_number old))) (sym onto.among_all) ∙ fits.0 in
+    let fit : move_is_fit links requests (Move old new) ≡ true =
+    ap (λ (found : Option RequestEntry). may_move links found (slice_get requests (channel_number new)) && not (nat_eq (channel_number old) (channel_number new))) ours.found ∙ ap (λ (found : Option RequestEntry). may_move links (Some ours.entry) found && not (nat_eq (channel_number old) (channel_number new))) onto.found
+    ∙ and_from (may_move links (Some ours.entry) (Some onto.entry)) (not (nat_eq (channel_number old) (channel_number new))) may fits.1 in
+    let said = front version links groups requests (callers ++ caller ∷ []) in
+    let joins = joins_here said old new ours.entry onto.entry ours.here.same onto.here.same may fits.1 last_unused last_unjoined in
+    plain_step version links groups all requests rest callers caller (Move old new) openings (move_fields ours.entry onto.entry) s later
+    (ap (λ (found : Option RequestEntry). fields_between found (slice_get all (channel_number new))) ours.among_all ∙ ap (fields_between (Some ours.entry)) onto.among_all)
+    (move-keeps parts old new s.keeps (record { version = is.sound.kept; channel = ours.there; unleft = unleft; joined = onto.there.opened; fit = fit; unused = last_unused; unjoined = last_unjoined; load = load }))
+    (move_read version links groups requests (callers ++ caller ∷ []) old new ours.entry onto.entry (some_callers callers caller) is.sound.kept ours.here unleft onto.here joins here)
 
 pour_step : (version : Version) (links : List LinkEntry) (groups : List (List ℕ)) (all requests rest : List RequestEntry) (callers : List CallerEntry) (caller : CallerEntry) (link : LinkNo) (count gap size : ℕ) (openings : List Opening) → LinksStand links
     → Stands version links groups all requests rest callers caller → IsNextOp version links groups all callers caller (Pour link count gap size) → openings ≡ map opening_of rest → Stepped version links groups all requests callers caller (Pour link count gap size) openings
@@ -339,4 +391,5 @@ pub op_step : (version : Version) (links : List LinkEntry) (groups : List (List 
 op_step version links groups all requests rest callers caller (Open chan) openings stand s is later = open_step version links groups all requests rest callers caller chan openings stand s later
 op_step version links groups all requests rest callers caller (Send chan count gap size) openings stand s is later = send_step version links groups all requests rest callers caller chan count gap size openings s is later
 op_step version links groups all requests rest callers caller (Close chan) openings stand s is later = close_step version links groups all requests rest callers caller chan openings s is later
+op_step version links groups all requests rest callers caller (Move old new) openings stand s is later = move_step version links groups all requests rest callers caller old new openings s is later
 op_step version links groups all requests rest callers caller (Pour link count gap size) openings stand s is later = pour_step version links groups all requests rest callers caller link count gap size openings stand s is later

@@ -7,6 +7,7 @@ use Rattle.hop_reservation.specs.Routes.{repeated_from}
 use Rattle.call_script.specs.Parts.{PlanParts}
 use Rattle.call_script.specs.declared.entries.LinkEntry.{LinkEntry}
 use Rattle.call_script.specs.declared.entries.RequestEntry.{RequestEntry}
+use Rattle.call_script.specs.Rules.{ops_load, ops_over}
 use Rattle.scenario_reader.specs.Entries.{shape_of}
 use Rattle.scenario_reader.specs.Grammar.{judge}
 use Rattle.scenario_reader.specs.PlanText.{plan_text}
@@ -42,18 +43,18 @@ numbers_read (BadLine line cause) = []
 numbers_read TooManyBytes = []
 
 small-numbers : numbers_read (reading 4194304 small) ≡ (30 ∷ 1 ∷ []) ∷ (1 ∷ 4 ∷ 2 ∷ 100 ∷ 10 ∷ 20 ∷ []) ∷ (2 ∷ 4 ∷ 3 ∷ 90 ∷ 10 ∷ []) ∷ (5 ∷ 10 ∷ 20 ∷ 2 ∷ 50 ∷ []) ∷ []
-unfolding reading judge shape_of repeated_from
+unfolding reading judge shape_of repeated_from ops_load ops_over
 small-numbers = refl
 
 small-again : text_again (reading 4194304 small) ≡ small
-unfolding reading judge shape_of repeated_from plan_text digits
+unfolding reading judge shape_of repeated_from plan_text digits ops_load ops_over
 small-again = refl
 
 -- a request that isn't known, and a line that was cut
 send-of-another : reading 4194304 (front ++ codes "send r2 3 10 2\nrounds 30\ntail 1\n") ≡ BadLine 6 cause.Unknown
-unfolding reading judge shape_of repeated_from
+unfolding reading judge shape_of repeated_from ops_load ops_over
 send-of-another = refl
 
 tail-cut : reading 4194304 (front ++ codes "rounds 30\ntail 1") ≡ BadLine 7 cause.Cut
-unfolding reading judge shape_of repeated_from
+unfolding reading judge shape_of repeated_from ops_load ops_over
 tail-cut = refl

@@ -2,7 +2,7 @@
 -- requests, and the callers with their operations, as a plan has them; the numbers of rounds, once they were said; and the schedule: whether it was begun, and its
 -- items. When `tail` was said, the first parts are those of the plan. Links, requests and callers have the numbers of their
 -- places, from 0, in the order of their lines, and groups from 1. The operations that are read belong to the last caller.
-use Rattle.std.specs.Prelude.{ℕ, suc, ◌-◌, Bool, true, false, not, nat_eq, if◌then◌else◌, Option, Some, None, List, [], ◌∷◌, ◌++◌, length, find, position, is_some, unwrap_or, option_map}
+use Rattle.std.specs.Prelude.{ℕ, suc, ◌-◌, Bool, true, false, not, nat_eq, ◌||◌, if◌then◌else◌, Option, Some, None, List, [], ◌∷◌, ◌++◌, length, find, position, is_some, unwrap_or, option_map}
 use Rattle.std.specs.List.{list_any}
 use Rattle.net_units.specs.Numbers.{link_number, actor_number, channel_number}
 use Rattle.net_units.specs.declared.numbers.ChanNo.{ChanNo}
@@ -10,17 +10,19 @@ use Rattle.hop_reservation.specs.declared.route.Hop.{Hop}
 use Rattle.link_steps.specs.declared.shape.LinkShape.{LinkShape}
 use Rattle.call_script.specs.Growing.{new_caller, add_quota, add_op, last_ops}
 use Rattle.call_script.specs.Parts.{PlanParts, parts_with}
-use Rattle.call_script.specs.Rules.{is_named, caller_names, closes}
+use Rattle.call_script.specs.Rules.{is_named, caller_names, is_in, load_at, loads_in}
 use Rattle.call_script.specs.declared.entries.CallerEntry.{CallerEntry}
 use Rattle.call_script.specs.declared.entries.LinkEntry.{LinkEntry}
 use Rattle.call_script.specs.declared.entries.RequestEntry.{RequestEntry}
 use Rattle.call_script.specs.declared.operations.Op.TheVariants.{Open}
+use Rattle.call_script.specs.declared.roles.Role.TheVariants as role
 use Rattle.call_script.specs.declared.schedule.Do.{Do}
 use Rattle.call_script.specs.declared.schedule.Schedule.{Schedule}
 use Rattle.call_script.specs.declared.version.Version.{Version}
 use Rattle.call_script.specs.declared.version.Version.TheVariants.{One}
 use Rattle.scenario_reader.specs.Entries.{hop_of}
 use Rattle.scenario_reader.specs.declared.item.Item.{Item}
+use Rattle.scenario_reader.specs.declared.uses.Uses.{Uses}
 use Rattle.scenario_reader.specs.declared.item.Item.TheVariants as item
 
 pub record Said : Type 0 where
@@ -116,9 +118,28 @@ if_own caller (Some entry) = if nat_eq (actor_number entry.caller) caller then S
 abbrev pub own_request : Said → List ℕ → Option RequestEntry
 own_request said name = if_own (last_caller said) (request_named said.requests name)
 
--- whether the last caller has closed a channel
+-- whether the last caller has closed a channel, left it by a move, used it or joined it
 abbrev pub is_closed : Said → ChanNo → Bool
-is_closed said chan = list_any (closes (channel_number chan)) (last_ops said.callers)
+is_closed said chan = list_any (is_in role.Closes (channel_number chan)) (last_ops said.callers)
+
+abbrev pub is_left : Said → ChanNo → Bool
+is_left said chan = list_any (is_in role.Leaves (channel_number chan)) (last_ops said.callers)
+
+abbrev pub is_used : Said → ChanNo → Bool
+is_used said chan = list_any (is_in role.Uses (channel_number chan)) (last_ops said.callers)
+
+abbrev pub is_joined_to : Said → ChanNo → Bool
+is_joined_to said chan = list_any (is_in role.Joins (channel_number chan)) (last_ops said.callers)
+
+-- all of it, and what it has to carry
+abbrev pub uses_said : Said → ChanNo → Uses
+uses_said said chan = record {
+  closed = is_closed said chan;
+  left = is_left said chan;
+  used = is_used said chan;
+  joined = is_joined_to said chan;
+  load = load_at (loads_in said.callers) chan;
+}
 
 -- a route over the links of these names
 abbrev pub with_hop : Option LinkEntry → List Hop → List Hop

@@ -1,25 +1,25 @@
 -- The lines of a scenario, in their order: the header, which says the version of the language; the links; the groups of callers, and
--- the quotas that groups have of links; the callers, each followed by its operations, which open requests, send on them and close them, and pour best-effort packets; `rounds`;
+-- the quotas that groups have of links; the callers, each followed by its operations, which open requests, send on them and close them, move the packets of one to another, and pour best-effort packets; `rounds`;
 -- `tail`; and then a schedule may stand, with its `do` lines. Each kind of line has a form, a list of rules in the order in
--- which they are judged, and what it says. Best-effort packets have their forms from version three on, and groups
--- and quotas from version five on; before them these forms don't exist.
-use Rattle.std.specs.Prelude.{ℕ, ◌+◌, ◌*◌, Bool, true, false, nat_eq, nat_lt, nat_le, not, ◌&&◌, if◌then◌else◌, Option, Some, None, Result, Ok, Err, List, [], ◌∷◌, length, option_map, codes, is_some, is_none}
+-- which they are judged, and what it says. Best-effort packets have their forms from version three on, groups and quotas from
+-- version five on, and moves from version six on; before them these forms don't exist.
+use Rattle.std.specs.Prelude.{ℕ, ◌+◌, ◌*◌, Bool, true, false, nat_eq, nat_lt, nat_le, not, ◌&&◌, ◌||◌, if◌then◌else◌, Option, Some, None, Result, Ok, Err, List, [], ◌∷◌, length, option_map, codes, is_some, is_none}
 use Rattle.std.specs.Cmp.Lexicographic.{pointwise}
-use Rattle.call_script.specs.Rules.{hops_of, load_in, takes_best_effort}
-use Rattle.call_script.specs.Versions.{has_best_effort, has_groups}
+use Rattle.call_script.specs.Rules.{hops_of, load_in, may_move, takes_best_effort}
+use Rattle.call_script.specs.Versions.{has_best_effort, has_groups, has_moves}
 use Rattle.call_script.specs.declared.entries.LinkEntry.{LinkEntry}
 use Rattle.call_script.specs.declared.entries.RequestEntry.{RequestEntry}
 use Rattle.call_script.specs.declared.operations.Op.{Op}
 use Rattle.call_script.specs.declared.operations.Op.TheVariants as op
 use Rattle.call_script.specs.declared.schedule.Do.{Do}
 use Rattle.call_script.specs.declared.version.Version.{Version}
-use Rattle.call_script.specs.declared.version.Version.TheVariants.{One, Two, Three, Four, Five}
+use Rattle.call_script.specs.declared.version.Version.TheVariants.{One, Two, Three, Four, Five, Six}
 use Rattle.net_units.specs.declared.numbers.ActorNo.{ActorNo}
 use Rattle.net_units.specs.Limits.{most_steps, most_packets, most_gap, most_size, most_rounds}
-use Rattle.net_units.specs.Numbers.{actor_at}
+use Rattle.net_units.specs.Numbers.{actor_at, channel_number}
 use Rattle.scenario_reader.specs.Causes.{Rule, unless, first_cause, judged, stated}
 use Rattle.scenario_reader.specs.Decimal.{value_of}
-use Rattle.scenario_reader.specs.Drafts.{Said, rounds_of, has_quotas, link_named, caller_named, own_request, is_closed}
+use Rattle.scenario_reader.specs.Drafts.{Said, rounds_of, has_quotas, link_named, caller_named, own_request, is_closed, is_left, is_used, is_joined_to, uses_said}
 use Rattle.scenario_reader.specs.Fields.{fields_of, are_fields, field_at}
 use Rattle.scenario_reader.specs.Forms.{is_word, has_form, used_name_rule, number_rule}
 use Rattle.scenario_reader.specs.GroupLines.{group_rule, group_in, caller_rule}
@@ -43,7 +43,8 @@ version_in field =
     if pointwise nat_eq field (codes "2") then Some Two else (
     if pointwise nat_eq field (codes "3") then Some Three else (
     if pointwise nat_eq field (codes "4") then Some Four else (
-    if pointwise nat_eq field (codes "5") then Some Five else None))))
+    if pointwise nat_eq field (codes "5") then Some Five else (
+    if pointwise nat_eq field (codes "6") then Some Six else None)))))
 
 abbrev pub header_version : List (List ℕ) → Option Version
 header_version fields =
@@ -67,10 +68,15 @@ packets_rule fields = first_cause (
     ∷ number_rule 1 most_size (field_at fields 4)
     ∷ [])
 
--- the request wasn't closed above
+-- the request was closed above
 abbrev pub is_closed_request : Said → Option RequestEntry → Bool
 is_closed_request said None = false
 is_closed_request said (Some entry) = is_closed said entry.request.chan
+
+-- or left by a move
+abbrev pub is_over_request : Said → Option RequestEntry → Bool
+is_over_request said None = false
+is_over_request said (Some entry) = is_closed said entry.request.chan || is_left said entry.request.chan
 
 -- with these packets more, the load of all is within the limit
 abbrev pub load_rule : Said → ℕ → Rule
@@ -81,7 +87,7 @@ send_rule said fields = first_cause (
     unless (has_form send_form fields) cause.Shape
     ∷ used_name_rule (is_some (own_request said (field_at fields 1))) (field_at fields 1)
     ∷ packets_rule fields
-    ∷ unless (not (is_closed_request said (own_request said (field_at fields 1)))) cause.Closed
+    ∷ unless (not (is_over_request said (own_request said (field_at fields 1)))) cause.Closed
     ∷ load_rule said (value_of (field_at fields 2) * hops_of (own_request said (field_at fields 1)))
     ∷ [])
 
@@ -109,6 +115,42 @@ close_of entry = op.Close entry.request.chan
 
 abbrev pub close_said : Said → List (List ℕ) → Option Op
 close_said said fields = option_map close_of (own_request said (field_at fields 1))
+
+-- ---- move OLD NEW
+
+abbrev pub move_form : List Part
+move_form = part.Word word.Move ∷ part.Field ∷ part.Field ∷ []
+
+-- packets may move from the one request to the other, which is another one, and wasn't used or joined above
+abbrev pub may_join : Said → Option RequestEntry → Option RequestEntry → Bool
+may_join said None new = false
+may_join said (Some old) None = false
+may_join said (Some old) (Some new) =
+    may_move said.links (Some old) (Some new) && not (nat_eq (channel_number old.request.chan) (channel_number new.request.chan)) && not (is_used said new.request.chan) && not (is_joined_to said new.request.chan)
+
+-- what a request has to carry
+abbrev pub carried : Said → Option RequestEntry → ℕ
+carried said None = 0
+carried said (Some entry) = (uses_said said entry.request.chan).load
+
+abbrev pub move_rule : Said → List (List ℕ) → Rule
+move_rule said fields = first_cause (
+    unless (has_form move_form fields) cause.Shape
+    ∷ used_name_rule (is_some (own_request said (field_at fields 1))) (field_at fields 1)
+    ∷ used_name_rule (is_some (own_request said (field_at fields 2))) (field_at fields 2)
+    ∷ unless (not (is_over_request said (own_request said (field_at fields 1)))) cause.Closed
+    ∷ unless (may_join said (own_request said (field_at fields 1)) (own_request said (field_at fields 2))) cause.Move
+    ∷ load_rule said (carried said (own_request said (field_at fields 1)) * hops_of (own_request said (field_at fields 2)))
+    ∷ [])
+
+-- the move between two requests
+abbrev pub move_between : Option RequestEntry → Option RequestEntry → Option Op
+move_between None new = None
+move_between (Some old) None = None
+move_between (Some old) (Some new) = Some (op.Move old.request.chan new.request.chan)
+
+abbrev pub move_said : Said → List (List ℕ) → Option Op
+move_said said fields = move_between (own_request said (field_at fields 1)) (own_request said (field_at fields 2))
 
 -- ---- pour LINK COUNT GAP SIZE
 
@@ -216,6 +258,7 @@ may_stand version said word.Open = not (nat_eq (length said.callers) 0) && is_no
 may_stand version said word.Send = not (nat_eq (length said.callers) 0) && is_none said.rounds
 may_stand version said word.Close = not (nat_eq (length said.callers) 0) && is_none said.rounds
 may_stand version said word.Pour = has_best_effort version && not (nat_eq (length said.callers) 0) && is_none said.rounds
+may_stand version said word.Move = has_moves version && not (nat_eq (length said.callers) 0) && is_none said.rounds
 may_stand version said word.Rounds = not (nat_eq (length said.links) 0) && is_none said.rounds
 may_stand version said word.Tail = is_some said.rounds && is_none said.tail
 may_stand version said word.Schedule = is_some said.tail && not said.written
@@ -233,10 +276,11 @@ line_word field =
     if is_word word.Send field then Some word.Send else (
     if is_word word.Close field then Some word.Close else (
     if is_word word.Pour field then Some word.Pour else (
+    if is_word word.Move field then Some word.Move else (
     if is_word word.Rounds field then Some word.Rounds else (
     if is_word word.Tail field then Some word.Tail else (
     if is_word word.Schedule field then Some word.Schedule else (
-    if is_word word.Do field then Some word.Do else None)))))))))))
+    if is_word word.Do field then Some word.Do else None))))))))))))
 
 -- ---- judging
 
@@ -250,6 +294,7 @@ judge_as word.Open version said number fields = judged (open_rule version said f
 judge_as word.Send version said number fields = stated (send_rule said fields) (option_map item.Op (send_said said fields))
 judge_as word.Close version said number fields = stated (close_rule said fields) (option_map item.Op (close_said said fields))
 judge_as word.Pour version said number fields = stated (pour_rule said fields) (option_map item.Op (pour_said said fields))
+judge_as word.Move version said number fields = stated (move_rule said fields) (option_map item.Op (move_said said fields))
 judge_as word.Rounds version said number fields = judged (rounds_rule fields) (item.Rounds (value_of (field_at fields 1)))
 judge_as word.Tail version said number fields = judged (tail_rule said fields) (item.Tail (value_of (field_at fields 1)))
 judge_as word.Schedule version said number fields = judged (schedule_rule fields) item.Schedule

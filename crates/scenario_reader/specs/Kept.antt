@@ -1,14 +1,14 @@
 -- What was read of a scenario so far, where no line was refused, keeps the rules of a plan, as far as it has come. Its parts
 -- come in order: the header; the links; the groups, and the quotas of the links; the callers with their operations; `rounds`; `tail`; and the schedule. Behind a part
 -- that wasn't read nothing was read, but that a scenario needs no groups, no quotas, no callers and no schedule.
-use Rattle.std.specs.Prelude.{◌≡◌, ℕ, ◌+◌, ◌*◌, ◌≤◌, Bool, true, false, None, Some, IfSome, List, [], length}
-use Rattle.std.specs.List.{slice_get, slice_index_or}
+use Rattle.std.specs.Prelude.{◌≡◌, ℕ, ◌+◌, ◌*◌, ◌≤◌, true, false, None, Some, IfSome, List, [], length, get_or}
+use Rattle.std.specs.List.{slice_get}
 use Rattle.net_units.specs.Numbers.{link_number, actor_number}
 use Rattle.net_units.specs.declared.numbers.LinkNo.{LinkNo}
 use Rattle.net_units.specs.Limits.{most_steps, most_links, most_callers, most_requests, most_packets, most_rounds}
 use Rattle.link_steps.specs.Lists.{Each}
 use Rattle.link_steps.specs.declared.quota.Quota.{Quota}
-use Rattle.call_script.specs.Growing.{KeepSoFar, MayAddLink, MayAddGroup, MayAddQuota, MayAddCaller, MayOpen, IsOpenedThere, MaySend, MayPour}
+use Rattle.call_script.specs.Growing.{KeepSoFar, MayAddLink, MayAddGroup, MayAddQuota, MayAddCaller, MayOpen, IsOpenedThere, MaySend, MayPour, MayMove}
 use Rattle.call_script.specs.Parts.{PlanParts}
 use Rattle.call_script.specs.Rules.{link_names, request_names, caller_names, load_in}
 use Rattle.call_script.specs.declared.entries.CallerEntry.{CallerEntry}
@@ -18,9 +18,11 @@ use Rattle.call_script.specs.declared.operations.Op.{Op}
 use Rattle.call_script.specs.declared.operations.Op.TheVariants as op
 use Rattle.call_script.specs.declared.schedule.Do.{Do}
 use Rattle.call_script.specs.declared.schedule.Schedule.{Schedule}
-use Rattle.scenario_reader.specs.Drafts.{Said, nothing_said, rounds_of, parts_said, schedule_said, last_caller, is_closed}
+use Rattle.scenario_reader.specs.Drafts.{Said, nothing_said, rounds_of, parts_said, schedule_said, last_caller, uses_said}
+use Rattle.scenario_reader.specs.Uses.{IsLight, blank}
 use Rattle.scenario_reader.specs.declared.item.Item.{Item}
 use Rattle.scenario_reader.specs.declared.item.Item.TheVariants as item
+use Rattle.scenario_reader.specs.declared.uses.Uses.{Uses}
 
 -- an item of a schedule: the actor is a caller or the plane, and the steps are within the limit
 pub record IsDo (callers : List CallerEntry) (what : Do) : Type 0 where
@@ -44,16 +46,16 @@ pub record IsDraft (said : Said) : Type 0 where
   pub ticks : IfSome said.tail (λ tail. (rounds_of said + tail) * length said.links ≤ most_rounds)
   pub schedule : IsScheduleOf said.callers (schedule_said said)
 
--- what is kept beside it, so that none of it is looked for again: the names, whether each request was closed, the load, and
+-- what is kept beside it, so that none of it is looked for again: the names, what was done with each request, the load, and
 -- that there are few parts
-pub record IsKeptBeside (said : Said) (links requests callers : List (List ℕ)) (closed : List Bool) (load : ℕ) : Type 0 where
+pub record IsKeptBeside (said : Said) (links requests callers : List (List ℕ)) (uses : List Uses) (load : ℕ) : Type 0 where
   pub same_links : links ≡ link_names said.links
   pub same_requests : requests ≡ request_names said.requests
   pub same_callers : callers ≡ caller_names said.callers
-  pub all_closed : length closed ≡ length said.requests
+  pub all_used : length uses ≡ length said.requests
   -- a request of the last caller
-  pub same_closed : (n : ℕ) (entry : RequestEntry) → slice_get said.requests n ≡ Some entry → actor_number entry.caller ≡ last_caller said
-      → slice_index_or closed n false ≡ is_closed said entry.request.chan
+  pub same_uses : (n : ℕ) (entry : RequestEntry) → slice_get said.requests n ≡ Some entry → actor_number entry.caller ≡ last_caller said → get_or uses n blank ≡ uses_said said entry.request.chan
+  pub light : Each IsLight uses
   pub same_load : load ≡ load_in said.requests said.callers
   pub few_links : length said.links ≤ most_links
   pub few_requests : length said.requests ≤ most_requests
@@ -93,12 +95,13 @@ pub record MayPutOpen (said : Said) (entry : RequestEntry) : Type 0 where
   pub before : HasALink said
   pub request : MayOpen (parts_said said) entry
 
--- what a send, a close and a pour have to pass
+-- what a send, a close, a pour and a move have to pass
 abbrev pub MayDo : PlanParts → Op → Type 0
 MayDo parts (op.Open chan) = ⊥
 MayDo parts (op.Send chan count gap size) = MaySend parts chan count gap size
 MayDo parts (op.Close chan) = IsOpenedThere parts chan
 MayDo parts (op.Pour link count gap size) = MayPour parts link count gap size
+MayDo parts (op.Move old new) = MayMove parts old new
 
 pub record MayPutOp (said : Said) (what : Op) : Type 0 where
   pub before : HasALink said

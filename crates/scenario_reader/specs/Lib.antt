@@ -4,6 +4,7 @@ pub mod Decimal
 pub mod Fields
 pub mod Forms
 pub mod Entries
+pub mod Uses
 pub mod Drafts
 pub mod LinkLine
 pub mod Nodes

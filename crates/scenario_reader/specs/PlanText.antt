@@ -18,11 +18,11 @@ use Rattle.call_script.specs.declared.entries.LinkEntry.{LinkEntry}
 use Rattle.call_script.specs.declared.entries.RequestEntry.{RequestEntry}
 use Rattle.call_script.specs.declared.entries.CallerEntry.{CallerEntry}
 use Rattle.call_script.specs.declared.operations.Op.{Op}
-use Rattle.call_script.specs.declared.operations.Op.TheVariants.{Open, Send, Close, Pour}
+use Rattle.call_script.specs.declared.operations.Op.TheVariants.{Open, Send, Close, Pour, Move}
 use Rattle.call_script.specs.declared.schedule.Do.{Do}
 use Rattle.call_script.specs.declared.schedule.Schedule.{Schedule}
 use Rattle.call_script.specs.declared.version.Version.{Version}
-use Rattle.call_script.specs.declared.version.Version.TheVariants.{One, Two, Three, Four, Five}
+use Rattle.call_script.specs.declared.version.Version.TheVariants.{One, Two, Three, Four, Five, Six}
 use Rattle.scenario_reader.specs.Fields.{ended_line}
 
 -- ---- tenet VERSION
@@ -33,6 +33,7 @@ version_field Two = codes "2"
 version_field Three = codes "3"
 version_field Four = codes "4"
 version_field Five = codes "5"
+version_field Six = codes "6"
 
 abbrev pub header_fields : Version → List (List ℕ)
 header_fields version = codes "tenet" ∷ version_field version ∷ []
@@ -124,6 +125,17 @@ close_fields entry = codes "close" ∷ entry.name ∷ []
 abbrev pub pour_fields : ℕ → ℕ → ℕ → LinkEntry → List (List ℕ)
 pour_fields count gap size entry = codes "pour" ∷ entry.name ∷ decimal count ∷ decimal gap ∷ decimal size ∷ []
 
+-- ---- move OLD NEW
+
+abbrev pub move_fields : RequestEntry → RequestEntry → List (List ℕ)
+move_fields old new = codes "move" ∷ old.name ∷ new.name ∷ []
+
+-- that of a move between two requests, if they are there
+abbrev pub fields_between : Option RequestEntry → Option RequestEntry → Option (List (List ℕ))
+fields_between None new = None
+fields_between (Some old) None = None
+fields_between (Some old) (Some new) = Some (move_fields old new)
+
 -- ---- an operation
 
 abbrev pub op_fields : List LinkEntry → List RequestEntry → Op → Option (List (List ℕ))
@@ -131,6 +143,7 @@ op_fields links requests (Open chan) = option_map (open_fields links) (slice_get
 op_fields links requests (Send chan count gap size) = option_map (send_fields count gap size) (slice_get requests (channel_number chan))
 op_fields links requests (Close chan) = option_map close_fields (slice_get requests (channel_number chan))
 op_fields links requests (Pour link count gap size) = option_map (pour_fields count gap size) (slice_get links (link_number link))
+op_fields links requests (Move old new) = fields_between (slice_get requests (channel_number old)) (slice_get requests (channel_number new))
 
 -- the line, if there is one
 abbrev pub lines_if : Option (List (List ℕ)) → List (List (List ℕ))

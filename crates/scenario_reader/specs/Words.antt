@@ -29,6 +29,7 @@ cause_word cause.Reach = codes "reach"
 cause_word cause.Accept = codes "accept"
 cause_word cause.Table = codes "table"
 cause_word cause.Quota = codes "quota"
+cause_word cause.Move = codes "move"
 
 -- what a refusal says
 abbrev pub refusal_text : ReadRefusal → List ℕ

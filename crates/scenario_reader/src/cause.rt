@@ -34,7 +34,7 @@ pub enum Cause {
     Levels,
     /// A link stands twice in a route, or doesn't begin where the one before it ends; or a route is to be found from a node to itself.
     Route,
-    /// The request was closed above.
+    /// The request was closed above, or a move has left it.
     Closed,
     /// The run would have too many packets or ticks.
     Load,
@@ -54,6 +54,8 @@ pub enum Cause {
     Table,
     /// The loads of a quota aren't those of the link's levels, or with it the link's quotas come to more than the link has.
     Quota,
+    /// A move is between requests whose contracts or whose ends differ, or to a request that was used above.
+    Move,
 }
 
 /// Why a line isn't let pass.
@@ -115,6 +117,7 @@ impl Cause {
             Cause::Accept => "accept",
             Cause::Table => "table",
             Cause::Quota => "quota",
+            Cause::Move => "move",
         }
     }
 }

@@ -5,6 +5,7 @@ ghost use Rattle.scenario_reader.specs.Drafts.{nothing_said, is_complete, parts_
 ghost use Rattle.scenario_reader.specs.Kept.{IsScheduleOf};
 
 use crate::names::Names;
+use crate::uses::Uses;
 use call_script::{
     BadPlan, CallerEntry, Do, Dos, LinkEntry, Plan, RequestEntry, Schedule, Version,
 };
@@ -30,9 +31,9 @@ pub struct Draft {
     pub(crate) link_names: Names,
     pub(crate) request_names: Names,
     pub(crate) caller_names: Names,
-    // Whether each request was closed.
-    pub(crate) closed: Vec<bool>,
-    // How many packets are sent, once for each hop that they cross, and poured.
+    // What was done with each request.
+    pub(crate) uses: Vec<Uses>,
+    // How many packets are sent and moved, once for each hop that they may cross, and poured.
     pub(crate) load: u64,
 }
 
@@ -46,7 +47,7 @@ impl Model for Draft {
 
     ghost invariant = { λ d. IsDraft (said_of d.version d.links.items d.groups.items d.requests.items d.callers.items d.rounds d.tail d.written d.items.items)
         × IsKeptBeside (said_of d.version d.links.items d.groups.items d.requests.items d.callers.items d.rounds d.tail d.written d.items.items)
-        d.link_names d.request_names d.caller_names d.closed.items d.load };
+        d.link_names d.request_names d.caller_names d.uses.items d.load };
 }
 
 impl Draft {
@@ -67,7 +68,7 @@ impl Draft {
             link_names: Names::new(alloc)?,
             request_names: Names::new(alloc)?,
             caller_names: Names::new(alloc)?,
-            closed: Vec::new(alloc),
+            uses: Vec::new(alloc),
             load: 0,
         })
     }

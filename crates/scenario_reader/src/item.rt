@@ -20,7 +20,7 @@ pub enum Item {
     Caller { name: Name, group: u8 },
     /// The caller opens a request.
     Open(RequestEntry),
-    /// The caller sends on a request, closes one, or pours.
+    /// The caller sends on a request, closes one, moves the packets of one to another, or pours.
     Op(Op),
     /// How many rounds the plane makes beside the callers, at most 524,288.
     Rounds(u64),

@@ -87,6 +87,7 @@ impl Draft {
             Keyword::Send => Ok(Item::Op(self.judge_send(line)?)),
             Keyword::Close => Ok(Item::Op(self.judge_close(line)?)),
             Keyword::Pour => Ok(Item::Op(self.judge_pour(line)?)),
+            Keyword::Move => Ok(Item::Op(self.judge_move(line)?)),
             Keyword::Rounds => Ok(Item::Rounds(judge_rounds(line)?)),
             Keyword::Tail => Ok(Item::Tail(self.judge_tail(line)?)),
             Keyword::Schedule => {
@@ -115,6 +116,9 @@ impl Draft {
             }
             Keyword::Pour => {
                 version.has_best_effort() && !self.callers.is_empty() && self.rounds.is_none()
+            }
+            Keyword::Move => {
+                version.has_moves() && !self.callers.is_empty() && self.rounds.is_none()
             }
             Keyword::Tail => self.rounds.is_some() && self.tail.is_none(),
             Keyword::Schedule => self.tail.is_some() && !self.written,
@@ -182,6 +186,8 @@ fn version_in(field: &[u8]) -> Option<Version>
         Some(Version::Four)
     } else if field == b"5".as_slice() {
         Some(Version::Five)
+    } else if field == b"6".as_slice() {
+        Some(Version::Six)
     } else {
         None
     }
@@ -206,6 +212,8 @@ fn line_word(field: &[u8]) -> Option<Keyword>
         Some(Keyword::Close)
     } else if Keyword::Pour.is(field) {
         Some(Keyword::Pour)
+    } else if Keyword::Move.is(field) {
+        Some(Keyword::Move)
     } else if Keyword::Rounds.is(field) {
         Some(Keyword::Rounds)
     } else if Keyword::Tail.is(field) {

@@ -23,6 +23,7 @@ mod put;
 pub mod quota_line;
 pub mod reader;
 pub mod round_lines;
+pub mod uses;
 pub mod values;
 pub mod writer;
 

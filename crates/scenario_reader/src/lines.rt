@@ -5,7 +5,7 @@ ghost use Rattle.std.specs.List.{slice_get};
 ghost use Rattle.net_units.specs.Numbers.{link_number, actor_number};
 ghost use Rattle.call_script.specs.ActorNames.{name_of_actor};
 ghost use Rattle.scenario_reader.specs.Fields.{ended_line};
-ghost use Rattle.scenario_reader.specs.PlanText.{header_fields, best_fields, bounds_fields, link_text, group_text, group_name, quota_text, caller_fields, route_names, way_fields, with_name, contract_fields, delay_fields, open_fields, send_fields, close_fields, pour_fields, op_text, rounds_fields, tail_fields, do_text, schedule_fields, spaced, link_line_front};
+ghost use Rattle.scenario_reader.specs.PlanText.{header_fields, best_fields, bounds_fields, link_text, group_text, group_name, quota_text, caller_fields, route_names, way_fields, with_name, contract_fields, delay_fields, open_fields, send_fields, close_fields, move_fields, pour_fields, op_text, rounds_fields, tail_fields, do_text, schedule_fields, spaced, link_line_front};
 
 use call_script::{CallerEntry, Do, LinkEntry, Op, RequestEntry, Version};
 use hop_reservation::Route;
@@ -24,6 +24,7 @@ pub(crate) fn header_line(alloc: Global, version: Version) -> Result<String, Out
         Version::Three => "3",
         Version::Four => "4",
         Version::Five => "5",
+        Version::Six => "6",
     };
     Ok(format!(in alloc; "tenet {number}\n")?)
 }
@@ -241,6 +242,17 @@ pub(crate) fn close_line(alloc: Global, entry: &RequestEntry) -> Result<String, 
     Ok(format!(in alloc; "close {name}\n")?)
 }
 
+pub(crate) fn move_line(
+    alloc: Global,
+    old: &RequestEntry,
+    new: &RequestEntry,
+) -> Result<String, OutOfMemory>
+    ensures { IfOk result (λ line. string_bytes line ≡ ended_line (move_fields old.now new.now)) }
+{
+    let (old, new) = (old.name, new.name);
+    Ok(format!(in alloc; "move {old} {new}\n")?)
+}
+
 pub(crate) fn pour_line(
     alloc: Global,
     entry: &LinkEntry,
@@ -282,6 +294,11 @@ pub(crate) fn op_line(
         Op::Close(chan) => {
             let entry = requests.get(chan.get() as usize)?;
             Some(close_line(alloc, entry))
+        }
+        Op::Move { old, new } => {
+            let from = requests.get(old.get() as usize)?;
+            let to = requests.get(new.get() as usize)?;
+            Some(move_line(alloc, from, to))
         }
         Op::Pour {
             link,

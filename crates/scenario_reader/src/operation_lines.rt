@@ -1,20 +1,22 @@
-//! Judging the lines of a caller's operations on channels that it has opened, and its pours.
-ghost use Rattle.std.specs.Prelude.{◌≡◌, ◌≤◌, ℕ, List, IfOk, IfSome, is_some, option_map, Some, Ok, length};
+//! Judging the lines of a caller's operations on channels that it has opened, its moves between them, and its pours.
+ghost use Rattle.std.specs.Prelude.{◌≡◌, ◌≤◌, ◌||◌, ℕ, List, IfOk, IfSome, is_some, option_map, Some, Ok, length};
 ghost use Rattle.net_units.specs.Limits.{most_packets};
 ghost use Rattle.call_script.specs.Rules.{hops_of, load_in};
 ghost use Rattle.scenario_reader.specs.Causes.{Judges, States, unless};
 ghost use Rattle.scenario_reader.specs.Decimal.{value_of};
-ghost use Rattle.scenario_reader.specs.Drafts.{link_named, shape_in, request_named, own_request, is_closed};
+ghost use Rattle.scenario_reader.specs.Drafts.{link_named, shape_in, request_named, own_request, uses_said};
 ghost use Rattle.scenario_reader.specs.Fields.{fields_of, field_at};
 ghost use Rattle.scenario_reader.specs.Forms.{used_name_rule};
-ghost use Rattle.scenario_reader.specs.Grammar.{packets_rule, load_rule, send_rule, send_said, close_rule, close_said, pour_rule, pour_said};
+ghost use Rattle.scenario_reader.specs.Grammar.{packets_rule, load_rule, send_rule, send_said, close_rule, close_said, may_join, move_rule, move_said, pour_rule, pour_said};
+ghost use Rattle.scenario_reader.specs.Uses.{IsLight};
 
 use crate::cause::Cause;
 use crate::draft::Draft;
 use crate::fields::field;
 use crate::form::{Keyword, Part, has_form};
+use crate::uses::{Uses, use_at};
 use crate::values::{name, number, require};
-use call_script::{Op, RequestEntry};
+use call_script::{Op, RequestEntry, may_move};
 use link_steps::LinkShape;
 use net_units::Name;
 use net_units::limits::{MOST_GAP, MOST_PACKETS, MOST_SIZE};
@@ -28,6 +30,8 @@ const SEND_FORM: [Part; 5] = [
 ];
 
 const CLOSE_FORM: [Part; 2] = [Part::Word(Keyword::Close), Part::Field];
+
+const MOVE_FORM: [Part; 3] = [Part::Word(Keyword::Move), Part::Field, Part::Field];
 
 const POUR_FORM: [Part; 5] = [
     Part::Word(Keyword::Pour),
@@ -53,7 +57,8 @@ impl Draft {
         require(has_form(&SEND_FORM, line), Cause::Shape)?;
         let entry = self.judge_own(field(line, 1))?;
         let packets = judge_packets(line)?;
-        require(!self.is_closed(&entry), Cause::Closed)?;
+        let uses = self.uses_of(&entry);
+        require(!(uses.closed || uses.left), Cause::Closed)?;
         self.judge_load(packets.count * u64::from(entry.request.route.len()))?;
         Ok(Op::Send {
             chan: entry.request.chan,
@@ -70,8 +75,36 @@ impl Draft {
         require(has_form(&CLOSE_FORM, line), Cause::Shape)?;
         let named = name(field(line, 1))?;
         let entry = self.own_request(&named).ok_or(Cause::Unknown)?;
-        require(!self.is_closed(&entry), Cause::Closed)?;
+        require(!self.uses_of(&entry).closed, Cause::Closed)?;
         Ok(Op::Close(entry.request.chan))
+    }
+
+    // The move that the line says.
+    pub(crate) fn judge_move(&self, line: &[u8]) -> Result<Op, Cause>
+        ensures { States result (move_rule self.now (fields_of line.now)) (move_said self.now (fields_of line.now)) }
+    {
+        require(has_form(&MOVE_FORM, line), Cause::Shape)?;
+        let old = self.judge_own(field(line, 1))?;
+        let new = self.judge_own(field(line, 2))?;
+        let uses = self.uses_of(&old);
+        require(!(uses.closed || uses.left), Cause::Closed)?;
+        require(self.may_join(&old, &new), Cause::Move)?;
+        self.judge_load(uses.load * u64::from(new.request.route.len()))?;
+        Ok(Op::Move {
+            old: old.request.chan,
+            new: new.request.chan,
+        })
+    }
+
+    // Whether packets may move from the one request to the other, which is another one, and wasn't used or joined above.
+    fn may_join(&self, old: &RequestEntry, new: &RequestEntry) -> bool
+        ensures { (name : List ℕ) → own_request self.now name ≡ Some new.now → result ≡ may_join self.now (Some old.now) (Some new.now) }
+    {
+        let uses = self.uses_of(new);
+        may_move(&self.links, old, new)
+            && old.request.chan.get() != new.request.chan.get()
+            && !uses.used
+            && !uses.joined
     }
 
     // The pour that the line says.
@@ -143,14 +176,12 @@ impl Draft {
         Some(self.requests[number])
     }
 
-    // Whether the last caller has closed a request that it has opened.
-    fn is_closed(&self, entry: &RequestEntry) -> bool
-        ensures { (name : List ℕ) → own_request self.now name ≡ Some entry.now → result ≡ is_closed self.now entry.now.request.chan }
+    // What the last caller has done with a request that it has opened.
+    fn uses_of(&self, entry: &RequestEntry) -> Uses
+        ensures value { (name : List ℕ) → own_request self.now name ≡ Some entry.now → result ≡ uses_said self.now entry.now.request.chan }
+        ensures light { IsLight result }
     {
-        match self.closed.get(entry.request.chan.get() as usize) {
-            Some(closed) => *closed,
-            None => false,
-        }
+        use_at(&self.uses, entry.request.chan)
     }
 }
 

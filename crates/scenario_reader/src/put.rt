@@ -3,14 +3,14 @@ ghost use Rattle.std.specs.Prelude.{◌≡◌, ◌≤◌, ◌++◌, ◌∷◌, [
 ghost use Rattle.std.specs.List.{slice_get};
 ghost use Rattle.net_units.specs.Numbers.{channel_number};
 ghost use Rattle.call_script.specs.Growing.{add_quota, add_op};
-ghost use Rattle.call_script.specs.Rules.{closes, hops_of, load_of};
-ghost use Rattle.call_script.specs.declared.operations.Op.TheVariants.{Close};
+ghost use Rattle.call_script.specs.Rules.{hops_of, load_of, loads_in};
 ghost use Rattle.scenario_reader.specs.Drafts.{with_item};
 ghost use Rattle.scenario_reader.specs.Kept.{MayAdd};
 ghost use Rattle.scenario_reader.specs.declared.item.Item.TheVariants as item;
 
 use crate::draft::Draft;
 use crate::item::Item;
+use crate::uses::{blank, use_at, use_by};
 use call_script::{CallerEntry, Do, LinkEntry, Op, Ops, RequestEntry, Version};
 use link_steps::Quota;
 use net_units::{ChanNo, LinkNo, Name, OutOfMemory};
@@ -97,51 +97,38 @@ impl Draft {
         ensures err { OnErr result (self.new ≡ self.old) }
     {
         self.requests.reserve(1)?;
-        self.closed.reserve(1)?;
+        self.uses.reserve(1)?;
         add_op(&mut self.callers, Op::Open(entry.request.chan))?;
         push_reserved(&mut self.requests, entry);
-        self.closed.push_reserved(false);
+        self.uses.push_reserved(blank());
         self.request_names.add(entry.name);
         Ok(())
     }
 
+    // Adds an operation other than an open, with its packets, once for each hop that they may cross.
     fn put_op(&mut self, op: &Op) -> Result<(), OutOfMemory>
         requires { MayAdd self.old (item.Op op.now) }
         ensures ok { OnOk result (self.new ≡ with_item (item.Op op.now) self.old) }
         ensures err { OnErr result (self.new ≡ self.old) }
     {
-        match op {
-            Op::Open(_) => unreachable!(),
-            Op::Close(chan) => self.put_close(*chan),
-            Op::Send { chan, count, .. } => {
-                let packets = *count * self.hops_of(*chan);
-                self.put_packets(op, packets)
-            }
-            Op::Pour { count, .. } => self.put_packets(op, *count),
-        }
-    }
-
-    // Adds a send or a pour of so many packets, once for each hop that they cross.
-    fn put_packets(&mut self, op: &Op, packets: u64) -> Result<(), OutOfMemory>
-        requires may { MayAdd self.old (item.Op op.now) }
-        requires packets { packets ≡ load_of self.old.requests op.now }
-        requires open_still { (c : ℕ) → closes c op.now ≡ false }
-        ensures ok { OnOk result (self.new ≡ with_item (item.Op op.now) self.old) }
-        ensures err { OnErr result (self.new ≡ self.old) }
-    {
+        let packets = self.packets_of(op);
         add_op(&mut self.callers, *op)?;
         self.load += packets;
+        use_by(&mut self.uses, op);
         Ok(())
     }
 
-    fn put_close(&mut self, chan: ChanNo) -> Result<(), OutOfMemory>
-        requires { MayAdd self.old (item.Op (Close chan)) }
-        ensures ok { OnOk result (self.new ≡ with_item (item.Op (Close chan)) self.old) }
-        ensures err { OnErr result (self.new ≡ self.old) }
+    // The packets of an operation, once for each hop.
+    fn packets_of(&self, op: &Op) -> u64
+        requires { MayAdd self.now (item.Op op.now) }
+        ensures { result ≡ load_of self.now.requests (loads_in self.now.callers) op.now }
     {
-        add_op(&mut self.callers, Op::Close(chan))?;
-        self.closed[chan.get() as usize] = true;
-        Ok(())
+        match op {
+            Op::Open(_) | Op::Close(_) => 0,
+            Op::Send { chan, count, .. } => *count * self.hops_of(*chan),
+            Op::Pour { count, .. } => *count,
+            Op::Move { old, new } => use_at(&self.uses, *old).load * self.hops_of(*new),
+        }
     }
 
     // How many hops the route of a channel has, 0 where it has no request.

@@ -4,6 +4,8 @@
 #[cfg(test)]
 mod auditing;
 #[cfg(test)]
+mod moves;
+#[cfg(test)]
 mod reading;
 #[cfg(test)]
 mod writing;

@@ -41,7 +41,7 @@ fn read(alloc: Global, text: &str) -> Result<Result<(), ReadRefusal>, Fail> {
 }
 
 // The plan and the schedule of a text.
-fn planned(alloc: Global, text: &str) -> Result<(Plan, Schedule), Fail> {
+pub(crate) fn planned(alloc: Global, text: &str) -> Result<(Plan, Schedule), Fail> {
     let mut bytes = Vec::new(alloc);
     bytes.extend_from_slice(text.as_bytes())?;
     let mut source = MemSource::new(bytes, 7, Vec::new(alloc));
@@ -199,7 +199,7 @@ quota A g1 buffer 50 levels 4 8 20
 ";
 
 // The line after these is refused by this cause.
-fn refuses(
+pub(crate) fn refuses(
     rt: &impl std::process::Abort,
     alloc: Global,
     front: &str,
@@ -246,6 +246,7 @@ fn a_line_is_refused_by_its_first_cause(rt: HostRuntime) -> Result<(), Fail> {
         (AFTER_CLOSE, "close r1", Cause::Closed),
         (AFTER_OPEN, "send r1 131073 1 2", Cause::Load),
         (AFTER_BEST, "pour B 262144 1 2", Cause::Best),
+        (AFTER_OPEN, "move r1 r1", Cause::Word),
         (AFTER_LINK, "group g1", Cause::Word),
         (AFTER_LINK, "caller k1 group g1", Cause::Shape),
         (AFTER_GROUPS, "group g2", Cause::Known),
@@ -268,8 +269,8 @@ fn a_line_is_refused_by_its_first_cause(rt: HostRuntime) -> Result<(), Fail> {
     Ok(())
 }
 
-// A scenario with groups, two of whose quotas are of one link.
-const SPLIT: &str = "tenet 5
+// A scenario with groups, two of whose quotas are of one link, and with a move.
+const SPLIT: &str = "tenet 6
 link A n1 n2 rate 1 cap 4 prop 2 buffer 100 levels 10 20 40
 link B n2 n3 rate 1 cap 4 prop 2 buffer 100 levels 10
 group g1
@@ -279,12 +280,17 @@ quota A g1 buffer 50 levels 4 8 20
 quota B g1 buffer 0 levels 6
 caller k1 group g2
 caller k2
+open r1 route A contract 5 10 20 2 delay 12 rate
+open r2 route A contract 5 10 20 2 delay 50 jitter 20
+send r1 3 10 2
+move r1 r2
+close r1
 rounds 0
 tail 0
 ";
 
 #[test]
-fn groups_and_quotas_are_read_and_written_again(rt: HostRuntime) -> Result<(), Fail> {
+fn groups_quotas_and_moves_are_read_and_written_again(rt: HostRuntime) -> Result<(), Fail> {
     let alloc = rt.alloc();
     let (plan, _) = planned(alloc, SPLIT)?;
     assert_eq!(rt; plan.groups().len(), 2);

@@ -16,7 +16,7 @@ use Rattle.scenario_reader.specs.Fields.{fields_of, are_fields, field_at}
 use Rattle.scenario_reader.specs.Forms.{has_form, is_among, name_rule, new_name_rule, used_name_rule, number_rule}
 use Rattle.scenario_reader.specs.GroupLines.{group_form, group_rule, is_caller_line, names_group, member_rule, caller_rule}
 use Rattle.scenario_reader.specs.QuotaLine.{quota_form, load_fields, quota_in, quota_numbers_rule, is_new_quota, is_fit_quota, quota_rule}
-use Rattle.scenario_reader.specs.Grammar.{packets_rule, is_closed_request, load_rule, send_form, send_rule, close_form, close_rule, pour_form, pour_rule, rounds_form, rounds_rule, are_few_ticks, tail_form, tail_rule, schedule_form, schedule_rule, is_plane, actor_rule, do_form, do_rule, header_said, header_version, line_word, may_stand, judge_as, judge_word, judge_after, judge_fields, is_passed_over, judge}
+use Rattle.scenario_reader.specs.Grammar.{packets_rule, is_over_request, is_closed_request, may_join, carried, load_rule, send_form, send_rule, close_form, close_rule, move_form, move_rule, pour_form, pour_rule, rounds_form, rounds_rule, are_few_ticks, tail_form, tail_rule, schedule_form, schedule_rule, is_plane, actor_rule, do_form, do_rule, header_said, header_version, line_word, may_stand, judge_as, judge_word, judge_after, judge_fields, is_passed_over, judge}
 use Rattle.scenario_reader.specs.LinkLine.{is_link_line, has_best, bound_fields, link_numbers, link_numbers_rule, best_rule, link_fields_rule, link_rule}
 use Rattle.scenario_reader.specs.Nodes.{is_node, route_between}
 use Rattle.scenario_reader.specs.OpenLine.{is_open_line, is_found, has_jitter, hops_in, route_fields, after_route, contract_told, contract_of, is_way, route_link_rule, route_names_rule, nodes_rule, way_fields_rule, terms_rule, jitter_rule, open_fields_rule, between_rule, way_rule, open_limits_rule, open_rule}
@@ -199,7 +199,7 @@ other-send said fields =
     other-else _ _ (other-unless (has_form send_form fields) cause.Shape refl)
     (other-else _ _ (other-used (is_some (own_request said (field_at fields 1))) (field_at fields 1))
     (other-else _ _ (other-packets fields)
-    (other-else _ _ (other-unless (not (is_closed_request said (own_request said (field_at fields 1)))) cause.Closed refl)
+    (other-else _ _ (other-unless (not (is_over_request said (own_request said (field_at fields 1)))) cause.Closed refl)
     (other-else _ _ (other-load said (value_of (field_at fields 2) * hops_of (own_request said (field_at fields 1)))) other-none))))
 
 other-close : (said : Said) (fields : List (List ℕ)) → IsOther (close_rule said fields)
@@ -207,6 +207,15 @@ other-close said fields =
     other-else _ _ (other-unless (has_form close_form fields) cause.Shape refl)
     (other-else _ _ (other-used (is_some (own_request said (field_at fields 1))) (field_at fields 1))
     (other-else _ _ (other-unless (not (is_closed_request said (own_request said (field_at fields 1)))) cause.Closed refl) other-none))
+
+other-move : (said : Said) (fields : List (List ℕ)) → IsOther (move_rule said fields)
+other-move said fields =
+    other-else _ _ (other-unless (has_form move_form fields) cause.Shape refl)
+    (other-else _ _ (other-used (is_some (own_request said (field_at fields 1))) (field_at fields 1))
+    (other-else _ _ (other-used (is_some (own_request said (field_at fields 2))) (field_at fields 2))
+    (other-else _ _ (other-unless (not (is_over_request said (own_request said (field_at fields 1)))) cause.Closed refl)
+    (other-else _ _ (other-unless (may_join said (own_request said (field_at fields 1)) (own_request said (field_at fields 2))) cause.Move refl)
+    (other-else _ _ (other-load said (carried said (own_request said (field_at fields 1)) * hops_of (own_request said (field_at fields 2)))) other-none)))))
 
 other-pour : (said : Said) (fields : List (List ℕ)) → IsOther (pour_rule said fields)
 other-pour said fields =
@@ -262,6 +271,7 @@ goes-as word.Caller version said number fields = judged-goes (caller_rule versio
 goes-as word.Open version said number fields = judged-goes (open_rule version said fields) _ (other-open version said fields)
 goes-as word.Send version said number fields = stated-goes (send_rule said fields) _ (other-send said fields)
 goes-as word.Close version said number fields = stated-goes (close_rule said fields) _ (other-close said fields)
+goes-as word.Move version said number fields = stated-goes (move_rule said fields) _ (other-move said fields)
 goes-as word.Pour version said number fields = stated-goes (pour_rule said fields) _ (other-pour said fields)
 goes-as word.Rounds version said number fields = judged-goes (rounds_rule fields) _ (other-rounds fields)
 goes-as word.Tail version said number fields = judged-goes (tail_rule said fields) _ (other-tail said fields)

@@ -23,10 +23,10 @@ use Rattle.channel_laws.specs.Channels.{is_of_channel}
 use Rattle.call_script.specs.Owners.{OwnedFully, TaskOff, IsUnnamed}
 use Rattle.call_script.specs.Parts.{PlanParts}
 use Rattle.call_script.specs.Plans.{IsPlan}
-use Rattle.call_script.specs.Tasks.{Network, request_of, send_on, task_for, task_of, with_task, tasks_of, script_of, network_of}
+use Rattle.call_script.specs.Tasks.{Network, request_of, send_on, task_for, move_for, task_of, with_task, tasks_of, script_of, network_of}
 use Rattle.call_script.specs.declared.entries.RequestEntry.{RequestEntry}
 use Rattle.call_script.specs.declared.operations.Op.{Op}
-use Rattle.call_script.specs.declared.operations.Op.TheVariants.{Open, Send, Close, Pour}
+use Rattle.call_script.specs.declared.operations.Op.TheVariants.{Open, Send, Close, Pour, Move}
 use Rattle.call_script.specs.declared.tasks.Task.{Task}
 use Rattle.call_script.specs.declared.tasks.Task.TheVariants.{Opens, Sends, Closes}
 use Rattle.call_script.proofs.FitFacts.{request-fits, plan-fits}
@@ -79,11 +79,17 @@ ops-off-none c requests planned none (op ∷ ops) = by-op op (ops-off-none c req
   closes None n is rest = rest
   closes (Some request) n is rest = (off n request is, rest)
 
+  moves : (from to : Option Request) (m n : ℕ) → slice_get (map request_of requests) m ≡ from → slice_get (map request_of requests) n ≡ to → Each (TaskOff c) (tasks_of (map request_of requests) ops) → Each (TaskOff c) (with_task (move_for from to) (tasks_of (map request_of requests) ops))
+  moves None to m n is also rest = rest
+  moves (Some old) None m n is also rest = rest
+  moves (Some old) (Some new) m n is also rest = ((off m old is, off n new also), rest)
+
   by-op : (op : Op) → Each (TaskOff c) (tasks_of (map request_of requests) ops) → Each (TaskOff c) (with_task (task_of (map request_of requests) op) (tasks_of (map request_of requests) ops))
   by-op (Open chan) rest = opens (slice_get (map request_of requests) (channel_number chan)) (channel_number chan) refl rest
   by-op (Send chan count gap size) rest = sends (slice_get (map request_of requests) (channel_number chan)) (channel_number chan) count gap size refl rest
   by-op (Close chan) rest = closes (slice_get (map request_of requests) (channel_number chan)) (channel_number chan) refl rest
   by-op (Pour link count gap size) rest = (tt, rest)
+  by-op (Move old new) rest = moves (slice_get (map request_of requests) (channel_number old)) (slice_get (map request_of requests) (channel_number new)) (channel_number old) (channel_number new) refl refl rest
 
 unnamed : (plan : PlanParts) (c : ℕ) → IsPlan plan → slice_get plan.requests c ≡ None → IsUnnamed (network_of plan) c
 unfolding network_of

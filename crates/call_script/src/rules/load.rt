@@ -1,61 +1,131 @@
-//! The packets that are sent and poured.
-ghost use Rattle.std.specs.Prelude.{◌≡◌, ◌+◌, ◌≤◌, None, Some, IsTrue, nat_le, if◌then◌else◌};
+//! The packets that are sent, moved and poured.
+ghost use Rattle.std.specs.Prelude.{◌≡◌, ◌+◌, ◌≤◌, IfOk, IsSome, IsTrue, OnOk, nat_le};
 ghost use Rattle.std.specs.List.{list_all, slice_get};
-ghost use Rattle.net_units.specs.Numbers.{link_number};
+ghost use Rattle.link_steps.specs.Lists.{Each};
+ghost use Rattle.net_units.specs.Numbers.{link_number, channel_number};
 ghost use Rattle.net_units.specs.Limits.{most_packets};
-ghost use Rattle.traffic_contract.specs.Admission.{total};
-ghost use Rattle.call_script.specs.Rules.{all_ops, pour_is_there, op_in_range, load_of, load_in, takes_best_effort, pour_is_taken};
+ghost use Rattle.call_script.specs.Loads.{IsFew, within_load};
+ghost use Rattle.call_script.specs.Rules.{all_ops, pour_is_there, op_in_range, hops_of, load_at, raised, loads_with, loads_after, load_of, ops_load, load_in, takes_best_effort, pour_is_taken};
 
 use crate::entries::{CallerEntry, LinkEntry, RequestEntry};
 use crate::operations::Op;
 use crate::rules::routes::has_link;
-use net_units::LinkNo;
 use net_units::limits::MOST_PACKETS;
+use net_units::{ChanNo, LinkNo, OutOfMemory};
+use std::alloc::Global;
 
 // Whether all packets, once for each hop, are within the limit.
-pub(crate) fn is_small(requests: &[RequestEntry], callers: &[CallerEntry]) -> bool
+pub(crate) fn is_small(
+    alloc: Global,
+    requests: &[RequestEntry],
+    callers: &[CallerEntry],
+) -> Result<bool, OutOfMemory>
     requires { IsTrue (all_ops op_in_range callers.now) }
-    ensures { result ≡ nat_le (load_in requests.now callers.now) most_packets }
+    ensures { IfOk result (λ small. small ≡ nat_le (load_in requests.now callers.now) most_packets) }
 {
+    let mut loads = Vec::new(alloc);
     let mut load = 0;
     for caller in callers {
-        match load_with(load, requests, caller.ops.as_slice()) {
+        match load_with(load, requests, caller.ops.as_slice(), &mut loads)? {
             Some(sum) => load = sum,
-            None => return false,
+            None => return Ok(false),
         }
     }
-    true
+    Ok(true)
 }
 
-// The load with that of these operations, where it is within the limit.
-fn load_with(before: u64, requests: &[RequestEntry], ops: &[Op]) -> Option<u64>
+// The load with that of these operations, where it is within the limit. `loads` tells what each request has to carry so far.
+fn load_with(
+    before: u64,
+    requests: &[RequestEntry],
+    ops: &[Op],
+    loads: &mut Vec<u64>,
+) -> Result<Option<u64>, OutOfMemory>
     requires within { before ≤ most_packets }
     requires range { IsTrue (list_all op_in_range ops.now) }
-    ensures { result ≡ (if nat_le (before + total (load_of requests.now) ops.now) most_packets then Some (before + total (load_of requests.now) ops.now) else None) }
+    requires few { Each IsFew loads.old.items }
+    ensures load { IfOk result (λ sum. sum ≡ within_load (before + ops_load requests.now loads.old.items ops.now)) }
+    ensures loads { IfOk result (λ sum. IsSome sum → loads.new.items ≡ loads_after loads.old.items ops.now) }
+    ensures few { OnOk result (Each IsFew loads.new.items) }
 {
     let mut load = before;
     for op in ops {
-        load += load_of(requests, op);
+        load += load_of(requests, loads, op);
         if load > MOST_PACKETS {
-            return None;
+            return Ok(None);
         }
+        put_load(loads, op)?;
     }
-    Some(load)
+    Ok(Some(load))
 }
 
 // The packets of an operation, once for each hop.
-fn load_of(requests: &[RequestEntry], op: &Op) -> u64
-    requires { IsTrue (op_in_range op.now) }
-    ensures value { result ≡ load_of requests.now op.now }
+fn load_of(requests: &[RequestEntry], loads: &[u64], op: &Op) -> u64
+    requires range { IsTrue (op_in_range op.now) }
+    requires few { Each IsFew loads.now }
+    ensures value { result ≡ load_of requests.now loads.now op.now }
     ensures most { result ≤ 4194304 }
 {
     match op {
-        Op::Send { chan, count, .. } => match requests.get(chan.get() as usize) {
-            Some(entry) => count * u64::from(entry.request.route.len()),
-            None => 0,
-        },
+        Op::Send { chan, count, .. } => count * hops_of(requests, *chan),
         Op::Pour { count, .. } => *count,
+        Op::Move { old, new } => load_at(loads, *old) * hops_of(requests, *new),
         Op::Open(_) | Op::Close(_) => 0,
+    }
+}
+
+// How many hops a request has, 0 where it isn't there.
+fn hops_of(requests: &[RequestEntry], chan: ChanNo) -> u64
+    ensures value { result ≡ hops_of (slice_get requests.now (channel_number chan)) }
+    ensures most { result ≤ 16 }
+{
+    match requests.get(chan.get() as usize) {
+        Some(entry) => u64::from(entry.request.route.len()),
+        None => 0,
+    }
+}
+
+// What a request has to carry so far, 0 where it isn't there.
+fn load_at(loads: &[u64], chan: ChanNo) -> u64
+    requires { Each IsFew loads.now }
+    ensures value { result ≡ load_at loads.now chan }
+    ensures most { IsFew result }
+{
+    match loads.get(chan.get() as usize) {
+        Some(load) => *load,
+        None => 0,
+    }
+}
+
+// What the requests have to carry with one operation more.
+fn put_load(loads: &mut Vec<u64>, op: &Op) -> Result<(), OutOfMemory>
+    requires range { IsTrue (op_in_range op.now) }
+    requires few { Each IsFew loads.old.items }
+    ensures loads { OnOk result (loads.new.items ≡ loads_with loads.old.items op.now) }
+    ensures few { OnOk result (Each IsFew loads.new.items) }
+{
+    match op {
+        Op::Open(_) => loads.push(0)?,
+        Op::Send { chan, count, .. } => raise(loads, *chan, *count),
+        Op::Move { old, new } => {
+            let load = load_at(loads, *old);
+            raise(loads, *new, load);
+        }
+        Op::Close(_) | Op::Pour { .. } => {}
+    }
+    Ok(())
+}
+
+// A request has to carry so many packets at least.
+fn raise(loads: &mut Vec<u64>, chan: ChanNo, load: u64)
+    requires load { IsFew load }
+    requires few { Each IsFew loads.old.items }
+    ensures value { loads.new.items ≡ raised chan load loads.old.items }
+    ensures few { Each IsFew loads.new.items }
+{
+    let place = chan.get() as usize;
+    if place < loads.len() {
+        loads[place] = loads[place].max(load);
     }
 }
 
@@ -72,7 +142,7 @@ fn ops_are_there(links: &[LinkEntry], ops: &[Op]) -> bool
 {
     ops.iter().all(|op| match op {
         Op::Pour { link, .. } => has_link(links, *link),
-        Op::Open(_) | Op::Send { .. } | Op::Close(_) => true,
+        Op::Open(_) | Op::Send { .. } | Op::Close(_) | Op::Move { .. } => true,
     })
 }
 
@@ -89,7 +159,7 @@ fn ops_are_taken(links: &[LinkEntry], ops: &[Op]) -> bool
 {
     ops.iter().all(|op| match op {
         Op::Pour { link, .. } => takes_best_effort(links, *link),
-        Op::Open(_) | Op::Send { .. } | Op::Close(_) => true,
+        Op::Open(_) | Op::Send { .. } | Op::Close(_) | Op::Move { .. } => true,
     })
 }
 

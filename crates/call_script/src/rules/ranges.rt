@@ -66,7 +66,7 @@ fn op_in_range(op: &Op) -> bool
             size,
             ..
         } => packets_in_range(*count, *gap, *size),
-        Op::Open(_) | Op::Close(_) => true,
+        Op::Open(_) | Op::Close(_) | Op::Move { .. } => true,
     }
 }
 

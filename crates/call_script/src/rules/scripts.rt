@@ -1,99 +1,87 @@
-//! Sends and closes of channels that are open.
+//! Operations of a script that need one above them, or that need none.
 ghost use Rattle.std.specs.Prelude.{◌≡◌, [], IfOk, nat_eq};
 ghost use Rattle.std.specs.HashSet.{contains};
-ghost use Rattle.std.specs.List.{list_all};
-ghost use Rattle.call_script.specs.Rules.{each_after, used_by, opened_in, closed_in, hits, misses, is_opened, are_opened, is_unclosed};
-ghost use Rattle.call_script.specs.declared.entries.CallerEntry.{CallerEntry as Asking};
+ghost use Rattle.call_script.specs.Rules.{each_after, hits, misses, is_after, is_apart, all_after, all_apart, are_opened};
 
 use crate::entries::CallerEntry;
 use crate::operations::Op;
+use crate::roles::{Role, named};
 use net_units::OutOfMemory;
 use std::alloc::Global;
 use std::collections::HashSet;
 
+// Whether each channel that is used or joined was opened above.
 pub(crate) fn are_opened(alloc: Global, callers: &[CallerEntry]) -> Result<bool, OutOfMemory>
     ensures { IfOk result (λ kept. kept ≡ are_opened callers.now) }
 {
-    for caller in callers {
-        if !ops_are_opened(alloc, caller.ops.as_slice())? {
-            return Ok(false);
-        }
-    }
-    Ok(true)
+    Ok(
+        all_after(alloc, Role::Uses, Role::Opens, callers)?
+            && all_after(alloc, Role::Joins, Role::Opens, callers)?,
+    )
 }
 
-// Whether each send and close is of a request opened above.
-fn ops_are_opened(alloc: Global, ops: &[Op]) -> Result<bool, OutOfMemory>
-    ensures { IfOk result (λ kept. kept ≡ each_after is_opened [] ops.now) }
-{
-    let mut opened = HashSet::new(alloc);
-    for op in ops {
-        if misses(&opened, used_by(op)) {
-            return Ok(false);
-        }
-        if let Some(chan) = opened_in(op) {
-            opened.insert(chan)?;
-        }
-    }
-    Ok(true)
-}
-
-pub(crate) fn are_unclosed(alloc: Global, callers: &[CallerEntry]) -> Result<bool, OutOfMemory>
-    ensures { IfOk result (λ kept. kept ≡ list_all (λ (caller : Asking). each_after is_unclosed [] caller.ops) callers.now) }
+// Whether each channel to which an operation is `asks` is one to which an operation above is `adds`.
+pub(crate) fn all_after(
+    alloc: Global,
+    asks: Role,
+    adds: Role,
+    callers: &[CallerEntry],
+) -> Result<bool, OutOfMemory>
+    ensures { IfOk result (λ kept. kept ≡ all_after asks adds callers.now) }
 {
     for caller in callers {
-        if !ops_are_unclosed(alloc, caller.ops.as_slice())? {
+        if !ops_are_after(alloc, asks, adds, caller.ops.as_slice())? {
             return Ok(false);
         }
     }
     Ok(true)
 }
 
-// Whether no send and no close is of a request closed above.
-fn ops_are_unclosed(alloc: Global, ops: &[Op]) -> Result<bool, OutOfMemory>
-    ensures { IfOk result (λ kept. kept ≡ each_after is_unclosed [] ops.now) }
+fn ops_are_after(alloc: Global, asks: Role, adds: Role, ops: &[Op]) -> Result<bool, OutOfMemory>
+    ensures { IfOk result (λ kept. kept ≡ each_after (is_after asks adds) [] ops.now) }
 {
-    let mut closed = HashSet::new(alloc);
+    let mut above = HashSet::new(alloc);
     for op in ops {
-        if hits(&closed, used_by(op)) {
+        if misses(&above, named(asks, op)) {
             return Ok(false);
         }
-        if let Some(chan) = closed_in(op) {
-            closed.insert(chan)?;
+        if let Some(chan) = named(adds, op) {
+            above.insert(chan)?;
         }
     }
     Ok(true)
 }
 
-// The channel that a send or a close is of.
-fn used_by(op: &Op) -> Option<u32>
-    ensures { result ≡ used_by op.now }
+// Whether none of them is.
+pub(crate) fn all_apart(
+    alloc: Global,
+    asks: Role,
+    adds: Role,
+    callers: &[CallerEntry],
+) -> Result<bool, OutOfMemory>
+    ensures { IfOk result (λ kept. kept ≡ all_apart asks adds callers.now) }
 {
-    match op {
-        Op::Send { chan, .. } => Some(chan.get()),
-        Op::Close(chan) => Some(chan.get()),
-        Op::Open(_) | Op::Pour { .. } => None,
+    for caller in callers {
+        if !ops_are_apart(alloc, asks, adds, caller.ops.as_slice())? {
+            return Ok(false);
+        }
     }
+    Ok(true)
 }
 
-// The channel that an open is of.
-fn opened_in(op: &Op) -> Option<u32>
-    ensures { result ≡ opened_in op.now }
+fn ops_are_apart(alloc: Global, asks: Role, adds: Role, ops: &[Op]) -> Result<bool, OutOfMemory>
+    ensures { IfOk result (λ kept. kept ≡ each_after (is_apart asks adds) [] ops.now) }
 {
-    match op {
-        Op::Open(chan) => Some(chan.get()),
-        Op::Send { .. } | Op::Close(_) | Op::Pour { .. } => None,
+    let mut above = HashSet::new(alloc);
+    for op in ops {
+        if hits(&above, named(asks, op)) {
+            return Ok(false);
+        }
+        if let Some(chan) = named(adds, op) {
+            above.insert(chan)?;
+        }
     }
-}
-
-// The channel that a close is of.
-fn closed_in(op: &Op) -> Option<u32>
-    ensures { result ≡ closed_in op.now }
-{
-    match op {
-        Op::Close(chan) => Some(chan.get()),
-        Op::Open(_) | Op::Send { .. } | Op::Pour { .. } => None,
-    }
+    Ok(true)
 }
 
 // Whether a channel, if there is one, is in the set.

@@ -52,6 +52,7 @@ fn op_has_version(version: Version, op: &Op) -> bool
 {
     match op {
         Op::Pour { .. } => version.has_best_effort(),
+        Op::Move { .. } => version.has_moves(),
         Op::Open(_) | Op::Send { .. } | Op::Close(_) => true,
     }
 }

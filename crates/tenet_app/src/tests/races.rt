@@ -155,6 +155,29 @@ tail 30
     replays(&rt, rt.alloc(), input, &NoGate)
 }
 
+#[test]
+fn a_race_with_moves_is_the_run_of_its_schedule(rt: HostRuntime) -> Result<(), Fail> {
+    let input = "tenet 6
+link A n1 n2 rate 1 cap 4 prop 2 buffer 100 levels 10 20 40
+link B n1 n2 rate 1 cap 4 prop 2 buffer 100 levels 10 20 40
+caller k1
+open r1 route A contract 5 10 20 2 delay 12 rate
+open r2 route B contract 5 10 20 2 delay 22 rate
+send r1 4 10 2
+move r1 r2
+close r1
+caller k2
+open r3 route B contract 5 10 20 2 delay 22 rate
+open r4 route A contract 5 10 20 2 delay 22 rate
+send r3 3 5 1
+move r3 r4
+close r4
+rounds 12
+tail 60
+";
+    replays(&rt, rt.alloc(), input, &NoGate)
+}
+
 // A chain of four links, and callers that each open a channel over it, send on it and close it.
 fn chain(alloc: Global, callers: u32) -> Result<String, AllocError> {
     let mut text = String::new(alloc);

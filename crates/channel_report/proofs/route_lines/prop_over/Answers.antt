@@ -1,5 +1,4 @@
-use Rattle.std.proofs.Common.{◌≡◌, ◌+◌, ◌-◌, ◌<◌, ◌^◌, ◌∙◌, ap, arith}
-use Rattle.channel_report.specs.Routes.{prop_over}
+use Rattle.std.proofs.Common.{arith}
 use Rattle.channel_report.proofs.RouteFacts.{prop-more}
 use Rattle.channel_report.proofs.route_lines.prop_over.Goals as goal
 

@@ -1,5 +1,4 @@
-use Rattle.std.proofs.Common.{◌≡◌, ◌++◌, ◌∷◌, string_bytes, ap, ◌∙◌, arith}
-use Rattle.channel_report.specs.Routes.{hop_word}
+use Rattle.std.proofs.Common.{◌++◌, ◌∷◌, string_bytes, ap, ◌∙◌, arith}
 use Rattle.channel_report.proofs.RouteFacts.{hops-more, hops-all}
 use Rattle.channel_report.proofs.route_lines.push_links.Goals as goal
 

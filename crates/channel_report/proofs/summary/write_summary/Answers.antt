@@ -1,4 +1,4 @@
-use Rattle.std.proofs.Common.{reverse, length, ap, ◌∙◌}
+use Rattle.std.proofs.Common.{reverse, ap, ◌∙◌}
 use Rattle.run_record.specs.Rows.{rows_of}
 use Rattle.channel_report.specs.Summary.{summary_of, sums_of, told_summary}
 use Rattle.channel_report.proofs.TellingFacts.{nothing-written}

@@ -13,3 +13,6 @@ close_channel-requires-clause-few g c κs within = stamps-left c.args.plan.now c
 
 pub pour-requires-clause-few : goal.pour-requires-clause-few
 pour-requires-clause-few g c κs within = stamps-left c.args.plan.now c.args.at.0 c.args.at.1 (stamps_drawn c.args.pass.now) c.callers.ensures.valid c.requires.left c.requires.few
+
+pub move_packets-requires-clause-few : goal.move_packets-requires-clause-few
+move_packets-requires-clause-few g c κs within = stamps-left c.args.plan.now c.args.at.0 c.args.at.1 (stamps_drawn c.args.pass.now) c.callers.ensures.valid c.requires.left c.requires.few

@@ -11,4 +11,4 @@ make_op-requires-clause-left g c κs within =
     record { entry = ops.entry; found = ops.found; inside = (let all = ops.all in let less = c.loop-place-test.true in omega (arith, all, less)) }
 
 pub returns-clause-made : goal.returns-clause-made
-returns-clause-made g c = script-ends c.args.plan.now c.args.all.0 c.loop-place.place c.args.all.1 c.loop-place.pass c.loop-place.accepted c.loop-place.invariant.at c.requires.all c.loop-place-test.false
+returns-clause-made g c = script-ends c.args.plan.now c.args.all.0 c.loop-place.place c.args.all.1 c.loop-place.pass c.loop-place.channels.by_number.items c.loop-place.invariant.at c.requires.all c.loop-place-test.false

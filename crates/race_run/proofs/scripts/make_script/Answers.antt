@@ -1,4 +1,4 @@
-use Rattle.std.proofs.Common.{◌≡◌, ◌<◌, false, Some, length, replicate, refl, sym, ap, ◌∙◌, arith}
+use Rattle.std.proofs.Common.{◌≡◌, ◌<◌, Some, length, refl, sym, ap, ◌∙◌, arith}
 use Rattle.std.proofs.lemmas.Option.{slice_get_read}
 use Rattle.std.specs.List.{slice_get}
 use Rattle.race_run.proofs.ScriptEnds.{script-begins}
@@ -9,5 +9,4 @@ make_ops-requires-clause-at g c κs within =
     let inside : c.args.caller < length c.callers.result.now = (let less = c.requires.is.0 in let same = ap length c.callers.ensures.value in omega (arith, less, same)) in
     let found : slice_get c.args.plan.now.callers c.args.caller ≡ Some c.index-callers-caller.result =
     ap (λ callers. slice_get callers c.args.caller) (sym c.callers.ensures.value) ∙ slice_get_read c.callers.result.now (length c.callers.result.now) c.args.caller c.index-callers-caller.result refl inside c.index-callers-caller.is in
-    let none : c.in_ok-accepted.accepted.items ≡ replicate (length c.requests.result.now) false = c.in_ok-accepted.ensures.items_if_clones_equal (λ y same. same) in
-    script-begins c.args.plan.now c.args.caller c.index-callers-caller.result c.args.pass.now c.deref_mut.result.now found c.requires.is.1 c.requires.new.0 (c.deref_mut.ensures.value ∙ none ∙ ap (λ requests. replicate (length requests) false) c.requests.ensures.value)
+    script-begins c.args.plan.now c.args.caller c.index-callers-caller.result c.args.pass.now c.in_ok-channels.channels.by_number.items c.requests.ensures.valid found c.requires.is.1 c.requires.new.0 (c.in_ok-channels.ensures.count ∙ ap length c.requests.ensures.value) c.in_ok-channels.ensures.none

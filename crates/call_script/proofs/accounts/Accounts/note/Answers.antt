@@ -33,7 +33,7 @@ pub returns-then-told-ne0-clause-noted : goal.returns-then-told-ne0-clause-noted
 returns-then-told-ne0-clause-noted c = λ outcomes are.
     let items = c.args.self.now.by_channel.items in
     let within = subst (λ note. IsWithin (length items) (learnt_in note)) c.in-Moved.is c.requires in
-    let account : Account = record c.of-was-in-Moved.result { established = false } in
+    let account : Account = record c.of-was-in-Moved.result { established = false; moved = Some c.in-Moved.told } in
     let joined : Account = record c.of-joined.result { gap = c.in-Moved.gap; size = c.in-Moved.size } in
     subst (λ note. AreAccounts c.put-then-told-ne0.new.self.by_channel.items (learnt_in note ∷ outcomes)) (sym c.in-Moved.is)
     (subst (λ xs. AreAccounts xs (MovedTo c.in-Moved.old c.in-Moved.new c.in-Moved.told c.in-Moved.gap c.in-Moved.size ∷ outcomes)) (sym c.put-then-told-ne0.ensures)
@@ -44,7 +44,7 @@ pub returns-else-told-ne0-clause-noted : goal.returns-else-told-ne0-clause-noted
 returns-else-told-ne0-clause-noted c = λ outcomes are.
     let items = c.args.self.now.by_channel.items in
     let within = subst (λ note. IsWithin (length items) (learnt_in note)) c.in-Moved.is c.requires in
-    let account : Account = record c.of-was-in-Moved.result { established = false } in
+    let account : Account = record c.of-was-in-Moved.result { established = false; moved = Some c.in-Moved.told } in
     subst (λ note. AreAccounts c.put-in-Moved.new.self.by_channel.items (learnt_in note ∷ outcomes)) (sym c.in-Moved.is)
     (subst (λ xs. AreAccounts xs (MovedTo c.in-Moved.old c.in-Moved.new c.in-Moved.told c.in-Moved.gap c.in-Moved.size ∷ outcomes)) (sym c.put-in-Moved.ensures)
     (with-none-shifted items c.in-Moved.old c.in-Moved.new c.in-Moved.told c.in-Moved.gap c.in-Moved.size account c.of-was-in-Moved.result outcomes within.0 c.of-was-in-Moved.ensures refl c.if-told-ne0.false are))

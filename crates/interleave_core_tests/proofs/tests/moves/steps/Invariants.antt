@@ -1,0 +1,6 @@
+use Rattle.interleave_core.specs.Standing.{CoreStands}
+use Rattle.interleave_core_tests.proofs.tests.moves.steps.Given as goal
+
+-- the core stands
+abbrev pub invariant-loop-step : goal.invariant-loop-step
+invariant-loop-step l = CoreStands l.plan l.core

@@ -1,0 +1,135 @@
+//! What a caller has learnt of its channels.
+ghost use Rattle.std.specs.Prelude.{◌≡◌, ◌<◌, [], ◌∷◌, ◌++◌, List, Some, IfOk, length, set};
+ghost use Rattle.net_units.specs.Numbers.{channel_number};
+ghost use Rattle.call_script.specs.Scripts.{Learnt, MovedTo, Settles, planned_as};
+ghost use Rattle.race_run.specs.Channels.{AreTold, blank, channel_in, is_planned};
+ghost use Rattle.setup_protocol.specs.Laws.{is_accepted};
+ghost use Rattle.setup_protocol.specs.State.{outcome_of};
+
+use channel_move::Shifted;
+use link_steps::Reply;
+use net_units::{ChanNo, OutOfMemory};
+use setup_protocol::Verdict;
+use std::alloc::Global;
+
+/// What a caller has learnt of one channel.
+#[derive(Clone, Copy)]
+pub(crate) struct Channel {
+    /// Whether it is established: accepted, and not left by a move.
+    pub(crate) established: bool,
+    /// The ticks from each to the next of the packets that were planned on it last; 1 where none were.
+    pub(crate) gap: u64,
+    /// Their size; 1 where none were.
+    pub(crate) size: u32,
+}
+
+/// What it has learnt of each channel, by the channels' numbers.
+#[derive(Drop)]
+pub(crate) struct Channels {
+    pub(crate) by_number: Vec<Channel>,
+}
+
+impl Channels {
+    /// Nothing is learnt of so many channels. An `Err` comes only for want of memory.
+    pub(crate) fn new(alloc: Global, count: usize) -> Result<Channels, OutOfMemory>
+        ensures count { IfOk result (λ channels. length channels.by_number.items ≡ count) }
+        ensures none { IfOk result (λ channels. AreTold channels.by_number.items []) }
+    {
+        let by_number = vec![in alloc; blank(); count]?;
+        Ok(Channels { by_number })
+    }
+
+    /// What is learnt of a channel.
+    pub(crate) fn of(&self, chan: ChanNo) -> Channel
+        ensures { result ≡ channel_in self.now.by_number.items chan }
+    {
+        match self.by_number.get(chan.get() as usize) {
+            Some(channel) => *channel,
+            None => blank(),
+        }
+    }
+
+    /// A channel's setup has come to this.
+    pub(crate) fn settle(&mut self, chan: ChanNo, verdict: &Verdict)
+        requires { channel_number chan < length self.old.by_number.items }
+        ensures count { length self.new.by_number.items ≡ length self.old.by_number.items }
+        ensures told { (outcomes : List Learnt) → AreTold self.old.by_number.items outcomes → AreTold self.new.by_number.items (Settles chan (outcome_of verdict.now) ∷ outcomes) }
+    {
+        let was = self.of(chan);
+        let established = is_accepted(verdict);
+        self.put(chan, Channel { established, ..was });
+    }
+
+    /// A submit on a channel was answered so.
+    pub(crate) fn answer(&mut self, chan: ChanNo, gap: u64, size: u32, reply: &Reply)
+        requires { channel_number chan < length self.old.by_number.items }
+        ensures count { length self.new.by_number.items ≡ length self.old.by_number.items }
+        ensures told { (outcomes : List Learnt) → AreTold self.old.by_number.items outcomes → AreTold self.new.by_number.items (planned_as (Some chan) gap size (reply.now ∷ []) ++ outcomes) }
+    {
+        if is_planned(reply) {
+            let was = self.of(chan);
+            self.put(chan, Channel { gap, size, ..was });
+        }
+    }
+
+    /// Packets of this gap and size have moved from a channel to another, so many as `told` says.
+    pub(crate) fn leave(&mut self, old: ChanNo, new: ChanNo, told: &Shifted, gap: u64, size: u32)
+        requires old { channel_number old < length self.old.by_number.items }
+        requires new { channel_number new < length self.old.by_number.items }
+        ensures count { length self.new.by_number.items ≡ length self.old.by_number.items }
+        ensures told { (outcomes : List Learnt) → AreTold self.old.by_number.items outcomes → AreTold self.new.by_number.items (MovedTo old new told.now gap size ∷ outcomes) }
+    {
+        let left = self.of(old);
+        self.put(
+            old,
+            Channel {
+                established: false,
+                ..left
+            },
+        );
+        if told.shifted != 0 {
+            let joined = self.of(new);
+            self.put(
+                new,
+                Channel {
+                    gap,
+                    size,
+                    ..joined
+                },
+            );
+        }
+    }
+
+    // Replaces what is learnt of a channel.
+    fn put(&mut self, chan: ChanNo, channel: Channel)
+        requires { channel_number chan < length self.old.by_number.items }
+        ensures { self.new.by_number.items ≡ set self.old.by_number.items (channel_number chan) channel }
+    {
+        self.by_number[chan.get() as usize] = channel;
+    }
+}
+
+// A channel of which nothing is learnt.
+fn blank() -> Channel
+    ensures { result ≡ blank }
+{
+    Channel {
+        established: false,
+        gap: 1,
+        size: 1,
+    }
+}
+
+// Whether a verdict accepts its request.
+fn is_accepted(verdict: &Verdict) -> bool
+    ensures { result ≡ is_accepted (outcome_of verdict.now) }
+{
+    matches!(verdict, Verdict::Accepted { .. })
+}
+
+// Whether a reply plans the packets of its submit.
+fn is_planned(reply: &Reply) -> bool
+    ensures { result ≡ is_planned reply.now }
+{
+    matches!(reply, Reply::Planned { .. })
+}

@@ -1,0 +1,24 @@
+-- A move carries what is kept of the load of the request that it leaves.
+use Rattle.std.proofs.Common.{◌≡◌, ℕ, ◌*◌, List, sym, subst, ap, ◌∙◌}
+use Rattle.std.specs.List.{slice_get}
+use Rattle.net_units.specs.Numbers.{channel_number}
+use Rattle.call_script.specs.Rules.{hops_of, load_at, load_of, loads_in}
+use Rattle.call_script.specs.declared.operations.Op.{Op}
+use Rattle.call_script.specs.declared.operations.Op.TheVariants.{Move}
+use Rattle.scenario_reader.specs.Drafts.{Said}
+use Rattle.scenario_reader.specs.Kept.{MayAdd}
+use Rattle.scenario_reader.specs.Uses.{use_at}
+use Rattle.scenario_reader.specs.declared.item.Item.TheVariants as item
+use Rattle.scenario_reader.specs.declared.uses.Uses.{Uses}
+use Rattle.scenario_reader.proofs.UseFacts.{move_carries}
+use Rattle.scenario_reader.proofs.draft.Draft.packets_of.Goals as goal
+
+pub returns-in-Move : goal.returns-in-Move
+returns-in-Move c =
+    let old = c.in-Move.old in
+    let new = c.in-Move.new in
+    let carried = move_carries _ c.args.self.now _ _ _ _ _ c.args.op.now old new c.self.view_is c.in-Move.is c.self.invariant.0 c.self.invariant.1 c.requires in
+    let kept = ap (λ (one : Uses). one.load) (c.use_at.ensures.value ∙ ap (λ (uses : List Uses). use_at uses old) c.deref.ensures.value) in
+    ap (λ (n : ℕ). n * c.hops_of-in-Move.result) (kept ∙ carried)
+    ∙ ap (λ (n : ℕ). load_at (loads_in c.args.self.now.callers) old * n) c.hops_of-in-Move.ensures.value
+    ∙ ap (load_of c.args.self.now.requests (loads_in c.args.self.now.callers)) (sym c.in-Move.is)
