@@ -48,9 +48,9 @@ play() {
   esac
 }
 
-# opens FILE: the scenario's links and requests alone: nothing is sent, closed or run, so all accepted channels are held at once
+# opens FILE: the scenario's links and requests alone: nothing is sent, moved, closed or run, so all accepted channels are held at once
 opens() {
-  awk '$1 == "rounds" { exit } $1 == "send" || $1 == "close" || $1 == "pour" { print "#"; next } { print }' "$1"
+  awk '$1 == "rounds" { exit } $1 == "send" || $1 == "move" || $1 == "close" || $1 == "pour" { print "#"; next } { print }' "$1"
   printf 'rounds 0\ntail 0\n'
 }
 

@@ -25,6 +25,14 @@ function read_departure(    row) {
   if (row[3] + 0 < hops[row[1]]) arrivals[row[8] + prop[row[4]]]++
 }
 
+# the steps of a move: a release for each hop of what it leaves, and a submit where packets are left, as they are taken to be where the play
+# hasn't made it
+function move_steps(old, new) {
+  if (old in denial || new in denial) return 0
+  is_left[old] = 1
+  return hops[old] + (!(old in shifted) || shifted[old] > 0)
+}
+
 # the steps of an item by that play; a request that it hasn't settled is taken as accepted
 function steps_of(text,    part, t, count) {
   split(text, part, " ")
@@ -35,7 +43,8 @@ function steps_of(text,    part, t, count) {
   }
   if (part[3] == "pour") return 1
   if (part[3] == "send") return !(part[4] in denial)
-  if (part[3] == "close") return part[4] in denial ? 0 : hops[part[4]]
+  if (part[3] == "move") return move_steps(part[4], part[5])
+  if (part[3] == "close") return part[4] in denial || part[4] in is_left ? 0 : hops[part[4]]
   if (!(part[4] in denial) || denial[part[4]] !~ /^hop /) return 2 * hops[part[4]]
   split(denial[part[4]], why, " ")
   return 2 * why[2] - 1

@@ -55,11 +55,13 @@ function put_into_schedule(    i, pads, fields) {
   return put_turns()
 }
 
-# the steps of an operation in that run: an open asks each hop twice, or up to the one that refuses and back
+# the steps of an operation in that run: an open asks each hop twice, or up to the one that refuses and back; a move releases each hop of what
+# it leaves, which then isn't closed, and submits once where packets are left
 function steps_of() {
   if ($1 == "pour") return 1
   if ($1 == "send") return $2 in promised
-  if ($1 == "close") return $2 in promised ? hops[$2] : 0
+  if ($1 == "move") return $2 in shifted ? hops[$2] + (shifted[$2] > 0) : 0
+  if ($1 == "close") return $2 in promised && !($2 in shifted) ? hops[$2] : 0
   if ($1 != "open") return 0
   if (!($2 in denial) || denial[$2] !~ /^hop /) return 2 * hops[$2]
   split(denial[$2], why, " ")

@@ -67,6 +67,9 @@ function read_report(    i) {
   } else if ($1 == "route") {
     for (i = 3; $i != "prop"; i++) route[$2, i - 2] = $i
     hops[$2] = i - 3
+  } else if ($1 == "move") {
+    shifted[$2] = $7
+    is_closed[$2] = 1
   } else if ($1 == "channel") {
     delivered[$2] = $7
     least[$2] = $9

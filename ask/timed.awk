@@ -17,7 +17,7 @@ $1 == "at" {
   if (ended) fail("nothing stands behind `at TICK end`")
   if ($2 !~ /^[0-9]+$/ || $2 + 0 > 524288) fail("`at` wants a tick from 0 to 524288, and not " $2)
   if ($2 + 0 < clock) fail("the ticks fall: " $2 " behind " clock)
-  if ($3 !~ /^(open|send|close|pour|end)$/) fail("`at TICK` wants open, send, close, pour or end")
+  if ($3 !~ /^(open|send|close|move|pour|end)$/) fail("`at TICK` wants open, send, close, move, pour or end")
   if ($3 == "open" && ++opens > 960) fail("at most 960 opens can be given ticks")
   if ($2 + 0 > clock) print "plane", clock + 0, $2 + 0
   clock = $2 + 0
