@@ -1,2 +1,3 @@
 pub mod HopFacts
 pub mod OrderFacts
+pub mod KeptRows

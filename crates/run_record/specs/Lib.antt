@@ -3,3 +3,4 @@ pub mod Runs
 pub mod Rows
 pub mod Hops
 pub mod SmallRows
+pub mod ToldHops

@@ -48,7 +48,7 @@ fn push_row(rows: &mut Vec<HopRow>, table: &[Hops], done: &Done) -> Result<(), O
 }
 
 // The row of a packet that a tick at this clock tells as sent.
-fn row(table: &[Hops], link: LinkNo, clock: u64, sent: &Sent) -> HopRow
+pub(crate) fn row(table: &[Hops], link: LinkNo, clock: u64, sent: &Sent) -> HopRow
     requires early { clock < 2 ^ 63 }
     ensures { (run : List Step) → AreHops run table.now → result ≡ row_of (links_of (channel_number sent.now.packet.chan) run) link clock sent.now }
 {

@@ -62,7 +62,7 @@ pub(crate) fn hops_of(alloc: Global, entries: &[Done]) -> Result<Vec<Hops>, OutO
 }
 
 // Adds what an entry offers.
-fn note(table: &mut Vec<Hops>, done: &Done) -> Result<(), OutOfMemory>
+pub(crate) fn note(table: &mut Vec<Hops>, done: &Done) -> Result<(), OutOfMemory>
     ensures { OnOk result ((before : List Step) → AreHops before table.old.items → AreHops (before ++ done.now ∷ []) table.new.items) }
 {
     match offered(&done.ask, &done.reply) {

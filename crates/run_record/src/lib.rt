@@ -7,11 +7,13 @@
 
 pub(crate) mod departures;
 pub mod done;
+pub mod hop_table;
 pub(crate) mod hops;
 pub mod record;
 pub mod rows;
 
 pub use done::Done;
+pub use hop_table::HopTable;
 pub use record::Record;
 pub use rows::{HopRow, HopRows};
 

@@ -145,6 +145,37 @@ fn rows_are_told_by_channel_packet_and_hop(rt: HostRuntime) -> Result<(), Fail> 
     Ok(())
 }
 
+// The row that a step tells with the hops noted so far.
+fn told_by(hops: &HopTable, done: &Done) -> Result<HopRow, Fail>
+    requires { IsEarly done.now.reply }
+{
+    Ok(hops.row_of(done).ok_or("a row")?)
+}
+
+// A row is told when its packet leaves, and its hop by the offers that were noted by the end.
+#[test]
+fn hops_may_be_told_after_the_rows(rt: HostRuntime) -> Result<(), Fail> {
+    let early = packet(1, 1, 0, 0, 2);
+    let second = packet(1, 1, 1, 4, 24);
+    let steps = [tick(&early)?, offer(1, 0)?, offer(1, 1)?, tick(&second)?];
+    let mut hops = HopTable::new(rt.alloc());
+    let told = told_by(&hops, &steps[0])?;
+    assert_eq!(rt; told, row(&early, 0)?);
+    assert!(rt; hops.row_of(&steps[1]).is_none());
+    hops.note(&steps[2])?;
+    hops.note(&steps[1])?;
+    let later = told_by(&hops, &steps[3])?;
+    let mut rows = Vec::new(rt.alloc());
+    rows.push(told)?;
+    rows.push(later)?;
+    let rows = hops.in_order(rows)?;
+    let rows = rows.as_slice();
+    assert_eq!(rt; rows.len(), 2);
+    assert_eq!(rt; rows[0], row(&second, 1)?);
+    assert_eq!(rt; rows[1], row(&early, 2)?);
+    Ok(())
+}
+
 #[test]
 fn a_link_without_an_offer_is_no_hop(rt: HostRuntime) -> Result<(), Fail> {
     let only = packet(3, 1, 0, 0, 2);
