@@ -97,7 +97,7 @@ pub fn has_form(form: &[Part], line: &[u8]) -> bool
     let count = field_count(line);
     let mut place = 0;
     for part in form {
-        match part.taken(line, place) {
+        match part.taken(line, count, place) {
             None => return false,
             Some(taken) => place += taken,
         }
@@ -106,12 +106,13 @@ pub fn has_form(form: &[Part], line: &[u8]) -> bool
 }
 
 impl Part {
-    // How many fields the part takes from a place on, None where they don't fit it.
-    fn taken(&self, line: &[u8], place: usize) -> Option<usize>
+    // How many fields the part takes from a place on, None where they don't fit it. The line has `count` of them.
+    fn taken(&self, line: &[u8], count: usize, place: usize) -> Option<usize>
+        requires { count ≡ length (fields_of line.now) }
         ensures value { result ≡ fields_taken self.now (drop place (fields_of line.now)) }
-        ensures within { IfSome result (λ count. place + count ≤ length (fields_of line.now)) }
+        ensures within { IfSome result (λ taken. place + taken ≤ length (fields_of line.now)) }
     {
-        let left = field_count(line).saturating_sub(place);
+        let left = count.saturating_sub(place);
         match self {
             Part::Word(word) => one_if(left > 0 && word.is(field(line, place))),
             Part::Field => one_if(left > 0),
