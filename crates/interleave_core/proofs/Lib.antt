@@ -57,3 +57,7 @@ pub mod Emptied
 pub mod MoveTotal
 pub mod LastPackets
 mod WorkedMoves
+pub mod OpsFew
+pub mod StepCounts
+pub mod RunLength
+pub mod WatchFacts

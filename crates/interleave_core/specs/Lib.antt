@@ -15,3 +15,4 @@ pub mod Moves
 pub mod Standing
 pub mod Turns
 pub mod Schedules
+pub mod Watching

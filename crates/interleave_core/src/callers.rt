@@ -1,5 +1,5 @@
 //! The callers of a run, as they are kept, and how a record brings them through it.
-ghost use Rattle.std.specs.Prelude.{◌≡◌, ◌<◌, ◌≤◌, ◌∷◌, [], Some, List, IfOk, length, option_map, reverse};
+ghost use Rattle.std.specs.Prelude.{◌≡◌, ◌<◌, ◌≤◌, ◌∷◌, [], Some, List, IfOk, OnOk, length, option_map, reverse};
 ghost use Rattle.std.specs.List.{slice_get};
 ghost use Rattle.net_units.specs.Numbers.{actor_number, channel_number};
 ghost use Rattle.setup_protocol.specs.Setup.{verdict_of};
@@ -11,8 +11,10 @@ ghost use Rattle.interleave_core.specs.Moves.{moved_in};
 ghost use Rattle.interleave_core.specs.Runs.{IsRun};
 ghost use Rattle.interleave_core.specs.Verdicts.{setup_replies};
 ghost use Rattle.interleave_core.specs.Standing.{CallersStand, IsNextStep};
+ghost use Rattle.interleave_core.specs.Watching.{IsSeen};
 ghost use Rattle.run_record.specs.declared.done.Done.{Done as Entry};
 
+use crate::watching::Watch;
 use call_script::{Actor, Plan};
 use channel_move::Shifted;
 use net_units::{ActorNo, OutOfMemory};
@@ -85,6 +87,27 @@ pub fn replay(alloc: Global, plan: &Plan, run: &Record) -> Result<Callers, OutOf
     let mut callers = Callers::new(alloc, plan)?;
     for done in run.entries() {
         callers.take(plan, done);
+    }
+    Ok(callers)
+}
+
+/// The callers of a plan after a run of it, as [`replay`] answers them, where each entry is shown to what watches, which has seen
+/// nothing before. An `Err` comes only for want of memory, and then nothing is said of what watches.
+pub fn replay_watched<W: Watch>(
+    alloc: Global,
+    plan: &Plan,
+    run: &Record,
+    watch: &mut W,
+) -> Result<Callers, OutOfMemory>
+    requires run { IsRun (network_of plan.now) (reverse run.now.entries) }
+    requires fresh { W.saw watch.old plan.now [] }
+    ensures seen { IfOk result (λ callers. IsSeen W.saw plan.now callers watch.new (reverse run.now.entries)) }
+    ensures table { OnOk result (W.has_table watch.new ≡ W.has_table watch.old) }
+{
+    let mut callers = Callers::new(alloc, plan)?;
+    for done in run.entries() {
+        callers.take(plan, done);
+        watch.see(plan, done)?;
     }
     Ok(callers)
 }

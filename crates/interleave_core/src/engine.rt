@@ -7,6 +7,7 @@ ghost use Rattle.interleave_core.specs.Standing.{EngineStands, IsAboutTo, MakesS
 ghost use Rattle.run_record.specs.declared.done.Done.{Done as Entry};
 
 use crate::actors::Actors;
+use crate::callers::Callers;
 use crate::links::{new_links, step_link};
 use call_script::Plan;
 use link_quota::AnyLink;
@@ -64,5 +65,14 @@ impl Engine {
         };
         self.actors.take(plan, &done);
         Ok(done)
+    }
+
+    /// The callers after the steps that it has made. The links and the plane are given up.
+    pub fn into_callers(self) -> Callers
+        ensures { result ≡ self.actors.callers }
+    {
+        let Engine { actors, .. } = self;
+        let Actors { callers, .. } = actors;
+        callers
     }
 }

@@ -14,10 +14,12 @@ mod links;
 pub mod playing;
 pub mod refusal;
 pub mod stepping;
+pub mod watching;
 
-pub use callers::{Callers, replay};
+pub use callers::{Callers, replay, replay_watched};
 pub use engine::Engine;
 pub use links::new_link;
-pub use playing::{PlayFault, play, play_out};
+pub use playing::{PlayFault, play, play_out, play_watched};
 pub use refusal::CoreRefusal;
 pub use stepping::Core;
+pub use watching::{Watch, make_watched};

@@ -1,13 +1,17 @@
 //! Runs that are played by a schedule.
-ghost use Rattle.std.specs.Prelude.{◌≡◌, ◌+◌, ◌<◌, ◌≤◌, ◌∷◌, [], IfOk, IfErr, OnOk, length, reverse};
+ghost use Rattle.std.specs.Prelude.{◌≡◌, ◌+◌, ◌<◌, ◌≤◌, ◌∷◌, [], List, IfOk, IfErr, OnOk, length, reverse};
 ghost use Rattle.call_script.specs.Tasks.{network_of};
-ghost use Rattle.interleave_core.specs.Schedules.{FollowsTurns, IsActorOf, IsFaultOf, IsMissing, IsPlayed, IsStop, IsWanted, PlayedOut, StepsOut, lined_turns, repeated, turn_of, turns_of};
+ghost use Rattle.interleave_core.specs.Schedules.{IsActorOf, IsFaultOf, IsMissing, IsPlayed, IsStop, IsWanted, StepsOut, lined_turns, repeated, turn_of, turns_of};
 ghost use Rattle.interleave_core.specs.Standing.{IsGuaranteedRun, CoreStands, run_in};
+ghost use Rattle.interleave_core.specs.Watching.{HavePlayedOut, IsPlayedSeen, PlaysOn, PlaysOut, WatchStands};
 ghost use Rattle.link_steps.specs.Lists.{Each};
 ghost use Rattle.net_units.specs.Numbers.{actor_number, actor_at};
+ghost use Rattle.run_record.specs.declared.done.Done.{Done as Entry};
 
-use crate::refusal::CoreRefusal;
+use crate::callers::Callers;
+use crate::engine::Engine;
 use crate::stepping::Core;
+use crate::watching::{Watch, make_watched};
 use call_script::{Do, Plan, Schedule};
 use net_units::{ActorNo, OutOfMemory};
 use run_record::Record;
@@ -45,56 +49,130 @@ pub fn play(alloc: Global, plan: &Plan, schedule: &Schedule) -> Result<Record, P
     ensures guaranteed { IfOk result (λ made. IsGuaranteedRun plan.now (reverse made.entries)) }
     ensures fault { IfErr result (IsFaultOf (network_of plan.now) schedule.now) }
 {
-    let mut core = Core::new(alloc, plan)?;
+    let mut record = Record::new(alloc);
+    play_watched(alloc, plan, schedule, &mut record)?;
+    Ok(record)
+}
+
+/// Plays a schedule of a plan as [`play`] does, shows each step to what watches the run, and answers the callers after it. What
+/// watches has seen nothing before. After an `Err` nothing is said of it.
+pub fn play_watched<W: Watch>(
+    alloc: Global,
+    plan: &Plan,
+    schedule: &Schedule,
+    watch: &mut W,
+) -> Result<Callers, PlayFault>
+    requires fresh { W.saw watch.old plan.now [] }
+    requires actors { Each (IsActorOf plan.now) schedule.now.items }
+    ensures played { IfOk result (λ callers. IsPlayedSeen W.saw plan.now schedule.now callers watch.new) }
+    ensures table { OnOk result (W.has_table watch.new ≡ W.has_table watch.old) }
+    ensures fault { IfErr result (IsFaultOf (network_of plan.now) schedule.now) }
+{
+    let mut engine = Engine::new(alloc, plan)?;
     if schedule.written {
-        play_items(&mut core, plan, schedule.items.as_slice())?;
+        play_items(&mut engine, watch, plan, schedule.items.as_slice())?;
     } else {
-        play_all(&mut core, plan)?;
+        play_all(&mut engine, watch, plan)?;
     }
-    Ok(core.finish())
+    Ok(engine.into_callers())
 }
 
 // Plays the items of a schedule in their order.
-fn play_items(core: &mut Core, plan: &Plan, items: &[Do]) -> Result<(), PlayFault>
-    requires stands { CoreStands plan.now core.old }
-    requires none { run_in core.old ≡ [] }
+fn play_items<W: Watch>(
+    engine: &mut Engine,
+    watch: &mut W,
+    plan: &Plan,
+    items: &[Do],
+) -> Result<(), PlayFault>
+    requires stand { WatchStands W.saw plan.now engine.old watch.old [] }
     requires actors { Each (IsActorOf plan.now) items.now }
-    ensures stands { CoreStands plan.now core.new }
-    ensures follows { OnOk result (FollowsTurns (network_of plan.now) [] (turns_of items.now) (run_in core.new)) }
+    ensures follows { OnOk result (PlaysOn W.saw plan.now engine.new watch.new [] (turns_of items.now)) }
+    ensures table { OnOk result (W.has_table watch.new ≡ W.has_table watch.old) }
     ensures fault { IfErr result (IsStop (network_of plan.now) [] (lined_turns items.now)) }
 {
     for item in items {
-        play_item(core, plan, item)?;
+        play_item(engine, watch, plan, item)?;
     }
     Ok(())
 }
 
 // Makes the steps of one item.
-fn play_item(core: &mut Core, plan: &Plan, item: &Do) -> Result<(), PlayFault>
-    requires stands { CoreStands plan.now core.old }
+fn play_item<W: Watch>(
+    engine: &mut Engine,
+    watch: &mut W,
+    plan: &Plan,
+    item: &Do,
+) -> Result<(), PlayFault>
+    requires stand { (run : List Entry) × WatchStands W.saw plan.now engine.old watch.old run }
     requires actor { IsActorOf plan.now item.now }
-    ensures stands { CoreStands plan.now core.new }
-    ensures follows { OnOk result (FollowsTurns (network_of plan.now) (run_in core.old) (repeated item.now.count item.now.actor) (run_in core.new)) }
-    ensures fault { IfErr result (IsStop (network_of plan.now) (run_in core.old) (repeated item.now.count (turn_of item.now))) }
+    ensures follows { OnOk result ((past : List Entry) → WatchStands W.saw plan.now engine.old watch.old past → PlaysOn W.saw plan.now engine.new watch.new past (repeated item.now.count item.now.actor)) }
+    ensures table { OnOk result (W.has_table watch.new ≡ W.has_table watch.old) }
+    ensures fault { IfErr result (λ fault. (past : List Entry) → WatchStands W.saw plan.now engine.old watch.old past → IsStop (network_of plan.now) past (repeated item.now.count (turn_of item.now)) fault) }
 {
     for _ in 0..item.count {
-        make_turn(core, plan, item.actor, item.line)?;
+        make_turn(engine, watch, plan, item.actor, item.line)?;
     }
     Ok(())
 }
 
 // Lets the callers in their order, and then the plane, each make their steps.
-fn play_all(core: &mut Core, plan: &Plan) -> Result<(), PlayFault>
-    requires stands { CoreStands plan.now core.old }
-    requires none { run_in core.old ≡ [] }
-    ensures stands { CoreStands plan.now core.new }
-    ensures played { OnOk result (PlayedOut (network_of plan.now) (length plan.now.callers + 1) (run_in core.new)) }
+fn play_all<W: Watch>(engine: &mut Engine, watch: &mut W, plan: &Plan) -> Result<(), PlayFault>
+    requires { WatchStands W.saw plan.now engine.old watch.old [] }
+    ensures played { OnOk result (HavePlayedOut W.saw plan.now engine.new watch.new (length plan.now.callers + 1)) }
+    ensures table { OnOk result (W.has_table watch.new ≡ W.has_table watch.old) }
     ensures fault { IfErr result IsWanted }
 {
     for number in 0..plan.callers().len() + 1 {
-        play_out(core, plan, actor_of(number))?;
+        make_all(engine, watch, plan, actor_of(number))?;
     }
     Ok(())
+}
+
+// Lets the actor make its steps until it has none left.
+fn make_all<W: Watch>(
+    engine: &mut Engine,
+    watch: &mut W,
+    plan: &Plan,
+    actor: ActorNo,
+) -> Result<(), PlayFault>
+    requires { (run : List Entry) × WatchStands W.saw plan.now engine.old watch.old run }
+    ensures out { OnOk result ((past : List Entry) → WatchStands W.saw plan.now engine.old watch.old past → PlaysOut W.saw plan.now engine.new watch.new past actor) }
+    ensures table { OnOk result (W.has_table watch.new ≡ W.has_table watch.old) }
+    ensures fault { IfErr result IsWanted }
+{
+    // a run has fewer steps
+    for _ in 0..u64::MAX {
+        match engine.next_ask(plan, actor) {
+            Some((link, ask)) => make_watched(engine, watch, plan, actor, link, ask)?,
+            None => return Ok(()),
+        }
+    }
+    unreachable!()
+}
+
+// Makes one step of the actor, which the line asks for.
+fn make_turn<W: Watch>(
+    engine: &mut Engine,
+    watch: &mut W,
+    plan: &Plan,
+    actor: ActorNo,
+    line: u64,
+) -> Result<(), PlayFault>
+    requires { (run : List Entry) × WatchStands W.saw plan.now engine.old watch.old run }
+    ensures follows { OnOk result ((past : List Entry) → WatchStands W.saw plan.now engine.old watch.old past → PlaysOn W.saw plan.now engine.new watch.new past (actor ∷ [])) }
+    ensures table { OnOk result (W.has_table watch.new ≡ W.has_table watch.old) }
+    ensures fault { IfErr result (λ fault. (past : List Entry) → WatchStands W.saw plan.now engine.old watch.old past → IsMissing (network_of plan.now) past (record { actor = actor; line = line }) fault) }
+{
+    match engine.next_ask(plan, actor) {
+        Some((link, ask)) => {
+            make_watched(engine, watch, plan, actor, link, ask)?;
+            Ok(())
+        }
+        None => Err(PlayFault::Step {
+            line,
+            made: watch.steps_of(actor),
+        }),
+    }
 }
 
 /// Lets the actor make its steps until it has none left. The plan is the one that the core was made for. An `Err` comes only for
@@ -110,22 +188,6 @@ pub fn play_out(core: &mut Core, plan: &Plan, actor: ActorNo) -> Result<(), Play
         core.make(plan, actor, link, ask)?;
     }
     Ok(())
-}
-
-// Makes one step of the actor, which the line asks for.
-fn make_turn(core: &mut Core, plan: &Plan, actor: ActorNo, line: u64) -> Result<(), PlayFault>
-    requires stands { CoreStands plan.now core.old }
-    requires actor { actor_number actor ≤ length plan.now.callers }
-    ensures stands { CoreStands plan.now core.new }
-    ensures follows { OnOk result (FollowsTurns (network_of plan.now) (run_in core.old) (actor ∷ []) (run_in core.new)) }
-    ensures fault { IfErr result (IsMissing (network_of plan.now) (run_in core.old) (record { actor = actor; line = line })) }
-{
-    match core.step(plan, actor) {
-        Ok(_) => Ok(()),
-        Err(CoreRefusal::NoStepLeft { made }) => Err(PlayFault::Step { line, made }),
-        Err(CoreRefusal::Memory) => Err(PlayFault::Memory),
-        Err(CoreRefusal::NoSuchActor { .. }) => unreachable!(),
-    }
 }
 
 // The actor of this number.

@@ -10,11 +10,12 @@ ghost use Rattle.run_record.specs.Runs.{replies_to};
 use crate::actors::Actors;
 use crate::engine::Engine;
 use crate::refusal::CoreRefusal;
+use crate::watching::steps_among;
 use call_script::Plan;
 use link_quota::AnyLink;
 use link_steps::{Ask, Reply};
 use net_units::{ActorNo, LinkNo, OutOfMemory};
-use run_record::{Done, Record};
+use run_record::Record;
 use std::alloc::Global;
 use tick_plane::Plane;
 
@@ -139,20 +140,7 @@ impl Core {
             };
         }
         CoreRefusal::NoStepLeft {
-            made: steps_of(self.steps.entries(), actor),
+            made: steps_among(self.steps.entries(), actor),
         }
     }
-}
-
-// How many steps the actor has made.
-fn steps_of(entries: &[Done], actor: ActorNo) -> u64
-    ensures { result ≡ length (replies_to (actor_number actor) (reverse entries.now)) }
-{
-    let mut made = 0;
-    for done in entries {
-        if done.actor.get() == actor.get() {
-            made += 1;
-        }
-    }
-    made
 }

@@ -8,11 +8,11 @@ use call_script::{
     push_request,
 };
 use hop_reservation::{Hop, Route};
-use interleave_core::{Core, CoreRefusal, PlayFault, play};
+use interleave_core::{Core, CoreRefusal, PlayFault, Watch, play, play_watched};
 use link_steps::{LinkShape, Reply};
 use net_units::{ActorNo, Bounds, ChanNo, Level, LinkNo, Name};
 use run_record::Record;
-use setup_protocol::{Control, Request};
+use setup_protocol::{Control, Request, Verdict};
 use std::alloc::Global;
 use std::process::Abort;
 use std::test::Fail;
@@ -167,6 +167,33 @@ fn a_written_schedule_is_played_as_far_as_it_asks(rt: HostRuntime) -> Result<(),
         steps_of_written(alloc, &plan, 9)?,
         Err(PlayFault::Step { line: 8, made: 2 })
     );
+    Ok(())
+}
+
+// Who watches sees each step: a record that is watched with has those of the run, and tells how many each actor made.
+#[test]
+fn what_watches_sees_each_step(rt: HostRuntime) -> Result<(), Fail> {
+    let alloc = rt.alloc();
+    let plan = plan(alloc)?;
+    let caller = ActorNo::new(0).ok_or("caller")?;
+    let plane = ActorNo::new(1).ok_or("plane")?;
+    let schedule = Schedule {
+        written: false,
+        items: Dos::new(Vec::new(alloc)),
+    };
+    let mut seen = Record::new(alloc);
+    let callers = match play_watched(alloc, &plan, &schedule, &mut seen) {
+        Ok(callers) => callers,
+        Err(_) => return Err("played")?,
+    };
+    assert_eq!(rt; seen.entries().len(), 3);
+    assert_eq!(rt; seen.steps_of(caller), 2);
+    assert_eq!(rt; seen.steps_of(plane), 1);
+    let verdict = match plan.requests() {
+        [] => None,
+        _ => callers.verdict(&plan, 0),
+    };
+    assert!(rt; matches!(verdict, Some(Verdict::Accepted { .. })));
     Ok(())
 }
 

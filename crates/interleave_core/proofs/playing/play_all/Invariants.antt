@@ -1,8 +1,10 @@
-use Rattle.call_script.specs.Tasks.{network_of}
-use Rattle.interleave_core.specs.Schedules.{PlayedOut}
-use Rattle.interleave_core.specs.Standing.{CoreStands, run_in}
+use Rattle.std.proofs.Common.{◌≡◌}
+use Rattle.interleave_core.specs.Watching.{HavePlayedOut}
 use Rattle.interleave_core.proofs.playing.play_all.Given as goal
 
 -- the actors so far have played out
 abbrev pub invariant-loop-number : goal.invariant-loop-number
-invariant-loop-number l = record { stands : CoreStands l.plan l.core; played : PlayedOut (network_of l.plan) l.number (run_in l.core) }
+invariant-loop-number g l = record {
+  played : HavePlayedOut g.W.Watch.saw l.plan l.engine l.watch l.number;
+  table : g.W.Watch.has_table l.watch ≡ g.W.Watch.has_table l.initial.watch;
+}

@@ -1,8 +1,12 @@
-use Rattle.call_script.specs.Tasks.{network_of}
-use Rattle.interleave_core.specs.Schedules.{FollowsTurns, repeated}
-use Rattle.interleave_core.specs.Standing.{CoreStands, run_in}
+use Rattle.std.proofs.Common.{◌≡◌, List}
+use Rattle.interleave_core.specs.Schedules.{repeated}
+use Rattle.interleave_core.specs.Watching.{PlaysOn, WatchStands}
+use Rattle.run_record.specs.declared.done.Done.{Done}
 use Rattle.interleave_core.proofs.playing.play_item.Given as goal
 
 -- the turns so far are made
 abbrev pub invariant-loop : goal.invariant-loop
-invariant-loop l = record { stands : CoreStands l.plan l.core; follows : FollowsTurns (network_of l.plan) (run_in l.initial.core) (repeated l.counter l.item.actor) (run_in l.core) }
+invariant-loop g l = record {
+  made : (past : List Done) → WatchStands g.W.Watch.saw l.plan l.initial.engine l.initial.watch past → PlaysOn g.W.Watch.saw l.plan l.engine l.watch past (repeated l.counter l.item.actor);
+  table : g.W.Watch.has_table l.watch ≡ g.W.Watch.has_table l.initial.watch;
+}

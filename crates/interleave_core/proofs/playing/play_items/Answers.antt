@@ -1,20 +1,26 @@
 -- One item more, or the first that asks for a step that isn't left.
+use Rattle.std.proofs.Common.{refl, ◌∙◌}
 use Rattle.std.proofs.lemmas.Result.{err_from_is_err_and}
 use Rattle.call_script.specs.Tasks.{network_of}
-use Rattle.interleave_core.specs.Standing.{run_in}
-use Rattle.interleave_core.proofs.PlayFacts.{none-played, items-again, items-stop}
+use Rattle.interleave_core.proofs.PlayFacts.{items-stop}
+use Rattle.interleave_core.proofs.WatchFacts.{items-begin, items-on}
 use Rattle.interleave_core.proofs.playing.play_items.Goals as goal
 
 pub loop-item-init : goal.loop-item-init
-loop-item-init c = record { stands = c.requires.stands; follows = none-played (network_of c.args.plan.now) (run_in c.args.core.now) c.requires.none }
+loop-item-init g c = record { plays = items-begin g.W.Watch.saw c.args.plan.now c.args.engine.now c.args.watch.now c.requires.stand; table = refl }
+
+pub play_item-requires-clause-stand : goal.play_item-requires-clause-stand
+play_item-requires-clause-stand g c = (c.loop-item.invariant.plays.run, c.loop-item.invariant.plays.stand)
 
 pub returns-in_err-play_item-clause-fault : goal.returns-in_err-play_item-clause-fault
-returns-in_err-play_item-clause-fault c =
+returns-in_err-play_item-clause-fault g c =
     let p = err_from_is_err_and c.from_residual.result c.from_residual.ensures.1 in
-    rw (p.1, p.2) (items-stop (network_of c.args.plan.now) (run_in c.loop-item.core) c.args.items.now c.loop-item.item-index c.item-item.result c.in_err-play_item.field-0.0 c.loop-item-test.true c.item-item.is c.loop-item.invariant.follows c.in_err-play_item.ensures.fault)
+    let plays = c.loop-item.invariant.plays in
+    rw (p.1, p.2)
+    (items-stop (network_of c.args.plan.now) plays.run c.args.items.now c.loop-item.item-index c.item-item.result c.in_err-play_item.field-0.0 c.loop-item-test.true c.item-item.is plays.follows (c.in_err-play_item.ensures.fault plays.run plays.stand))
 
 pub loop-item-preserved : goal.loop-item-preserved
-loop-item-preserved c = record {
-  stands = c.play_item.ensures.stands;
-  follows = items-again (network_of c.args.plan.now) (run_in c.loop-item.core) (run_in c.play_item.new.core) c.args.items.now c.loop-item.item-index c.item-item.result c.loop-item-test.true c.item-item.is c.loop-item.invariant.follows c.in_ok-play_item.ensures.follows;
+loop-item-preserved g c = record {
+  plays = items-on g.W.Watch.saw c.args.plan.now c.loop-item.engine c.play_item.new.engine c.loop-item.watch c.play_item.new.watch c.args.items.now c.loop-item.item-index c.item-item.result c.loop-item-test.true c.item-item.is c.loop-item.invariant.plays c.in_ok-play_item.ensures.follows;
+  table = c.in_ok-play_item.ensures.table ∙ c.loop-item.invariant.table;
 }

@@ -1,9 +1,11 @@
-use Rattle.std.proofs.Common.{[], take}
-use Rattle.call_script.specs.Tasks.{network_of}
-use Rattle.interleave_core.specs.Schedules.{FollowsTurns, turns_of}
-use Rattle.interleave_core.specs.Standing.{CoreStands, run_in}
+use Rattle.std.proofs.Common.{◌≡◌, [], take}
+use Rattle.interleave_core.specs.Schedules.{turns_of}
+use Rattle.interleave_core.specs.Watching.{PlaysOn}
 use Rattle.interleave_core.proofs.playing.play_items.Given as goal
 
 -- the items so far are played
 abbrev pub invariant-loop-item : goal.invariant-loop-item
-invariant-loop-item l = record { stands : CoreStands l.plan l.core; follows : FollowsTurns (network_of l.plan) [] (turns_of (take l.item-index l.items)) (run_in l.core) }
+invariant-loop-item g l = record {
+  plays : PlaysOn g.W.Watch.saw l.plan l.engine l.watch [] (turns_of (take l.item-index l.items));
+  table : g.W.Watch.has_table l.watch ≡ g.W.Watch.has_table l.initial.watch;
+}

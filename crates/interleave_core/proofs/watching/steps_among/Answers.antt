@@ -2,8 +2,8 @@
 use Rattle.std.proofs.Common.{sym, ◌∙◌, refl, arith}
 use Rattle.run_record.specs.Runs.{replies_to}
 use Rattle.interleave_core.proofs.StepFacts.{steps-same, steps-other}
-use Rattle.interleave_core.proofs.stepping.steps_of.Goals as goal
-use Rattle.interleave_core.proofs.stepping.steps_of.Goals.{then-get, else-get}
+use Rattle.interleave_core.proofs.watching.steps_among.Goals as goal
+use Rattle.interleave_core.proofs.watching.steps_among.Goals.{then-get, else-get}
 
 pub loop-done-init : goal.loop-done-init
 unfolding replies_to

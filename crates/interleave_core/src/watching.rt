@@ -1,0 +1,80 @@
+//! What watches a run as it is made.
+ghost use Rattle.std.specs.Prelude.{◌≡◌, ◌∷◌, Bool, true, List, OnOk, length, reverse};
+ghost use Rattle.net_units.specs.Numbers.{actor_number};
+ghost use Rattle.call_script.specs.Parts.{PlanParts};
+ghost use Rattle.interleave_core.specs.Watching.{GoesOn, IsAsked, IsNextSeen};
+ghost use Rattle.run_record.specs.Runs.{replies_to};
+ghost use Rattle.run_record.specs.declared.done.Done.{Done as Entry};
+
+use crate::engine::Engine;
+use call_script::Plan;
+use link_steps::Ask;
+use net_units::{ActorNo, LinkNo, OutOfMemory};
+use run_record::{Done, Record};
+
+/// What watches a run of a plan as it is made: it sees each step, in the order of time, and keeps of it what it wants.
+pub trait Watch: Drop {
+    /// Whether it has seen this run of a plan, newest first.
+    ghost saw: { Self → PlanParts → List Entry → Type 0 };
+
+    /// Whether it keeps what a table of the run's packets tells. That never changes.
+    ghost has_table: { Self → Bool };
+
+    /// Sees the next step of the run. An `Err` comes only for want of memory, and then nothing is said of it any more.
+    fn see(&mut self, plan: &Plan, done: &Done) -> Result<(), OutOfMemory>
+        requires { (past : List Entry) × IsNextSeen saw plan.now self.old past done.now }
+        ensures seen { OnOk result ((past : List Entry) → IsNextSeen saw plan.now self.old past done.now → saw self.new plan.now (done.now ∷ past)) }
+        ensures table { OnOk result (has_table self.new ≡ has_table self.old) };
+
+    /// How many steps of the run that it has seen this actor made.
+    fn steps_of(&self, actor: ActorNo) -> u64
+        ensures { (parts : PlanParts) (run : List Entry) → saw self.now parts run → result ≡ length (replies_to (actor_number actor) run) };
+}
+
+// A record sees a run by recording it.
+impl Watch for Record {
+    ghost saw = { λ kept parts run. reverse kept.entries ≡ run };
+
+    ghost has_table = { λ kept. true };
+
+    fn see(&mut self, _plan: &Plan, done: &Done) -> Result<(), OutOfMemory> {
+        self.reserve(1)?;
+        self.push(*done);
+        Ok(())
+    }
+
+    fn steps_of(&self, actor: ActorNo) -> u64 {
+        steps_among(self.entries(), actor)
+    }
+}
+
+// How many of these steps the actor has made.
+pub(crate) fn steps_among(entries: &[Done], actor: ActorNo) -> u64
+    ensures { result ≡ length (replies_to (actor_number actor) (reverse entries.now)) }
+{
+    let mut made = 0;
+    for done in entries {
+        if done.actor.get() == actor.get() {
+            made += 1;
+        }
+    }
+    made
+}
+
+/// Makes the step that the actor asks for next, and shows it to what watches the run. An `Err` comes only for want of memory.
+pub fn make_watched<W: Watch>(
+    engine: &mut Engine,
+    watch: &mut W,
+    plan: &Plan,
+    actor: ActorNo,
+    link: LinkNo,
+    ask: Ask,
+) -> Result<(), OutOfMemory>
+    requires { (run : List Entry) × IsAsked W.saw plan.now engine.old watch.old run actor link ask }
+    ensures goes_on { OnOk result ((past : List Entry) → IsAsked W.saw plan.now engine.old watch.old past actor link ask → GoesOn W.saw plan.now engine.new watch.new past actor) }
+    ensures table { OnOk result (W.has_table watch.new ≡ W.has_table watch.old) }
+{
+    let done = engine.make(plan, actor, link, ask)?;
+    watch.see(plan, &done)?;
+    Ok(())
+}
