@@ -1,8 +1,6 @@
 -- Each tick of a run is told early: its clock is at most the number of the entries before it.
-use Rattle.std.proofs.Common.{◌≡◌, ◌^◌, ◌<◌, List, [], ◌∷◌, length, reverse, sym, ◌∙◌, subst, arith}
-use Rattle.std.proofs.lemmas.List.{length-reverse, reverse-reverse}
+use Rattle.std.proofs.Common.{◌≡◌, ◌^◌, ◌<◌, List, length, sym, ◌∙◌, subst, arith}
 use Rattle.net_units.specs.Numbers.{link_number}
-use Rattle.link_steps.specs.Lists.{Each}
 use Rattle.link_steps.specs.Replies.{reply_to}
 use Rattle.link_steps.specs.Scan.{clock_of}
 use Rattle.link_steps.specs.Split.{Link}
@@ -18,7 +16,7 @@ use Rattle.call_script.specs.Parts.{PlanParts}
 use Rattle.call_script.specs.Plans.{IsPlan}
 use Rattle.call_script.specs.Tasks.{network_of}
 use Rattle.interleave_core.specs.Answers.{IsReplyOf, IsReserveReply, IsRelaxed}
-use Rattle.interleave_core.specs.Runs.{IsRun}
+use Rattle.interleave_core.specs.Runs.{IsNext, IsRun}
 use Rattle.interleave_core.proofs.Replying.{asks-answered}
 use Rattle.channel_laws.proofs.SentFacts.{tick-answer}
 use Rattle.run_record.specs.Rows.{IsEarly}
@@ -26,7 +24,6 @@ use Rattle.run_record.specs.Runs.{part_of}
 use Rattle.run_record.specs.declared.done.Done.{Done}
 use Rattle.channel_report.proofs.LinkTallies.{part-short}
 use Rattle.link_steps.proofs.ClockFacts.{clock_of-most}
-use Rattle.link_steps.proofs.ListParts.{Each-reverse}
 
 reserve-early : (reply : Reply) → IsReserveReply reply → IsEarly reply
 reserve-early (Is.Ticked clock full sent best_sent best_lost) is = absurd is
@@ -58,20 +55,8 @@ answer-early link h (Arrive packet) reply answered is small = arrive-early reply
 answer-early link h Tick reply answered is small = subst IsEarly (sym (is ∙ tick-answer link h)) small
 answer-early link h (Pour count gap size) reply answered is small = send-early reply answered
 
-abbrev early : Done → Type 0
-early done = IsEarly done.reply
-
-run-early : (parts : PlanParts) (run : List Done) → IsPlan parts → IsRun (network_of parts) run → length run < 2 ^ 63 → Each early run
-unfolding IsRun
-run-early parts [] plan is short = tt
-run-early parts (done ∷ past) plan is short =
-    let next = is.1 in
-    let h = part_of (link_number done.link) past in (
-      answer-early next.link h done.ask done.reply (asks-answered (network_of parts) past done (plan-fits parts plan) (all-owned parts plan) is.0 next) next.answered (omega (arith, clock_of-most h, part-short (link_number done.link) past, short)),
-      run-early parts past plan is.0 (omega arith),
-    )
-
--- in the order of time
-pub entries-early : (parts : PlanParts) (entries : List Done) → IsPlan parts → IsRun (network_of parts) (reverse entries) → length entries < 2 ^ 63 → Each early entries
-entries-early parts entries plan is short =
-    subst (Each early) (reverse-reverse entries) (Each-reverse early (reverse entries) (run-early parts (reverse entries) plan is (omega (arith, length-reverse entries, short))))
+-- the next step of a run tells its tick early
+pub next-early : (parts : PlanParts) (past : List Done) (done : Done) → IsPlan parts → IsRun (network_of parts) past → IsNext (network_of parts) past done → length past < 2 ^ 60 → IsEarly done.reply
+next-early parts past done plan is next short =
+    let h = part_of (link_number done.link) past in
+    answer-early next.link h done.ask done.reply (asks-answered (network_of parts) past done (plan-fits parts plan) (all-owned parts plan) is next) next.answered (omega (arith, clock_of-most h, part-short (link_number done.link) past, short))

@@ -10,4 +10,7 @@ pub mod ChannelFacts
 pub mod LinkTallies
 pub mod EarlyTicks
 pub mod SummaryFacts
+pub mod EndFacts
+pub mod KeptFacts
+pub mod StepTallies
 mod Worked

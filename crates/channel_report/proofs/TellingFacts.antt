@@ -107,3 +107,8 @@ ended a b c gathered f f' f'' text (Err why) told last =
 pub nothing-written : (result : Result (Unit {0}) ReportFault) (a : Option (List ℕ)) (f : ℕ) (text : List ℕ) → IsErrAnd result (λ fault. fault ≡ Memory) → WritesText result a a f f text
 nothing-written (Ok done) a f text is = absurd is
 nothing-written (Err fault) a f text is = (record { front = []; rest = text; appends = Appends-nil a; joined = refl }, subst (λ (e : ReportFault). IsWhy e f f) (sym is) (omega arith))
+
+-- a prefix is written
+pub broken-off : (result : Result (Unit {0}) ReportFault) (why : ReportFault) (a b : Option (List ℕ)) (gathered : List ℕ) (f f' : ℕ) (text : List ℕ) → IsErrAnd result (λ fault. fault ≡ why) → gathered ≡ [] → WritesPart a b (gathered ++ text) × IsWhy why f f' → WritesText result a b f f' text
+broken-off (Ok done) why a b gathered f f' text is none failing = absurd is
+broken-off (Err fault) why a b gathered f f' text is none failing = (subst (λ before. WritesPart a b (before ++ text)) none failing.0, subst (λ (e : ReportFault). IsWhy e f f') (sym is) failing.1)

@@ -1,6 +1,6 @@
 -- What is found of a run before it is put into words: what each request has come to, what each link has
 -- done, what the sources of the channels have planned, the rows of the packets, and their delays.
-use Rattle.std.specs.Prelude.{◌≡◌, ◌^◌, ◌<◌, List, length, reverse}
+use Rattle.std.specs.Prelude.{◌≡◌, ◌^◌, ◌<◌, true, List, length, reverse}
 use Rattle.call_script.specs.Parts.{PlanParts}
 use Rattle.call_script.specs.Tasks.{network_of}
 use Rattle.interleave_core.specs.Runs.{IsRun}
@@ -17,7 +17,7 @@ pub record AreFound (parts : PlanParts) (entries : List Done) (findings : Findin
   pub run : IsRun (network_of parts) (reverse entries)
   pub callers : CallersStand parts findings.callers (reverse entries)
   pub links : AreLinkTallies (length parts.links) (reverse entries) findings.links.items
-  pub rows : findings.rows ≡ rows_of entries
+  pub rows : findings.packets ≡ true → findings.rows ≡ rows_of entries
   pub channels : AreChannelTallies parts.requests (reverse entries) findings.channels.items
   pub delays : AreDelayTallies parts.requests (reverse (rows_of entries)) findings.delays.items
   pub short : length entries < 2 ^ 60

@@ -15,3 +15,6 @@ pub mod Delays
 pub mod DelayTallies
 pub mod Channels
 pub mod Summary
+pub mod Ends
+pub mod StepCounts
+pub mod Tallied

@@ -1,53 +1,24 @@
-//! What the entries of a run are counted to.
-ghost use Rattle.std.specs.Prelude.{◌≡◌, ℕ, ◌∷◌, ◌<◌, ◌^◌, [], List, IfOk, IfSome, IfNone, OnOk, Some, length, reverse};
+//! What the entries of a run add to what is kept of the sources of channels.
+ghost use Rattle.std.specs.Prelude.{◌≡◌, ℕ, ◌∷◌, ◌<◌, ◌^◌, [], List, IfOk, IfSome, IfNone, OnOk, Some, length};
 ghost use Rattle.std.specs.List.{slice_get};
 ghost use Rattle.net_units.specs.Numbers.{channel_number, link_number};
 ghost use Rattle.net_units.specs.declared.numbers.ChanNo.{ChanNo as Chan};
 ghost use Rattle.link_steps.specs.Scan.{clock_of};
-ghost use Rattle.call_script.specs.Tasks.{network_of};
 ghost use Rattle.call_script.specs.declared.entries.RequestEntry.{RequestEntry as Asked};
-ghost use Rattle.interleave_core.specs.Runs.{IsRun};
 ghost use Rattle.run_record.specs.Runs.{part_of};
 ghost use Rattle.run_record.specs.declared.done.Done.{Done as Step};
 ghost use Rattle.channel_report.specs.ChannelTallies.{AreChannelTallies};
 ghost use Rattle.channel_report.specs.Sources.{chan_of, first_link};
-ghost use Rattle.channel_report.specs.Tallies.{AreLinkTallies};
 
 use crate::channel_tally::ChannelTally;
-use crate::link_tally::LinkTally;
 use crate::source_act::{Act, act_of};
 use call_script::Plan;
 use net_units::{LinkNo, OutOfMemory};
-use run_record::{Done, Record};
+use run_record::Done;
 use std::alloc::Global;
 
-// What is counted of a run.
-#[derive(Drop)]
-pub(crate) struct Counts {
-    // The counts of the links, by their numbers.
-    pub(crate) links: Vec<LinkTally>,
-    // What is kept of the sources of the requests' channels, by their numbers.
-    pub(crate) channels: Vec<ChannelTally>,
-}
-
-// The counts of a run of this plan.
-pub(crate) fn count_run(alloc: Global, plan: &Plan, run: &Record) -> Result<Counts, OutOfMemory>
-    requires { IsRun (network_of plan.now) (reverse run.now.entries) }
-    ensures links { IfOk result (λ counts. AreLinkTallies (length plan.now.links) (reverse run.now.entries) counts.links.items) }
-    ensures channels { IfOk result (λ counts. AreChannelTallies plan.now.requests (reverse run.now.entries) counts.channels.items) }
-{
-    let mut links = vec![in alloc; LinkTally::NOTHING; plan.links().len()]?;
-    let mut channels = new_tallies(alloc, plan.requests().len())?;
-    for done in run.entries() {
-        let link = usize::from(done.link.get());
-        keep_source(alloc, plan, &mut channels, links[link].clock, done)?;
-        links[link].add(&done.ask, &done.reply);
-    }
-    Ok(Counts { links, channels })
-}
-
 // Of a number of channels, before the first entry.
-fn new_tallies(alloc: Global, count: usize) -> Result<Vec<ChannelTally>, OutOfMemory>
+pub(crate) fn new_tallies(alloc: Global, count: usize) -> Result<Vec<ChannelTally>, OutOfMemory>
     ensures { IfOk result (λ tallies. (requests : List Asked) → length requests ≡ count → AreChannelTallies requests [] tallies.items) }
 {
     let mut tallies = Vec::new(alloc);
@@ -58,7 +29,7 @@ fn new_tallies(alloc: Global, count: usize) -> Result<Vec<ChannelTally>, OutOfMe
 }
 
 // Keeps what an entry does for a source, where its link's clock was this.
-fn keep_source(
+pub(crate) fn keep_source(
     alloc: Global,
     plan: &Plan,
     channels: &mut Vec<ChannelTally>,

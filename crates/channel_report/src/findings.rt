@@ -1,18 +1,17 @@
 //! What a report tells of a run, before it is put into words.
-ghost use Rattle.std.specs.Prelude.{◌≡◌, IfOk, length, reverse};
-ghost use Rattle.call_script.specs.Tasks.{network_of};
-ghost use Rattle.interleave_core.specs.Runs.{IsRun};
-ghost use Rattle.run_record.specs.Rows.{rows_of};
+ghost use Rattle.std.specs.Prelude.{◌≡◌, List, IfOk, reverse};
+ghost use Rattle.run_record.specs.declared.done.Done.{Done as Step};
 ghost use Rattle.channel_report.specs.Findings.{AreFound};
+ghost use Rattle.channel_report.specs.Tallied.{IsTalliedRun};
 
 use crate::channel_tally::ChannelTally;
-use crate::counts::count_run;
 use crate::delay_tally::{DelayTally, tally_delays};
 use crate::link_tally::LinkTally;
+use crate::tally::Tally;
 use call_script::Plan;
-use interleave_core::{Callers, replay};
+use interleave_core::Callers;
 use net_units::OutOfMemory;
-use run_record::{HopRows, Record};
+use run_record::HopRows;
 use std::alloc::Global;
 
 // What was found of a run.
@@ -26,39 +25,46 @@ pub(crate) struct Findings {
     pub(crate) channels: Vec<ChannelTally>,
     // The delays of the requests' channels, by their numbers.
     pub(crate) delays: Vec<DelayTally>,
-    // Its rows, in their order.
+    // Whether the rows are all of the run's.
+    pub(crate) packets: bool,
+    // Its rows, in their order, or some of them.
     pub(crate) rows: HopRows,
     // How many steps it has.
     pub(crate) steps: usize,
 }
 
 impl Findings {
-    // What is to be told of a run of this plan.
-    pub(crate) fn new(alloc: Global, plan: &Plan, run: &Record) -> Result<Findings, OutOfMemory>
-        requires { IsRun (network_of plan.now) (reverse run.now.entries) }
-        ensures { IfOk result (AreFound plan.now run.now.entries) }
+    // What is to be told of a run of this plan, by its tally and the callers after it.
+    pub(crate) fn new(
+        alloc: Global,
+        plan: &Plan,
+        callers: Callers,
+        tally: Tally,
+    ) -> Result<Findings, OutOfMemory>
+        ensures found { IfOk result (λ findings. (run : List Step) → IsTalliedRun plan.now callers tally run → AreFound plan.now (reverse run) findings) }
+        ensures packets { IfOk result (λ findings. findings.packets ≡ tally.packets) }
     {
-        let counts = count_run(alloc, plan, run)?;
-        let rows = rows_of_run(alloc, plan, run)?;
+        // what this knows of the plan is what is to be shown
+        let _requests = plan.requests();
+        let Tally {
+            packets,
+            links,
+            channels,
+            hops,
+            rows,
+            steps,
+            ..
+        } = tally;
+        let rows = hops.in_order(rows)?;
         let delays = tally_delays(alloc, plan, rows.as_slice())?;
         Ok(Findings {
-            callers: replay(alloc, plan, run)?,
-            links: counts.links,
-            channels: counts.channels,
+            callers,
+            links,
+            channels,
             delays,
+            packets,
             rows,
-            steps: run.entries().len(),
+            steps,
         })
     }
-}
-
-// The rows of a run of this plan.
-fn rows_of_run(alloc: Global, plan: &Plan, run: &Record) -> Result<HopRows, OutOfMemory>
-    requires { IsRun (network_of plan.now) (reverse run.now.entries) }
-    ensures { IfOk result (λ rows. rows ≡ rows_of run.now.entries) }
-{
-    // what these two know of their values is what the rows want
-    let _links = plan.links();
-    let _entries = run.entries();
-    run.rows(alloc)
 }

@@ -22,10 +22,12 @@ pub mod schedule;
 mod source_act;
 pub mod summary;
 mod table;
+pub mod tally;
 mod telling;
 mod words;
 
 pub use fault::ReportFault;
-pub use report::write_report;
+pub use report::{write_report, write_tallied};
 pub use schedule::write_schedule;
-pub use summary::write_summary;
+pub use summary::{write_summary, write_tallied_summary};
+pub use tally::Tally;

@@ -10,12 +10,15 @@ ghost use Rattle.run_record.specs.declared.done.Done.{Done as Step};
 ghost use Rattle.setup_protocol.specs.State.{outcome_of};
 ghost use Rattle.channel_report.specs.Findings.{AreFound};
 ghost use Rattle.channel_report.specs.Summary.{delivers, summary_of, sums_of, told_summary, with_request};
+ghost use Rattle.channel_report.specs.Tallied.{IsTalliedRun};
 ghost use Rattle.channel_report.specs.Telling.{WritesText};
 
 use crate::fault::ReportFault;
 use crate::findings::Findings;
+use crate::tally::Tally;
 use byte_ends::{Sink, put_all};
 use call_script::Plan;
+use interleave_core::{Callers, replay_watched};
 use run_record::Record;
 use setup_protocol::Verdict;
 use std::alloc::{AllocError, Global};
@@ -69,7 +72,26 @@ pub fn write_summary<K: Sink>(
     requires { IsRun (network_of plan.now) (reverse run.now.entries) }
     ensures { WritesText result (K.written sink.old) (K.written sink.new) (K.faults sink.old) (K.faults sink.new) (summary_of number size plan.now run.now.entries) }
 {
-    let findings = Findings::new(alloc, plan, run)?;
+    let mut tally = Tally::new(alloc, plan, false)?;
+    let callers = replay_watched(alloc, plan, run, &mut tally)?;
+    write_tallied_summary(alloc, number, size, plan, callers, tally, sink)
+}
+
+/// Writes the summary of a run of this plan that no record has, by its tally and the callers after it: the bytes that
+/// [`write_summary`] writes of the same run.
+pub fn write_tallied_summary<K: Sink>(
+    alloc: Global,
+    number: u32,
+    size: u32,
+    plan: &Plan,
+    callers: Callers,
+    tally: Tally,
+    sink: &mut K,
+) -> Result<(), ReportFault>
+    requires { (run : List Step) × IsTalliedRun plan.now callers tally run }
+    ensures { (run : List Step) → IsTalliedRun plan.now callers tally run → WritesText result (K.written sink.old) (K.written sink.new) (K.faults sink.old) (K.faults sink.new) (summary_of number size plan.now (reverse run)) }
+{
+    let findings = Findings::new(alloc, plan, callers, tally)?;
     let sums = sum_up(plan, &findings);
     let line = summary_line(alloc, number, size, &sums, findings.steps)?;
     put_line(sink, line.as_bytes())

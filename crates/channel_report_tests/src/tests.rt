@@ -11,9 +11,11 @@ use call_script::{
     CallerEntry, Do, Dos, LinkEntry, Op, Ops, Plan, Quotas, RequestEntry, Schedule, Version,
     push_request,
 };
-use channel_report::{write_report, write_schedule, write_summary};
+use channel_report::{
+    Tally, write_report, write_schedule, write_summary, write_tallied, write_tallied_summary,
+};
 use hop_reservation::{Hop, Route};
-use interleave_core::Core;
+use interleave_core::{Core, Watch, replay_watched};
 use link_steps::LinkShape;
 use net_units::{ActorNo, Bounds, ChanNo, LinkNo, Name};
 use run_record::Record;
@@ -151,6 +153,39 @@ fn a_channel_that_carries_three_packets(rt: HostRuntime) -> Result<(), Fail> {
         r1,2,1,A,2,10,10,12\n\
         r1,3,1,A,2,20,20,22\n";
     assert_eq!(rt; sink.bytes(), text.as_bytes());
+    Ok(())
+}
+
+// A tally that saw the run writes its report without the record, and its summary.
+#[test]
+fn a_run_that_was_tallied(rt: HostRuntime) -> Result<(), Fail> {
+    let alloc = rt.alloc();
+    let plan = plan(alloc, Version::One, None)?;
+    let run = run(alloc, &plan, 3, 30)?;
+    let mut tally = Tally::new(alloc, &plan, false)?;
+    let callers = replay_watched(alloc, &plan, &run, &mut tally)?;
+    assert_eq!(rt; tally.steps_of(ActorNo::new(0).ok_or("caller")?), 3);
+    let mut sink = MemSink::new(alloc, 65_536, 65_536, Vec::new(alloc))?;
+    assert_eq!(rt;
+        write_tallied(alloc, &plan, callers, tally, &mut sink),
+        Ok(())
+    );
+    let text = "accept r1 delay 12 levels 1\n\
+        channel r1 offered 3 keeps delivered 3 least 4 worst 4 refused 0\n\
+        link A clock 30 sent 3 full 0\n\
+        end steps 33\n";
+    assert_eq!(rt; sink.bytes(), text.as_bytes());
+    let mut tally = Tally::new(alloc, &plan, false)?;
+    let callers = replay_watched(alloc, &plan, &run, &mut tally)?;
+    let mut sink = MemSink::new(alloc, 65_536, 65_536, Vec::new(alloc))?;
+    assert_eq!(rt;
+        write_tallied_summary(alloc, 7, 1, &plan, callers, tally, &mut sink),
+        Ok(())
+    );
+    assert_eq!(rt;
+        sink.bytes(),
+        b"made 7 1 accepted 1 denied 0 delivered 3 steps 33\n".as_slice()
+    );
     Ok(())
 }
 

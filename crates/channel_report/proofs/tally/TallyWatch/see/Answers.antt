@@ -1,0 +1,55 @@
+-- Each part of the tally has the entry more.
+use Rattle.std.proofs.Common.{◌≡◌, [], ◌∷◌, ◌++◌, refl, reverse, sym, subst, arith}
+use Rattle.std.proofs.lemmas.List.{reverse-append}
+use Rattle.interleave_core.proofs.RunLength.{run-short}
+use Rattle.run_record.specs.Hops.{AreHops}
+use Rattle.channel_report.specs.Ends.{AreKept, is_kept}
+use Rattle.channel_report.specs.Tallies.{AreLinkTallies}
+use Rattle.channel_report.proofs.EarlyTicks.{next-early}
+use Rattle.channel_report.proofs.LinkTallies.{link-within}
+use Rattle.channel_report.proofs.tally.TallyWatch.see.Goals as goal
+
+pub count_link-clock-requires-clause-inside : goal.count_link-clock-requires-clause-inside
+count_link-clock-requires-clause-inside c =
+    let next = c.requires.1 in
+    omega (arith, link-within c.args.plan.now c.requires.0 c.args.done.now next.next, next.seen.links.all)
+
+pub count_link-clock-requires-clause-short : goal.count_link-clock-requires-clause-short
+count_link-clock-requires-clause-short c =
+    let past = c.requires.0 in
+    let next = c.requires.1 in
+    (past, (subst (λ n. AreLinkTallies n past c.args.self.now.links.items) (sym next.seen.links.all) next.seen.links, run-short c.args.plan.now past next.plan next.run))
+
+pub keep_source-requires : goal.keep_source-requires
+keep_source-requires c = (c.requires.0, (c.requires.1.seen.channels, run-short c.args.plan.now c.requires.0 c.requires.1.plan c.requires.1.run))
+
+pub keep_row-requires-clause-early : goal.keep_row-requires-clause-early
+keep_row-requires-clause-early c =
+    let next = c.requires.1 in
+    next-early c.args.plan.now c.requires.0 c.args.done.now next.plan next.run next.next (run-short c.args.plan.now c.requires.0 next.plan next.run)
+
+pub keep_row-requires-clause-noted : goal.keep_row-requires-clause-noted
+keep_row-requires-clause-noted c = (reverse c.requires.0, c.in_ok-note.ensures (reverse c.requires.0) c.requires.1.seen.hops)
+
+pub count_step-requires : goal.count_step-requires
+count_step-requires c = (c.requires.0, (c.requires.1.seen.made, run-short c.args.plan.now c.requires.0 c.requires.1.plan c.requires.1.run))
+
+pub overflow_add-self : goal.overflow_add-self
+overflow_add-self c = (let short = run-short c.args.plan.now c.requires.0 c.requires.1.plan c.requires.1.run in omega (arith, short, c.requires.1.seen.steps))
+
+pub returns-clause-seen : goal.returns-clause-seen
+returns-clause-seen c = λ past next.
+    let parts = c.args.plan.now in
+    let done = c.args.done.now in
+    let seen = next.seen in
+    let turned : reverse past ++ done ∷ [] ≡ reverse (done ∷ past) = sym (reverse-append (done ∷ []) past) in
+    let links = subst (λ n. AreLinkTallies n past c.args.self.now.links.items) (sym seen.links.all) seen.links in
+    let noted = c.in_ok-note.ensures (reverse past) seen.hops in
+    record {
+      links = subst (λ n. AreLinkTallies n (done ∷ past) c.count_link-clock.new.links.items) seen.links.all (c.count_link-clock.ensures.counted past links);
+      channels = c.in_ok-keep_source.ensures past seen.channels (c.count_link-clock.ensures.clock past links);
+      hops = subst (λ entries. AreHops entries c.note.new.self.channels.items) turned noted;
+      rows = subst (λ entries. AreKept (is_kept parts.requests c.args.self.now.packets) entries c.keep_row.new.rows.items) turned (c.in_ok-keep_row.ensures (reverse past) noted seen.rows);
+      made = c.count_step.ensures past done seen.made refl;
+      steps = omega (arith, seen.steps);
+    }

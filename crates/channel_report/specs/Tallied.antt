@@ -1,0 +1,31 @@
+-- What a tally keeps of a run, which is listed newest first: the counts of the links, what the sources of the channels have planned, the
+-- hops of the channels, the rows of their first and last hops, or all rows where there is to be a table, and how many steps
+-- there were and each actor has made.
+use Rattle.std.specs.Prelude.{◌≡◌, List, length, reverse}
+use Rattle.call_script.specs.Parts.{PlanParts}
+use Rattle.call_script.specs.Tasks.{network_of}
+use Rattle.interleave_core.specs.Runs.{IsRun}
+use Rattle.interleave_core.specs.Standing.{CallersStand}
+use Rattle.interleave_core.specs.declared.callers.Callers.{Callers}
+use Rattle.run_record.specs.Hops.{AreHops}
+use Rattle.run_record.specs.declared.done.Done.{Done}
+use Rattle.channel_report.specs.ChannelTallies.{AreChannelTallies}
+use Rattle.channel_report.specs.Ends.{AreKept, is_kept}
+use Rattle.channel_report.specs.StepCounts.{AreStepCounts}
+use Rattle.channel_report.specs.Tallies.{AreLinkTallies}
+use Rattle.channel_report.specs.declared.tally.Tally.{Tally}
+
+-- a tally of the run
+pub record IsTallied (parts : PlanParts) (run : List Done) (tally : Tally) : Type 0 where
+  pub links : AreLinkTallies (length parts.links) run tally.links.items
+  pub channels : AreChannelTallies parts.requests run tally.channels.items
+  pub hops : AreHops (reverse run) tally.hops.channels.items
+  pub rows : AreKept (is_kept parts.requests tally.packets) (reverse run) tally.rows.items
+  pub made : AreStepCounts run tally.made.items
+  pub steps : tally.steps ≡ length run
+
+-- the callers stand for a run of the plan, and the tally is of it
+pub record IsTalliedRun (parts : PlanParts) (callers : Callers) (tally : Tally) (run : List Done) : Type 0 where
+  pub is_run : IsRun (network_of parts) run
+  pub stand : CallersStand parts callers run
+  pub tallied : IsTallied parts run tally

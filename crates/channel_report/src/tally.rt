@@ -1,0 +1,164 @@
+//! What a report tells of a run, kept while the run is made.
+ghost use Rattle.std.specs.Prelude.{◌≡◌, ℕ, ◌<◌, ◌^◌, ◌∷◌, ◌++◌, [], false, List, IfOk, OnOk, length, slice_index_or};
+ghost use Rattle.net_units.specs.Numbers.{actor_number, link_number};
+ghost use Rattle.link_steps.specs.Scan.{clock_of};
+ghost use Rattle.run_record.specs.Hops.{AreHops};
+ghost use Rattle.run_record.specs.Rows.{IsEarly};
+ghost use Rattle.run_record.specs.Runs.{part_of};
+ghost use Rattle.run_record.specs.declared.done.Done.{Done as Step};
+ghost use Rattle.channel_report.specs.Ends.{AreKept, is_end, is_kept};
+ghost use Rattle.channel_report.specs.StepCounts.{AreStepCounts};
+ghost use Rattle.channel_report.specs.Tallied.{IsTallied};
+ghost use Rattle.channel_report.specs.Tallies.{AreLinkTallies};
+
+use crate::channel_tally::ChannelTally;
+use crate::counts::{keep_source, new_tallies};
+use crate::link_tally::LinkTally;
+use call_script::Plan;
+use interleave_core::Watch;
+use net_units::{ActorNo, OutOfMemory};
+use run_record::{Done, HopRow, HopTable};
+use std::alloc::Global;
+
+// Every actor's number is below this.
+const ACTORS: usize = 65;
+
+/// What a report tells of a run, without its record: the counts of the links, what the sources have planned, and of the packets the
+/// departures from first and last hops alone, or all of them where there is to be a table of packets.
+#[derive(Drop)]
+pub struct Tally {
+    pub(crate) alloc: Global,
+    // Whether the rows of all hops are kept.
+    pub(crate) packets: bool,
+    // The counts of the links, by their numbers.
+    pub(crate) links: Vec<LinkTally>,
+    // What is kept of the sources of the requests' channels, by their numbers.
+    pub(crate) channels: Vec<ChannelTally>,
+    // The hops of the channels.
+    pub(crate) hops: HopTable,
+    // The rows that are kept, in the order of time, with any hops.
+    pub(crate) rows: Vec<HopRow>,
+    // How many steps each actor has made, by its number.
+    pub(crate) made: Vec<u64>,
+    // How many steps there were.
+    pub(crate) steps: usize,
+}
+
+impl Tally {
+    /// Before any step of a run of this plan; with `packets` it keeps what the table of packets tells. An `Err` comes only for want of
+    /// memory.
+    pub fn new(alloc: Global, plan: &Plan, packets: bool) -> Result<Tally, OutOfMemory>
+        ensures fresh { IfOk result (IsTallied plan.now []) }
+        ensures packets { IfOk result (λ tally. tally.packets ≡ packets) }
+    {
+        Ok(Tally {
+            alloc,
+            packets,
+            links: vec![in alloc; LinkTally::NOTHING; plan.links().len()]?,
+            channels: new_tallies(alloc, plan.requests().len())?,
+            hops: HopTable::new(alloc),
+            rows: Vec::new(alloc),
+            made: vec![in alloc; 0; ACTORS]?,
+            steps: 0,
+        })
+    }
+}
+
+// A tally sees a run by keeping what the report tells.
+impl Watch for Tally {
+    ghost saw = { λ tally parts run. IsTallied parts run tally };
+
+    ghost has_table = { λ tally. tally.packets };
+
+    fn see(&mut self, plan: &Plan, done: &Done) -> Result<(), OutOfMemory> {
+        let clock = count_link(&mut self.links, done);
+        keep_source(self.alloc, plan, &mut self.channels, clock, done)?;
+        self.hops.note(done)?;
+        keep_row(&mut self.rows, &self.hops, plan, self.packets, done)?;
+        count_step(&mut self.made, done.actor);
+        self.steps += 1;
+        Ok(())
+    }
+
+    fn steps_of(&self, actor: ActorNo) -> u64 {
+        steps_at(self.made.as_slice(), actor)
+    }
+}
+
+// Counts an entry of a link, and answers the link's clock before it.
+fn count_link(links: &mut Vec<LinkTally>, done: &Done) -> u64
+    requires inside { link_number done.now.link < length links.old.items }
+    requires short { (past : List Step) × (AreLinkTallies (length links.old.items) past links.old.items × (length past < 2 ^ 60)) }
+    ensures clock { (past : List Step) → AreLinkTallies (length links.old.items) past links.old.items → result ≡ clock_of (part_of (link_number done.now.link) past) }
+    ensures counted { (past : List Step) → AreLinkTallies (length links.old.items) past links.old.items → AreLinkTallies (length links.old.items) (done.now ∷ past) links.new.items }
+{
+    let place = usize::from(done.link.get());
+    let clock = links[place].clock;
+    links[place].add(&done.ask, &done.reply);
+    clock
+}
+
+// Keeps the row that an entry tells, if it tells one that is to be kept. Its offer is noted.
+fn keep_row(
+    rows: &mut Vec<HopRow>,
+    hops: &HopTable,
+    plan: &Plan,
+    packets: bool,
+    done: &Done,
+) -> Result<(), OutOfMemory>
+    requires early { IsEarly done.now.reply }
+    requires noted { (past : List Step) × AreHops (past ++ done.now ∷ []) hops.now.channels.items }
+    ensures { OnOk result ((past : List Step) → AreHops (past ++ done.now ∷ []) hops.now.channels.items → AreKept (is_kept plan.now.requests packets) past rows.old.items → AreKept (is_kept plan.now.requests packets) (past ++ done.now ∷ []) rows.new.items) }
+{
+    match hops.row_of(done) {
+        Some(row) => {
+            if is_wanted(plan, packets, &row) {
+                rows.push(row)?;
+                Ok(())
+            } else {
+                Ok(())
+            }
+        }
+        None => Ok(()),
+    }
+}
+
+// Whether a row may be one to be kept: one without a hop may still get one.
+fn is_wanted(plan: &Plan, packets: bool, row: &HopRow) -> bool
+    ensures left { result ≡ false → is_kept plan.now.requests packets row.now ≡ false }
+    ensures has_hop { result ≡ false → row.now.hop ≡ 0 → ⊥ }
+{
+    packets || row.hop == 0 || is_end(plan, row)
+}
+
+// Whether a row is of a first hop, or of the last one of its channel's route.
+fn is_end(plan: &Plan, row: &HopRow) -> bool
+    ensures { result ≡ is_end plan.now.requests row.now }
+{
+    if row.hop == 1 {
+        return true;
+    }
+    match plan.requests().get(row.chan.get() as usize) {
+        Some(entry) => row.hop == entry.request.route.len(),
+        None => false,
+    }
+}
+
+// How many steps the actor has made, by these counts.
+fn steps_at(made: &[u64], actor: ActorNo) -> u64
+    ensures { (d : ℕ) → actor_number actor < length made.now → result ≡ slice_index_or made.now (actor_number actor) d }
+{
+    match made.get(usize::from(actor.get())) {
+        Some(steps) => *steps,
+        None => 0,
+    }
+}
+
+// Counts a step of an actor.
+fn count_step(made: &mut Vec<u64>, actor: ActorNo)
+    requires { (past : List Step) × (AreStepCounts past made.old.items × (length past < 2 ^ 60)) }
+    ensures { (past : List Step) (done : Step) → AreStepCounts past made.old.items → actor_number done.actor ≡ actor_number actor → AreStepCounts (done ∷ past) made.new.items }
+{
+    let place = usize::from(actor.get());
+    made[place] += 1;
+}
