@@ -6,3 +6,4 @@ pub mod ScriptFacts
 pub mod Growth
 pub mod MakeFacts
 pub mod TurnLaws
+pub mod SeenFacts

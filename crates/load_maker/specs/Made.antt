@@ -2,13 +2,9 @@
 -- script of a caller opens each of its requests and sends on it; and from the third one on it closes after that the request two
 -- before it. Requests and links are counted from 0 here, and from 1 in their names. Channels have the order in which the callers,
 -- one after the other, open them.
-use Rattle.std.specs.Prelude.{None, ℕ, zero, suc, ◌+◌, ◌%◌, min, refl, Bool, nat_eq, if◌then◌else◌, List, [], ◌∷◌, ◌++◌, take, drop}
+use Rattle.std.specs.Prelude.{None, ℕ, zero, suc, ◌+◌, ◌%◌, refl, Bool, nat_eq, if◌then◌else◌, List, [], ◌∷◌, ◌++◌, take, drop}
 use Rattle.std.specs.Fmt.{decimal}
-use Rattle.std.proofs.Common.{lit<, lit≤}
-use Rattle.std.proofs.Math.Nat.{min-le_left, lt_of_le_of_lt}
-use Rattle.net_units.specs.declared.numbers.ActorNo.{ActorNo}
-use Rattle.net_units.specs.declared.numbers.ChanNo.{ChanNo}
-use Rattle.net_units.specs.declared.numbers.LinkNo.{LinkNo}
+use Rattle.std.proofs.Common.{lit≤}
 use Rattle.net_units.specs.Numbers.{link_at, actor_at, channel_at}
 use Rattle.hop_reservation.specs.declared.route.Hop.{Hop}
 use Rattle.link_steps.specs.declared.shape.LinkShape.{LinkShape}

@@ -13,4 +13,4 @@ mod script;
 pub mod turns;
 
 pub use making::made;
-pub use turns::take_turns;
+pub use turns::{take_turns, take_watched_turns};

@@ -1,15 +1,17 @@
 //! The run of a plan by turns.
-ghost use Rattle.std.specs.Prelude.{◌≡◌, ◌≤◌, ◌<◌, IfOk, IfSome, IfNone, IsSome, length, reverse};
+ghost use Rattle.std.specs.Prelude.{◌≡◌, ◌≤◌, ◌<◌, [], List, IfOk, IfSome, IfNone, OnOk, reverse};
 ghost use Rattle.call_script.specs.Tasks.{network_of};
-ghost use Rattle.interleave_core.specs.Runs.{next_for};
-ghost use Rattle.interleave_core.specs.Standing.{IsGuaranteedRun, CoreStands, StepsTo, run_in};
-ghost use Rattle.load_maker.specs.TurnRuns.{IsItsTurn, IsTurnsRun, NobodyIsLeft, TurnsMakeOneRun, goes_on_at};
-ghost use Rattle.net_units.specs.Numbers.{actor_number, actor_at};
+ghost use Rattle.interleave_core.specs.Standing.{IsGuaranteedRun};
+ghost use Rattle.interleave_core.specs.Watching.{WatchStands};
+ghost use Rattle.load_maker.specs.TurnRuns.{IsTurnsRun, NobodyIsLeft, TurnsMakeOneRun};
+ghost use Rattle.load_maker.specs.SeenTurns.{HaveTurned, IsCircleAt, IsTurnOf, IsTurnsSeen};
+ghost use Rattle.net_units.specs.Numbers.{actor_at};
+ghost use Rattle.run_record.specs.declared.done.Done.{Done as Entry};
 
 use call_script::Plan;
-use interleave_core::{Core, CoreRefusal};
-use link_steps::Reply;
-use net_units::{ActorNo, OutOfMemory};
+use interleave_core::{Callers, Engine, Watch, make_watched};
+use link_steps::Ask;
+use net_units::{ActorNo, LinkNo, OutOfMemory};
 use run_record::Record;
 use std::alloc::Global;
 
@@ -21,46 +23,62 @@ pub fn take_turns(alloc: Global, plan: &Plan) -> Result<Record, OutOfMemory>
     ensures turns { IfOk result (λ made. IsTurnsRun (network_of plan.now) (reverse made.entries)) }
     ensures guaranteed { IfOk result (λ made. IsGuaranteedRun plan.now (reverse made.entries)) }
 {
-    let mut core = Core::new(alloc, plan)?;
-    let mut next = 0;
-    while let Some(actor) = turn(&core, plan, next) {
-        step(&mut core, plan, actor)?;
-        next = usize::from(actor.get()) + 1;
-    }
-    Ok(core.finish())
+    let mut record = Record::new(alloc);
+    take_watched_turns(alloc, plan, &mut record)?;
+    Ok(record)
 }
 
-// The actor whose turn it is, where the circle goes on at this number.
-fn turn(core: &Core, plan: &Plan, next: usize) -> Option<ActorNo>
-    requires stands { CoreStands plan.now core.now }
-    requires next { next ≡ goes_on_at (run_in core.now) }
+/// Lets the actors of a plan make their steps in turn as [`take_turns`] does, shows each step to what watches the run, and answers the
+/// callers after it. What watches has seen nothing before. After an `Err`, which comes only for want of memory, nothing is said of it.
+pub fn take_watched_turns<W: Watch>(
+    alloc: Global,
+    plan: &Plan,
+    watch: &mut W,
+) -> Result<Callers, OutOfMemory>
+    requires { W.saw watch.old plan.now [] }
+    ensures turns { IfOk result (λ callers. IsTurnsSeen W.saw plan.now callers watch.new) }
+    ensures table { OnOk result (W.has_table watch.new ≡ W.has_table watch.old) }
+{
+    let mut engine = Engine::new(alloc, plan)?;
+    make_turns(&mut engine, watch, plan)?;
+    Ok(engine.into_callers())
+}
+
+// Lets the actors make their steps in turn, until nobody has one left.
+fn make_turns<W: Watch>(engine: &mut Engine, watch: &mut W, plan: &Plan) -> Result<(), OutOfMemory>
+    requires { WatchStands W.saw plan.now engine.old watch.old [] }
+    ensures turns { OnOk result (HaveTurned W.saw plan.now engine.new watch.new) }
+    ensures table { OnOk result (W.has_table watch.new ≡ W.has_table watch.old) }
+{
+    let mut next = 0;
+    // a run has fewer steps
+    for _ in 0..u64::MAX {
+        match turn(engine, plan, next) {
+            Some((actor, link, ask)) => {
+                make_watched(engine, watch, plan, actor, link, ask)?;
+                next = usize::from(actor.get()) + 1;
+            }
+            None => return Ok(()),
+        }
+    }
+    unreachable!()
+}
+
+// The actor whose turn it is, where the circle goes on at this number, and what it asks of which link.
+fn turn(engine: &Engine, plan: &Plan, next: usize) -> Option<(ActorNo, LinkNo, Ask)>
+    requires stands { (run : List Entry) × IsCircleAt plan.now engine.now next run }
     requires within { next ≤ 65 }
-    ensures some { IfSome result (λ actor. IsItsTurn (network_of plan.now) (run_in core.now) (actor_number actor)) }
-    ensures none { IfNone result (NobodyIsLeft (network_of plan.now) (run_in core.now)) }
+    ensures some { IfSome result (λ turn. (run : List Entry) → IsCircleAt plan.now engine.now next run → IsTurnOf plan.now run turn.0 turn.1 turn.2) }
+    ensures none { IfNone result ((run : List Entry) → IsCircleAt plan.now engine.now next run → NobodyIsLeft (network_of plan.now) run) }
 {
     let actors = plan.callers().len() + 1;
     for passed in 0..actors {
         let actor = actor_of((next + passed) % actors);
-        if core.has_step(plan, actor) {
-            return Some(actor);
+        if let Some((link, ask)) = engine.next_ask(plan, actor) {
+            return Some((actor, link, ask));
         }
     }
     None
-}
-
-// Makes the next step of an actor that has one left.
-fn step(core: &mut Core, plan: &Plan, actor: ActorNo) -> Result<Reply, OutOfMemory>
-    requires stands { CoreStands plan.now core.old }
-    requires actor { actor_number actor ≤ length plan.now.callers }
-    requires left { IsSome (next_for (network_of plan.now) (actor_number actor) (run_in core.old)) }
-    ensures stands { CoreStands plan.now core.new }
-    ensures made { IfOk result (λ reply. StepsTo (network_of plan.now) actor (run_in core.old) reply (run_in core.new)) }
-{
-    match core.step(plan, actor) {
-        Ok(reply) => Ok(reply),
-        Err(CoreRefusal::Memory) => Err(OutOfMemory),
-        Err(_) => unreachable!(),
-    }
 }
 
 // The actor of this number.

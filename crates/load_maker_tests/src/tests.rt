@@ -1,7 +1,8 @@
 //! Loads that were worked by hand.
 use call_script::{Op, Plan, RequestEntry};
-use load_maker::{made, take_turns};
+use load_maker::{made, take_turns, take_watched_turns};
 use net_units::ChanNo;
+use run_record::Record;
 use setup_protocol::Control;
 use std::test::Fail;
 use traffic_contract::Contract;
@@ -53,6 +54,10 @@ fn turns_of_one_request(rt: HostRuntime) -> Result<(), Fail> {
     let plan = made(alloc, 1, 1)?;
     let run = take_turns(alloc, &plan)?;
     assert_eq!(rt; run.entries().len(), 20_031);
+    let mut seen = Record::new(alloc);
+    let callers = take_watched_turns(alloc, &plan, &mut seen)?;
+    assert_eq!(rt; seen.entries(), run.entries());
+    assert!(rt; callers.verdict(&plan, 0).is_some());
     let mut turns = Vec::new(alloc);
     for done in run.entries().iter().take(16) {
         turns.push(done.actor.get())?;

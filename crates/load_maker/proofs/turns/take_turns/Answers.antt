@@ -1,23 +1,16 @@
--- One turn more, which leaves fewer steps.
-use Rattle.std.proofs.Common.{arith}
-use Rattle.net_units.specs.Numbers.{actor_number}
+-- The record has the run that was seen.
+use Rattle.std.proofs.Common.{sym, subst, reverse, ap}
 use Rattle.call_script.specs.Tasks.{network_of}
-use Rattle.interleave_core.specs.Standing.{run_in}
-use Rattle.load_maker.proofs.TurnLaws.{none-by-turns, caller-or-plane, turn-made, turn-fewer}
+use Rattle.interleave_core.specs.Standing.{IsGuaranteedRun}
+use Rattle.run_record.specs.Entries.{Entries}
+use Rattle.load_maker.specs.TurnRuns.{IsTurnsRun}
 use Rattle.load_maker.proofs.turns.take_turns.Goals as goal
 
-pub loop-actor-init : goal.loop-actor-init
-loop-actor-init c =
-    let start = none-by-turns (network_of c.args.plan.now) (run_in c.in_ok-core.core) c.in_ok-core.ensures.none in
-    record { stands = c.in_ok-core.ensures.stands; turns = start.0; next = start.1 }
+pub take_watched_turns-requires : goal.take_watched_turns-requires
+take_watched_turns-requires c = ap (λ (e : Entries). reverse e.entries) c.new-record.ensures
 
-pub step-requires-clause-actor : goal.step-requires-clause-actor
-step-requires-clause-actor c = caller-or-plane c.args.plan.now (actor_number c.in-Some.actor) (run_in c.loop-actor.core) c.in-Some.ensures.some.left
+pub returns-clause-turns : goal.returns-clause-turns
+returns-clause-turns c = subst (IsTurnsRun (network_of c.args.plan.now)) (sym c.in_ok-take_watched_turns.ensures.turns.seen.seen) c.in_ok-take_watched_turns.ensures.turns.turns
 
-pub loop-actor-smaller : goal.loop-actor-smaller
-loop-actor-smaller c = turn-fewer c.args.plan.now (run_in c.loop-actor.core) (run_in c.step.new.core) c.in-Some.actor c.in_ok-step.field-0 c.loop-actor.invariant.stands.plan c.loop-actor.invariant.stands.run c.in-Some.ensures.some c.in_ok-step.ensures.made
-
-pub loop-actor-preserved : goal.loop-actor-preserved
-loop-actor-preserved c =
-    let made = turn-made (network_of c.args.plan.now) (run_in c.loop-actor.core) (run_in c.step.new.core) c.in-Some.actor c.in_ok-step.field-0 c.loop-actor.invariant.turns c.in-Some.ensures.some c.in_ok-step.ensures.made in
-    record { stands = c.step.ensures.stands; turns = made.0; next = omega (arith, c.from-next.ensures, c.get.ensures.value, made.1) }
+pub returns-clause-guaranteed : goal.returns-clause-guaranteed
+returns-clause-guaranteed c = subst (IsGuaranteedRun c.args.plan.now) (sym c.in_ok-take_watched_turns.ensures.turns.seen.seen) c.in_ok-take_watched_turns.ensures.turns.guaranteed
