@@ -14,9 +14,8 @@ mod OpenOver
 mod SendOver
 mod CloseOver
 mod MoveOver
-mod NamedOnce
-mod OpsFew
-mod StepCounts
+mod StampsLeft
+mod ScheduleCounts
 mod ScriptEnds
 mod PlaneSteps
 mod RoundFacts

@@ -22,6 +22,7 @@ use Rattle.interleave_core.specs.Runs.{plane_no, next_for, IsRun}
 use Rattle.interleave_core.specs.Schedules.{FollowsTurns, IsActorOf, turns_of, repeated}
 use Rattle.interleave_core.specs.Standing.{IsGuaranteedRun}
 use Rattle.interleave_core.proofs.GuaranteeLaw.{guaranteed-throughout}
+use Rattle.interleave_core.proofs.RunLength.{asked-below}
 use Rattle.interleave_core.proofs.RunOf.{step-is}
 use Rattle.interleave_core.proofs.ScheduleFacts.{follows-none, follows-more, follows-one, turns-append, turns-one}
 use Rattle.race_run.specs.Turns.{AreMaximalRuns, IsUnwritten, actors_of}
@@ -51,15 +52,6 @@ pub run-follows : (network : Network) (entries : List Done) (items : List Do) �
 run-follows network entries items runs is = subst (λ actors. FollowsTurns network [] actors (reverse entries)) (turned-actors entries ∙ sym runs.spelled) (follows-itself network (reverse entries) is)
 
 -- ---- the actors
-
-asked-below : (network : Network) (past : List Done) (actor : ℕ) (to : LinkNo) (ask : Ask) → next_for network actor past ≡ Some (to, ask) → actor ≤ plane_no network
-unfolding next_for
-asked-below network past actor to ask asked = elim (cases_lt (plane_no network) actor) [
-  | inl above ↦ absurd (let other = ne_eqb actor (plane_no network) (λ same. absurd (omega (arith, above, same))) in
-      let none = slice_get_past network.scripts actor (omega (arith, above)) in
-      let clash : None ≡ Some (to, ask) = rw (other, none) at asked in cc)
-  | inr upto ↦ upto
-]
 
 run-actors : (network : Network) (run : List Done) → IsRun network run → Each (λ (done : Done). actor_number done.actor ≤ plane_no network) run
 unfolding IsRun

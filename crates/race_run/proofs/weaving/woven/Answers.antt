@@ -7,7 +7,7 @@ use Rattle.race_run.specs.Merging.{AreThere, is_before, places_of, sources_from}
 use Rattle.race_run.specs.Turns.{AreMaximalRuns, IsWritable, actors_of}
 use Rattle.race_run.proofs.MergeFacts.{merge-weaves, whole-sorted, places-all-inside}
 use Rattle.race_run.proofs.RunFacts.{run-follows, run-items, run-guaranteed}
-use Rattle.race_run.proofs.StepCounts.{items-written}
+use Rattle.race_run.proofs.ScheduleCounts.{items-written}
 use Rattle.race_run.proofs.WholeFacts.{whole-run, whole-over}
 use Rattle.race_run.proofs.weaving.woven.Goals as goal
 
