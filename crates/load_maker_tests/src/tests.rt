@@ -57,7 +57,11 @@ fn turns_of_one_request(rt: HostRuntime) -> Result<(), Fail> {
     let mut seen = Record::new(alloc);
     let callers = take_watched_turns(alloc, &plan, &mut seen)?;
     assert_eq!(rt; seen.entries(), run.entries());
-    assert!(rt; callers.verdict(&plan, 0).is_some());
+    let judged = match plan.requests() {
+        [] => false,
+        _ => callers.verdict(&plan, 0).is_some(),
+    };
+    assert!(rt; judged);
     let mut turns = Vec::new(alloc);
     for done in run.entries().iter().take(16) {
         turns.push(done.actor.get())?;

@@ -1,5 +1,6 @@
 pub mod Codes
 pub mod Playing
+pub mod Tallying
 pub mod Making
 pub mod Racing
 pub mod Again

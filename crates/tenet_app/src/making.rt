@@ -4,8 +4,8 @@ ghost use Rattle.tenet_app.specs.Making.{Makes, Summarizes};
 
 use crate::status::Status;
 use byte_ends::Sink;
-use channel_report::{ReportFault, write_summary};
-use load_maker::{made, take_turns};
+use channel_report::{ReportFault, Tally, write_tallied_summary};
+use load_maker::{made, take_watched_turns};
 use std::alloc::Global;
 
 /// Makes the plan of a number with so many requests, lets its actors make their steps in turn, and writes the summary of that run. It reads nothing,
@@ -38,6 +38,7 @@ fn summarize<K: Sink>(
     ensures counts { K.faults sink.old ≤ K.faults sink.new }
 {
     let plan = made(alloc, number, size)?;
-    let run = take_turns(alloc, &plan)?;
-    write_summary(alloc, number, size, &plan, &run, sink)
+    let mut tally = Tally::new(alloc, &plan, false)?;
+    let callers = take_watched_turns(alloc, &plan, &mut tally)?;
+    write_tallied_summary(alloc, number, size, &plan, callers, tally, sink)
 }

@@ -1,18 +1,19 @@
 //! The word `play`: from the bytes of a scenario to the bytes of its report.
-ghost use Rattle.std.specs.Prelude.{◌≡◌, ◌≤◌, IfOk, reverse, string_bytes};
+ghost use Rattle.std.specs.Prelude.{◌≡◌, ◌≤◌, List, IfOk, IfErr, reverse, string_bytes};
 ghost use Rattle.call_script.specs.Tasks.{network_of};
-ghost use Rattle.interleave_core.specs.Runs.{IsRun};
-ghost use Rattle.interleave_core.specs.Schedules.{IsActorOf};
+ghost use Rattle.interleave_core.specs.Schedules.{IsActorOf, IsFaultOf};
 ghost use Rattle.link_steps.specs.Lists.{Each};
 ghost use Rattle.tenet_app.specs.Playing.{AnswersPlan, CountsRise, Plays, TellsRefusal, WritesReport, refusal_line};
+ghost use Rattle.tenet_app.specs.Tallying.{IsTalliedPlay};
 ghost use Rattle.channel_report.specs.Report.{report_of};
+ghost use Rattle.channel_report.specs.Tallied.{IsTalliedRun};
+ghost use Rattle.run_record.specs.declared.done.Done.{Done as Step};
 
 use crate::status::Status;
 use byte_ends::{Sink, Source, put_all};
 use call_script::{Plan, Schedule};
-use channel_report::{ReportFault, write_report};
-use interleave_core::PlayFault;
-use run_record::Record;
+use channel_report::{ReportFault, Tally, write_tallied};
+use interleave_core::{Callers, PlayFault, play_watched};
 use scenario_reader::{Cause, ReadRefusal, read_plan};
 use std::alloc::{AllocError, Global};
 
@@ -52,26 +53,43 @@ fn answer<K: Sink>(
     ensures answers { AnswersPlan packets plan.now schedule.now result (K.written sink.old) (K.written sink.new) (K.faults sink.old) (K.faults sink.new) }
     ensures counts { K.faults sink.old ≤ K.faults sink.new }
 {
-    match interleave_core::play(alloc, plan, schedule) {
-        Ok(run) => report(alloc, packets, plan, &run, sink),
+    match tallied(alloc, packets, plan, schedule) {
+        Ok((callers, tally)) => report_tallied(alloc, plan, callers, tally, sink),
         Err(PlayFault::Memory) => Status::Memory,
         Err(PlayFault::Step { line, .. }) => refuse(alloc, line, Cause::Step, sink),
     }
 }
 
-// Writes the report of a run.
-pub(crate) fn report<K: Sink>(
+// Plays the schedule of a plan while a tally sees its run.
+fn tallied(
     alloc: Global,
     packets: bool,
     plan: &Plan,
-    run: &Record,
+    schedule: &Schedule,
+) -> Result<(Callers, Tally), PlayFault>
+    requires { Each (IsActorOf plan.now) schedule.now.items }
+    ensures played { IfOk result (λ told. IsTalliedPlay plan.now schedule.now told.0 told.1) }
+    ensures table { IfOk result (λ told. told.1.packets ≡ packets) }
+    ensures fault { IfErr result (IsFaultOf (network_of plan.now) schedule.now) }
+{
+    let mut tally = Tally::new(alloc, plan, packets)?;
+    let callers = play_watched(alloc, plan, schedule, &mut tally)?;
+    Ok((callers, tally))
+}
+
+// Writes the report of a run that was tallied.
+fn report_tallied<K: Sink>(
+    alloc: Global,
+    plan: &Plan,
+    callers: Callers,
+    tally: Tally,
     sink: &mut K,
 ) -> Status
-    requires { IsRun (network_of plan.now) (reverse run.now.entries) }
-    ensures reports { WritesReport result (report_of plan.now run.now.entries packets) (K.written sink.old) (K.written sink.new) (K.faults sink.old) (K.faults sink.new) }
+    requires { (run : List Step) × IsTalliedRun plan.now callers tally run }
+    ensures reports { (run : List Step) → IsTalliedRun plan.now callers tally run → WritesReport result (report_of plan.now (reverse run) tally.packets) (K.written sink.old) (K.written sink.new) (K.faults sink.old) (K.faults sink.new) }
     ensures counts { K.faults sink.old ≤ K.faults sink.new }
 {
-    match write_report(alloc, plan, run, packets, sink) {
+    match write_tallied(alloc, plan, callers, tally, sink) {
         Ok(()) => Status::Done,
         Err(ReportFault::Memory) => Status::Memory,
         Err(ReportFault::WriteFault) => Status::WriteFault,

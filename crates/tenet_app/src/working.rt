@@ -1,19 +1,24 @@
 //! The words `play --workers N`: as `play`, with the rounds of the plane made by several workers.
-ghost use Rattle.std.specs.Prelude.{◌≡◌, ◌≤◌, IfSome, map, string_bytes};
+ghost use Rattle.std.specs.Prelude.{◌≡◌, ◌≤◌, IfSome, map, reverse, string_bytes};
+ghost use Rattle.call_script.specs.Tasks.{network_of};
+ghost use Rattle.channel_report.specs.Report.{report_of};
+ghost use Rattle.interleave_core.specs.Runs.{IsRun};
 ghost use Rattle.interleave_core.specs.Schedules.{IsActorOf};
 ghost use Rattle.link_steps.specs.Lists.{Each};
 ghost use Rattle.tenet_app.specs.Making.{number_from};
-ghost use Rattle.tenet_app.specs.Playing.{AnswersPlan, CountsRise, Plays};
+ghost use Rattle.tenet_app.specs.Playing.{AnswersPlan, CountsRise, Plays, WritesReport};
 ghost use Rattle.tenet_app.specs.Working.{are_to_work, work_of, work_with_table, work_words};
 
-use crate::playing::{refuse, report};
+use crate::playing::refuse;
 use crate::status::Status;
 use crate::words::{is_word, number_from};
 use byte_ends::{Sink, Source};
 use call_script::{Plan, Schedule};
+use channel_report::{ReportFault, write_report};
 use interleave_core::PlayFault;
 use net_units::Gate;
 use plane_workers::played;
+use run_record::Record;
 use scenario_reader::{Cause, ReadRefusal, read_plan};
 use std::alloc::Global;
 use std::thread::Threads;
@@ -123,5 +128,18 @@ fn answer<R: Threads + Sync, K: Sink, G: Gate + Sync>(
         Ok(run) => report(alloc, packets, plan, &run, sink),
         Err(PlayFault::Memory) => Status::Memory,
         Err(PlayFault::Step { line, .. }) => refuse(alloc, line, Cause::Step, sink),
+    }
+}
+
+// Writes the report of a run that was recorded.
+fn report<K: Sink>(alloc: Global, packets: bool, plan: &Plan, run: &Record, sink: &mut K) -> Status
+    requires { IsRun (network_of plan.now) (reverse run.now.entries) }
+    ensures reports { WritesReport result (report_of plan.now run.now.entries packets) (K.written sink.old) (K.written sink.new) (K.faults sink.old) (K.faults sink.new) }
+    ensures counts { K.faults sink.old ≤ K.faults sink.new }
+{
+    match write_report(alloc, plan, run, packets, sink) {
+        Ok(()) => Status::Done,
+        Err(ReportFault::Memory) => Status::Memory,
+        Err(ReportFault::WriteFault) => Status::WriteFault,
     }
 }
