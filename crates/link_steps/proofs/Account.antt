@@ -27,6 +27,8 @@ use Rattle.link_steps.specs.Rows.{Row, SourcePacket, row_terms, new_row, is_for,
 use Rattle.link_steps.specs.Sources.{SourceStep, Rests, Brings, Drops, source_step, dropped_by, dropped_in, source_packets}
 use Rattle.link_steps.specs.BestEffort.{best_packet, best_step}
 use Rattle.link_steps.specs.declared.replies.Sent.{Sent}
+use Rattle.link_steps.specs.Effects.{Effect, Takes, Ticks, with_effect}
+use Rattle.link_steps.proofs.EffectFacts.{each-history}
 use Rattle.link_steps.proofs.AccountOfRows.{RowHasContract, left-left, eligible-recent, left-planned, left-cancelled, held-kept, kept-packet, packets-kept, rows-kept, lost-kept, eligible-from, source_packets-above, source_packets-upto, source_packets-from}
 use Rattle.link_steps.proofs.AccountOfService.{IsUpTo, IsAbove, waiting-kept, ShowsTick, here_at-append, shows-tick-append}
 use Rattle.link_steps.proofs.ListFacts.{find-filter, Each-append, Each-filter, Each-if, Each-find, Each-mapped, find-map, map-change_first, map-without_first}
@@ -44,11 +46,6 @@ numbered-append packets new before rest =
     rw (length-append packets new)
     (Each-append (IsUpTo (length packets + length new)) packets new (Each-if (IsUpTo (length packets)) (IsUpTo (length packets + length new)) packets (λ p upto. omega arith) before) rest)
 
-numbered-arrival : (t : ℕ) (packet : Packet) (scan : Scan) (found : Option Row) → IsNumbered scan → IsNumbered (with_arrival t packet scan found)
-unfolding with_arrival
-numbered-arrival t packet scan None before = before
-numbered-arrival t packet scan (Some row) before = numbered-append scan.packets (arrived_packet t (suc (length scan.packets)) packet row ∷ []) before (omega arith, tt)
-
 best-numbered : (bounds : List ℕ) (t n : ℕ) (step : SourceStep) → Each (IsUpTo (n + length (best_packet step bounds (suc n) t))) (best_packet step bounds (suc n) t)
 best-numbered bounds t n Rests = tt
 best-numbered bounds t n Drops = tt
@@ -59,26 +56,18 @@ best-above bounds t n place Rests above = tt
 best-above bounds t n place Drops above = tt
 best-above bounds t n place (Brings size) above = (omega (arith, above), tt)
 
-numbered-after : (shape : LinkShape) (t : ℕ) (scan : Scan) (ask : Ask) (reply : Reply) → IsNumbered scan → IsNumbered (after shape t scan ask reply)
-unfolding after after_tick with_best with_sources without_expired
-numbered-after shape t scan (Reserve chan contract kind delay up_reach first next) (Is.Offer level reach) before = before
-numbered-after shape t scan (Relax chan level up_bound) (Is.Relaxed clock) before = before
-numbered-after shape t scan (Deny chan) Is.Denied before = before
-numbered-after shape t scan (Submit chan count gap size) (Is.Planned clock) before = before
-numbered-after shape t scan (Release chan upstream) (Is.Closing count cancelled) before = before
-numbered-after shape t scan (Arrive packet) (Is.Taken clock eligible) before = numbered-arrival t packet scan (find (is_row_of packet.chan) scan.rows) before
-numbered-after shape t scan Tick reply before =
+numbered-effect : (shape : LinkShape) (t : ℕ) (scan : Scan) (effect : Effect) → IsNumbered scan → IsNumbered (with_effect shape t scan effect)
+unfolding with_effect with_arrival after_tick with_best with_sources without_expired
+numbered-effect shape t scan (Takes packet row) before = numbered-append scan.packets (arrived_packet t (suc (length scan.packets)) packet row ∷ []) before (omega arith, tt)
+numbered-effect shape t scan Ticks before =
     numbered-append (scan.packets ++ source_packets shape.bounds (here_at shape.rate scan.packets t) t (length scan.packets) (filter (stays shape.bounds t) scan.rows)) (best_packet (best_step_at shape t scan) shape.bounds (suc (length (scan.packets ++ source_packets shape.bounds (here_at shape.rate scan.packets t) t (length scan.packets) (filter (stays shape.bounds t) scan.rows)))) t)
     (numbered-append scan.packets _ before (source_packets-upto shape.bounds (here_at shape.rate scan.packets t) t (length scan.packets) (filter (stays shape.bounds t) scan.rows)))
     (best-numbered shape.bounds t (length (scan.packets ++ source_packets shape.bounds (here_at shape.rate scan.packets t) t (length scan.packets) (filter (stays shape.bounds t) scan.rows))) (best_step_at shape t scan))
-numbered-after shape t scan (Pour count gap size) (Is.Planned clock) before = before
-numbered-after shape t scan _ _ before = before
+numbered-effect shape t scan _ before = before
 
 -- the packets of every history are numbered so
 scan-numbered : (shape : LinkShape) (h : List Entry) → IsNumbered (scan_of shape h)
-unfolding scan_of
-scan-numbered shape [] = tt
-scan-numbered shape (e ∷ past) = numbered-after shape (clock_of past) (scan_of shape past) e.ask e.reply (scan-numbered shape past)
+scan-numbered shape h = each-history (λ t scan. IsNumbered scan) shape tt (λ t scan effect. numbered-effect shape t scan effect) h
 
 -- ---- a tick
 
@@ -271,13 +260,7 @@ after-at shape t scan (Arrive packet) (Is.Taken clock eligible) each numbered =
     ∙ ap (λ found. kept_with_arrival packet (kept_at shape t scan) found) (sym (find-kept t packet.chan scan.rows))
 after-at shape t scan Tick reply each numbered = after-tick shape t scan each numbered
 after-at shape t scan (Pour count gap size) (Is.Planned clock) each numbered = ap (λ left. record (kept_at shape t scan) { best_left = left }) (left-planned t count gap size scan.best_plan)
-after-at shape t scan (Reserve _ _ _ _ _ _ _) _ each numbered = refl
-after-at shape t scan (Relax _ _ _) _ each numbered = refl
-after-at shape t scan (Deny _) _ each numbered = refl
-after-at shape t scan (Submit _ _ _ _) _ each numbered = refl
-after-at shape t scan (Release _ _) _ each numbered = refl
-after-at shape t scan (Arrive _) _ each numbered = refl
-after-at shape t scan (Pour _ _ _) _ each numbered = refl
+after-at shape t scan _ _ each numbered = refl
 
 -- ---- every history
 

@@ -5,7 +5,7 @@ use mathlib.Core.Sum.{⊎_set}
 use mathlib.Core.List.{is_set as list_set}
 use native.Mathlib.Nat.{ℕ_set}
 use Rattle.link_steps.specs.declared.asks.Ask.{Ask}
-use Rattle.link_steps.specs.declared.asks.Ask.TheVariants.{Reserve, Relax, Deny, Submit, Release, Arrive, Tick, Pour}
+use Rattle.link_steps.specs.declared.asks.Ask.TheVariants.{Reserve}
 use Rattle.link_steps.specs.declared.replies.Entry.{Entry}
 use Rattle.link_steps.specs.declared.replies.Reply.{Reply}
 use Rattle.link_steps.specs.declared.replies.Reply.TheVariants as Is
@@ -25,13 +25,7 @@ Reply-set = Prim.hlevel (ℕ_set, le_prop, ⊎_set)
 
 AskFits-prop : (shape : LinkShape) (ask : Ask) → IsProp (AskFits shape ask)
 AskFits-prop shape (Reserve chan contract kind delay up_reach first next) = Prim.hlevel (ℕ_set, le_prop)
-AskFits-prop shape (Relax chan level up_bound) = Prim.hlevel le_prop
-AskFits-prop shape (Deny chan) = Unit-prop
-AskFits-prop shape (Submit chan count gap size) = Prim.hlevel le_prop
-AskFits-prop shape (Release chan upstream) = Unit-prop
-AskFits-prop shape (Arrive packet) = Prim.hlevel le_prop
-AskFits-prop shape Tick = Unit-prop
-AskFits-prop shape (Pour count gap size) = Prim.hlevel le_prop
+AskFits-prop shape _ = Prim.hlevel le_prop
 
 pub IsLegal-prop : (link : Link) (h : List Entry) → IsProp (IsLegal link h)
 unfolding IsLegal
@@ -46,13 +40,7 @@ MayReply-prop shape held chan contract delay up_reach _ = λ a b. absurd a
 MayAnswer-prop : (shape : LinkShape) (t : ℕ) (scan : Scan) (ask : Ask) (reply : Reply) → IsProp (MayAnswer shape t scan ask reply)
 unfolding MayAnswer
 MayAnswer-prop shape t scan (Reserve chan contract kind delay up_reach first next) reply = MayReply-prop shape _ chan contract delay up_reach reply
-MayAnswer-prop shape t scan (Relax chan level up_bound) reply = Reply-set _ _
-MayAnswer-prop shape t scan (Deny chan) reply = Reply-set _ _
-MayAnswer-prop shape t scan (Submit chan count gap size) reply = Reply-set _ _
-MayAnswer-prop shape t scan (Release chan upstream) reply = Reply-set _ _
-MayAnswer-prop shape t scan (Arrive packet) reply = Reply-set _ _
-MayAnswer-prop shape t scan Tick reply = Reply-set _ _
-MayAnswer-prop shape t scan (Pour count gap size) reply = Reply-set _ _
+MayAnswer-prop shape t scan _ reply = Reply-set _ _
 
 pub IsAdmissible-prop : (shape : LinkShape) (h : List Entry) → IsProp (IsAdmissible shape h)
 unfolding IsAdmissible

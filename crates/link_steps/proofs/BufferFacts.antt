@@ -8,14 +8,9 @@ use Rattle.net_units.specs.LevelBounds.{last_bound}
 use Rattle.net_units.proofs.BoundFacts.{bound_at-rising}
 use Rattle.traffic_contract.specs.Admission.{total}
 use Rattle.traffic_contract.proofs.AdmissionFacts.{total-map}
-use Rattle.link_steps.specs.declared.asks.Ask.{Ask}
-use Rattle.link_steps.specs.declared.asks.Ask.TheVariants.{Reserve, Relax, Deny, Submit, Release, Arrive, Tick, Pour}
-use Rattle.link_steps.specs.declared.asks.Packet.{Packet}
 use Rattle.link_steps.specs.declared.replies.Entry.{Entry}
-use Rattle.link_steps.specs.declared.replies.Reply.{Reply}
-use Rattle.link_steps.specs.declared.replies.Reply.TheVariants as Is
 use Rattle.link_steps.specs.declared.shape.LinkShape.{LinkShape}
-use Rattle.link_steps.specs.Admissible.{MayAnswer, IsAdmissible}
+use Rattle.link_steps.specs.Admissible.{IsAdmissible}
 use Rattle.link_steps.specs.Belonging.{own_packets, eligible_of, IsRowOf, TellsPackets, HasRow}
 use Rattle.link_steps.specs.BestEffort.{is_best}
 use Rattle.link_steps.specs.Buffer.{slots_of, kept_units, has_lead, has_slot, held_packets}
@@ -23,22 +18,20 @@ use Rattle.link_steps.specs.BufferHolds.{units_of, here_after, FitsItsShare, Buf
 use Rattle.link_steps.specs.Hold.{expires, stays}
 use Rattle.link_steps.specs.HopGuarantee.{HasLeftInTime}
 use Rattle.link_steps.specs.Lists.{Each, Any}
-use Rattle.link_steps.specs.Replies.{arrive_to, reply_at}
-use Rattle.link_steps.specs.Reservation.{tentative}
-use Rattle.link_steps.specs.Rows.{Row, SourcePacket, row_terms, new_row, is_for}
-use Rattle.link_steps.specs.Scan.{Scan, clock_of, is_row_of, is_row_at_hop, names_first_hop, relax_row, plan_row, close_row, arrived_packet, arrived_row, with_arrival, without_expired, with_sources, with_best, best_step_at, after_tick, after, scan_of, starts_of}
+use Rattle.link_steps.specs.Rows.{Row, SourcePacket, row_terms, is_for}
+use Rattle.link_steps.specs.Scan.{Scan, clock_of, without_expired, with_sources, with_best, best_step_at, after_tick, scan_of, starts_of}
 use Rattle.link_steps.specs.Service.{Arrival, is_here, here_at, has_departed, starts_below}
 use Rattle.link_steps.specs.Slots.{HasSlots}
 use Rattle.link_steps.specs.Sources.{source_step, step_of, packet_of, row_after}
+use Rattle.link_steps.proofs.EffectFacts.{each-admissible}
 use Rattle.link_steps.proofs.ChangeFacts.{Each-from_among, Each-passes, Each-if_passes}
 use Rattle.link_steps.proofs.HopHolds.{guaranteed}
 use Rattle.link_steps.proofs.LegalOrder.{ScanInOrder, HasExpired, IsCarried, legal-order}
 use Rattle.link_steps.proofs.LegalRowFacts.{SizeFits, IsInOrder}
 use Rattle.link_steps.proofs.ListFacts.{Each-append, Each-both, Each-mapped, Each-filter, Each-find, Each-if, Among, Each-among, Among-filter}
 use Rattle.link_steps.proofs.PacketRows.{Among-passes, packets-have_rows}
-use Rattle.link_steps.proofs.ReplyFacts.{arrive-tells}
 use Rattle.link_steps.proofs.RowPackets.{IsHeld, RowsStand, stand-sources}
-use Rattle.link_steps.proofs.RowsStanding.{stand-if, stand-expired, stand-reserved, stand-denied, stand-changed, stand-arrives}
+use Rattle.link_steps.proofs.RowsStanding.{stand-if, stand-effect, stand-expired}
 use Rattle.link_steps.proofs.SlotsHeld.{slots-held}
 use Rattle.link_steps.proofs.SourceHistory.{stand-best}
 use Rattle.link_steps.proofs.ListParts.{Among-reverse}
@@ -80,35 +73,16 @@ narrow-tick shape t scan order narrow =
     (filter (stays shape.bounds t) scan.rows) (scan.gone ++ filter (expires shape.bounds t) scan.rows) scan.packets (length scan.packets) refl ready in
     stand-best AreNarrow shape.bounds t (best_step_at shape t scan) _ _ _ stand
 
-narrow-arrival : (shape : LinkShape) (t : ℕ) (packet : Packet) (scan : Scan) (found : Option Row) (clock e : ℕ) → find (is_row_of packet.chan) scan.rows ≡ found → Is.Taken clock e ≡ arrive_to shape t scan.packets packet found → ScanIsNarrow scan → ScanIsNarrow (with_arrival t packet scan found)
-unfolding with_arrival
-narrow-arrival shape t packet scan None clock e is same narrow = narrow
-narrow-arrival shape t packet scan (Some row) clock e is same narrow =
-    let takes = arrive-tells shape.bounds t packet row.terms _ _ _ clock e same in
-    stand-arrives AreNarrow (is_row_of packet.chan) (arrived_row t (suc (length scan.packets)) packet) scan.packets (arrived_packet t (suc (length scan.packets)) packet row) row refl refl
-    (λ fact. Each-append (λ q. q.size ≤ row.terms.contract.smax) (own_packets row scan.packets) _ fact (takes.fits, tt))
-    scan.rows scan.gone is narrow
-
-narrow-after : (shape : LinkShape) (t : ℕ) (scan : Scan) (ask : Ask) (reply : Reply) → MayAnswer shape t scan ask reply → ScanInOrder shape t scan → ScanIsNarrow scan → ScanIsNarrow (after shape t scan ask reply)
-unfolding after MayAnswer reply_at
-narrow-after shape t scan (Reserve chan contract kind delay up_reach first next) (Is.Offer level reach) may order narrow =
-    stand-reserved AreNarrow scan.packets scan.gone scan.rows (new_row (tentative chan contract kind first next up_reach level reach)) refl tt narrow
-narrow-after shape t scan (Relax chan level up_bound) (Is.Relaxed clock) may order narrow =
-    stand-changed AreNarrow (is_row_of chan) (relax_row level up_bound) scan.packets (λ row. refl) scan.rows scan.gone (λ row found fact. fact) narrow
-narrow-after shape t scan (Deny chan) Is.Denied may order narrow = stand-denied AreNarrow (is_row_of chan) scan.packets scan.gone scan.rows narrow
-narrow-after shape t scan (Submit chan count gap size) (Is.Planned clock) may order narrow =
-    stand-changed AreNarrow (is_row_at_hop chan true) (plan_row t count gap size) scan.packets (λ row. refl) scan.rows scan.gone (λ row found fact. fact) narrow
-narrow-after shape t scan (Release chan upstream) (Is.Closing count cancelled) may order narrow =
-    stand-changed AreNarrow (is_row_at_hop chan (names_first_hop upstream)) (close_row t count) scan.packets (λ row. refl) scan.rows scan.gone (λ row found fact. fact) narrow
-narrow-after shape t scan (Arrive packet) (Is.Taken clock eligible) may order narrow = narrow-arrival shape t packet scan (find (is_row_of packet.chan) scan.rows) clock eligible refl may narrow
-narrow-after shape t scan Tick reply may order narrow = narrow-tick shape t scan order narrow
-narrow-after shape t scan (Pour count gap size) (Is.Planned clock) may order narrow = narrow
-narrow-after shape t scan _ _ may order narrow = narrow
-
 legal-narrow : (shape : LinkShape) (h : List Entry) → IsAdmissible shape h → ScanIsNarrow (scan_of shape h)
-unfolding IsAdmissible scan_of
-legal-narrow shape [] legal = record { leads = tt; beside = tt; held = tt; apart = tt }
-legal-narrow shape (e ∷ past) legal = narrow-after shape (clock_of past) (scan_of shape past) e.ask e.reply legal.1.answered (legal-order shape past legal.0) (legal-narrow shape past legal.0)
+legal-narrow shape h legal =
+    each-admissible (λ t scan. ScanIsNarrow scan) shape (record { leads = tt; beside = tt; held = tt; apart = tt })
+    (λ past effect may fits narrow. stand-effect (λ t. AreNarrow) shape (clock_of past) (scan_of shape past) effect
+    (record {
+      added = λ terms fits. tt;
+      changed = λ test change row found fits narrow. narrow;
+      taken = λ packet row fits narrow. Each-append (λ q. q.size ≤ row.terms.contract.smax) (own_packets row (scan_of shape past).packets) _ narrow (fits.takes.fits, tt);
+    })
+    (narrow-tick shape (clock_of past) (scan_of shape past) (legal-order shape past may) narrow) fits narrow) h legal
 
 -- ---- the share of a row
 

@@ -8,7 +8,7 @@ use Rattle.net_units.specs.declared.numbers.ChanNo.{ChanNo}
 use Rattle.net_units.specs.declared.numbers.Level.{Level}
 use Rattle.traffic_contract.specs.Contract.{Traffic}
 use Rattle.link_steps.specs.declared.asks.Ask.{Ask}
-use Rattle.link_steps.specs.declared.asks.Ask.TheVariants.{Reserve, Relax, Deny, Submit, Release, Arrive, Tick, Pour}
+use Rattle.link_steps.specs.declared.asks.Ask.TheVariants.{Reserve}
 use Rattle.link_steps.specs.declared.replies.Entry.{Entry}
 use Rattle.link_steps.specs.declared.replies.Reply.{Reply}
 use Rattle.link_steps.specs.declared.replies.Reply.TheVariants as Is
@@ -51,13 +51,7 @@ may-answer link t scan (Reserve chan contract kind delay up_reach first next) re
       either : (level reach : Level) → Is.Offer level reach ≡ reserve_reply_in link.shape (map row_terms scan.rows) chan contract delay up_reach (room_of link (map row_terms scan.rows) chan contract) → (is_split link.split ≡ true) ⊎ (is_split link.split ≡ false) → MayOffer link.shape (map row_terms scan.rows) chan contract delay up_reach level reach
       either level reach offer (inl splits) = group-offer-may link (map row_terms scan.rows) chan contract delay up_reach level reach fits (within splits) (rw splits at offer)
       either level reach offer (inr no_split) = whole-offer-may link (map row_terms scan.rows) chan contract delay up_reach level reach (rw no_split at offer)
-may-answer link t scan (Relax chan level up_bound) reply fits within same = same
-may-answer link t scan (Deny chan) reply fits within same = same
-may-answer link t scan (Submit chan count gap size) reply fits within same = same
-may-answer link t scan (Release chan upstream) reply fits within same = same
-may-answer link t scan (Arrive packet) reply fits within same = same
-may-answer link t scan Tick reply fits within same = same
-may-answer link t scan (Pour count gap size) reply fits within same = same
+may-answer link t scan _ reply fits within same = same
 
 -- a legal history is admissible, and where the link is split each group is within its quotas
 pub record LegalHas (link : Link) (h : List Entry) : Type 0 where
@@ -73,7 +67,7 @@ legal-has link (e ∷ past) fits legal =
     let order = legal-order link.shape past before.admissible in
     record {
       admissible = (before.admissible, record { fits = legal.1.fits; answered = may });
-      within = λ splits. within-after link (clock_of past) (scan_of link.shape past) e.ask e.reply splits legal.1.answered may order.held (before.within splits);
+      within = λ splits. within-after link (clock_of past) (scan_of link.shape past) e.ask e.reply splits legal.1.answered legal.1.fits may order.held (before.within splits);
     }
 
 pub legal-admissible : (link : Link) (h : List Entry) → SplitFits link → IsLegal link h → IsAdmissible link.shape h

@@ -1,5 +1,5 @@
 -- In an admissible history no two held rows are of one channel: the row that a rule finds first is the only one.
-use Rattle.std.proofs.Common.{◌≡◌, ℕ, suc, ◌≢◌, Bool, true, List, [], ◌∷◌, ◌++◌, length, map, Option, Some, None, refl, sym, ap, ◌∙◌, subst, inl, inr}
+use Rattle.std.proofs.Common.{◌≡◌, ℕ, suc, ◌≢◌, Bool, List, [], ◌∷◌, ◌++◌, length, map, None, refl, sym, ap, ◌∙◌, subst, inl, inr}
 use Rattle.std.proofs.lemmas.Bool.{cases_Bool, eqb-false, cond_both}
 use Rattle.std.proofs.lemmas.List.{map-append}
 use Rattle.std.proofs.lemmas.Option.{none-some}
@@ -8,20 +8,16 @@ use Rattle.net_units.specs.Numbers.{channel_number}
 use Rattle.net_units.specs.declared.numbers.ChanNo.{ChanNo}
 use Rattle.net_units.specs.declared.numbers.Level.{Level}
 use Rattle.traffic_contract.specs.Contract.{Traffic}
-use Rattle.link_steps.specs.declared.asks.Ask.{Ask}
-use Rattle.link_steps.specs.declared.asks.Ask.TheVariants.{Reserve, Relax, Deny, Submit, Release, Arrive, Tick, Pour}
-use Rattle.link_steps.specs.declared.asks.Packet.{Packet}
 use Rattle.link_steps.specs.declared.replies.Entry.{Entry}
-use Rattle.link_steps.specs.declared.replies.Reply.{Reply}
-use Rattle.link_steps.specs.declared.replies.Reply.TheVariants as Is
 use Rattle.link_steps.specs.declared.shape.LinkShape.{LinkShape}
-use Rattle.link_steps.specs.Admissible.{MayOffer, MayAnswer, IsAdmissible}
+use Rattle.link_steps.specs.Admissible.{MayOffer, IsAdmissible}
 use Rattle.link_steps.specs.Hold.{stays}
 use Rattle.link_steps.specs.Lists.{Each, change_first, without_first}
-use Rattle.link_steps.specs.Replies.{reply_at}
-use Rattle.link_steps.specs.Reservation.{Reservation, is_of, tentative}
+use Rattle.link_steps.specs.Reservation.{Reservation, is_of}
 use Rattle.link_steps.specs.Rows.{Row, row_terms, new_row}
-use Rattle.link_steps.specs.Scan.{Scan, clock_of, is_row_of, is_row_at_hop, names_first_hop, relax_row, plan_row, close_row, arrived_row, with_arrival, without_expired, with_sources, with_best, after_tick, after, scan_of}
+use Rattle.link_steps.specs.Scan.{Scan, clock_of, is_row_of, arrived_row, with_arrival, without_expired, with_sources, with_best, after_tick, scan_of}
+use Rattle.link_steps.specs.Effects.{Effect, Adds, Changes, Removes, Takes, Ticks, changed_row, is_changed, with_effect}
+use Rattle.link_steps.proofs.EffectFacts.{EffectFits, each-admissible}
 use Rattle.link_steps.proofs.AdmissionHolds.{rows_after-terms}
 use Rattle.link_steps.proofs.ListFacts.{Each-append, map-change_first-same}
 
@@ -92,27 +88,17 @@ differ-reserved shape rows chan contract delay up_reach level reach row is may d
     let others = others-found chan rows may.new in
     subst AreApart (sym (map-append channel_of rows (row ∷ []))) (apart-push (channel_of row) (map channel_of rows) differ (subst (λ n. Each (λ m. m ≢ n) (map channel_of rows)) (sym is) others))
 
-differ-arrival : (t : ℕ) (packet : Packet) (scan : Scan) (found : Option Row) → DifferInChannel scan.rows → DifferInChannel (with_arrival t packet scan found).rows
-unfolding with_arrival
-differ-arrival t packet scan None differ = differ
-differ-arrival t packet scan (Some row) differ = differ-change (is_row_of packet.chan) (arrived_row t (suc (length scan.packets)) packet) scan.rows (λ r. refl) differ
-
-differ-after : (shape : LinkShape) (t : ℕ) (scan : Scan) (ask : Ask) (reply : Reply) → MayAnswer shape t scan ask reply → DifferInChannel scan.rows → DifferInChannel (after shape t scan ask reply).rows
-unfolding after MayAnswer reply_at after_tick with_best with_sources without_expired
-differ-after shape t scan (Reserve chan contract kind delay up_reach first next) (Is.Offer level reach) same differ =
-    differ-reserved shape scan.rows chan contract delay up_reach level reach (new_row (tentative chan contract kind first next up_reach level reach)) refl same differ
-differ-after shape t scan (Relax chan level up_bound) (Is.Relaxed clock) same differ = differ-change (is_row_of chan) (relax_row level up_bound) scan.rows (λ row. refl) differ
-differ-after shape t scan (Deny chan) Is.Denied same differ = differ-without_first (is_row_of chan) scan.rows differ
-differ-after shape t scan (Submit chan count gap size) (Is.Planned clock) same differ = differ-change (is_row_at_hop chan true) (plan_row t count gap size) scan.rows (λ row. refl) differ
-differ-after shape t scan (Release chan upstream) (Is.Closing count cancelled) same differ = differ-change (is_row_at_hop chan (names_first_hop upstream)) (close_row t count) scan.rows (λ row. refl) differ
-differ-after shape t scan (Arrive packet) (Is.Taken clock eligible) same differ = differ-arrival t packet scan (find (is_row_of packet.chan) scan.rows) differ
-differ-after shape t scan Tick reply same differ =
+differ-effect : (shape : LinkShape) (t : ℕ) (scan : Scan) (effect : Effect) → EffectFits shape t scan effect → DifferInChannel scan.rows → DifferInChannel (with_effect shape t scan effect).rows
+unfolding with_effect with_arrival after_tick with_best with_sources without_expired
+differ-effect shape t scan (Adds terms) fits differ =
+    differ-reserved shape scan.rows terms.chan terms.contract fits.delay terms.up_reach terms.level terms.reach (new_row terms) refl fits.may differ
+differ-effect shape t scan (Changes chan change) fits differ = differ-change (is_changed chan change) (changed_row t change) scan.rows (λ row. refl) differ
+differ-effect shape t scan (Removes chan) fits differ = differ-without_first (is_row_of chan) scan.rows differ
+differ-effect shape t scan (Takes packet row) fits differ = differ-change (is_row_of packet.chan) (arrived_row t (suc (length scan.packets)) packet) scan.rows (λ r. refl) differ
+differ-effect shape t scan Ticks fits differ =
     differ-same (filter (stays shape.bounds t) scan.rows) _ (rows_after-terms shape.bounds _ t (length scan.packets) (filter (stays shape.bounds t) scan.rows)) (differ-filter (stays shape.bounds t) scan.rows differ)
-differ-after shape t scan (Pour count gap size) (Is.Planned clock) same differ = differ
-differ-after shape t scan _ _ same differ = differ
+differ-effect shape t scan _ fits differ = differ
 
 -- the rows held after an admissible history are of different channels
 pub legal-channels : (shape : LinkShape) (h : List Entry) → IsAdmissible shape h → DifferInChannel (scan_of shape h).rows
-unfolding IsAdmissible scan_of
-legal-channels shape [] legal = tt
-legal-channels shape (e ∷ past) legal = differ-after shape (clock_of past) (scan_of shape past) e.ask e.reply legal.1.answered (legal-channels shape past legal.0)
+legal-channels shape h legal = each-admissible (λ t scan. DifferInChannel scan.rows) shape tt (λ past effect may. differ-effect shape (clock_of past) (scan_of shape past) effect) h legal

@@ -1,41 +1,33 @@
 -- After every entry of an admissible history its rows, held or gone, are in order, its packets are ones that the link
 -- carries, and the hold of the rows that are gone has ended.
-use Rattle.std.proofs.Common.{nat_lt, ◌≡◌, ℕ, suc, ◌+◌, ◌<◌, ◌≤◌, Bool, true, false, ◌&&◌, List, [], ◌∷◌, ◌++◌, length, map, get_or, Option, Some, None, ⊎_elim, refl, sym, ap, ◌∙◌, arith}
+use Rattle.std.proofs.Common.{nat_lt, ◌≡◌, ℕ, suc, ◌+◌, ◌<◌, ◌≤◌, Bool, true, false, ◌&&◌, List, [], ◌∷◌, ◌++◌, length, map, get_or, Option, Some, None, ⊎_elim, refl, sym, ◌∙◌, arith, subst}
 use Rattle.std.proofs.lemmas.Bool.{leb-true, eqb-true, and_parts, or_cases}
 use Rattle.std.specs.Prelude.{filter, find, nat_eq, nat_le}
 use Rattle.net_units.specs.LevelBounds.{last_bound}
-use Rattle.net_units.specs.declared.Kind.{Kind}
-use Rattle.net_units.specs.declared.numbers.ChanNo.{ChanNo}
-use Rattle.net_units.specs.declared.numbers.Level.{Level}
-use Rattle.net_units.specs.declared.numbers.LinkNo.{LinkNo}
-use Rattle.traffic_contract.specs.Contract.{Traffic, IsContract}
 use Rattle.traffic_contract.specs.Eligible.{newest}
 use Rattle.traffic_contract.specs.Keeping.{keeps_newest_first}
 use Rattle.traffic_contract.proofs.EligibleFacts.{get_or-le-newest}
-use Rattle.link_steps.specs.declared.asks.Ask.{Ask}
-use Rattle.link_steps.specs.declared.asks.Ask.TheVariants.{Reserve, Relax, Deny, Submit, Release, Arrive, Tick, Pour}
 use Rattle.link_steps.specs.declared.asks.Packet.{Packet}
 use Rattle.link_steps.specs.declared.replies.Entry.{Entry}
 use Rattle.link_steps.specs.declared.replies.Phase.TheVariants.{Closing}
-use Rattle.link_steps.specs.declared.replies.Reply.{Reply}
-use Rattle.link_steps.specs.declared.replies.Reply.TheVariants as Is
 use Rattle.link_steps.specs.declared.shape.LinkShape.{LinkShape}
-use Rattle.link_steps.specs.Admissible.{MayOffer, MayAnswer, IsAdmissible}
+use Rattle.link_steps.specs.Admissible.{IsAdmissible}
 use Rattle.link_steps.specs.Hold.{hold_ended, expires, stays}
-use Rattle.link_steps.specs.Legal.{AskFits, PacketFits}
 use Rattle.link_steps.specs.Lists.{Each}
-use Rattle.link_steps.specs.Replies.{submit_to, release_to, arrive_to, reply_at}
-use Rattle.link_steps.specs.Reservation.{is_phase, tentative}
-use Rattle.link_steps.specs.Rows.{Row, SourcePacket, row_terms, new_row, is_for, left_at}
-use Rattle.link_steps.specs.Scan.{Scan, clock_with, clock_of, is_row_of, is_row_at_hop, names_first_hop, relax_row, plan_row, close_row, arrived_row, with_arrival, without_expired, with_sources, with_best, best_step_at, after_tick, after, scan_of}
+use Rattle.link_steps.specs.Reservation.{is_phase, Reservation}
+use Rattle.link_steps.specs.Rows.{Row, SourcePacket, row_terms, new_row, is_for}
+use Rattle.link_steps.specs.Scan.{Scan, clock_of, is_row_of, arrived_row, with_arrival, without_expired, with_sources, with_best, best_step_at, after_tick, scan_of}
 use Rattle.link_steps.specs.Service.{Arrival, starts_below, here_at}
 use Rattle.link_steps.specs.Sources.{source_step, step_of, packet_of, source_packets, taken_by}
 use Rattle.link_steps.specs.BestEffort.{level_below, best_packet, best_step, waiting_best}
 use Rattle.link_steps.specs.Buffer.{has_slot}
+use Rattle.link_steps.specs.Effects.{Change, Commits, Plans, Closes, Effect, Adds, Changes, Removes, Takes, Ticks, PlansBest, Nothing, changed_row, is_changed, with_effect, clock_by}
+use Rattle.link_steps.proofs.EffectFacts.{AddFits, ChangeFits, TakeFits, EffectFits, each-admissible}
 use Rattle.link_steps.proofs.ChangeFacts.{Each-change_found, Each-passes}
 use Rattle.link_steps.proofs.LegalRowFacts.{planned-sizes, SizeFits, IsInOrder, order-packet, order-later, order-rows_after, order-relaxed, order-planned, order-closed}
 use Rattle.link_steps.proofs.ListFacts.{Each-append, Each-both, Each-filter, Each-find, Each-if, Each-without_first}
-use Rattle.link_steps.proofs.ReplyFacts.{may-reach, pour-tells, phase-is, submit-tells, release-tells, arrive-tells}
+use Rattle.link_steps.proofs.ReplyFacts.{may-reach, phase-is}
+use Rattle.std.proofs.lemmas.Option.{same_Some}
 
 -- a packet that the link carries, at one of its levels
 pub record IsCarried (shape : LinkShape) (p : Arrival) : Type 0 where
@@ -138,73 +130,66 @@ order-tick shape t scan order =
 order-with : (shape : LinkShape) (t : ℕ) (scan : Scan) (rows : List Row) → Each (IsInOrder shape t) rows → ScanInOrder shape t scan → ScanInOrder shape t (record scan { rows = rows })
 order-with shape t scan rows held order = record { held = held; gone = order.gone; expired = order.expired; carried = order.carried; poured = order.poured }
 
--- an arrive that is taken
-order-arrival : (shape : LinkShape) (t : ℕ) (packet : Packet) (scan : Scan) (found : Option Row) (clock e : ℕ) → find (is_row_of packet.chan) scan.rows ≡ found → PacketFits packet → Is.Taken clock e ≡ arrive_to shape t scan.packets packet found → ScanInOrder shape t scan → ScanInOrder shape t (with_arrival t packet scan found)
+-- a new row
+order-added : (shape : LinkShape) (t : ℕ) (scan : Scan) (terms : Reservation) → AddFits shape scan terms → IsInOrder shape t (new_row terms)
+unfolding keeps_newest_first
+order-added shape t scan terms fits = record {
+  contract = fits.asked.is_contract;
+  narrow = fits.may.narrow;
+  level_least = terms.level.least;
+  level_most = fits.may.level_most;
+  reach_most = may-reach shape (map row_terms scan.rows) terms.chan terms.contract fits.delay terms.up_reach terms.level terms.reach fits.may;
+  keeps = refl;
+  planned = tt;
+  fresh = λ _. (refl, refl);
+  counted = λ closes. omega arith;
+  cancelled = λ closes. tt;
+}
+
+-- a changed row
+order-changed : (shape : LinkShape) (t : ℕ) (change : Change) (row : Row) → ChangeFits shape t change row → IsInOrder shape t row → IsInOrder shape t (changed_row t change row)
+order-changed shape t (Commits level up_bound) row fits order = order-relaxed shape t up_bound level row fits.asked.level_most order
+order-changed shape t (Plans count gap size) row fits order = order-planned shape t count gap size row fits.phase fits.asked.size_least fits.size_most order
+order-changed shape t (Closes first count) row fits order = order-closed shape t count row fits.least order
+
+-- a row that takes a packet
+order-taken : (shape : LinkShape) (t : ℕ) (packet : Packet) (scan : Scan) (row : Row) → TakeFits shape t scan packet row → ScanInOrder shape t scan → ScanInOrder shape t (with_arrival t packet scan (Some row))
 unfolding with_arrival
-order-arrival shape t packet scan None clock e is fits same order = order
-order-arrival shape t packet scan (Some row) clock e is fits same order =
-    let own = Each-find (IsInOrder shape t) (is_row_of packet.chan) scan.rows row order.held is in
-    let takes = arrive-tells shape.bounds t packet row.terms _ _ _ clock e same in
+order-taken shape t packet scan row fits order =
+    let own = Each-find (IsInOrder shape t) (is_row_of packet.chan) scan.rows row order.held fits.found in
+    let takes = fits.takes in
     let narrow = own.narrow in
     let most = takes.fits in
     record {
       held = Each-change_found (IsInOrder shape t) (is_row_of packet.chan) (arrived_row t (suc (length scan.packets)) packet) scan.rows (λ r found r-order.
-          let taken = arrive-tells shape.bounds t packet r.terms _ _ _ clock e (same ∙ ap (arrive_to shape t scan.packets packet) (sym is ∙ found)) in
-          order-packet shape t t (suc (length scan.packets)) packet.due r taken.settled taken.counts r-order) order.held;
+          let same : row ≡ r = same_Some row r (sym fits.found ∙ found) in
+          subst (λ x. IsInOrder shape t (arrived_row t (suc (length scan.packets)) packet x)) same (order-packet shape t t (suc (length scan.packets)) packet.due row takes.settled takes.counts own)) order.held;
       gone = order.gone;
       expired = order.expired;
-      carried = Each-append (IsCarried shape) scan.packets _ order.carried (record { size_least = fits.size_least; size_most = omega (arith, narrow, most); level_least = own.level_least; level_most = (let upto = own.level_most in omega (arith, upto)) }, tt);
+      carried = Each-append (IsCarried shape) scan.packets _ order.carried (record { size_least = fits.asked.size_least; size_most = omega (arith, narrow, most); level_least = own.level_least; level_most = (let upto = own.level_most in omega (arith, upto)) }, tt);
       poured = order.poured;
     }
 
--- a new row
-order-reserved : (shape : LinkShape) (t : ℕ) (rows : List Row) (chan : ChanNo) (contract : Traffic) (kind : Kind) (first : Bool) (next : Option LinkNo) (delay up_reach : ℕ) (level reach : Level) → IsContract contract → MayOffer shape (map row_terms rows) chan contract delay up_reach level reach → IsInOrder shape t (new_row (tentative chan contract kind first next up_reach level reach))
-unfolding keeps_newest_first
-order-reserved shape t rows chan contract kind first next delay up_reach level reach is may = record {
-  contract = is;
-  narrow = may.narrow;
-  level_least = level.least;
-  level_most = may.level_most;
-  reach_most = may-reach shape (map row_terms rows) chan contract delay up_reach level reach may;
-  keeps = refl;
-  planned = tt;
-  fresh = λ _. (refl, refl);
-  counted = λ closes. cc;
-  cancelled = λ closes. tt;
+-- each effect that fits keeps the order
+order-effect : (shape : LinkShape) (t : ℕ) (scan : Scan) (effect : Effect) → EffectFits shape t scan effect → ScanInOrder shape t scan → ScanInOrder shape (clock_by effect t) (with_effect shape t scan effect)
+unfolding with_effect
+order-effect shape t scan (Adds terms) fits order = order-with shape t scan _ (Each-append (IsInOrder shape t) scan.rows _ order.held (order-added shape t scan terms fits, tt)) order
+order-effect shape t scan (Changes chan change) fits order =
+    order-with shape t scan _ (Each-change_found (IsInOrder shape t) (is_changed chan change) (changed_row t change) scan.rows (λ row found. order-changed shape t change row (fits row found)) order.held) order
+order-effect shape t scan (Removes chan) fits order = order-with shape t scan _ (Each-without_first (IsInOrder shape t) (is_row_of chan) scan.rows order.held) order
+order-effect shape t scan (Takes packet row) fits order = order-taken shape t packet scan row fits order
+order-effect shape t scan Ticks fits order = order-tick shape t scan order
+order-effect shape t scan (PlansBest count gap size) fits order = record {
+  held = order.held;
+  gone = order.gone;
+  expired = order.expired;
+  carried = order.carried;
+  poured = Each-append (SizeFits shape.cap) scan.best_plan _ order.poured (planned-sizes shape.cap t gap size count fits.asked.size_least fits.size_most);
 }
-
--- each kind of entry keeps the order
-order-after : (shape : LinkShape) (t : ℕ) (scan : Scan) (ask : Ask) (reply : Reply) → AskFits shape ask → MayAnswer shape t scan ask reply → ScanInOrder shape t scan → ScanInOrder shape (clock_with ask t) (after shape t scan ask reply)
-unfolding after MayAnswer reply_at
-order-after shape t scan (Reserve chan contract kind delay up_reach first next) (Is.Offer level reach) fits same order =
-    order-with shape t scan _ (Each-append (IsInOrder shape t) scan.rows _ order.held (order-reserved shape t scan.rows chan contract kind first next delay up_reach level reach fits.is_contract same, tt)) order
-order-after shape t scan (Relax chan level up_bound) (Is.Relaxed clock) fits same order =
-    order-with shape t scan _ (Each-change_found (IsInOrder shape t) (is_row_of chan) (relax_row level up_bound) scan.rows (λ row found. order-relaxed shape t up_bound level row fits.level_most) order.held) order
-order-after shape t scan (Deny chan) Is.Denied fits same order =
-    order-with shape t scan _ (Each-without_first (IsInOrder shape t) (is_row_of chan) scan.rows order.held) order
-order-after shape t scan (Submit chan count gap size) (Is.Planned clock) fits same order =
-    order-with shape t scan _ (Each-change_found (IsInOrder shape t) (is_row_at_hop chan true) (plan_row t count gap size) scan.rows (λ row found row-order.
-    let tells = submit-tells t size row.terms (length (left_at t row.plan)) clock (same ∙ ap (submit_to t size) found) in
-    order-planned shape t count gap size row tells.0 fits.size_least tells.2 row-order) order.held) order
-order-after shape t scan (Release chan upstream) (Is.Closing count cancelled) fits same order =
-    order-with shape t scan _ (Each-change_found (IsInOrder shape t) (is_row_at_hop chan (names_first_hop upstream)) (close_row t count) scan.rows (λ row found row-order.
-    order-closed shape t count row (release-tells upstream row.terms (length row.ticks) (length (left_at t row.plan)) count cancelled (same ∙ ap (release_to t upstream) found)).1 row-order) order.held) order
-order-after shape t scan (Arrive packet) (Is.Taken clock eligible) fits same order =
-    order-arrival shape t packet scan (find (is_row_of packet.chan) scan.rows) clock eligible refl fits same order
-order-after shape t scan Tick reply fits same order = order-tick shape t scan order
-order-after shape t scan (Pour count gap size) (Is.Planned clock) fits same order =
-    let tells = pour-tells t shape.cap size (length (left_at t scan.best_plan)) clock same in
-    record {
-      held = order.held;
-      gone = order.gone;
-      expired = order.expired;
-      carried = order.carried;
-      poured = Each-append (SizeFits shape.cap) scan.best_plan _ order.poured (planned-sizes shape.cap t gap size count fits.1.size_least tells.1);
-    }
-order-after shape t scan _ _ fits same order = order
+order-effect shape t scan Nothing fits order = order
 
 -- and so does an admissible history
 pub legal-order : (shape : LinkShape) (h : List Entry) → IsAdmissible shape h → ScanInOrder shape (clock_of h) (scan_of shape h)
-unfolding IsAdmissible scan_of clock_of
-legal-order shape [] legal = record { held = tt; gone = tt; expired = tt; carried = tt; poured = tt }
-legal-order shape (e ∷ past) legal = order-after shape (clock_of past) (scan_of shape past) e.ask e.reply legal.1.fits legal.1.answered (legal-order shape past legal.0)
+legal-order shape h legal =
+    each-admissible (ScanInOrder shape) shape (record { held = tt; gone = tt; expired = tt; carried = tt; poured = tt })
+    (λ past effect may. order-effect shape (clock_of past) (scan_of shape past) effect) h legal

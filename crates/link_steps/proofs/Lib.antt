@@ -18,6 +18,7 @@ pub mod RefusalFacts
 pub mod RuleCases
 pub mod ReplyFacts
 pub mod TickFacts
+pub mod EffectFacts
 pub mod AdmissionHolds
 pub mod ServiceFacts
 pub mod AccountOfService

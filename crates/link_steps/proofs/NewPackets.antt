@@ -1,22 +1,21 @@
 -- What an entry adds to the packets of a link stands after them, has the next arrival numbers, and is eligible at the clock of
 -- the entry or later.
-use Rattle.std.proofs.Common.{◌≡◌, ℕ, suc, ◌+◌, ◌<◌, List, [], ◌∷◌, ◌++◌, length, Option, Some, None, inl, inr, refl, sym, ap, ◌∙◌, subst, arith, append-nil, append_assoc, length-append}
-use Rattle.std.specs.Prelude.{filter, find}
+use Rattle.std.proofs.Common.{◌≡◌, ℕ, suc, ◌+◌, ◌<◌, List, [], ◌∷◌, ◌++◌, length, inl, inr, refl, sym, ap, ◌∙◌, subst, arith, append-nil, append_assoc, length-append}
+use Rattle.std.specs.Prelude.{filter}
 use Rattle.link_steps.specs.declared.asks.Ask.{Ask}
-use Rattle.link_steps.specs.declared.asks.Ask.TheVariants.{Reserve, Relax, Deny, Submit, Release, Arrive, Tick, Pour}
-use Rattle.link_steps.specs.declared.asks.Packet.{Packet}
 use Rattle.link_steps.specs.declared.replies.Entry.{Entry}
 use Rattle.link_steps.specs.declared.replies.Reply.{Reply}
-use Rattle.link_steps.specs.declared.replies.Reply.TheVariants as Is
 use Rattle.link_steps.specs.declared.shape.LinkShape.{LinkShape}
 use Rattle.link_steps.specs.BestEffort.{best_packet}
 use Rattle.link_steps.specs.Hold.{stays}
 use Rattle.link_steps.specs.Belonging.{AreNumbered}
 use Rattle.link_steps.specs.Lists.{Each}
 use Rattle.link_steps.specs.Rows.{Row}
-use Rattle.link_steps.specs.Scan.{Scan, clock_of, scan_of, is_row_of, arrived_packet, with_arrival, without_expired, with_sources, with_best, best_step_at, after_tick, after}
+use Rattle.link_steps.specs.Scan.{Scan, clock_of, scan_of, arrived_packet, with_arrival, without_expired, with_sources, with_best, best_step_at, after_tick, after}
 use Rattle.link_steps.specs.Service.{Arrival, here_at}
 use Rattle.link_steps.specs.Sources.{SourceStep, Rests, Brings, Drops, step_of, packet_of, taken_by, source_packets}
+use Rattle.link_steps.specs.Effects.{Effect, Takes, Ticks, effect_of, with_effect}
+use Rattle.link_steps.proofs.EffectFacts.{by-effect}
 use Rattle.link_steps.proofs.AccountOfRows.{eligible-from, source_packets-from}
 use Rattle.link_steps.proofs.ListFacts.{Each-append, Among}
 use Rattle.link_steps.proofs.ServiceFacts.{IsFrom}
@@ -35,16 +34,6 @@ pub record AddsPackets (t : ℕ) (before after : List Arrival) : Type 0 where
 
 adds-none : (t : ℕ) (packets : List Arrival) → AddsPackets t packets packets
 adds-none t packets = record { new = []; are = sym (append-nil packets); from = tt; numbered = tt }
-
-adds-arrival : (t : ℕ) (packet : Packet) (scan : Scan) (found : Option Row) → AddsPackets t scan.packets (with_arrival t packet scan found).packets
-unfolding with_arrival
-adds-arrival t packet scan None = adds-none t scan.packets
-adds-arrival t packet scan (Some row) = record {
-  new = arrived_packet t (suc (length scan.packets)) packet row ∷ [];
-  are = refl;
-  from = (eligible-from row.terms row.ticks t packet.due, tt);
-  numbered = (refl, tt);
-}
 
 -- a best-effort packet is eligible in its tick
 pub best-from : (bounds : List ℕ) (t place : ℕ) (step : SourceStep) → Each (IsFrom t) (best_packet step bounds place t)
@@ -78,17 +67,19 @@ adds-tick shape t scan = adds (source_packets shape.bounds (here_at shape.rate s
         (subst (λ n. AreNumbered n (best_packet step shape.bounds (suc (length (scan.packets ++ sources))) t)) (length-append scan.packets sources) (best-numbered shape.bounds t (length (scan.packets ++ sources)) step));
   }
 
+effect-packets : (shape : LinkShape) (t : ℕ) (scan : Scan) (effect : Effect) → AddsPackets t scan.packets (with_effect shape t scan effect).packets
+unfolding with_effect with_arrival
+effect-packets shape t scan (Takes packet row) = record {
+  new = arrived_packet t (suc (length scan.packets)) packet row ∷ [];
+  are = refl;
+  from = (eligible-from row.terms row.ticks t packet.due, tt);
+  numbered = (refl, tt);
+}
+effect-packets shape t scan Ticks = adds-tick shape t scan
+effect-packets shape t scan _ = adds-none t scan.packets
+
 pub packets-after : (shape : LinkShape) (t : ℕ) (scan : Scan) (ask : Ask) (reply : Reply) → AddsPackets t scan.packets (after shape t scan ask reply).packets
-unfolding after
-packets-after shape t scan (Reserve chan contract kind delay up_reach first next) (Is.Offer level reach) = adds-none t scan.packets
-packets-after shape t scan (Relax chan level up_bound) (Is.Relaxed clock) = adds-none t scan.packets
-packets-after shape t scan (Deny chan) Is.Denied = adds-none t scan.packets
-packets-after shape t scan (Submit chan count gap size) (Is.Planned clock) = adds-none t scan.packets
-packets-after shape t scan (Release chan upstream) (Is.Closing count cancelled) = adds-none t scan.packets
-packets-after shape t scan (Arrive packet) (Is.Taken clock eligible) = adds-arrival t packet scan (find (is_row_of packet.chan) scan.rows)
-packets-after shape t scan Tick reply = adds-tick shape t scan
-packets-after shape t scan (Pour count gap size) (Is.Planned clock) = adds-none t scan.packets
-packets-after shape t scan _ _ = adds-none t scan.packets
+packets-after shape t scan ask reply = by-effect (λ clock later. AddsPackets t scan.packets later.packets) shape t scan ask reply (effect-packets shape t scan (effect_of scan ask reply))
 
 -- ---- every entry
 

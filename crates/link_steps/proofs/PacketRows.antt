@@ -1,40 +1,35 @@
 -- Each packet of an admissible history that is of one of the link's levels is of a row, held or gone, which tells its eligible
 -- tick and its level.
-use Rattle.std.proofs.Common.{◌≡◌, ℕ, suc, ◌+◌, ◌≤◌, ◌⊎◌, Bool, true, false, not, cond, List, [], ◌∷◌, ◌++◌, length, Option, Some, None, inl, inr, ⊎_elim, refl, sym, ap, ◌∙◌, subst, arith}
+use Rattle.std.proofs.Common.{◌≡◌, ℕ, suc, ◌+◌, ◌≤◌, ◌⊎◌, Bool, true, false, not, cond, List, [], ◌∷◌, ◌++◌, length, Some, inl, inr, ⊎_elim, refl, sym, ap, ◌∙◌, subst, arith}
 use Rattle.std.proofs.lemmas.Bool.{cases_Bool, eq-eqb}
 use Rattle.std.proofs.lemmas.List.{length-map}
-use Rattle.std.specs.Option.{option_map}
 use Rattle.std.proofs.lemmas.Option.{same_Some}
-use Rattle.std.specs.Prelude.{filter, find, map, reverse}
+use Rattle.std.specs.Prelude.{filter, find, reverse}
 use Rattle.net_units.specs.declared.numbers.ChanNo.{ChanNo}
 use Rattle.link_steps.specs.Buffer.{has_lead}
-use Rattle.link_steps.specs.Reservation.{is_of, tentative}
-use Rattle.link_steps.specs.declared.asks.Ask.{Ask}
-use Rattle.link_steps.specs.declared.asks.Ask.TheVariants.{Reserve, Relax, Deny, Submit, Release, Arrive, Tick, Pour}
+use Rattle.link_steps.specs.Reservation.{tentative}
 use Rattle.link_steps.specs.declared.asks.Packet.{Packet}
 use Rattle.link_steps.specs.declared.replies.Entry.{Entry}
-use Rattle.link_steps.specs.declared.replies.Reply.{Reply}
-use Rattle.link_steps.specs.declared.replies.Reply.TheVariants as Is
 use Rattle.link_steps.specs.declared.shape.LinkShape.{LinkShape}
-use Rattle.link_steps.specs.Admissible.{MayAnswer, IsAdmissible}
+use Rattle.link_steps.specs.Admissible.{IsAdmissible}
 use Rattle.link_steps.specs.Belonging.{own_packets, eligible_of, TellsPackets, IsRowOf, HasRow, PacketsHaveRows}
 use Rattle.link_steps.specs.BestEffort.{best_packet}
 use Rattle.link_steps.specs.Hold.{expires, stays}
 use Rattle.link_steps.specs.Lists.{change_first, without_first, Each, Any}
-use Rattle.link_steps.specs.Replies.{deny_reply, reply_at}
-use Rattle.link_steps.specs.Rows.{Row, row_terms, new_row}
-use Rattle.link_steps.specs.Scan.{Scan, clock_of, is_row_of, is_row_at_hop, names_first_hop, relax_row, plan_row, close_row, arrived_packet, arrived_row, with_arrival, without_expired, with_sources, with_best, best_step_at, after_tick, after, scan_of}
+use Rattle.link_steps.specs.Rows.{Row, new_row}
+use Rattle.link_steps.specs.Scan.{Scan, clock_of, is_row_of, arrived_packet, arrived_row, with_arrival, without_expired, with_sources, with_best, best_step_at, after_tick, after, scan_of}
 use Rattle.link_steps.specs.Service.{Arrival, here_at}
 use Rattle.link_steps.specs.Sources.{SourceStep, Rests, Brings, Drops, lead_with, step_of, packet_of, row_after, rows_after, source_packets, taken_by}
-use Rattle.link_steps.proofs.AdmissionHolds.{find-terms}
+use Rattle.link_steps.specs.Effects.{Effect, Adds, Changes, Removes, Takes, Ticks, changed_row, is_changed, with_effect}
+use Rattle.link_steps.proofs.EffectFacts.{EffectFits, each-admissible}
 use Rattle.link_steps.proofs.ChangeFacts.{Each-from_among}
 use Rattle.link_steps.proofs.LegalOrder.{ScanInOrder, legal-order}
 use Rattle.link_steps.proofs.LegalRowFacts.{IsInOrder}
 use Rattle.link_steps.proofs.ListFacts.{Each-append, Each-both, Each-find, Each-if, Among, Each-among}
-use Rattle.link_steps.proofs.ReplyFacts.{deny-tells}
 use Rattle.link_steps.proofs.RowPackets.{IsLedUpTo, IsHeld, IsBeside, lead-cases}
 use Rattle.link_steps.proofs.SourceHistory.{ScanServed, legal-served}
 use Rattle.link_steps.proofs.SourcesServed.{HasSource}
+use Rattle.link_steps.specs.declared.replies.Phase.TheVariants.{Tentative}
 
 -- ---- some element
 
@@ -163,10 +158,9 @@ have-with levels scan rows keeps leads have =
     (λ p both. record { one = λ upto. ⊎_elim (λ (held : Any (IsRowOf p) scan.rows). inl (keeps p both.0.some held)) (λ (gone : Any (IsRowOf p) scan.gone). inr gone) (both.1.one upto) })
     (Each-both (IsLedUpTo (length scan.packets)) (HasRow levels scan.rows scan.gone) scan.packets leads have)
 
-have-arrival : (levels t : ℕ) (packet : Packet) (scan : Scan) (found : Option Row) → find (is_row_of packet.chan) scan.rows ≡ found → Each (IsLedUpTo (length scan.packets)) scan.packets → HaveRows levels scan → HaveRows levels (with_arrival t packet scan found)
+have-taken : (levels t : ℕ) (packet : Packet) (scan : Scan) (row : Row) → find (is_row_of packet.chan) scan.rows ≡ Some row → Each (IsLedUpTo (length scan.packets)) scan.packets → HaveRows levels scan → HaveRows levels (with_arrival t packet scan (Some row))
 unfolding with_arrival
-have-arrival levels t packet scan None is leads have = have
-have-arrival levels t packet scan (Some row) is leads have =
+have-taken levels t packet scan row is leads have =
     let rows : List Row = change_first (is_row_of packet.chan) (arrived_row t (suc (length scan.packets)) packet) scan.rows in
     Each-append (HasRow levels (change_first (is_row_of packet.chan) (arrived_row t (suc (length scan.packets)) packet) scan.rows) scan.gone) scan.packets (arrived_packet t (suc (length scan.packets)) packet row ∷ [])
     (have-with levels scan (change_first (is_row_of packet.chan) (arrived_row t (suc (length scan.packets)) packet) scan.rows)
@@ -209,43 +203,36 @@ none-denied t scan p row none source among is =
     let some = Among-some p (own_packets row scan.packets) (Among-passes (has_lead row.lead) p scan.packets (eq-eqb p.lead row.lead (sym is)) among) in
     omega (arith, nothing, some)
 
-have-denied : (levels t : ℕ) (shape : LinkShape) (scan : Scan) (chan : ChanNo) → Is.Denied ≡ deny_reply (find (is_of chan) (map row_terms scan.rows)) → ScanInOrder shape t scan → ScanServed t scan → HaveRows levels scan → HaveRows levels (record scan { rows = without_first (is_row_of chan) scan.rows })
-have-denied levels t shape scan chan same order served have =
+have-removed : (levels t : ℕ) (shape : LinkShape) (scan : Scan) (chan : ChanNo) → ((row : Row) → find (is_row_of chan) scan.rows ≡ Some row → row.terms.phase ≡ Tentative) → ScanInOrder shape t scan → ScanServed t scan → HaveRows levels scan → HaveRows levels (record scan { rows = without_first (is_row_of chan) scan.rows })
+have-removed levels t shape scan chan tentative order served have =
     Each-from_among (HasRow levels (without_first (is_row_of chan) scan.rows) scan.gone) scan.packets (λ p among. record {
       one = λ upto. ⊎_elim
           (λ (held : Any (IsRowOf p) scan.rows). inl (Any-without_first (IsRowOf p) (is_row_of chan) scan.rows
           (λ row found own.
-          let tentative = deny-tells row.terms (same ∙ ap deny_reply (find-terms chan scan.rows ∙ ap (option_map row_terms) found)) in
-          let fresh = (Each-find (IsInOrder shape t) (is_row_of chan) scan.rows row order.held found).fresh tentative in
+          let fresh = (Each-find (IsInOrder shape t) (is_row_of chan) scan.rows row order.held found).fresh (tentative row found) in
           let stand = Each-find (IsHeld (HasSource t) scan.packets) (is_row_of chan) scan.rows row served.stand.held found in
           none-denied t scan p row fresh.0 stand.fact among own) held))
           (λ (gone : Any (IsRowOf p) scan.gone). inr gone)
           ((Each-among (HasRow levels scan.rows scan.gone) p scan.packets have among).one upto);
     })
 
-have-after : (shape : LinkShape) (t : ℕ) (scan : Scan) (ask : Ask) (reply : Reply) → MayAnswer shape t scan ask reply → ScanInOrder shape t scan → ScanServed t scan → HaveRows (length shape.bounds) scan → HaveRows (length shape.bounds) (after shape t scan ask reply)
-unfolding after MayAnswer reply_at
-have-after shape t scan (Reserve chan contract kind delay up_reach first next) (Is.Offer level reach) may order served have =
-    have-with (length shape.bounds) scan (scan.rows ++ new_row (tentative chan contract kind first next up_reach level reach) ∷ []) (λ p some any. Any-append-left (IsRowOf p) scan.rows _ any) served.stand.leads have
-have-after shape t scan (Relax chan level up_bound) (Is.Relaxed clock) may order served have =
-    have-with (length shape.bounds) scan _ (λ p some any. Any-change_first (IsRowOf p) (is_row_of chan) (relax_row level up_bound) scan.rows (λ row own. own) any) served.stand.leads have
-have-after shape t scan (Deny chan) Is.Denied may order served have = have-denied (length shape.bounds) t shape scan chan may order served have
-have-after shape t scan (Submit chan count gap size) (Is.Planned clock) may order served have =
-    have-with (length shape.bounds) scan _ (λ p some any. Any-change_first (IsRowOf p) (is_row_at_hop chan true) (plan_row t count gap size) scan.rows (λ row own. own) any) served.stand.leads have
-have-after shape t scan (Release chan upstream) (Is.Closing count cancelled) may order served have =
-    have-with (length shape.bounds) scan _ (λ p some any. Any-change_first (IsRowOf p) (is_row_at_hop chan (names_first_hop upstream)) (close_row t count) scan.rows (λ row own. own) any) served.stand.leads have
-have-after shape t scan (Arrive packet) (Is.Taken clock eligible) may order served have =
-    have-arrival (length shape.bounds) t packet scan (find (is_row_of packet.chan) scan.rows) refl served.stand.leads have
-have-after shape t scan Tick reply may order served have = have-tick shape t scan served.stand.leads have
-have-after shape t scan (Pour count gap size) (Is.Planned clock) may order served have = have
-have-after shape t scan _ _ may order served have = have
+have-effect : (shape : LinkShape) (t : ℕ) (scan : Scan) (effect : Effect) → EffectFits shape t scan effect → ScanInOrder shape t scan → ScanServed t scan → HaveRows (length shape.bounds) scan → HaveRows (length shape.bounds) (with_effect shape t scan effect)
+unfolding with_effect
+have-effect shape t scan (Adds terms) fits order served have =
+    have-with (length shape.bounds) scan (scan.rows ++ new_row terms ∷ []) (λ p some any. Any-append-left (IsRowOf p) scan.rows _ any) served.stand.leads have
+have-effect shape t scan (Changes chan change) fits order served have =
+    have-with (length shape.bounds) scan _ (λ p some any. Any-change_first (IsRowOf p) (is_changed chan change) (changed_row t change) scan.rows (λ row own. own) any) served.stand.leads have
+have-effect shape t scan (Removes chan) fits order served have = have-removed (length shape.bounds) t shape scan chan fits order served have
+have-effect shape t scan (Takes packet row) fits order served have = have-taken (length shape.bounds) t packet scan row fits.found served.stand.leads have
+have-effect shape t scan Ticks fits order served have = have-tick shape t scan served.stand.leads have
+have-effect shape t scan _ fits order served have = have
 
 -- ---- every entry
 
 legal-have : (shape : LinkShape) (h : List Entry) → IsAdmissible shape h → HaveRows (length shape.bounds) (scan_of shape h)
-unfolding IsAdmissible scan_of
-legal-have shape [] legal = tt
-legal-have shape (e ∷ past) legal = have-after shape (clock_of past) (scan_of shape past) e.ask e.reply legal.1.answered (legal-order shape past legal.0) (legal-served shape past legal.0) (legal-have shape past legal.0)
+legal-have shape h legal =
+    each-admissible (λ t scan. HaveRows (length shape.bounds) scan) shape tt
+    (λ past effect may fits. have-effect shape (clock_of past) (scan_of shape past) effect fits (legal-order shape past may) (legal-served shape past may)) h legal
 
 pub packets-have_rows : (shape : LinkShape) (h : List Entry) → IsAdmissible shape h → PacketsHaveRows shape h
 packets-have_rows shape h legal =

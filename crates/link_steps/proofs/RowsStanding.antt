@@ -1,16 +1,22 @@
 -- What stands of the rows and their packets stands through each change of the rows: as they expire, are reserved, denied
 -- and changed, and as one of them takes a packet from elsewhere.
 use Rattle.std.proofs.lemmas.List.{length_push}
-use Rattle.std.proofs.Common.{◌≡◌, suc, Bool, true, false, cond, not, List, [], ◌∷◌, ◌++◌, length, Some, inl, inr, refl, sym, ap, ◌∙◌, subst, arith, ◌+◌}
+use Rattle.std.proofs.Common.{◌≡◌, ℕ, suc, Bool, true, false, cond, not, List, [], ◌∷◌, ◌++◌, length, Some, inl, inr, refl, sym, ap, ◌∙◌, subst, arith, ◌+◌}
 use Rattle.std.proofs.lemmas.Bool.{cases_Bool, cond_both}
 use Rattle.std.proofs.lemmas.Option.{same_Some}
 use Rattle.std.specs.Prelude.{filter, find}
+use Rattle.link_steps.specs.declared.asks.Packet.{Packet}
+use Rattle.link_steps.specs.declared.shape.LinkShape.{LinkShape}
 use Rattle.link_steps.specs.Buffer.{has_lead}
 use Rattle.link_steps.specs.Belonging.{own_packets}
+use Rattle.link_steps.specs.Effects.{Change, Effect, Adds, Changes, Removes, Takes, Ticks, PlansBest, Nothing, changed_row, is_changed, with_effect, clock_by}
 use Rattle.link_steps.specs.Lists.{Each, change_first, without_first}
-use Rattle.link_steps.specs.Rows.{Row}
+use Rattle.link_steps.specs.Reservation.{Reservation}
+use Rattle.link_steps.specs.Rows.{Row, new_row}
+use Rattle.link_steps.specs.Scan.{Scan, is_row_of, arrived_row, arrived_packet, with_arrival, after_tick}
 use Rattle.link_steps.specs.Service.{Arrival}
 use Rattle.link_steps.specs.Sources.{lead_with}
+use Rattle.link_steps.proofs.EffectFacts.{AddFits, ChangeFits, TakeFits, EffectFits}
 use Rattle.link_steps.proofs.ListFacts.{Each-append, Each-both, Each-filter, Each-if, Each-without_first}
 use Rattle.link_steps.proofs.RowPackets.{own-new, IsApart, LeadsApart, IsHeld, IsBeside, RowsStand, stand-takes, takes-apart, stand-rests, rests-apart, stand-back, own-same, IsLedUpTo}
 
@@ -140,3 +146,29 @@ stand-apart P packets others rows p own stand =
       }) stand.held;
       apart = stand.apart;
     }
+
+-- ---- an effect
+
+-- P of each row, held or gone, and its packets
+abbrev pub Stands : (Row → List Arrival → Type 0) → Scan → Type 0
+Stands P scan = RowsStand P P scan.packets scan.gone scan.rows
+
+-- P is so of a new row, and stays so where a row is changed and where it takes a packet
+pub record StaysWithEffects (P : Row → List Arrival → Type 0) (shape : LinkShape) (t : ℕ) (scan : Scan) : Type 0 where
+  pub added : (terms : Reservation) → AddFits shape scan terms → P (new_row terms) []
+  pub changed : (test : Row → Bool) (change : Change) (row : Row) → find test scan.rows ≡ Some row → ChangeFits shape t change row → P row (own_packets row scan.packets) → P (changed_row t change row) (own_packets row scan.packets)
+  pub taken : (packet : Packet) (row : Row) → TakeFits shape t scan packet row → P row (own_packets row scan.packets)
+      → P (arrived_row t (suc (length scan.packets)) packet row) (own_packets row scan.packets ++ arrived_packet t (suc (length scan.packets)) packet row ∷ [])
+
+-- so what stands stands with an effect, if it does with a tick
+pub stand-effect : (P : ℕ → Row → List Arrival → Type 0) (shape : LinkShape) (t : ℕ) (scan : Scan) (effect : Effect) → StaysWithEffects (P t) shape t scan → Stands (P (suc t)) (after_tick shape t scan) → EffectFits shape t scan effect → Stands (P t) scan → Stands (P (clock_by effect t)) (with_effect shape t scan effect)
+unfolding with_effect with_arrival
+stand-effect P shape t scan (Adds terms) stays ticked fits stand = stand-reserved (P t) scan.packets scan.gone scan.rows (new_row terms) refl (stays.added terms fits) stand
+stand-effect P shape t scan (Changes chan change) stays ticked fits stand =
+    stand-changed (P t) (is_changed chan change) (changed_row t change) scan.packets (λ row. refl) scan.rows scan.gone (λ row found. stays.changed (is_changed chan change) change row found (fits row found)) stand
+stand-effect P shape t scan (Removes chan) stays ticked fits stand = stand-denied (P t) (is_row_of chan) scan.packets scan.gone scan.rows stand
+stand-effect P shape t scan (Takes packet row) stays ticked fits stand =
+    stand-arrives (P t) (is_row_of packet.chan) (arrived_row t (suc (length scan.packets)) packet) scan.packets (arrived_packet t (suc (length scan.packets)) packet row) row refl refl (stays.taken packet row fits) scan.rows scan.gone fits.found stand
+stand-effect P shape t scan Ticks stays ticked fits stand = ticked
+stand-effect P shape t scan (PlansBest count gap size) stays ticked fits stand = record { leads = stand.leads; beside = stand.beside; held = stand.held; apart = stand.apart }
+stand-effect P shape t scan Nothing stays ticked fits stand = stand

@@ -1,8 +1,8 @@
 -- That the rules say what they are meant to, where a definition takes a short way.
-use Rattle.std.proofs.Common.{◌≡◌, ℕ, suc, ◌+◌, ◌≤◌, Bool, false, List, [], ◌∷◌, ◌++◌, length, map, Option, Some, None, refl, sym, ap, ◌∙◌, arith}
+use Rattle.std.proofs.Common.{◌≡◌, ℕ, suc, ◌+◌, ◌≤◌, Bool, false, List, [], ◌∷◌, ◌++◌, length, map, Option, refl, sym, ap, ◌∙◌, arith}
 use Rattle.std.proofs.Math.Bool.{or-false}
 use Rattle.std.proofs.lemmas.Bool.{le-ltb}
-use Rattle.std.specs.Prelude.{filter, find, nat_lt}
+use Rattle.std.specs.Prelude.{filter, nat_lt}
 use Rattle.std.specs.List.{list_any}
 use Rattle.net_units.specs.Numbers.{level_number}
 use Rattle.net_units.specs.declared.Kind.{Kind}
@@ -11,11 +11,7 @@ use Rattle.net_units.specs.declared.numbers.Level.{Level}
 use Rattle.net_units.specs.declared.numbers.LinkNo.{LinkNo}
 use Rattle.traffic_contract.specs.Contract.{Traffic}
 use Rattle.link_steps.specs.declared.asks.Ask.{Ask}
-use Rattle.link_steps.specs.declared.asks.Ask.TheVariants.{Reserve, Relax, Deny, Submit, Release, Arrive, Tick, Pour}
-use Rattle.link_steps.specs.declared.asks.Packet.{Packet}
 use Rattle.link_steps.specs.declared.replies.Entry.{Entry}
-use Rattle.link_steps.specs.declared.replies.Reply.{Reply}
-use Rattle.link_steps.specs.declared.replies.Reply.TheVariants as Is
 use Rattle.link_steps.specs.declared.shape.LinkShape.{LinkShape}
 use Rattle.link_steps.specs.Split.{Link}
 use Rattle.link_steps.specs.BestEffort.{best_packet}
@@ -26,9 +22,11 @@ use Rattle.link_steps.specs.Lists.{Each}
 use Rattle.link_steps.specs.Replies.{reply_to}
 use Rattle.link_steps.specs.Reservation.{tentative}
 use Rattle.link_steps.specs.Rows.{Row}
-use Rattle.link_steps.specs.Scan.{Scan, clock_of, is_row_of, with_arrival, without_expired, with_sources, with_best, best_step_at, after_tick, after, scan_of}
+use Rattle.link_steps.specs.Scan.{Scan, with_arrival, without_expired, with_sources, with_best, best_step_at, after_tick, scan_of}
 use Rattle.link_steps.specs.Service.{Arrival, Start, leaves_at, is_busy, here_at}
 use Rattle.link_steps.specs.Sources.{SourceStep, Rests, Brings, Drops, step_of, packet_of, taken_by, source_packets}
+use Rattle.link_steps.specs.Effects.{Effect, Takes, Ticks, with_effect}
+use Rattle.link_steps.proofs.EffectFacts.{each-history}
 use Rattle.link_steps.proofs.AccountOfRows.{eligible-from}
 use Rattle.link_steps.proofs.ListFacts.{Each-append, Each-if}
 use Rattle.link_steps.proofs.Play.{answered}
@@ -72,33 +70,23 @@ source_packets-patient bounds here t taken (row ∷ rows) =
       packet-patient Rests = tt
       packet-patient Drops = tt
 
-arrival-patient : (t : ℕ) (packet : Packet) (scan : Scan) (found : Option Row) → Each IsPatient scan.packets → Each IsPatient (with_arrival t packet scan found).packets
-unfolding with_arrival
-arrival-patient t packet scan None before = before
-arrival-patient t packet scan (Some row) before = Each-append IsPatient scan.packets _ before (eligible-from row.terms row.ticks t packet.due, tt)
-
 best-patient : (bounds : List ℕ) (t place : ℕ) (step : SourceStep) → Each IsPatient (best_packet step bounds place t)
 best-patient bounds t place Rests = tt
 best-patient bounds t place Drops = tt
 best-patient bounds t place (Brings size) = (omega arith, tt)
 
-after-patient : (shape : LinkShape) (t : ℕ) (scan : Scan) (ask : Ask) (reply : Reply) → Each IsPatient scan.packets → Each IsPatient (after shape t scan ask reply).packets
-unfolding after after_tick with_best with_sources without_expired
-after-patient shape t scan (Reserve chan contract kind delay up_reach first next) (Is.Offer level reach) before = before
-after-patient shape t scan (Relax chan level up_bound) (Is.Relaxed clock) before = before
-after-patient shape t scan (Deny chan) Is.Denied before = before
-after-patient shape t scan (Submit chan count gap size) (Is.Planned clock) before = before
-after-patient shape t scan (Release chan upstream) (Is.Closing count cancelled) before = before
-after-patient shape t scan (Arrive packet) (Is.Taken clock eligible) before = arrival-patient t packet scan (find (is_row_of packet.chan) scan.rows) before
-after-patient shape t scan Tick reply before = Each-append IsPatient (scan.packets ++ source_packets shape.bounds (here_at shape.rate scan.packets t) t (length scan.packets) (filter (stays shape.bounds t) scan.rows)) _ (Each-append IsPatient scan.packets _ before (source_packets-patient shape.bounds (here_at shape.rate scan.packets t) t (length scan.packets) (filter (stays shape.bounds t) scan.rows))) (best-patient shape.bounds t _ (best_step_at shape t scan))
-after-patient shape t scan (Pour count gap size) (Is.Planned clock) before = before
-after-patient shape t scan _ _ before = before
+effect-patient : (shape : LinkShape) (t : ℕ) (scan : Scan) (effect : Effect) → Each IsPatient scan.packets → Each IsPatient (with_effect shape t scan effect).packets
+unfolding with_effect with_arrival after_tick with_best with_sources without_expired
+effect-patient shape t scan (Takes packet row) before = Each-append IsPatient scan.packets _ before (eligible-from row.terms row.ticks t packet.due, tt)
+effect-patient shape t scan Ticks before =
+    Each-append IsPatient (scan.packets ++ source_packets shape.bounds (here_at shape.rate scan.packets t) t (length scan.packets) (filter (stays shape.bounds t) scan.rows)) _
+    (Each-append IsPatient scan.packets _ before (source_packets-patient shape.bounds (here_at shape.rate scan.packets t) t (length scan.packets) (filter (stays shape.bounds t) scan.rows)))
+    (best-patient shape.bounds t _ (best_step_at shape t scan))
+effect-patient shape t scan _ before = before
 
 -- so it is for every packet of a history
 pub scan-patient : (shape : LinkShape) (h : List Entry) → Each IsPatient (scan_of shape h).packets
-unfolding scan_of
-scan-patient shape [] = tt
-scan-patient shape (e ∷ past) = after-patient shape (clock_of past) (scan_of shape past) e.ask e.reply (scan-patient shape past)
+scan-patient shape h = each-history (λ t scan. Each IsPatient scan.packets) shape tt (λ t scan effect. effect-patient shape t scan effect) h
 
 -- ---- a legal history goes on with every ask that meets the conditions, and its asks determine it
 

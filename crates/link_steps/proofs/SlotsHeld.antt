@@ -2,37 +2,31 @@
 use Rattle.std.proofs.Common.{◌≡◌, ℕ, suc, ◌<◌, ◌≤◌, Bool, true, false, not, cond, List, [], ◌∷◌, ◌++◌, length, Option, Some, None, inl, inr, refl, sym, ap, ◌∙◌, subst, arith, append-nil, length-append}
 use Rattle.std.proofs.lemmas.Bool.{cases_Bool, ltb-true}
 use Rattle.std.proofs.lemmas.List.Elements.{filter-append}
-use Rattle.std.specs.Option.{option_map}
 use Rattle.std.specs.Prelude.{filter, find, reverse}
 use Rattle.net_units.specs.declared.numbers.Level.{Level}
-use Rattle.link_steps.specs.declared.asks.Ask.{Ask}
-use Rattle.link_steps.specs.declared.asks.Ask.TheVariants.{Reserve, Relax, Deny, Submit, Release, Arrive, Tick, Pour}
 use Rattle.link_steps.specs.declared.asks.Packet.{Packet}
 use Rattle.link_steps.specs.declared.replies.Entry.{Entry}
 use Rattle.link_steps.specs.declared.replies.Phase.TheVariants.{Committed}
-use Rattle.link_steps.specs.declared.replies.Reply.{Reply}
-use Rattle.link_steps.specs.declared.replies.Reply.TheVariants as Is
 use Rattle.link_steps.specs.declared.shape.LinkShape.{LinkShape}
-use Rattle.link_steps.specs.Admissible.{MayAnswer, IsAdmissible}
+use Rattle.link_steps.specs.Admissible.{IsAdmissible}
 use Rattle.link_steps.specs.Belonging.{own_packets}
 use Rattle.link_steps.specs.Buffer.{has_slot, held_packets, slots_of}
 use Rattle.link_steps.specs.Hold.{expires, stays}
 use Rattle.link_steps.specs.Lists.{change_first, Each}
-use Rattle.link_steps.specs.Replies.{relax_reply, release_to, arrive_to, reply_at}
-use Rattle.link_steps.specs.Reservation.{Reservation, closing, tentative}
-use Rattle.link_steps.specs.Rows.{Row, SourcePacket, row_terms, new_row, is_for, left_at}
-use Rattle.link_steps.specs.Scan.{Scan, clock_with, clock_of, is_row_of, is_row_at_hop, names_first_hop, relax_row, plan_row, close_row, arrived_packet, arrived_row, with_arrival, without_expired, with_sources, with_best, best_step_at, after_tick, after, scan_of}
+use Rattle.link_steps.specs.Reservation.{Reservation, closing}
+use Rattle.link_steps.specs.Rows.{Row, SourcePacket, new_row, is_for}
+use Rattle.link_steps.specs.Scan.{Scan, clock_of, is_row_of, relax_row, close_row, arrived_packet, arrived_row, with_arrival, without_expired, with_sources, with_best, best_step_at, after_tick, scan_of}
 use Rattle.link_steps.specs.Service.{Arrival, Start, starts_below, here_at, is_here, has_departed}
 use Rattle.link_steps.specs.Slots.{HasSlots}
 use Rattle.link_steps.specs.Sources.{arrival_at, source_tick, source_step, step_of, packet_of, row_after}
+use Rattle.link_steps.specs.Effects.{Change, Commits, Plans, Closes, Effect, Adds, Changes, Removes, Takes, Ticks, changed_row, is_changed, with_effect, clock_by}
+use Rattle.link_steps.proofs.EffectFacts.{ChangeFits, TakeFits, EffectFits, each-admissible}
 use Rattle.link_steps.proofs.AccountOfRows.{eligible-from}
-use Rattle.link_steps.proofs.AdmissionHolds.{find-terms}
 use Rattle.link_steps.proofs.Departures.{departed-at}
 use Rattle.link_steps.proofs.LegalOrder.{ScanInOrder, legal-order}
 use Rattle.link_steps.proofs.LegalRowFacts.{IsInOrder}
 use Rattle.link_steps.proofs.ListFacts.{Each-find, Each-from, Each-if}
 use Rattle.link_steps.proofs.NewPackets.{adds-tick}
-use Rattle.link_steps.proofs.ReplyFacts.{relax-tells, release-tells, arrive-tells}
 use Rattle.link_steps.proofs.RowPackets.{IsHeld, RowsStand, stand-sources}
 use Rattle.link_steps.proofs.RowsStanding.{stand-if, stand-expired, stand-reserved, stand-denied, stand-changed, stand-arrives}
 use Rattle.link_steps.proofs.ServiceFacts.{starts_below-append}
@@ -155,49 +149,44 @@ few-relaxed shape starts t u up_bound level row own none source = record { few =
 few-closed : (shape : LinkShape) (starts : List Start) (t u count : ℕ) (row : Row) (own : List Arrival) → row.terms.phase ≡ Committed → IsFew shape starts t row own → IsFew shape starts t (close_row u count row) own
 few-closed shape starts t u count row own is few = record { few = subst (λ n. length (filter (is_here shape.rate starts t) own) ≤ n) (sym (slots-closed shape.bounds count row.terms is)) few.few }
 
-fits-arrival : (shape : LinkShape) (t : ℕ) (packet : Packet) (scan : Scan) (found : Option Row) (clock e : ℕ) → find (is_row_of packet.chan) scan.rows ≡ found → Is.Taken clock e ≡ arrive_to shape t scan.packets packet found → ScanFits shape t scan → ScanFits shape t (with_arrival t packet scan found)
+few-changed : (shape : LinkShape) (starts : List Start) (t : ℕ) (change : Change) (row : Row) (own : List Arrival) → ChangeFits shape t change row → IsInOrder shape t row → HasSource t row own → IsFew shape starts t row own → IsFew shape starts t (changed_row t change row) own
+few-changed shape starts t (Commits level up_bound) row own fits order source few = few-relaxed shape starts t t up_bound level row own (order.fresh fits.offer.phase).0 source
+few-changed shape starts t (Plans count gap size) row own fits order source few = record { few = few.few }
+few-changed shape starts t (Closes first count) row own fits order source few = few-closed shape starts t t count row own fits.phase few
+
+fits-taken : (shape : LinkShape) (t : ℕ) (packet : Packet) (scan : Scan) (row : Row) → TakeFits shape t scan packet row → ScanFits shape t scan → ScanFits shape t (with_arrival t packet scan (Some row))
 unfolding with_arrival
-fits-arrival shape t packet scan None clock e is same fits = fits
-fits-arrival shape t packet scan (Some row) clock e is same fits =
-    let takes = arrive-tells shape.bounds t packet row.terms _ _ _ clock e same in
+fits-taken shape t packet scan row own fits =
+    let takes = own.takes in
     let below = takes.free in
     let held = held-here shape scan.packets t row.lead in
     let before : starts_below shape.rate (scan.packets ++ arrived_packet t (suc (length scan.packets)) packet row ∷ []) t ≡ starts_below shape.rate scan.packets t = starts_below-append shape.rate scan.packets (arrived_packet t (suc (length scan.packets)) packet row ∷ []) t (eligible-from row.terms row.ticks t packet.due, tt) in
     subst (λ starts. RowsStand (IsFew shape starts t) (IsFew shape starts t) (scan.packets ++ arrived_packet t (suc (length scan.packets)) packet row ∷ []) scan.gone (change_first (is_row_of packet.chan) (arrived_row t (suc (length scan.packets)) packet) scan.rows)) (sym before)
     (stand-arrives (IsFew shape (starts_below shape.rate scan.packets t) t) (is_row_of packet.chan) (arrived_row t (suc (length scan.packets)) packet) scan.packets (arrived_packet t (suc (length scan.packets)) packet row) row refl refl
     (λ fact. (let more = one-more (is_here shape.rate (starts_below shape.rate scan.packets t) t) (own_packets row scan.packets) (arrived_packet t (suc (length scan.packets)) packet row) in record { few = omega (arith, more, below, held) }))
-    scan.rows scan.gone is fits)
+    scan.rows scan.gone own.found fits)
 
-fits-after : (shape : LinkShape) (t : ℕ) (scan : Scan) (ask : Ask) (reply : Reply) → MayAnswer shape t scan ask reply → ScanInOrder shape t scan → ScanServed t scan → ScanFits shape t scan → ScanFits shape (clock_with ask t) (after shape t scan ask reply)
-unfolding after MayAnswer reply_at
-fits-after shape t scan (Reserve chan contract kind delay up_reach first next) (Is.Offer level reach) may order served fits =
-    stand-reserved (IsFew shape (starts_below shape.rate scan.packets t) t) scan.packets scan.gone scan.rows (new_row (tentative chan contract kind first next up_reach level reach)) refl (record { few = omega arith }) fits
-fits-after shape t scan (Relax chan level up_bound) (Is.Relaxed clock) may order served fits =
-    stand-changed (IsFew shape (starts_below shape.rate scan.packets t) t) (is_row_of chan) (relax_row level up_bound) scan.packets (λ row. refl) scan.rows scan.gone (λ row found few.
-    let tells = relax-tells t row.terms level up_bound clock (may ∙ ap (relax_reply t level up_bound) (find-terms chan scan.rows ∙ ap (option_map row_terms) found)) in
-    let own = Each-find (IsInOrder shape t) (is_row_of chan) scan.rows row order.held found in
-    let source = Each-find (IsHeld (HasSource t) scan.packets) (is_row_of chan) scan.rows row served.stand.held found in
-    few-relaxed shape (starts_below shape.rate scan.packets t) t t up_bound level row (own_packets row scan.packets) (own.fresh tells.phase).0 source.fact) fits
-fits-after shape t scan (Deny chan) Is.Denied may order served fits =
+fits-effect : (shape : LinkShape) (t : ℕ) (scan : Scan) (effect : Effect) → EffectFits shape t scan effect → ScanInOrder shape t scan → ScanServed t scan → ScanFits shape t scan → ScanFits shape (clock_by effect t) (with_effect shape t scan effect)
+unfolding with_effect
+fits-effect shape t scan (Adds terms) own order served fits =
+    stand-reserved (IsFew shape (starts_below shape.rate scan.packets t) t) scan.packets scan.gone scan.rows (new_row terms) refl (record { few = omega arith }) fits
+fits-effect shape t scan (Changes chan change) own order served fits =
+    stand-changed (IsFew shape (starts_below shape.rate scan.packets t) t) (is_changed chan change) (changed_row t change) scan.packets (λ row. refl) scan.rows scan.gone (λ row found few.
+    few-changed shape (starts_below shape.rate scan.packets t) t change row (own_packets row scan.packets) (own row found)
+    (Each-find (IsInOrder shape t) (is_changed chan change) scan.rows row order.held found)
+    (Each-find (IsHeld (HasSource t) scan.packets) (is_changed chan change) scan.rows row served.stand.held found).fact few) fits
+fits-effect shape t scan (Removes chan) own order served fits =
     stand-denied (IsFew shape (starts_below shape.rate scan.packets t) t) (is_row_of chan) scan.packets scan.gone scan.rows fits
-fits-after shape t scan (Submit chan count gap size) (Is.Planned clock) may order served fits =
-    stand-changed (IsFew shape (starts_below shape.rate scan.packets t) t) (is_row_at_hop chan true) (plan_row t count gap size) scan.packets (λ row. refl) scan.rows scan.gone (λ row found few. record { few = few.few }) fits
-fits-after shape t scan (Release chan upstream) (Is.Closing count cancelled) may order served fits =
-    stand-changed (IsFew shape (starts_below shape.rate scan.packets t) t) (is_row_at_hop chan (names_first_hop upstream)) (close_row t count) scan.packets (λ row. refl) scan.rows scan.gone (λ row found few.
-    few-closed shape (starts_below shape.rate scan.packets t) t t count row (own_packets row scan.packets) (release-tells upstream row.terms (length row.ticks) (length (left_at t row.plan)) count cancelled (may ∙ ap (release_to t upstream) found)).0 few) fits
-fits-after shape t scan (Arrive packet) (Is.Taken clock eligible) may order served fits =
-    fits-arrival shape t packet scan (find (is_row_of packet.chan) scan.rows) clock eligible refl may fits
-fits-after shape t scan Tick reply may order served fits = fits-tick shape t scan fits
-fits-after shape t scan (Pour count gap size) (Is.Planned clock) may order served fits = fits
-fits-after shape t scan _ _ may order served fits = fits
+fits-effect shape t scan (Takes packet row) own order served fits = fits-taken shape t packet scan row own fits
+fits-effect shape t scan Ticks own order served fits = fits-tick shape t scan fits
+fits-effect shape t scan _ own order served fits = fits
 
 -- ---- every entry
 
 pub legal-fits : (shape : LinkShape) (h : List Entry) → IsAdmissible shape h → ScanFits shape (clock_of h) (scan_of shape h)
-unfolding IsAdmissible scan_of clock_of
-legal-fits shape [] legal = record { leads = tt; beside = tt; held = tt; apart = tt }
-legal-fits shape (e ∷ past) legal =
-    fits-after shape (clock_of past) (scan_of shape past) e.ask e.reply legal.1.answered (legal-order shape past legal.0) (legal-served shape past legal.0) (legal-fits shape past legal.0)
+legal-fits shape h legal =
+    each-admissible (ScanFits shape) shape (record { leads = tt; beside = tt; held = tt; apart = tt })
+    (λ past effect may fits. fits-effect shape (clock_of past) (scan_of shape past) effect fits (legal-order shape past may) (legal-served shape past may)) h legal
 
 pub slots-held : (shape : LinkShape) (h : List Entry) → IsAdmissible shape h → Each (HasSlots shape h) (scan_of shape h).rows
 slots-held shape h legal =

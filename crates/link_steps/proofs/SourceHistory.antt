@@ -1,45 +1,39 @@
 -- The sources of an admissible history after each of its entries: those that keep their contract have lost nothing. From this
 -- and the hop guarantee, the source guarantee.
-use Rattle.std.proofs.Common.{◌≡◌, ℕ, suc, ◌≤◌, true, false, List, [], ◌∷◌, ◌++◌, length, map, Option, Some, None, refl, sym, ap, ◌∙◌, subst, arith, append-nil}
+use Rattle.std.proofs.Common.{◌≡◌, ℕ, suc, ◌≤◌, true, false, List, [], ◌∷◌, ◌++◌, length, map, refl, sym, ap, ◌∙◌, subst, arith, append-nil}
 use Rattle.std.proofs.Math.Bool.{and_comm}
 use Rattle.std.proofs.lemmas.Bool.{eq-eqb, and_parts}
-use Rattle.std.specs.Option.{option_map}
-use Rattle.std.specs.Prelude.{filter, find, reverse}
+use Rattle.std.specs.Prelude.{filter, reverse}
 use Rattle.net_units.specs.Numbers.{level_number}
 use Rattle.net_units.specs.declared.numbers.Level.{Level}
-use Rattle.link_steps.specs.declared.asks.Ask.{Ask}
-use Rattle.link_steps.specs.declared.asks.Ask.TheVariants.{Reserve, Relax, Deny, Submit, Release, Arrive, Tick, Pour}
 use Rattle.link_steps.specs.declared.asks.Packet.{Packet}
 use Rattle.link_steps.specs.declared.replies.Entry.{Entry}
 use Rattle.link_steps.specs.declared.replies.Phase.TheVariants.{Closing}
-use Rattle.link_steps.specs.declared.replies.Reply.{Reply}
-use Rattle.link_steps.specs.declared.replies.Reply.TheVariants as Is
 use Rattle.link_steps.specs.declared.shape.LinkShape.{LinkShape}
-use Rattle.link_steps.specs.Admissible.{MayAnswer, IsAdmissible}
+use Rattle.link_steps.specs.Admissible.{IsAdmissible}
 use Rattle.link_steps.specs.BestEffort.{best_packet, best_arrival}
 use Rattle.link_steps.specs.Sources.{SourceStep, Rests, Brings, Drops}
 use Rattle.link_steps.specs.Buffer.{has_lead, held_packets}
 use Rattle.link_steps.specs.HopGuarantee.{LeavesInTime, HasLeftInTime}
 use Rattle.link_steps.specs.Hold.{hold_ended, expires, stays}
-use Rattle.link_steps.specs.Legal.{AskFits}
 use Rattle.link_steps.specs.Belonging.{eligible_of, own_packets}
 use Rattle.link_steps.specs.Lists.{Each}
-use Rattle.link_steps.specs.Replies.{relax_reply, submit_to, arrive_to, reply_at}
-use Rattle.link_steps.specs.Reservation.{Reservation, is_phase, tentative}
-use Rattle.link_steps.specs.Rows.{Row, row_terms, new_row, is_before, left_at, tick_of}
-use Rattle.link_steps.specs.Scan.{Scan, clock_with, clock_of, is_row_of, is_row_at_hop, names_first_hop, relax_row, plan_row, close_row, arrived_packet, arrived_row, with_arrival, without_expired, with_sources, with_best, best_step_at, after_tick, after, scan_of, starts_of}
+use Rattle.link_steps.specs.Reservation.{Reservation, is_phase}
+use Rattle.link_steps.specs.Rows.{Row, new_row, is_before, left_at, tick_of}
+use Rattle.link_steps.specs.Scan.{Scan, clock_of, relax_row, plan_row, close_row, arrived_packet, arrived_row, with_arrival, without_expired, with_sources, with_best, best_step_at, after_tick, scan_of, starts_of}
 use Rattle.link_steps.specs.Service.{Arrival, starts_below, here_at, is_here}
 use Rattle.link_steps.specs.SourceGuarantee.{arrival_of, IsEligibleAtOnce, LeavesPromptly, HasLeftPromptly, KeepingIsServed, SourceGuarantee}
-use Rattle.link_steps.proofs.AdmissionHolds.{find-terms}
+use Rattle.link_steps.specs.Effects.{Change, Commits, Plans, Closes, Effect, Ticks, changed_row, with_effect, clock_by}
+use Rattle.link_steps.proofs.EffectFacts.{ChangeFits, EffectFits, each-admissible}
 use Rattle.link_steps.proofs.ChangeFacts.{Each-passes, Each-if_passes}
 use Rattle.link_steps.proofs.HopHolds.{guaranteed}
 use Rattle.link_steps.proofs.LegalOrder.{ScanInOrder, legal-order}
 use Rattle.link_steps.proofs.LegalRowFacts.{IsInOrder, IsMade}
 use Rattle.link_steps.proofs.ListFacts.{Each-append, Each-both, Each-filter, Each-find, Each-from, Each-if, map-same, filter-same, filter-filter}
 use Rattle.link_steps.proofs.PlanFacts.{rises-submitted, made-submitted, rises-filter, made-closed}
-use Rattle.link_steps.proofs.ReplyFacts.{phase-is, relax-tells, submit-tells, arrive-tells}
+use Rattle.link_steps.proofs.ReplyFacts.{phase-is}
 use Rattle.link_steps.proofs.RowPackets.{IsHeld, IsBeside, RowsStand, stand-sources}
-use Rattle.link_steps.proofs.RowsStanding.{stand-apart, stand-if, stand-expired, stand-reserved, stand-denied, stand-changed, stand-arrives}
+use Rattle.link_steps.proofs.RowsStanding.{stand-apart, stand-if, stand-expired, StaysWithEffects, stand-effect}
 use Rattle.link_steps.proofs.ServiceFacts.{starts-fact}
 use Rattle.link_steps.proofs.SourcesServed.{HasSource, IsReady, served-same, source-later, ticks-more, source-step}
 
@@ -152,50 +146,32 @@ source-arrived t place packet row own later source = record {
   served = λ kept. absurd (let h : false ≡ true = sym later ∙ kept.first in cc);
 }
 
--- with the row changed, or one row more or fewer
-served-with : (t : ℕ) (scan : Scan) (rows : List Row) → RowsStand (HasSource t) (HasSource t) scan.packets scan.gone rows → ScanServed t scan → ScanServed t (record scan { rows = rows })
-served-with t scan rows stand served = record { stand = stand; made = served.made }
+-- a changed row
+source-changed : (shape : LinkShape) (t : ℕ) (change : Change) (row : Row) (own : List Arrival) → ChangeFits shape t change row → IsInOrder shape t row → HasSource t row own → HasSource t (changed_row t change row) own
+source-changed shape t (Commits level up_bound) row own fits order source = source-relaxed t up_bound level row own (order.fresh fits.offer.phase).0 source
+source-changed shape t (Plans count gap size) row own fits order source = source-planned t count gap size row own fits.asked.gap_least fits.none_left source
+source-changed shape t (Closes first count) row own fits order source = source-closed t count row own source
 
-served-arrival : (shape : LinkShape) (t : ℕ) (packet : Packet) (scan : Scan) (found : Option Row) (clock e : ℕ) → find (is_row_of packet.chan) scan.rows ≡ found → Is.Taken clock e ≡ arrive_to shape t scan.packets packet found → ScanServed t scan → ScanServed t (with_arrival t packet scan found)
-unfolding with_arrival
-served-arrival shape t packet scan None clock e is same served = served
-served-arrival shape t packet scan (Some row) clock e is same served =
-    let later = (arrive-tells shape.bounds t packet row.terms _ _ _ clock e same).later in
-    record {
-      stand = stand-arrives (HasSource t) (is_row_of packet.chan) (arrived_row t (suc (length scan.packets)) packet) scan.packets (arrived_packet t (suc (length scan.packets)) packet row) row refl refl
-          (λ source. source-arrived t (suc (length scan.packets)) packet row (own_packets row scan.packets) later source) scan.rows scan.gone is served.stand;
-      made = served.made;
-    }
+sources-stay : (shape : LinkShape) (t : ℕ) (scan : Scan) → ScanInOrder shape t scan → StaysWithEffects (HasSource t) shape t scan
+sources-stay shape t scan order = record {
+  added = λ terms fits. source-new t terms;
+  changed = λ test change row found fits. source-changed shape t change row (own_packets row scan.packets) fits (Each-find (IsInOrder shape t) test scan.rows row order.held found);
+  taken = λ packet row fits. source-arrived t (suc (length scan.packets)) packet row (own_packets row scan.packets) fits.takes.later;
+}
 
-served-after : (shape : LinkShape) (t : ℕ) (scan : Scan) (ask : Ask) (reply : Reply) → AskFits shape ask → MayAnswer shape t scan ask reply → ScanInOrder shape t scan → Each (HasLeftInTime shape t (starts_below shape.rate scan.packets t)) scan.packets → ScanServed t scan → ScanServed (clock_with ask t) (after shape t scan ask reply)
-unfolding after MayAnswer reply_at
-served-after shape t scan (Reserve chan contract kind delay up_reach first next) (Is.Offer level reach) fits same order left served =
-    served-with t scan _ (stand-reserved (HasSource t) scan.packets scan.gone scan.rows (new_row (tentative chan contract kind first next up_reach level reach)) refl (source-new t (tentative chan contract kind first next up_reach level reach)) served.stand) served
-served-after shape t scan (Relax chan level up_bound) (Is.Relaxed clock) fits same order left served =
-    served-with t scan _ (stand-changed (HasSource t) (is_row_of chan) (relax_row level up_bound) scan.packets (λ row. refl) scan.rows scan.gone (λ row found source.
-    let tells = relax-tells t row.terms level up_bound clock (same ∙ ap (relax_reply t level up_bound) (find-terms chan scan.rows ∙ ap (option_map row_terms) found)) in
-    let own = Each-find (IsInOrder shape t) (is_row_of chan) scan.rows row order.held found in
-    source-relaxed t up_bound level row (own_packets row scan.packets) (own.fresh tells.phase).0 source) served.stand) served
-served-after shape t scan (Deny chan) Is.Denied fits same order left served =
-    served-with t scan _ (stand-denied (HasSource t) (is_row_of chan) scan.packets scan.gone scan.rows served.stand) served
-served-after shape t scan (Submit chan count gap size) (Is.Planned clock) fits same order left served =
-    served-with t scan _ (stand-changed (HasSource t) (is_row_at_hop chan true) (plan_row t count gap size) scan.packets (λ row. refl) scan.rows scan.gone (λ row found source.
-    source-planned t count gap size row (own_packets row scan.packets) fits.gap_least (submit-tells t size row.terms (length (left_at t row.plan)) clock (same ∙ ap (submit_to t size) found)).1 source) served.stand) served
-served-after shape t scan (Release chan upstream) (Is.Closing count cancelled) fits same order left served =
-    served-with t scan _ (stand-changed (HasSource t) (is_row_at_hop chan (names_first_hop upstream)) (close_row t count) scan.packets (λ row. refl) scan.rows scan.gone (λ row found source.
-    source-closed t count row (own_packets row scan.packets) source) served.stand) served
-served-after shape t scan (Arrive packet) (Is.Taken clock eligible) fits same order left served =
-    served-arrival shape t packet scan (find (is_row_of packet.chan) scan.rows) clock eligible refl same served
-served-after shape t scan Tick reply fits same order left served = served-tick shape t scan order left served
-served-after shape t scan (Pour count gap size) (Is.Planned clock) fits same order left served = record { stand = served.stand; made = served.made }
-served-after shape t scan _ _ fits same order left served = served
+served-effect : (shape : LinkShape) (t : ℕ) (scan : Scan) (effect : Effect) → EffectFits shape t scan effect → ScanInOrder shape t scan → Each (HasLeftInTime shape t (starts_below shape.rate scan.packets t)) scan.packets → ScanServed t scan → ScanServed (clock_by effect t) (with_effect shape t scan effect)
+unfolding with_effect with_arrival
+served-effect shape t scan Ticks fits order left served = served-tick shape t scan order left served
+served-effect shape t scan effect fits order left served = record {
+  stand = stand-effect HasSource shape t scan effect (sources-stay shape t scan order) (served-tick shape t scan order left served).stand fits served.stand;
+  made = served.made;
+}
 
 -- after an admissible history
 pub legal-served : (shape : LinkShape) (h : List Entry) → IsAdmissible shape h → ScanServed (clock_of h) (scan_of shape h)
-unfolding IsAdmissible scan_of clock_of
-legal-served shape [] legal = record { stand = record { leads = tt; beside = tt; held = tt; apart = tt }; made = tt }
-legal-served shape (e ∷ past) legal =
-    served-after shape (clock_of past) (scan_of shape past) e.ask e.reply legal.1.fits legal.1.answered (legal-order shape past legal.0) (guaranteed shape past legal.0).in_time (legal-served shape past legal.0)
+legal-served shape h legal =
+    each-admissible ScanServed shape (record { stand = record { leads = tt; beside = tt; held = tt; apart = tt }; made = tt })
+    (λ past effect may fits. served-effect shape (clock_of past) (scan_of shape past) effect fits (legal-order shape past may) (guaranteed shape past may).in_time) h legal
 
 -- ---- the guarantee
 

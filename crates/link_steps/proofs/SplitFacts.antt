@@ -15,7 +15,7 @@ use Rattle.traffic_contract.specs.Admission.{total, work_up_to, load, Passes, wi
 use Rattle.traffic_contract.specs.Contract.{Traffic}
 use Rattle.traffic_contract.proofs.AdmissionFacts.{total-map, total-push, work_up_to-above, work_up_to-le, PassesAt-whole, Decides-admits, first_level-is}
 use Rattle.link_steps.specs.declared.asks.Ask.{Ask}
-use Rattle.link_steps.specs.declared.asks.Ask.TheVariants.{Reserve, Relax, Deny, Submit, Release, Arrive, Tick, Pour}
+use Rattle.link_steps.specs.declared.asks.Ask.TheVariants.{Reserve}
 use Rattle.link_steps.specs.declared.replies.Reply.{Reply}
 use Rattle.link_steps.specs.declared.replies.Reply.TheVariants as Is
 use Rattle.link_steps.specs.Admissible.{MayOffer, MayAnswer}
@@ -28,11 +28,14 @@ use Rattle.link_steps.specs.Rows.{Row, row_terms, new_row}
 use Rattle.link_steps.specs.Scan.{Scan, after}
 use Rattle.link_steps.specs.Shape.{server_of}
 use Rattle.link_steps.specs.Split.{Link, is_split, group_of, is_in, level_part, buffer_part, SplitFits}
+use Rattle.link_steps.specs.Effects.{effect_of}
+use Rattle.link_steps.specs.Legal.{AskFits}
+use Rattle.link_steps.proofs.EffectFacts.{by-effect, effect-fits, offer_of, new-offered}
 use Rattle.link_steps.proofs.LegalRowFacts.{IsInOrder}
 use Rattle.link_steps.proofs.ReplyFacts.{OffersBest, offer-best, offer-numbers, offer-may}
 use Rattle.link_steps.proofs.RuleFacts.{need-kept}
 use Rattle.link_steps.proofs.Shares.{Share, amount_of, in_group, within-together}
-use Rattle.link_steps.proofs.SumAfter.{OnlyNewRaise, sum-after}
+use Rattle.link_steps.proofs.SumAfter.{OnlyNewRaise, added_by, sum-effect}
 use Rattle.link_steps.proofs.UnitsHeld.{units-raise}
 
 -- each group is within its quotas
@@ -186,26 +189,21 @@ within-less link held others less within = record {
   buffer = λ g. (let h = less (group_units link g) (group-units-raise link g) in let w = within.buffer g in omega (arith, h, w));
 }
 
+-- a sum of theirs is raised by a new row alone
+sum-after : (f : Reservation → ℕ) (link : Link) (t : ℕ) (scan : Scan) (ask : Ask) (reply : Reply) → OnlyNewRaise link.shape f → AskFits link.shape ask → MayAnswer link.shape t scan ask reply → Each (IsInOrder link.shape t) scan.rows → total f (map row_terms (after link.shape t scan ask reply).rows) ≤ total f (map row_terms scan.rows) + added_by f (offer_of ask reply)
+sum-after f link t scan ask reply raise fits may order =
+    let added = ap (added_by f) (new-offered scan ask reply) in
+    by-effect (λ clock later. total f (map row_terms later.rows) ≤ total f (map row_terms scan.rows) + added_by f (offer_of ask reply)) link.shape t scan ask reply
+    (let more = sum-effect f link.shape t scan (effect_of scan ask reply) raise (effect-fits link.shape t scan ask reply fits may) order in omega (arith, more, added))
+
 -- after each legal entry they do
-pub within-after : (link : Link) (t : ℕ) (scan : Scan) (ask : Ask) (reply : Reply) → is_split link.split ≡ true → reply ≡ reply_at link t scan ask → MayAnswer link.shape t scan ask reply → Each (IsInOrder link.shape t) scan.rows → AreWithin link (map row_terms scan.rows) → AreWithin link (map row_terms (after link.shape t scan ask reply).rows)
+pub within-after : (link : Link) (t : ℕ) (scan : Scan) (ask : Ask) (reply : Reply) → is_split link.split ≡ true → reply ≡ reply_at link t scan ask → AskFits link.shape ask → MayAnswer link.shape t scan ask reply → Each (IsInOrder link.shape t) scan.rows → AreWithin link (map row_terms scan.rows) → AreWithin link (map row_terms (after link.shape t scan ask reply).rows)
 unfolding after reply_at reserve_reply room_of
-within-after link t scan (Reserve chan contract kind delay up_reach first next) (Is.Offer level reach) splits same may order within =
+within-after link t scan (Reserve chan contract kind delay up_reach first next) (Is.Offer level reach) splits same fits may order within =
     let new : Row = new_row (tentative chan contract kind first next up_reach level reach) in
     let e : map row_terms (scan.rows ++ new ∷ []) ≡ map row_terms scan.rows ++ tentative chan contract kind first next up_reach level reach ∷ [] = map-append row_terms scan.rows (new ∷ []) in
     let in_group : Is.Offer level reach ≡ reserve_reply_in link.shape (map row_terms scan.rows) chan contract delay up_reach (group_room link (map row_terms scan.rows) (group_of link.split chan) contract) = (rw splits at same) in
     let offers = offer-best link.shape (map row_terms scan.rows) chan contract delay up_reach (group_room link (map row_terms scan.rows) (group_of link.split chan) contract) level reach in_group in
     subst (AreWithin link) (sym e) (within-offered link (map row_terms scan.rows) chan contract kind first next delay up_reach level reach within offers)
-within-after link t scan (Reserve chan contract kind delay up_reach first next) (Is.Relaxed clock) splits same may order within = within
-within-after link t scan (Reserve chan contract kind delay up_reach first next) Is.Denied splits same may order within = within
-within-after link t scan (Reserve chan contract kind delay up_reach first next) (Is.Planned clock) splits same may order within = within
-within-after link t scan (Reserve chan contract kind delay up_reach first next) (Is.Closing count cancelled) splits same may order within = within
-within-after link t scan (Reserve chan contract kind delay up_reach first next) (Is.Taken clock e) splits same may order within = within
-within-after link t scan (Reserve chan contract kind delay up_reach first next) (Is.Ticked clock full sent best_sent best_lost) splits same may order within = within
-within-after link t scan (Reserve chan contract kind delay up_reach first next) (Is.Refused refusal) splits same may order within = within
-within-after link t scan (Relax chan level up_bound) reply splits same may order within = within-less link (map row_terms scan.rows) _ (λ f raise. (let h = sum-after f link.shape t scan (Relax chan level up_bound) reply raise may order in omega (arith, h))) within
-within-after link t scan (Deny chan) reply splits same may order within = within-less link (map row_terms scan.rows) _ (λ f raise. (let h = sum-after f link.shape t scan (Deny chan) reply raise may order in omega (arith, h))) within
-within-after link t scan (Submit chan count gap size) reply splits same may order within = within-less link (map row_terms scan.rows) _ (λ f raise. (let h = sum-after f link.shape t scan (Submit chan count gap size) reply raise may order in omega (arith, h))) within
-within-after link t scan (Release chan upstream) reply splits same may order within = within-less link (map row_terms scan.rows) _ (λ f raise. (let h = sum-after f link.shape t scan (Release chan upstream) reply raise may order in omega (arith, h))) within
-within-after link t scan (Arrive packet) reply splits same may order within = within-less link (map row_terms scan.rows) _ (λ f raise. (let h = sum-after f link.shape t scan (Arrive packet) reply raise may order in omega (arith, h))) within
-within-after link t scan Tick reply splits same may order within = within-less link (map row_terms scan.rows) _ (λ f raise. (let h = sum-after f link.shape t scan Tick reply raise may order in omega (arith, h))) within
-within-after link t scan (Pour count gap size) reply splits same may order within = within-less link (map row_terms scan.rows) _ (λ f raise. (let h = sum-after f link.shape t scan (Pour count gap size) reply raise may order in omega (arith, h))) within
+within-after link t scan ask reply splits same fits may order within =
+    within-less link (map row_terms scan.rows) _ (λ f raise. (let h = sum-after f link t scan ask reply raise fits may order in omega (arith, h))) within

@@ -1,12 +1,12 @@
 -- No eligible tick of an admissible history reaches 2^63, while its clock is below 2^61. A row's newest eligible tick is past
 -- 2^62 by at most an interval for each of its packets that are eligible later than that. None of these has departed, so
 -- they are no more than the row's slots.
-use Rattle.std.proofs.Common.{◌≡◌, ℕ, zero, suc, ◌+◌, ◌-◌, ◌*◌, ◌^◌, ◌<◌, ◌≤◌, Bool, true, false, List, [], ◌∷◌, ◌++◌, length, map, max, Option, Some, None, inl, inr, ⊎_elim, refl, ap, ◌∙◌, arith, append-nil, length-append}
+use Rattle.std.proofs.Common.{◌≡◌, ℕ, zero, suc, ◌+◌, ◌-◌, ◌*◌, ◌^◌, ◌<◌, ◌≤◌, Bool, true, false, List, [], ◌∷◌, ◌++◌, length, map, max, inl, inr, ⊎_elim, refl, ap, ◌∙◌, arith, append-nil, length-append}
 use Rattle.std.proofs.Math.Nat.{mul-le-mul_left, mul-le-mul_right}
 use Rattle.std.proofs.lemmas.Bool.{cases_Bool, cases_lt, cond_both, eqb-true, lt-ltb, ltb-true}
 use Rattle.std.proofs.lemmas.List.Elements.{filter-append}
 use Rattle.std.specs.List.{list_any}
-use Rattle.std.specs.Prelude.{filter, find, nat_lt}
+use Rattle.std.specs.Prelude.{filter, nat_lt}
 use Rattle.net_units.specs.LevelBounds.{last_bound}
 use Rattle.net_units.specs.declared.Kind.{Kind}
 use Rattle.net_units.specs.declared.Kind.TheVariants.{Rate, Jitter}
@@ -15,26 +15,21 @@ use Rattle.traffic_contract.specs.Contract.{most_in}
 use Rattle.traffic_contract.specs.Eligible.{newest, first_from, eligible}
 use Rattle.traffic_contract.specs.Keeping.{may_follow}
 use Rattle.traffic_contract.proofs.EligibleFacts.{get_or-le-newest}
-use Rattle.link_steps.specs.declared.asks.Ask.{Ask}
-use Rattle.link_steps.specs.declared.asks.Ask.TheVariants.{Reserve, Relax, Deny, Submit, Release, Arrive, Tick, Pour}
-use Rattle.link_steps.specs.declared.asks.Packet.{Packet}
 use Rattle.link_steps.specs.declared.replies.Entry.{Entry}
-use Rattle.link_steps.specs.declared.replies.Reply.{Reply}
-use Rattle.link_steps.specs.declared.replies.Reply.TheVariants as Is
 use Rattle.link_steps.specs.declared.shape.LinkShape.{LinkShape}
 use Rattle.link_steps.specs.Admissible.{IsAdmissible}
 use Rattle.link_steps.specs.Belonging.{own_packets}
 use Rattle.link_steps.specs.Buffer.{stay_of, slots_of, kept_units, has_lead, held_packets}
 use Rattle.link_steps.specs.Hold.{expires, stays}
-use Rattle.link_steps.specs.Legal.{AskFits, PacketFits}
 use Rattle.link_steps.specs.Lists.{Each}
 use Rattle.link_steps.specs.Regulator.{waits_until, eligible_next}
-use Rattle.link_steps.specs.Reservation.{Reservation, tentative}
-use Rattle.link_steps.specs.Rows.{Row, row_terms, new_row}
-use Rattle.link_steps.specs.Scan.{Scan, clock_of, is_row_of, is_row_at_hop, names_first_hop, relax_row, plan_row, close_row, arrived_packet, arrived_row, with_arrival, without_expired, with_sources, with_best, best_step_at, after_tick, after, scan_of}
+use Rattle.link_steps.specs.Reservation.{Reservation}
+use Rattle.link_steps.specs.Rows.{Row, row_terms}
+use Rattle.link_steps.specs.Scan.{Scan, clock_of, arrived_packet, without_expired, with_sources, with_best, best_step_at, after_tick, scan_of}
 use Rattle.link_steps.specs.Service.{Arrival, starts_below, here_at, is_here, is_start_of, has_departed}
 use Rattle.link_steps.specs.Slots.{HasSlots, IsSoon, HasSoonTicks, TicksAreSoon}
 use Rattle.link_steps.specs.Sources.{SourceStep, Rests, Brings, Drops, step_of, packet_of, row_after}
+use Rattle.link_steps.proofs.EffectFacts.{each-admissible, clock_by-later}
 use Rattle.link_steps.proofs.BusyPeriods.{departed-has-started}
 use Rattle.link_steps.proofs.ChangeFacts.{Each-from_among}
 use Rattle.link_steps.proofs.Departures.{starts-eligible, IsEligibleStart}
@@ -43,12 +38,11 @@ use Rattle.link_steps.proofs.LegalRowFacts.{IsInOrder}
 use Rattle.link_steps.proofs.ListFacts.{Each-both, Each-filter, Each-if, Each-mapped, Among}
 use Rattle.link_steps.proofs.NewPackets.{packets-numbered, same-number}
 use Rattle.link_steps.proofs.RowPackets.{IsHeld, RowsStand, stand-sources}
-use Rattle.link_steps.proofs.RowsStanding.{stand-expired, stand-reserved, stand-denied, stand-changed, stand-arrives}
+use Rattle.link_steps.proofs.RowsStanding.{Stands, stand-effect, stand-expired}
 use Rattle.link_steps.proofs.ServiceFacts.{HasBegun, starts-begun, starts-fact}
 use Rattle.link_steps.proofs.SlotsHeld.{filter-fewer, slots-held}
 use Rattle.link_steps.proofs.SourceHistory.{held-here, stand-best}
 use Rattle.link_steps.proofs.UnitsHeld.{units-held}
-use Rattle.link_steps.proofs.ClockFacts.{clock_with-later}
 
 -- ---- one more eligible tick
 
@@ -115,39 +109,20 @@ paced-tick shape t scan soon stand =
 
 -- ---- the other entries
 
-paced-arrival : (t : ℕ) (packet : Packet) (scan : Scan) (found : Option Row) → find (is_row_of packet.chan) scan.rows ≡ found → t ≤ 2 ^ 62 → PacketFits packet → RowsStand IsPaced IsPaced scan.packets scan.gone scan.rows → RowsStand IsPaced IsPaced (with_arrival t packet scan found).packets (with_arrival t packet scan found).gone (with_arrival t packet scan found).rows
-unfolding with_arrival
-paced-arrival t packet scan None is soon fits stand = stand
-paced-arrival t packet scan (Some row) is soon fits stand =
-    let due = fits.due_most in
-    stand-arrives IsPaced (is_row_of packet.chan) (arrived_row t (suc (length scan.packets)) packet) scan.packets (arrived_packet t (suc (length scan.packets)) packet row) row refl refl
-    (λ paced. record { upto = paced-more row.terms row.ticks t packet.due (own_packets row scan.packets) (arrived_packet t (suc (length scan.packets)) packet row) soon (omega (arith, due)) refl paced.upto })
-    scan.rows scan.gone is stand
-
-paced-after : (shape : LinkShape) (t : ℕ) (scan : Scan) (ask : Ask) (reply : Reply) → t ≤ 2 ^ 62 → AskFits shape ask → RowsStand IsPaced IsPaced scan.packets scan.gone scan.rows → RowsStand IsPaced IsPaced (after shape t scan ask reply).packets (after shape t scan ask reply).gone (after shape t scan ask reply).rows
-unfolding after
-paced-after shape t scan (Reserve chan contract kind delay up_reach first next) (Is.Offer level reach) soon fits stand =
-    stand-reserved IsPaced scan.packets scan.gone scan.rows (new_row (tentative chan contract kind first next up_reach level reach)) refl (record { upto = omega arith }) stand
-paced-after shape t scan (Relax chan level up_bound) (Is.Relaxed clock) soon fits stand =
-    stand-changed IsPaced (is_row_of chan) (relax_row level up_bound) scan.packets (λ row. refl) scan.rows scan.gone (λ row found paced. record { upto = paced.upto }) stand
-paced-after shape t scan (Deny chan) Is.Denied soon fits stand = stand-denied IsPaced (is_row_of chan) scan.packets scan.gone scan.rows stand
-paced-after shape t scan (Submit chan count gap size) (Is.Planned clock) soon fits stand =
-    stand-changed IsPaced (is_row_at_hop chan true) (plan_row t count gap size) scan.packets (λ row. refl) scan.rows scan.gone (λ row found paced. record { upto = paced.upto }) stand
-paced-after shape t scan (Release chan upstream) (Is.Closing count cancelled) soon fits stand =
-    stand-changed IsPaced (is_row_at_hop chan (names_first_hop upstream)) (close_row t count) scan.packets (λ row. refl) scan.rows scan.gone (λ row found paced. record { upto = paced.upto }) stand
-paced-after shape t scan (Arrive packet) (Is.Taken clock eligible) soon fits stand = paced-arrival t packet scan (find (is_row_of packet.chan) scan.rows) refl soon fits stand
-paced-after shape t scan Tick reply soon fits stand = paced-tick shape t scan soon stand
-paced-after shape t scan (Pour count gap size) (Is.Planned clock) soon fits stand = stand
-paced-after shape t scan _ _ soon fits stand = stand
-
--- ---- every entry
-
 rows-paced : (shape : LinkShape) (h : List Entry) → clock_of h ≤ 2 ^ 62 → IsAdmissible shape h → RowsStand IsPaced IsPaced (scan_of shape h).packets (scan_of shape h).gone (scan_of shape h).rows
-unfolding IsAdmissible scan_of clock_of
-rows-paced shape [] soon legal = record { leads = tt; beside = tt; held = tt; apart = tt }
-rows-paced shape (e ∷ past) soon legal =
-    let before : clock_of past ≤ 2 ^ 62 = (let h = clock_with-later e.ask (clock_of past) in omega (arith, h, soon)) in
-    paced-after shape (clock_of past) (scan_of shape past) e.ask e.reply before legal.1.fits (rows-paced shape past before legal.0)
+rows-paced shape h soon legal =
+    each-admissible (λ t scan. t ≤ 2 ^ 62 → Stands IsPaced scan) shape (λ begins. record { leads = tt; beside = tt; held = tt; apart = tt })
+    (λ past effect may fits paced after.
+    let later = clock_by-later effect (clock_of past) in
+    let before : clock_of past ≤ 2 ^ 62 = omega (arith, later, after) in
+    stand-effect (λ t. IsPaced) shape (clock_of past) (scan_of shape past) effect
+    (record {
+      added = λ terms offer. record { upto = omega arith };
+      changed = λ test change row found suits is. record { upto = is.upto };
+      taken = λ packet row takes is. (let due = takes.asked.due_most in
+          record { upto = paced-more row.terms row.ticks (clock_of past) packet.due (own_packets row (scan_of shape past).packets) (arrived_packet (clock_of past) (suc (length (scan_of shape past).packets)) packet row) before (omega (arith, due)) refl is.upto });
+    })
+    (paced-tick shape (clock_of past) (scan_of shape past) before (paced before)) fits (paced before)) h legal soon
 
 -- ---- a late packet is here
 

@@ -1,25 +1,23 @@
 -- The held rows of an admissible history never keep more than the link's buffer.
-use Rattle.std.proofs.Common.{◌≡◌, ℕ, ◌+◌, ◌*◌, ◌≤◌, List, [], ◌∷◌, map, refl, ap, arith}
+use Rattle.std.proofs.Common.{◌≡◌, ℕ, ◌+◌, ◌*◌, ◌≤◌, List, map, refl, ap, arith}
 use Rattle.std.proofs.Math.Nat.{mul-le-mul_right}
 use Rattle.net_units.proofs.BoundFacts.{bound_at-rising}
 use Rattle.net_units.specs.Numbers.{level_number}
 use Rattle.traffic_contract.specs.Admission.{total}
 use Rattle.traffic_contract.specs.Contract.{IsContract, most_in}
 use Rattle.traffic_contract.proofs.LongerWindows.{most_in-mono}
-use Rattle.link_steps.specs.declared.asks.Ask.{Ask}
-use Rattle.link_steps.specs.declared.asks.Ask.TheVariants.{Reserve}
 use Rattle.link_steps.specs.declared.replies.Entry.{Entry}
 use Rattle.link_steps.specs.declared.replies.Phase.TheVariants.{Committed}
-use Rattle.link_steps.specs.declared.replies.Reply.{Reply}
-use Rattle.link_steps.specs.declared.replies.Reply.TheVariants as Is
 use Rattle.link_steps.specs.declared.shape.LinkShape.{LinkShape}
-use Rattle.link_steps.specs.Admissible.{MayAnswer, IsAdmissible}
+use Rattle.link_steps.specs.Admissible.{IsAdmissible}
 use Rattle.link_steps.specs.Buffer.{stay_in, kept_units, need_of, free_units}
 use Rattle.link_steps.specs.Reservation.{Reservation, committed, closing}
 use Rattle.link_steps.specs.Rows.{row_terms}
 use Rattle.link_steps.specs.Scan.{Scan, clock_of, scan_of}
+use Rattle.link_steps.specs.Effects.{Effect, Adds}
+use Rattle.link_steps.proofs.EffectFacts.{EffectFits, each-admissible, new_in}
 use Rattle.link_steps.proofs.LegalOrder.{legal-order}
-use Rattle.link_steps.proofs.SumAfter.{OnlyNewRaise, added_by, sum-after}
+use Rattle.link_steps.proofs.SumAfter.{OnlyNewRaise, added_by, sum-effect}
 
 -- a reservation keeps no more where it stays no longer
 units-shorter : (shape : LinkShape) (one other : Reservation) → IsContract one.contract → other.contract ≡ one.contract → stay_in other.phase shape.bounds other ≤ stay_in one.phase shape.bounds one → kept_units shape.bounds other ≤ kept_units shape.bounds one
@@ -44,17 +42,15 @@ units-raise shape = record {
   closed = units-closed shape;
 }
 
-units-after : (shape : LinkShape) (t : ℕ) (scan : Scan) (ask : Ask) (reply : Reply) → MayAnswer shape t scan ask reply → total (kept_units shape.bounds) (map row_terms scan.rows) ≤ shape.buffer → total (kept_units shape.bounds) (map row_terms scan.rows) + added_by (kept_units shape.bounds) ask reply ≤ shape.buffer
-unfolding MayAnswer need_of kept_units free_units
-units-after shape t scan (Reserve chan contract kind delay up_reach first next) (Is.Offer level reach) may held = (let free = may.free in omega (arith, free, held))
-units-after shape t scan _ _ may held = omega (arith, held)
+units-effect : (shape : LinkShape) (t : ℕ) (scan : Scan) (effect : Effect) → EffectFits shape t scan effect → total (kept_units shape.bounds) (map row_terms scan.rows) ≤ shape.buffer → total (kept_units shape.bounds) (map row_terms scan.rows) + added_by (kept_units shape.bounds) (new_in effect) ≤ shape.buffer
+unfolding need_of kept_units free_units
+units-effect shape t scan (Adds terms) fits held = (let free = fits.may.free in rw fits.phase (omega (arith, free, held)))
+units-effect shape t scan _ fits held = omega (arith, held)
 
 pub units-held : (shape : LinkShape) (h : List Entry) → IsAdmissible shape h → total (kept_units shape.bounds) (map row_terms (scan_of shape h).rows) ≤ shape.buffer
-unfolding IsAdmissible scan_of
-units-held shape [] legal = omega arith
-units-held shape (e ∷ past) legal =
-    let before = units-held shape past legal.0 in
-    let order = legal-order shape past legal.0 in
-    let more = sum-after (kept_units shape.bounds) shape (clock_of past) (scan_of shape past) e.ask e.reply (units-raise shape) legal.1.answered order.held in
-    let room = units-after shape (clock_of past) (scan_of shape past) e.ask e.reply legal.1.answered before in
-    omega (arith, more, room)
+units-held shape h legal =
+    each-admissible (λ t scan. total (kept_units shape.bounds) (map row_terms scan.rows) ≤ shape.buffer) shape (omega arith)
+    (λ past effect may fits before.
+    let more = sum-effect (kept_units shape.bounds) shape (clock_of past) (scan_of shape past) effect (units-raise shape) fits (legal-order shape past may).held in
+    let room = units-effect shape (clock_of past) (scan_of shape past) effect fits before in
+    omega (arith, more, room)) h legal

@@ -1,16 +1,13 @@
 -- What the packets of an admissible history bring into a window is at most what the eligible ticks of its rows, held or gone,
 -- bring: each of these ticks in the window is one packet of the row's level, no larger than the contract's largest.
-use Rattle.std.proofs.Common.{◌≡◌, ℕ, suc, ◌+◌, ◌*◌, ◌≤◌, Bool, true, false, cond, ◌&&◌, List, [], ◌∷◌, ◌++◌, length, map, Option, Some, None, refl, ap, ◌∙◌, arith, length-append}
+use Rattle.std.proofs.Common.{◌≡◌, ℕ, suc, ◌+◌, ◌*◌, ◌≤◌, Bool, true, false, cond, ◌&&◌, List, [], ◌∷◌, ◌++◌, length, Option, Some, None, refl, arith, length-append}
 use Rattle.std.proofs.lemmas.Bool.{lt-leb}
 use Rattle.std.proofs.lemmas.List.{reverse-append}
 use Rattle.std.proofs.lemmas.List.Elements.{filter-append}
 use Rattle.std.proofs.Math.Nat.{mul-le-mul_right}
-use Rattle.std.specs.Option.{option_map}
 use Rattle.std.specs.Prelude.{filter, find, reverse, nat_le}
 use Rattle.net_units.specs.Numbers.{level_number}
 use Rattle.net_units.specs.Quotient.{ceil_quotient}
-use Rattle.net_units.specs.declared.numbers.ChanNo.{ChanNo}
-use Rattle.net_units.specs.declared.numbers.Level.{Level}
 use Rattle.traffic_contract.specs.Admission.{total, work_in, work_up_to}
 use Rattle.traffic_contract.specs.Contract.{most_in}
 use Rattle.traffic_contract.specs.Window.{is_in_window as is_tick_in, count_in}
@@ -19,31 +16,26 @@ use Rattle.traffic_contract.proofs.ContractFacts.{burst-least}
 use Rattle.traffic_contract.proofs.LongerWindows.{ceil_quotient-mono}
 use Rattle.traffic_contract.proofs.NewestFirst.{Decides-keeps_newest_first}
 use Rattle.traffic_contract.proofs.WindowFacts.{count_in-le}
-use Rattle.link_steps.specs.declared.asks.Ask.{Ask}
-use Rattle.link_steps.specs.declared.asks.Ask.TheVariants.{Reserve, Relax, Deny, Submit, Release, Arrive, Tick, Pour}
 use Rattle.link_steps.specs.declared.asks.Packet.{Packet}
 use Rattle.link_steps.specs.declared.replies.Entry.{Entry}
-use Rattle.link_steps.specs.declared.replies.Reply.{Reply}
-use Rattle.link_steps.specs.declared.replies.Reply.TheVariants as Is
 use Rattle.link_steps.specs.declared.shape.LinkShape.{LinkShape}
-use Rattle.link_steps.specs.Admissible.{MayAnswer, IsAdmissible}
+use Rattle.link_steps.specs.Admissible.{IsAdmissible}
 use Rattle.link_steps.specs.BusyPeriod.{window_work}
 use Rattle.link_steps.specs.BestEffort.{level_below, best_packet}
 use Rattle.link_steps.specs.Buffer.{has_slot}
 use Rattle.link_steps.specs.Hold.{expires, stays}
-use Rattle.link_steps.specs.Lists.{Each, change_first, without_first}
-use Rattle.link_steps.specs.Replies.{relax_reply, deny_reply, arrive_to, reply_at}
-use Rattle.link_steps.specs.Reservation.{is_of, tentative, admitted}
-use Rattle.link_steps.specs.Rows.{Row, SourcePacket, row_terms, new_row, is_for}
-use Rattle.link_steps.specs.Scan.{Scan, clock_of, is_row_of, is_row_at_hop, names_first_hop, relax_row, plan_row, close_row, arrived_tick, arrived_row, arrived_packet, with_arrival, without_expired, with_sources, with_best, best_step_at, after_tick, after, scan_of}
+use Rattle.link_steps.specs.Lists.{Each}
+use Rattle.link_steps.specs.Reservation.{admitted}
+use Rattle.link_steps.specs.Rows.{Row, SourcePacket, new_row, is_for}
+use Rattle.link_steps.specs.Scan.{Scan, clock_of, is_row_of, arrived_tick, arrived_row, arrived_packet, with_arrival, without_expired, with_sources, with_best, best_step_at, after_tick, scan_of}
 use Rattle.link_steps.specs.Service.{Arrival, here_at}
 use Rattle.link_steps.specs.Sources.{SourceStep, Rests, Brings, Drops, arrival_at, with_packet, source_step, source_tick, step_of, packet_of, row_after, source_packets, rows_after, taken_by}
-use Rattle.link_steps.proofs.AdmissionHolds.{find-terms}
+use Rattle.link_steps.specs.Effects.{Change, Commits, Plans, Closes, Effect, Adds, Changes, Removes, Takes, Ticks, changed_row, is_changed, with_effect}
+use Rattle.link_steps.proofs.EffectFacts.{ChangeFits, TakeFits, EffectFits, each-admissible}
 use Rattle.link_steps.proofs.ChangeFacts.{total-change_first-more, total-change_first-ge, total-without_first-ge, total-filter-both}
 use Rattle.link_steps.proofs.LegalOrder.{ScanInOrder, legal-order}
 use Rattle.link_steps.proofs.LegalRowFacts.{SizeFits, IsInOrder}
 use Rattle.link_steps.proofs.ListFacts.{Each-find, Each-filter}
-use Rattle.link_steps.proofs.ReplyFacts.{relax-tells, deny-tells, arrive-tells}
 
 -- ---- the work of a row's ticks
 
@@ -125,61 +117,44 @@ work-tick shape m u w t scan upto order counts =
 work-with : (shape : LinkShape) (m u w : ℕ) (scan : Scan) (rows : List Row) → total (row_work shape.rate m u w) scan.rows ≤ total (row_work shape.rate m u w) rows → CountsWork shape m u w scan → CountsWork shape m u w (record scan { rows = rows })
 work-with shape m u w scan rows more counts = (let before = counts.most in record { most = omega (arith, more, before) })
 
--- an arrive that is taken
-work-arrival : (shape : LinkShape) (m u w t : ℕ) (packet : Packet) (scan : Scan) (found : Option Row) (clock e : ℕ) → find (is_row_of packet.chan) scan.rows ≡ found → Is.Taken clock e ≡ arrive_to shape t scan.packets packet found → CountsWork shape m u w scan → CountsWork shape m u w (with_arrival t packet scan found)
+-- a row that takes a packet
+work-taken : (shape : LinkShape) (m u w t : ℕ) (packet : Packet) (scan : Scan) (row : Row) → TakeFits shape t scan packet row → CountsWork shape m u w scan → CountsWork shape m u w (with_arrival t packet scan (Some row))
 unfolding with_arrival
-work-arrival shape m u w t packet scan None clock e is same counts = counts
-work-arrival shape m u w t packet scan (Some row) clock e is same counts =
-    let takes = arrive-tells shape.bounds t packet row.terms _ _ _ clock e same in
+work-taken shape m u w t packet scan row fits counts =
+    let takes = fits.takes in
     let place : ℕ = suc (length scan.packets) in
     let own = row_work-packet shape m u w (suc (length scan.packets)) packet.number packet.size t (arrived_tick t packet row) (suc (length scan.packets)) row takes.fits in
-    let more = total-change_first-more (row_work shape.rate m u w) (is_row_of packet.chan) (arrived_row t (suc (length scan.packets)) packet) (window_work shape.rate m u w (arrived_packet t (suc (length scan.packets)) packet row)) row scan.rows is own in
+    let more = total-change_first-more (row_work shape.rate m u w) (is_row_of packet.chan) (arrived_row t (suc (length scan.packets)) packet) (window_work shape.rate m u w (arrived_packet t (suc (length scan.packets)) packet row)) row scan.rows fits.found own in
     let packets = total-append (window_work shape.rate m u w) scan.packets (arrived_packet t (suc (length scan.packets)) packet row ∷ []) in
     let before = counts.most in
     record { most = omega (arith, more, packets, before) }
 
--- a relax changes the level of a row that has no ticks, and so takes nothing away
-work-relaxed : (shape : LinkShape) (m u w t up_bound clock : ℕ) (level : Level) (chan : ChanNo) (rows : List Row) → Is.Relaxed clock ≡ relax_reply t level up_bound (find (is_of chan) (map row_terms rows)) → Each (IsInOrder shape t) rows → total (row_work shape.rate m u w) rows ≤ total (row_work shape.rate m u w) (change_first (is_row_of chan) (relax_row level up_bound) rows)
-work-relaxed shape m u w t up_bound clock level chan rows same order =
-    total-change_first-ge (row_work shape.rate m u w) (is_row_of chan) (relax_row level up_bound) rows (λ row found.
-    let tells = relax-tells t row.terms level up_bound clock (same ∙ ap (relax_reply t level up_bound) (find-terms chan rows ∙ ap (option_map row_terms) found)) in
-    let own = Each-find (IsInOrder shape t) (is_row_of chan) rows row order found in
-    let none = row_work-fresh shape.rate m u w row (own.fresh tells.phase).0 in
-    omega (arith, none))
+-- a row that is committed has no ticks, and so the change of its level takes nothing away
+work-changed : (shape : LinkShape) (m u w t : ℕ) (change : Change) (row : Row) → ChangeFits shape t change row → IsInOrder shape t row → row_work shape.rate m u w row ≤ row_work shape.rate m u w (changed_row t change row)
+work-changed shape m u w t (Commits level up_bound) row fits order = (let none = row_work-fresh shape.rate m u w row (order.fresh fits.offer.phase).0 in omega (arith, none))
+work-changed shape m u w t (Plans count gap size) row fits order = omega arith
+work-changed shape m u w t (Closes first count) row fits order = omega arith
 
--- a deny takes out a row that has no ticks
-work-denied : (shape : LinkShape) (m u w t : ℕ) (chan : ChanNo) (rows : List Row) → Is.Denied ≡ deny_reply (find (is_of chan) (map row_terms rows)) → Each (IsInOrder shape t) rows → total (row_work shape.rate m u w) rows ≤ total (row_work shape.rate m u w) (without_first (is_row_of chan) rows)
-work-denied shape m u w t chan rows same order =
-    total-without_first-ge (row_work shape.rate m u w) (is_row_of chan) rows (λ row found.
-    let tentative = deny-tells row.terms (same ∙ ap deny_reply (find-terms chan rows ∙ ap (option_map row_terms) found)) in
-    let own = Each-find (IsInOrder shape t) (is_row_of chan) rows row order found in
-    row_work-fresh shape.rate m u w row (own.fresh tentative).0)
-
--- each kind of entry
-work-after : (shape : LinkShape) (m u w t : ℕ) (scan : Scan) (ask : Ask) (reply : Reply) → m ≤ length shape.bounds → MayAnswer shape t scan ask reply → ScanInOrder shape t scan → CountsWork shape m u w scan → CountsWork shape m u w (after shape t scan ask reply)
-unfolding after MayAnswer reply_at
-work-after shape m u w t scan (Reserve chan contract kind delay up_reach first next) (Is.Offer level reach) upto same order counts =
-    (let more = total-append (row_work shape.rate m u w) scan.rows (new_row (tentative chan contract kind first next up_reach level reach) ∷ []) in work-with shape m u w scan _ (omega (arith, more)) counts)
-work-after shape m u w t scan (Relax chan level up_bound) (Is.Relaxed clock) upto same order counts =
-    work-with shape m u w scan _ (work-relaxed shape m u w t up_bound clock level chan scan.rows same order.held) counts
-work-after shape m u w t scan (Deny chan) Is.Denied upto same order counts =
-    work-with shape m u w scan _ (work-denied shape m u w t chan scan.rows same order.held) counts
-work-after shape m u w t scan (Submit chan count gap size) (Is.Planned clock) upto same order counts =
-    work-with shape m u w scan _ (total-change_first-ge (row_work shape.rate m u w) (is_row_at_hop chan true) (plan_row t count gap size) scan.rows (λ row found. omega arith)) counts
-work-after shape m u w t scan (Release chan upstream) (Is.Closing count cancelled) upto same order counts =
-    work-with shape m u w scan _ (total-change_first-ge (row_work shape.rate m u w) (is_row_at_hop chan (names_first_hop upstream)) (close_row t count) scan.rows (λ row found. omega arith)) counts
-work-after shape m u w t scan (Arrive packet) (Is.Taken clock eligible) upto same order counts =
-    work-arrival shape m u w t packet scan (find (is_row_of packet.chan) scan.rows) clock eligible refl same counts
-work-after shape m u w t scan Tick reply upto same order counts = work-tick shape m u w t scan upto order counts
-work-after shape m u w t scan (Pour count gap size) (Is.Planned clock) upto same order counts = record { most = counts.most }
-work-after shape m u w t scan _ _ upto same order counts = counts
+-- each effect that fits
+work-effect : (shape : LinkShape) (m u w t : ℕ) (scan : Scan) (effect : Effect) → m ≤ length shape.bounds → EffectFits shape t scan effect → ScanInOrder shape t scan → CountsWork shape m u w scan → CountsWork shape m u w (with_effect shape t scan effect)
+unfolding with_effect
+work-effect shape m u w t scan (Adds terms) upto fits order counts =
+    (let more = total-append (row_work shape.rate m u w) scan.rows (new_row terms ∷ []) in work-with shape m u w scan _ (omega (arith, more)) counts)
+work-effect shape m u w t scan (Changes chan change) upto fits order counts =
+    work-with shape m u w scan _ (total-change_first-ge (row_work shape.rate m u w) (is_changed chan change) (changed_row t change) scan.rows (λ row found.
+    work-changed shape m u w t change row (fits row found) (Each-find (IsInOrder shape t) (is_changed chan change) scan.rows row order.held found))) counts
+work-effect shape m u w t scan (Removes chan) upto fits order counts =
+    work-with shape m u w scan _ (total-without_first-ge (row_work shape.rate m u w) (is_row_of chan) scan.rows (λ row found.
+    row_work-fresh shape.rate m u w row ((Each-find (IsInOrder shape t) (is_row_of chan) scan.rows row order.held found).fresh (fits row found)).0)) counts
+work-effect shape m u w t scan (Takes packet row) upto fits order counts = work-taken shape m u w t packet scan row fits counts
+work-effect shape m u w t scan Ticks upto fits order counts = work-tick shape m u w t scan upto order counts
+work-effect shape m u w t scan _ upto fits order counts = record { most = counts.most }
 
 -- after every admissible history the packets bring no more into a window than the ticks of the rows, held or gone
 pub legal-work : (shape : LinkShape) (h : List Entry) (m u w : ℕ) → m ≤ length shape.bounds → IsAdmissible shape h → CountsWork shape m u w (scan_of shape h)
-unfolding IsAdmissible scan_of
-legal-work shape [] m u w upto legal = record { most = omega arith }
-legal-work shape (e ∷ past) m u w upto legal =
-    work-after shape m u w (clock_of past) (scan_of shape past) e.ask e.reply upto legal.1.answered (legal-order shape past legal.0) (legal-work shape past m u w upto legal.0)
+legal-work shape h m u w upto legal =
+    each-admissible (λ t scan. CountsWork shape m u w scan) shape (record { most = omega arith })
+    (λ past effect may fits. work-effect shape m u w (clock_of past) (scan_of shape past) effect upto fits (legal-order shape past may)) h legal
 
 -- ---- what the contract lets a row bring
 

@@ -10,6 +10,7 @@ pub mod Sources
 pub mod BestEffort
 pub mod Hold
 pub mod Scan
+pub mod Effects
 pub mod Belonging
 pub mod Slots
 pub mod Split
