@@ -4,45 +4,39 @@ use Rattle.std.proofs.lemmas.Bool.{cases_Bool, eqb-true, eqb-false, eq-eqb, ne_e
 use Rattle.std.proofs.lemmas.List.{length-reverse, map-append, reverse-append, length-map}
 use Rattle.std.proofs.lemmas.List.Elements.{filter-append}
 use Rattle.std.proofs.lemmas.Option.{same_Some}
-use Rattle.std.specs.Prelude.{filter, find, reverse, nat_eq}
+use Rattle.std.specs.Prelude.{filter, find, reverse, nat_eq, if◌then◌else◌}
 use Rattle.net_units.specs.Numbers.{channel_number, level_number}
-use Rattle.net_units.specs.declared.Kind.{Kind}
 use Rattle.net_units.specs.declared.numbers.ChanNo.{ChanNo}
-use Rattle.net_units.specs.declared.numbers.Level.{Level}
-use Rattle.net_units.specs.declared.numbers.LinkNo.{LinkNo}
-use Rattle.traffic_contract.specs.Contract.{Traffic, IsContract}
+use Rattle.traffic_contract.specs.Contract.{IsContract}
 use Rattle.traffic_contract.specs.Keeping.{keeps_newest_first}
 use Rattle.link_steps.specs.declared.asks.Ask.{Ask}
-use Rattle.link_steps.specs.declared.asks.Ask.TheVariants.{Reserve, Relax, Deny, Submit, Release, Arrive, Tick, Pour}
+use Rattle.link_steps.specs.declared.asks.Ask.TheVariants.{Reserve}
 use Rattle.link_steps.specs.declared.asks.Packet.{Packet}
 use Rattle.link_steps.specs.declared.replies.Entry.{Entry}
 use Rattle.link_steps.specs.declared.replies.Reply.{Reply}
 use Rattle.link_steps.specs.declared.replies.Reply.TheVariants as Is
 use Rattle.link_steps.specs.declared.shape.LinkShape.{LinkShape}
 use Rattle.link_steps.specs.Hold.{stays}
-use Rattle.link_steps.specs.Admissible.{MayAnswer, IsAdmissible}
-use Rattle.link_steps.specs.Legal.{AskFits}
+use Rattle.link_steps.specs.Admissible.{IsAdmissible}
 use Rattle.link_steps.specs.Lists.{Each, change_first}
-use Rattle.link_steps.specs.Refusals.{first_hop, uncommitted, wrong_number}
 use Rattle.link_steps.specs.Regulator.{eligible_next}
-use Rattle.link_steps.specs.Replies.{relax_reply, arrive_reply, arrive_to, reply_at}
-use Rattle.link_steps.specs.Reservation.{Reservation, is_of, is_same, tentative}
-use Rattle.link_steps.specs.Rows.{Row, row_terms, new_row, is_for, made_by}
-use Rattle.link_steps.specs.Scan.{Scan, clock_of, is_row_of, is_row_at_hop, names_first_hop, relax_row, plan_row, close_row, arrived_packet, arrived_row, with_arrival, without_expired, with_sources, with_best, best_step_at, after_tick, after, scan_of}
+use Rattle.link_steps.specs.Replies.{arrive_reply}
+use Rattle.link_steps.specs.Reservation.{Reservation, is_of, is_same}
+use Rattle.link_steps.specs.Rows.{Row, new_row, is_for, made_by}
+use Rattle.link_steps.specs.Scan.{Scan, clock_of, is_row_of, is_row_at_hop, arrived_packet, arrived_row, with_arrival, without_expired, with_sources, with_best, best_step_at, after_tick, scan_of}
 use Rattle.link_steps.specs.Service.{Arrival, here_at}
 use Rattle.link_steps.specs.Buffer.{has_slot}
 use Rattle.link_steps.specs.Sources.{SourceStep, Rests, Brings, Drops, source_step, arrival_at, with_packet, source_tick, step_of, packet_of, row_after, taken_by, source_packets, rows_after}
 use Rattle.link_steps.specs.BestEffort.{best_packet}
-use Rattle.link_steps.proofs.AdmissionHolds.{find-terms}
+use Rattle.link_steps.specs.Effects.{Change, Commits, Plans, Closes, Effect, Adds, Changes, Removes, Takes, Ticks, changed_row, is_changed, level_with, plan_with, with_effect}
+use Rattle.link_steps.proofs.EffectFacts.{ChangeFits, TakeFits, EffectFits, changed-row, by-fit, new_in, offer_of}
 use Rattle.link_steps.proofs.ChangeFacts.{Each-change_found}
 use Rattle.link_steps.proofs.LegalChannels.{DifferInChannel, legal-channels, differ-filter}
 use Rattle.link_steps.proofs.LegalOrder.{ScanInOrder, legal-order}
 use Rattle.link_steps.proofs.LegalRowFacts.{IsInOrder, keeps-more}
 use Rattle.link_steps.proofs.ListFacts.{Each-append, Each-filter, Each-find, Each-if, Each-change_first, Each-without_first, Each-mapped}
-use Rattle.link_steps.proofs.RefusalFacts.{kept-rule, unless-none}
-use Rattle.link_steps.proofs.ReplyFacts.{relax-tells}
-use Rattle.std.specs.Option.{option_map}
-use Rattle.channel_laws.specs.Channels.{HopTerms, is_of_channel, channel_packets, tick_of_packet, channel_of, offers_with, offers_to, OffersTerms, AllOfferTerms, AreNumberedAfter, RowTells, IsElsewhere, IsOnly, IsFree, HasOneRow, ChannelStands}
+use Rattle.link_steps.proofs.ReplyFacts.{arrive-tells}
+use Rattle.channel_laws.specs.Channels.{HopTerms, is_of_channel, channel_packets, tick_of_packet, channel_of, offers_with, offers_to, OffersTerms, AllOfferTerms, AreNumberedAfter, RowTells, IsElsewhere, IsOnly, IsFree, HasOneRow, ChannelStands, NamesTerms}
 
 -- ---- packets
 
@@ -194,19 +188,14 @@ at-first chan r passed = same-true r.terms.first (and_parts (is_of chan r.terms)
 -- ---- an arrive
 
 pub arrive-number : (bounds : List ℕ) (t : ℕ) (packet : Packet) (terms : Reservation) (taken held e clock eligible : ℕ) → Is.Taken clock eligible ≡ arrive_reply bounds t packet terms taken held e → packet.number ≡ suc taken
-unfolding arrive_reply
-arrive-number bounds t packet terms taken held e clock eligible same =
-    let hop = kept-rule (first_hop terms) _ (Is.Taken clock eligible) tt same in
-    let ready = kept-rule (uncommitted terms) _ (Is.Taken clock eligible) tt hop.1 in
-    let number = kept-rule (wrong_number packet.number (suc taken)) _ (Is.Taken clock eligible) tt ready.1 in
-    eqb-true packet.number (suc taken) (unless-none (nat_eq packet.number (suc taken)) _ number.0)
+arrive-number bounds t packet terms taken held e clock eligible same = (arrive-tells bounds t packet terms taken held e clock eligible same).number
 
-arrival-stands : (shape : LinkShape) (terms : HopTerms) (c n t : ℕ) (packet : Packet) (scan : Scan) (found : Option Row) (clock e : ℕ) → find (is_row_of packet.chan) scan.rows ≡ found → DifferInChannel scan.rows → Is.Taken clock e ≡ arrive_to shape t scan.packets packet found → ChannelStands terms c n scan → ChannelStands terms c n (with_arrival t packet scan found)
+taken-stands : (shape : LinkShape) (terms : HopTerms) (c n t : ℕ) (packet : Packet) (scan : Scan) (row : Row) → TakeFits shape t scan packet row → DifferInChannel scan.rows → ChannelStands terms c n scan → ChannelStands terms c n (with_arrival t packet scan (Some row))
 unfolding with_arrival
-arrival-stands shape terms c n t packet scan None clock e is differ same stands = stands
-arrival-stands shape terms c n t packet scan (Some row) clock e is differ same stands =
+taken-stands shape terms c n t packet scan row fits differ stands =
+    let is = fits.found in
     let chan : channel_of row ≡ channel_number packet.chan = row-of packet.chan row (find-passes (is_row_of packet.chan) row scan.rows is) in
-    let number = arrive-number shape.bounds t packet row.terms (length row.ticks) _ _ clock e same in
+    let number = fits.takes.number in
     record {
       free = λ none. (let was = stands.free none in
           let other : channel_of row ≢ c = Each-find (IsElsewhere c) (is_row_of packet.chan) scan.rows row was.rows is in record {
@@ -348,18 +337,38 @@ tick-free shape c t scan free =
 
 -- ---- a reserve
 
-reserved-stands : (terms : HopTerms) (c n : ℕ) (scan : Scan) (chan : ChanNo) (contract : Traffic) (kind : Kind) (first : Bool) (next : Option LinkNo) (delay up_reach : ℕ) (level reach : Level) → IsContract contract → OffersTerms terms c (Reserve chan contract kind delay up_reach first next) (Is.Offer level reach) → ChannelStands terms c n scan
-    → ChannelStands terms c (offers_with c n (Reserve chan contract kind delay up_reach first next) (Is.Offer level reach)) (record scan { rows = scan.rows ++ new_row (tentative chan contract kind first next up_reach level reach) ∷ [] })
+-- the number of offers to the channel with a new reservation, if there is one, and that this names the terms if it is the channel's
+abbrev pub offers_new : ℕ → ℕ → Option Reservation → ℕ
+offers_new c n None = n
+offers_new c n (Some new) = if nat_eq (channel_number new.chan) c then suc n else n
+
+abbrev pub NewTerms : HopTerms → ℕ → Option Reservation → Type 0
+NewTerms terms c None = Unit {0}
+NewTerms terms c (Some new) = channel_number new.chan ≡ c → NamesTerms terms new.contract new.kind new.first new.next
+
+pub offers-new : (c n : ℕ) (ask : Ask) (reply : Reply) (new : Option Reservation) → new ≡ offer_of ask reply → offers_new c n new ≡ offers_with c n ask reply
+offers-new c n ask reply new is = ap (offers_new c n) is ∙ offered ask reply where
+  offered : (ask : Ask) (reply : Reply) → offers_new c n (offer_of ask reply) ≡ offers_with c n ask reply
+  offered (Reserve chan contract kind delay up_reach first next) (Is.Offer level reach) = refl
+  offered _ _ = refl
+
+pub new-terms : (terms : HopTerms) (c : ℕ) (ask : Ask) (reply : Reply) (new : Option Reservation) → new ≡ offer_of ask reply → OffersTerms terms c ask reply → NewTerms terms c new
+new-terms terms c ask reply new is names = subst (NewTerms terms c) (sym is) (offered ask reply names) where
+  offered : (ask : Ask) (reply : Reply) → OffersTerms terms c ask reply → NewTerms terms c (offer_of ask reply)
+  offered (Reserve chan contract kind delay up_reach first next) (Is.Offer level reach) names = names
+  offered _ _ names = tt
+
+added-stands : (terms : HopTerms) (c n : ℕ) (scan : Scan) (new : Reservation) → IsContract new.contract → NewTerms terms c (Some new) → ChannelStands terms c n scan → ChannelStands terms c (offers_new c n (Some new)) (record scan { rows = scan.rows ++ new_row new ∷ [] })
 unfolding keeps_newest_first
-reserved-stands terms c n scan chan contract kind first next delay up_reach level reach valid names stands =
-    elim (cases_Bool (nat_eq (channel_number chan) c)) [
+added-stands terms c n scan new valid names stands =
+    elim (cases_Bool (nat_eq (channel_number new.chan) c)) [
       | inl on ↦
-          (let is : channel_number chan ≡ c = eqb-true (channel_number chan) c on in
+          (let is : channel_number new.chan ≡ c = eqb-true (channel_number new.chan) c on in
           let tells = names is in
           rw on (record {
             free = λ none. absurd (omega (arith, none));
             known = λ one. (let was = stands.free (omega (arith, one)) in record {
-              row = new_row (tentative chan contract kind first next up_reach level reach);
+              row = new_row new;
               tells = record {
                 chan = is;
                 contract_is = tells.contract_is;
@@ -370,7 +379,7 @@ reserved-stands terms c n scan chan contract kind first next delay up_reach leve
                 keeps = refl;
                 eligible = ap (map tick_of_packet) (sym was.packets);
                 numbered = subst (AreNumberedAfter 0) (sym was.packets) tt;
-                levels = subst (Each (λ p. p.level ≡ level_number level)) (sym was.packets) tt;
+                levels = subst (Each (λ p. p.level ≡ level_number new.level)) (sym was.packets) tt;
                 nexts = subst (Each (λ p. p.next ≡ terms.next)) (sym was.packets) tt;
                 unplanned = λ later. refl;
               };
@@ -378,88 +387,72 @@ reserved-stands terms c n scan chan contract kind first next delay up_reach leve
             });
           }))
       | inr off ↦
-          (let other : channel_number chan ≢ c = eqb-false (channel_number chan) c off in
+          (let other : channel_number new.chan ≢ c = eqb-false (channel_number new.chan) c off in
           rw off (record {
             free = λ none. (let was = stands.free (omega (arith, none)) in record { rows = Each-append (IsElsewhere c) scan.rows _ was.rows (other, tt); packets = was.packets });
             known = λ one. (let was = stands.known (omega (arith, one)) in record { row = was.row; tells = was.tells; only = Each-append (IsOnly c was.row) scan.rows _ was.only ((λ is. absurd (other is)), tt) });
           }))
     ]
 
--- ---- each entry
+-- ---- a changed row
 
-after-stands : (shape : LinkShape) (terms : HopTerms) (c n t : ℕ) (scan : Scan) (ask : Ask) (reply : Reply) → AskFits shape ask → MayAnswer shape t scan ask reply → ScanInOrder shape t scan → DifferInChannel scan.rows → OffersTerms terms c ask reply → ChannelStands terms c n scan
-    → ChannelStands terms c (offers_with c n ask reply) (after shape t scan ask reply)
-unfolding after MayAnswer reply_at
-after-stands shape terms c n t scan (Reserve chan contract kind delay up_reach first next) (Is.Offer level reach) fits same order differ names stands =
-    reserved-stands terms c n scan chan contract kind first next delay up_reach level reach fits.is_contract names stands
-after-stands shape terms c n t scan (Relax chan level up_bound) (Is.Relaxed clock) fits same order differ names stands =
-    changed-stands terms c n chan scan (is_row_of chan) (relax_row level up_bound) (row-of chan) (λ r. refl) differ (λ r found tells.
-    let told = relax-tells t r.terms level up_bound clock (same ∙ ap (relax_reply t level up_bound) (find-terms chan scan.rows ∙ ap (option_map row_terms) found)) in
-    let fresh = ((Each-find (IsInOrder shape t) (is_row_of chan) scan.rows r order.held found).fresh told.phase).0 in
-    let none : channel_packets c scan.packets ≡ [] = none-mapped (channel_packets c scan.packets) (sym tells.eligible ∙ ap reverse fresh) in
-    record {
-      chan = tells.chan;
-      contract_is = tells.contract_is;
-      kind_is = tells.kind_is;
-      first_is = tells.first_is;
-      next_is = tells.next_is;
-      valid = tells.valid;
-      keeps = tells.keeps;
-      eligible = tells.eligible;
-      numbered = tells.numbered;
-      levels = subst (Each (λ p. p.level ≡ level_number level)) (sym none) tt;
-      nexts = tells.nexts;
-      unplanned = tells.unplanned;
-    }) stands
-after-stands shape terms c n t scan (Deny chan) Is.Denied fits same order differ names stands = record {
+levels-changed : (shape : LinkShape) (terms : HopTerms) (c t : ℕ) (change : Change) (row : Row) (own : List Arrival) → ChangeFits shape t change row → IsInOrder shape t row → RowTells terms c row own → Each (λ p. p.level ≡ level_number (level_with change row.terms.level)) own
+levels-changed shape terms c t (Commits level up_bound) row own fits order tells =
+    let none : own ≡ [] = none-mapped own (sym tells.eligible ∙ ap reverse (order.fresh fits.offer.phase).0) in
+    subst (Each (λ p. p.level ≡ level_number level)) (sym none) tt
+levels-changed shape terms c t (Plans count gap size) row own fits order tells = tells.levels
+levels-changed shape terms c t (Closes first count) row own fits order tells = tells.levels
+
+unplanned-changed : (terms : HopTerms) (c t : ℕ) (chan : ChanNo) (change : Change) (row : Row) (own : List Arrival) → is_changed chan change row ≡ true → RowTells terms c row own → terms.first ≡ false → plan_with t change row.plan ≡ []
+unplanned-changed terms c t chan (Commits level up_bound) row own passed tells later = tells.unplanned later
+unplanned-changed terms c t chan (Plans count gap size) row own passed tells later = absurd (let clash : false ≡ true = sym later ∙ sym tells.first_is ∙ at-first chan row passed in cc)
+unplanned-changed terms c t chan (Closes first count) row own passed tells later = ap (made_by t) (tells.unplanned later)
+
+tells-changed : (shape : LinkShape) (terms : HopTerms) (c t : ℕ) (chan : ChanNo) (change : Change) (row : Row) (own : List Arrival) → is_changed chan change row ≡ true → ChangeFits shape t change row → IsInOrder shape t row → RowTells terms c row own → RowTells terms c (changed_row t change row) own
+tells-changed shape terms c t chan change row own passed fits order tells = record {
+  chan = tells.chan;
+  contract_is = tells.contract_is;
+  kind_is = tells.kind_is;
+  first_is = tells.first_is;
+  next_is = tells.next_is;
+  valid = tells.valid;
+  keeps = tells.keeps;
+  eligible = tells.eligible;
+  numbered = tells.numbered;
+  levels = levels-changed shape terms c t change row own fits order tells;
+  nexts = tells.nexts;
+  unplanned = unplanned-changed terms c t chan change row own passed tells;
+}
+
+-- ---- each effect
+
+effect-stands : (shape : LinkShape) (terms : HopTerms) (c n t : ℕ) (scan : Scan) (effect : Effect) → EffectFits shape t scan effect → ScanInOrder shape t scan → DifferInChannel scan.rows → NewTerms terms c (new_in effect) → ChannelStands terms c n scan
+    → ChannelStands terms c (offers_new c n (new_in effect)) (with_effect shape t scan effect)
+unfolding with_effect
+effect-stands shape terms c n t scan (Adds new) fits order differ names stands = added-stands terms c n scan new fits.asked.is_contract names stands
+effect-stands shape terms c n t scan (Changes chan change) fits order differ names stands =
+    changed-stands terms c n chan scan (is_changed chan change) (changed_row t change) (changed-row chan change) (λ r. refl) differ (λ r found tells.
+    tells-changed shape terms c t chan change r (channel_packets c scan.packets) (find-passes (is_changed chan change) r scan.rows found) (fits r found) (Each-find (IsInOrder shape t) (is_changed chan change) scan.rows r order.held found) tells) stands
+effect-stands shape terms c n t scan (Removes chan) fits order differ names stands = record {
   free = λ none. (let was = stands.free none in record { rows = Each-without_first (IsElsewhere c) (is_row_of chan) scan.rows was.rows; packets = was.packets });
   known = λ one. (let was = stands.known one in record { row = was.row; tells = was.tells; only = Each-without_first (IsOnly c was.row) (is_row_of chan) scan.rows was.only });
 }
-after-stands shape terms c n t scan (Submit chan count gap size) (Is.Planned clock) fits same order differ names stands =
-    changed-stands terms c n chan scan (is_row_at_hop chan true) (plan_row t count gap size) (row-at-hop chan true) (λ r. refl) differ (λ r found tells. record {
-      chan = tells.chan;
-      contract_is = tells.contract_is;
-      kind_is = tells.kind_is;
-      first_is = tells.first_is;
-      next_is = tells.next_is;
-      valid = tells.valid;
-      keeps = tells.keeps;
-      eligible = tells.eligible;
-      numbered = tells.numbered;
-      levels = tells.levels;
-      nexts = tells.nexts;
-      unplanned = λ later. absurd (let first = at-first chan r (find-passes (is_row_at_hop chan true) r scan.rows found) in let clash : false ≡ true = sym later ∙ sym tells.first_is ∙ first in cc);
-    }) stands
-after-stands shape terms c n t scan (Release chan upstream) (Is.Closing count cancelled) fits same order differ names stands =
-    changed-stands terms c n chan scan (is_row_at_hop chan (names_first_hop upstream)) (close_row t count) (row-at-hop chan (names_first_hop upstream)) (λ r. refl) differ (λ r found tells. record {
-      chan = tells.chan;
-      contract_is = tells.contract_is;
-      kind_is = tells.kind_is;
-      first_is = tells.first_is;
-      next_is = tells.next_is;
-      valid = tells.valid;
-      keeps = tells.keeps;
-      eligible = tells.eligible;
-      numbered = tells.numbered;
-      levels = tells.levels;
-      nexts = tells.nexts;
-      unplanned = λ later. ap (made_by t) (tells.unplanned later);
-    }) stands
-after-stands shape terms c n t scan (Arrive packet) (Is.Taken clock eligible) fits same order differ names stands =
-    arrival-stands shape terms c n t packet scan (find (is_row_of packet.chan) scan.rows) clock eligible refl differ same stands
-after-stands shape terms c n t scan (Pour count gap size) (Is.Planned clock) fits same order differ names stands = record {
+effect-stands shape terms c n t scan (Takes packet row) fits order differ names stands = taken-stands shape terms c n t packet scan row fits differ stands
+effect-stands shape terms c n t scan Ticks fits order differ names stands = tick-stands shape terms c n t scan differ stands
+effect-stands shape terms c n t scan _ fits order differ names stands = record {
   free = λ none. (let was = stands.free none in record { rows = was.rows; packets = was.packets });
   known = λ one. (let was = stands.known one in record { row = was.row; tells = was.tells; only = was.only });
 }
-after-stands shape terms c n t scan Tick reply fits same order differ names stands = tick-stands shape terms c n t scan differ stands
-after-stands shape terms c n t scan _ _ fits same order differ names stands = stands
 
 -- so after a legal history
 pub legal-stands : (shape : LinkShape) (terms : HopTerms) (c : ℕ) (h : List Entry) → IsAdmissible shape h → AllOfferTerms terms c h → ChannelStands terms c (offers_to c h) (scan_of shape h)
 unfolding IsAdmissible scan_of clock_of offers_to
 legal-stands shape terms c [] legal names = record { free = λ none. record { rows = tt; packets = refl }; known = λ one. absurd (omega (arith, one)) }
 legal-stands shape terms c (e ∷ past) legal names =
-    after-stands shape terms c (offers_to c past) (clock_of past) (scan_of shape past) e.ask e.reply legal.1.fits legal.1.answered (legal-order shape past legal.0) (legal-channels shape past legal.0) names.0 (legal-stands shape terms c past legal.0 names.1)
+    by-fit (λ t scan. ChannelStands terms c (offers_with c (offers_to c past) e.ask e.reply) scan) shape past e legal.1 (λ effect new fits.
+    subst (λ n. ChannelStands terms c n (with_effect shape (clock_of past) (scan_of shape past) effect)) (offers-new c (offers_to c past) e.ask e.reply (new_in effect) new)
+    (effect-stands shape terms c (offers_to c past) (clock_of past) (scan_of shape past) effect fits (legal-order shape past legal.0) (legal-channels shape past legal.0)
+    (new-terms terms c e.ask e.reply (new_in effect) new names.0) (legal-stands shape terms c past legal.0 names.1)))
 
 -- where nothing was offered to the channel, any terms do
 none-offered : (terms : HopTerms) (c : ℕ) (ask : Ask) (reply : Reply) (n : ℕ) → offers_with c n ask reply ≡ 0 → (n ≡ 0) × OffersTerms terms c ask reply

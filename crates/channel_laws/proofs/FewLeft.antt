@@ -4,7 +4,7 @@ use Rattle.std.proofs.lemmas.Bool.{cases_lt, lt-leb, le-leb}
 use Rattle.std.specs.Prelude.{find}
 use Rattle.net_units.specs.Limits.{most_packets}
 use Rattle.link_steps.specs.declared.asks.Ask.{Ask}
-use Rattle.link_steps.specs.declared.asks.Ask.TheVariants.{Reserve, Relax, Deny, Submit, Release, Arrive, Tick, Pour}
+use Rattle.link_steps.specs.declared.asks.Ask.TheVariants.{Submit, Release}
 use Rattle.link_steps.specs.declared.replies.Entry.{Entry}
 use Rattle.link_steps.specs.declared.replies.Reply.{Reply}
 use Rattle.link_steps.specs.declared.replies.Reply.TheVariants as Is
@@ -83,10 +83,4 @@ few-cancelled shape h (Release own up) reply chan upstream legal is same = subst
   by : (found : Option Row) → find (is_row_at_hop own (names_first_hop up)) (scan_of shape h).rows ≡ found → FewCancelled (release_to (clock_of h) up found)
   by None none = tt
   by (Some row) some = closing-few (clock_of h) up row.terms (length row.ticks) (length (left_at (clock_of h) row.plan)) (Each-find (On FewLeft (clock_of h)) (is_row_at_hop own (names_first_hop up)) (scan_of shape h).rows row (few-left shape h legal) some)
-few-cancelled shape h (Reserve c contract kind delay up_reach first next) reply chan upstream legal is same = cc
-few-cancelled shape h (Relax c level up_bound) reply chan upstream legal is same = cc
-few-cancelled shape h (Deny c) reply chan upstream legal is same = cc
-few-cancelled shape h (Submit c count gap size) reply chan upstream legal is same = cc
-few-cancelled shape h (Arrive packet) reply chan upstream legal is same = cc
-few-cancelled shape h Tick reply chan upstream legal is same = cc
-few-cancelled shape h (Pour count gap size) reply chan upstream legal is same = cc
+few-cancelled shape h _ reply chan upstream legal is same = cc

@@ -1,12 +1,11 @@
 -- At a channel's first hop, where its source keeps its contract, each of its packets is eligible in the tick in which it
 -- arrives, whether its row is held or gone.
-use Rattle.std.proofs.Common.{◌≡◌, ◌≢◌, ℕ, suc, ◌≤◌, Bool, true, false, not, List, [], ◌∷◌, ◌++◌, length, Option, Some, None, refl, sym, ap, ◌∙◌, subst, inl, inr, arith, append-nil}
+use Rattle.std.proofs.Common.{◌≡◌, ◌≢◌, ℕ, suc, ◌≤◌, Bool, true, false, not, List, [], ◌∷◌, ◌++◌, length, refl, sym, ap, ◌∙◌, subst, inl, inr, arith, append-nil}
 use Rattle.std.proofs.lemmas.Bool.{cases_Bool, cases_lt, eqb-true, eqb-false}
-use Rattle.std.specs.Prelude.{filter, find, nat_eq}
+use Rattle.std.specs.Prelude.{filter, nat_eq}
 use Rattle.net_units.specs.Numbers.{channel_number}
 use Rattle.link_steps.specs.declared.asks.Ask.{Ask}
-use Rattle.link_steps.specs.declared.asks.Ask.TheVariants.{Reserve, Relax, Deny, Submit, Release, Arrive, Tick, Pour}
-use Rattle.link_steps.specs.declared.asks.Packet.{Packet}
+use Rattle.link_steps.specs.declared.asks.Ask.TheVariants.{Reserve}
 use Rattle.link_steps.specs.declared.replies.Entry.{Entry}
 use Rattle.link_steps.specs.declared.replies.Reply.{Reply}
 use Rattle.link_steps.specs.declared.replies.Reply.TheVariants as Is
@@ -15,19 +14,20 @@ use Rattle.link_steps.specs.Buffer.{has_lead}
 use Rattle.link_steps.specs.Hold.{stays, expires}
 use Rattle.link_steps.specs.Admissible.{IsAdmissible}
 use Rattle.link_steps.specs.Lists.{Each}
-use Rattle.link_steps.specs.Reservation.{tentative}
 use Rattle.link_steps.specs.Rows.{Row, new_row}
-use Rattle.link_steps.specs.Scan.{Scan, clock_of, scan_of, is_row_of, is_row_at_hop, names_first_hop, relax_row, plan_row, close_row, arrived_packet, arrived_row, with_arrival, without_expired, with_sources, with_best, after_tick, after}
+use Rattle.link_steps.specs.Scan.{Scan, clock_of, scan_of, is_row_of, arrived_packet, arrived_row, with_arrival, without_expired, with_sources, with_best, after_tick}
 use Rattle.link_steps.specs.Service.{Arrival, here_at}
 use Rattle.link_steps.specs.SourceGuarantee.{IsEligibleAtOnce, KeepingIsServed}
 use Rattle.link_steps.proofs.ChangeFacts.{Each-passes, Each-if_passes}
 use Rattle.link_steps.proofs.ListFacts.{Among, Each-append, Each-both, Each-if, Each-filter, Each-find, Each-among, Each-change_first, Each-without_first}
 use Rattle.link_steps.proofs.RowPackets.{IsHeld, IsBeside}
 use Rattle.link_steps.specs.Belonging.{own_packets}
+use Rattle.link_steps.specs.Effects.{Effect, Adds, Changes, Removes, Takes, Ticks, changed_row, is_changed, with_effect}
+use Rattle.link_steps.proofs.EffectFacts.{EffectFits, by-fit, new_in}
 use Rattle.link_steps.proofs.SourceHistory.{source-guarantee, legal-served}
 use Rattle.channel_laws.specs.Channels.{HopTerms, is_of_channel, channel_packets, channel_of, offers_with, offers_to, AllOfferTerms, RowTells, IsElsewhere, IsOnly, ChannelStands}
 use Rattle.channel_laws.specs.Sources.{SourceIsKept, SourceIsServed}
-use Rattle.channel_laws.proofs.ChannelRows.{own-count, legal-stands, packets-off, sources-elsewhere, tick-packets}
+use Rattle.channel_laws.proofs.ChannelRows.{own-count, legal-stands, packets-off, sources-elsewhere, tick-packets, offers_new, offers-new}
 use Rattle.channel_laws.proofs.LeadChannels.{OwnChannel, history-own}
 
 -- a row that is gone tells the channel's packets, and no row of the channel is held
@@ -43,14 +43,6 @@ gone-more : (terms : HopTerms) (c offers more : ℕ) (scan later : Scan) → (1 
 gone-more terms c offers more scan later count keeps rows all =
     Each-if (λ row. channel_of row ≡ c → GoneTells terms c offers scan row) (λ row. channel_of row ≡ c → GoneTells terms c more later row) rows
     (λ row was own. (let is = was own in let both = keeps row is.alone in record { tells = subst (RowTells terms c row) (sym both.0) is.tells; alone = both.1; some = count is.some })) all
-
-arrive-elsewhere : (c t : ℕ) (packet : Packet) (scan : Scan) (found : Option Row) → find (is_row_of packet.chan) scan.rows ≡ found → Each (IsElsewhere c) scan.rows → (channel_packets c (with_arrival t packet scan found).packets ≡ channel_packets c scan.packets) × Each (IsElsewhere c) (with_arrival t packet scan found).rows
-unfolding with_arrival
-arrive-elsewhere c t packet scan None is each = (refl, each)
-arrive-elsewhere c t packet scan (Some row) is each = (
-  packets-off c scan.packets (arrived_packet t (suc (length scan.packets)) packet row) (Each-find (IsElsewhere c) (is_row_of packet.chan) scan.rows row each is),
-  Each-change_first (IsElsewhere c) (is_row_of packet.chan) (arrived_row t (suc (length scan.packets)) packet) scan.rows (λ r x. x) each,
-)
 
 tick-elsewhere : (shape : LinkShape) (c t : ℕ) (scan : Scan) → Each (IsElsewhere c) (filter (stays shape.bounds t) scan.rows) → (channel_packets c (after_tick shape t scan).packets ≡ channel_packets c scan.packets) × Each (IsElsewhere c) (after_tick shape t scan).rows
 unfolding after_tick with_best with_sources without_expired
@@ -86,37 +78,32 @@ expired-tells shape terms c offers t scan once stands =
           Each-if (IsElsewhere c) (λ row. channel_of row ≡ c → GoneTells terms c offers (after_tick shape t scan) row) (filter (expires shape.bounds t) scan.rows) (λ r other own. absurd (other own)) (Each-filter (IsElsewhere c) (expires shape.bounds t) scan.rows free.rows))
     ]
 
-arrive-gone : (t : ℕ) (packet : Packet) (scan : Scan) (found : Option Row) → (with_arrival t packet scan found).gone ≡ scan.gone
-unfolding with_arrival
-arrive-gone t packet scan None = refl
-arrive-gone t packet scan (Some row) = refl
-
-after-gone : (shape : LinkShape) (terms : HopTerms) (c offers t : ℕ) (scan : Scan) (ask : Ask) (reply : Reply) → offers_with c offers ask reply ≤ 1 → ChannelStands terms c offers scan → AllGone terms c offers scan → AllGone terms c (offers_with c offers ask reply) (after shape t scan ask reply)
-unfolding after
-after-gone shape terms c offers t scan (Reserve chan contract kind delay up_reach first next) (Is.Offer level reach) once stands all =
-    elim (cases_Bool (nat_eq (channel_number chan) c)) [
+effect-gone : (shape : LinkShape) (terms : HopTerms) (c offers t : ℕ) (scan : Scan) (effect : Effect) → EffectFits shape t scan effect → offers_new c offers (new_in effect) ≤ 1 → ChannelStands terms c offers scan → AllGone terms c offers scan → AllGone terms c (offers_new c offers (new_in effect)) (with_effect shape t scan effect)
+unfolding with_effect with_arrival
+effect-gone shape terms c offers t scan (Adds new) fits once stands all =
+    elim (cases_Bool (nat_eq (channel_number new.chan) c)) [
       | inl on ↦
           (let most : suc offers ≤ 1 = rw on at once in
           Each-if (λ row. channel_of row ≡ c → GoneTells terms c offers scan row) _ scan.gone (λ row was own. absurd (let some = (was own).some in omega (arith, some, most))) all)
       | inr off ↦
-          (let other : channel_number chan ≢ c = eqb-false (channel_number chan) c off in
-          rw off (gone-more terms c offers offers scan (after shape t scan (Reserve chan contract kind delay up_reach first next) (Is.Offer level reach)) (λ some. some)
-          (λ row each. (refl, Each-append (IsElsewhere c) scan.rows (new_row (tentative chan contract kind first next up_reach level reach) ∷ []) each (other, tt))) scan.gone all))
+          (let other : channel_number new.chan ≢ c = eqb-false (channel_number new.chan) c off in
+          rw off (gone-more terms c offers offers scan (with_effect shape t scan (Adds new)) (λ some. some)
+          (λ row each. (refl, Each-append (IsElsewhere c) scan.rows (new_row new ∷ []) each (other, tt))) scan.gone all))
     ]
-after-gone shape terms c offers t scan (Relax chan level up_bound) (Is.Relaxed clock) once stands all = gone-more terms c offers offers scan _ (λ some. some) (λ row each. (refl, Each-change_first (IsElsewhere c) (is_row_of chan) (relax_row level up_bound) scan.rows (λ r x. x) each)) scan.gone all
-after-gone shape terms c offers t scan (Deny chan) Is.Denied once stands all = gone-more terms c offers offers scan _ (λ some. some) (λ row each. (refl, Each-without_first (IsElsewhere c) (is_row_of chan) scan.rows each)) scan.gone all
-after-gone shape terms c offers t scan (Submit chan count gap size) (Is.Planned clock) once stands all = gone-more terms c offers offers scan _ (λ some. some) (λ row each. (refl, Each-change_first (IsElsewhere c) (is_row_at_hop chan true) (plan_row t count gap size) scan.rows (λ r x. x) each)) scan.gone all
-after-gone shape terms c offers t scan (Release chan upstream) (Is.Closing count cancelled) once stands all = gone-more terms c offers offers scan _ (λ some. some) (λ row each. (refl, Each-change_first (IsElsewhere c) (is_row_at_hop chan (names_first_hop upstream)) (close_row t count) scan.rows (λ r x. x) each)) scan.gone all
-after-gone shape terms c offers t scan (Arrive packet) (Is.Taken clock eligible) once stands all =
-    subst (Each (λ row. channel_of row ≡ c → GoneTells terms c offers (with_arrival t packet scan (find (is_row_of packet.chan) scan.rows)) row)) (sym (arrive-gone t packet scan (find (is_row_of packet.chan) scan.rows)))
-    (gone-more terms c offers offers scan (with_arrival t packet scan (find (is_row_of packet.chan) scan.rows)) (λ some. some) (λ row each. arrive-elsewhere c t packet scan (find (is_row_of packet.chan) scan.rows) refl each) scan.gone all)
-after-gone shape terms c offers t scan (Pour count gap size) (Is.Planned clock) once stands all = gone-more terms c offers offers scan _ (λ some. some) (λ row each. (refl, each)) scan.gone all
-after-gone shape terms c offers t scan Tick reply once stands all =
+effect-gone shape terms c offers t scan (Changes chan change) fits once stands all =
+    gone-more terms c offers offers scan _ (λ some. some) (λ row each. (refl, Each-change_first (IsElsewhere c) (is_changed chan change) (changed_row t change) scan.rows (λ r x. x) each)) scan.gone all
+effect-gone shape terms c offers t scan (Removes chan) fits once stands all = gone-more terms c offers offers scan _ (λ some. some) (λ row each. (refl, Each-without_first (IsElsewhere c) (is_row_of chan) scan.rows each)) scan.gone all
+effect-gone shape terms c offers t scan (Takes packet row) fits once stands all =
+    gone-more terms c offers offers scan _ (λ some. some) (λ gone each. (
+      packets-off c scan.packets (arrived_packet t (suc (length scan.packets)) packet row) (Each-find (IsElsewhere c) (is_row_of packet.chan) scan.rows row each fits.found),
+      Each-change_first (IsElsewhere c) (is_row_of packet.chan) (arrived_row t (suc (length scan.packets)) packet) scan.rows (λ r x. x) each,
+    )) scan.gone all
+effect-gone shape terms c offers t scan Ticks fits once stands all =
     subst (Each (λ row. channel_of row ≡ c → GoneTells terms c offers (after_tick shape t scan) row)) (sym (tick-gone shape t scan))
     (Each-append (λ row. channel_of row ≡ c → GoneTells terms c offers (after_tick shape t scan) row) scan.gone (filter (expires shape.bounds t) scan.rows)
     (gone-more terms c offers offers scan (after_tick shape t scan) (λ some. some) (λ row each. tick-elsewhere shape c t scan (Each-filter (IsElsewhere c) (stays shape.bounds t) scan.rows each)) scan.gone all)
     (expired-tells shape terms c offers t scan once stands))
-after-gone shape terms c offers t scan _ _ once stands all = all
+effect-gone shape terms c offers t scan _ fits once stands all = gone-more terms c offers offers scan _ (λ some. some) (λ row each. (refl, each)) scan.gone all
 
 offers-before : (c n : ℕ) (ask : Ask) (reply : Reply) → offers_with c n ask reply ≤ 1 → n ≤ 1
 offers-before c n (Reserve chan contract kind delay up_reach first next) (Is.Offer level reach) once =
@@ -130,7 +117,11 @@ pub legal-gone : (shape : LinkShape) (terms : HopTerms) (c : ℕ) (h : List Entr
 unfolding IsAdmissible scan_of offers_to
 legal-gone shape terms c [] legal names once = tt
 legal-gone shape terms c (e ∷ past) legal names once =
-    after-gone shape terms c (offers_to c past) (clock_of past) (scan_of shape past) e.ask e.reply once (legal-stands shape terms c past legal.0 names.1) (legal-gone shape terms c past legal.0 names.1 (offers-before c (offers_to c past) e.ask e.reply once))
+    by-fit (λ t scan. AllGone terms c (offers_with c (offers_to c past) e.ask e.reply) scan) shape past e legal.1 (λ effect new fits.
+    let same = offers-new c (offers_to c past) e.ask e.reply (new_in effect) new in
+    subst (λ n. AllGone terms c n (with_effect shape (clock_of past) (scan_of shape past) effect)) same
+    (effect-gone shape terms c (offers_to c past) (clock_of past) (scan_of shape past) effect fits (omega (arith, once, same)) (legal-stands shape terms c past legal.0 names.1)
+    (legal-gone shape terms c past legal.0 names.1 (offers-before c (offers_to c past) e.ask e.reply once))))
 
 -- ---- a packet of the channel has the row's lead
 

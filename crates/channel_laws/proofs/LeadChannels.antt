@@ -1,33 +1,25 @@
 -- The packets with the lead of a row, held or gone, are of its channel.
-use Rattle.std.proofs.Common.{◌≡◌, ℕ, suc, ◌≤◌, Bool, true, false, List, [], ◌∷◌, ◌++◌, length, Option, Some, None, refl, sym, ◌∙◌, arith}
+use Rattle.std.proofs.Common.{◌≡◌, ℕ, suc, ◌≤◌, Bool, true, false, List, [], ◌∷◌, ◌++◌, length, Some, refl, sym, ◌∙◌, arith}
 use Rattle.std.proofs.lemmas.Bool.{and_from, eq-eqb, lt-ltb}
 use Rattle.std.specs.Prelude.{filter, find, nat_eq, nat_lt, ◌&&◌}
-use Rattle.link_steps.specs.declared.asks.Ask.{Ask}
-use Rattle.link_steps.specs.declared.asks.Ask.TheVariants.{Reserve, Relax, Deny, Submit, Release, Arrive, Tick, Pour}
-use Rattle.link_steps.specs.declared.asks.Packet.{Packet}
 use Rattle.link_steps.specs.declared.replies.Entry.{Entry}
-use Rattle.link_steps.specs.declared.replies.Reply.{Reply}
-use Rattle.link_steps.specs.declared.replies.Reply.TheVariants as Is
 use Rattle.link_steps.specs.declared.shape.LinkShape.{LinkShape}
 use Rattle.link_steps.specs.Buffer.{has_lead, held_packets}
 use Rattle.link_steps.specs.Hold.{stays, expires}
 use Rattle.link_steps.specs.Admissible.{IsAdmissible}
 use Rattle.link_steps.specs.Lists.{Each}
-use Rattle.link_steps.specs.Reservation.{tentative}
-use Rattle.link_steps.specs.Rows.{Row, new_row}
-use Rattle.link_steps.specs.Scan.{Scan, clock_of, is_row_of, is_row_at_hop, names_first_hop, relax_row, plan_row, close_row, arrived_packet, arrived_row, with_arrival, without_expired, with_sources, with_best, best_step_at, after_tick, after, scan_of}
+use Rattle.link_steps.specs.Rows.{Row}
+use Rattle.link_steps.specs.Scan.{Scan, clock_of, without_expired, with_sources, with_best, best_step_at, after_tick, scan_of}
 use Rattle.link_steps.specs.Service.{Arrival, here_at, is_here, starts_below}
 use Rattle.link_steps.specs.Sources.{SourceStep, Rests, Brings, Drops, step_of, packet_of, row_after}
 use Rattle.link_steps.proofs.ChangeFacts.{Each-if_passes}
 use Rattle.link_steps.proofs.ListFacts.{Each-append, Each-find}
 use Rattle.link_steps.specs.Belonging.{own_packets}
-use Rattle.link_steps.specs.Admissible.{MayAnswer}
-use Rattle.link_steps.specs.Replies.{arrive_to, reply_at}
+use Rattle.link_steps.proofs.EffectFacts.{each-admissible}
 use Rattle.link_steps.proofs.SourceHistory.{stand-best}
 use Rattle.link_steps.proofs.RowPackets.{IsHeld, RowsStand, stand-sources}
-use Rattle.link_steps.proofs.RowsStanding.{stand-expired, stand-reserved, stand-denied, stand-changed, stand-arrives}
+use Rattle.link_steps.proofs.RowsStanding.{stand-expired, Stands, stand-effect}
 use Rattle.channel_laws.specs.Channels.{is_of_channel, channel_packets, channel_of}
-use Rattle.channel_laws.proofs.ChannelRows.{arrive-number}
 
 abbrev pub OwnChannel : Row → List Arrival → Type 0
 OwnChannel row own = Each (λ p. is_of_channel (channel_of row) p ≡ true) own
@@ -47,31 +39,17 @@ tick-own shape t scan stand =
     (stand-sources OwnChannel OwnChannel shape.bounds (here_at shape.rate scan.packets t) t (λ row own place is. step-own t place row own (step_of shape.bounds (here_at shape.rate scan.packets t) t row) is)
     (filter (stays shape.bounds t) scan.rows) (scan.gone ++ filter (expires shape.bounds t) scan.rows) scan.packets (length scan.packets) refl (stand-expired OwnChannel (expires shape.bounds t) scan.packets scan.gone scan.rows stand))
 
-arrival-own : (shape : LinkShape) (t : ℕ) (packet : Packet) (scan : Scan) (found : Option Row) (clock e : ℕ) → Is.Taken clock e ≡ arrive_to shape t scan.packets packet found → find (is_row_of packet.chan) scan.rows ≡ found → RowsStand OwnChannel OwnChannel scan.packets scan.gone scan.rows → RowsStand OwnChannel OwnChannel (with_arrival t packet scan found).packets (with_arrival t packet scan found).gone (with_arrival t packet scan found).rows
-unfolding with_arrival
-arrival-own shape t packet scan None clock e same is stand = stand
-arrival-own shape t packet scan (Some row) clock e same is stand =
-    let number = arrive-number shape.bounds t packet row.terms (length row.ticks) _ _ clock e same in
-    stand-arrives OwnChannel (is_row_of packet.chan) (arrived_row t (suc (length scan.packets)) packet) scan.packets (arrived_packet t (suc (length scan.packets)) packet row) row refl refl
-    (λ each. Each-append (λ p. is_of_channel (channel_of row) p ≡ true) (own_packets row scan.packets) _ each (own-packet (channel_of row) packet.number (omega (arith, number)), tt)) scan.rows scan.gone is stand
-
-after-own : (shape : LinkShape) (t : ℕ) (scan : Scan) (ask : Ask) (reply : Reply) → MayAnswer shape t scan ask reply → RowsStand OwnChannel OwnChannel scan.packets scan.gone scan.rows → RowsStand OwnChannel OwnChannel (after shape t scan ask reply).packets (after shape t scan ask reply).gone (after shape t scan ask reply).rows
-unfolding after MayAnswer reply_at
-after-own shape t scan (Reserve chan contract kind delay up_reach first next) (Is.Offer level reach) may stand =
-    stand-reserved OwnChannel scan.packets scan.gone scan.rows (new_row (tentative chan contract kind first next up_reach level reach)) refl tt stand
-after-own shape t scan (Relax chan level up_bound) (Is.Relaxed clock) may stand = stand-changed OwnChannel (is_row_of chan) (relax_row level up_bound) scan.packets (λ row. refl) scan.rows scan.gone (λ row found own. own) stand
-after-own shape t scan (Deny chan) Is.Denied may stand = stand-denied OwnChannel (is_row_of chan) scan.packets scan.gone scan.rows stand
-after-own shape t scan (Submit chan count gap size) (Is.Planned clock) may stand = stand-changed OwnChannel (is_row_at_hop chan true) (plan_row t count gap size) scan.packets (λ row. refl) scan.rows scan.gone (λ row found own. own) stand
-after-own shape t scan (Release chan upstream) (Is.Closing count cancelled) may stand = stand-changed OwnChannel (is_row_at_hop chan (names_first_hop upstream)) (close_row t count) scan.packets (λ row. refl) scan.rows scan.gone (λ row found own. own) stand
-after-own shape t scan (Arrive packet) (Is.Taken clock eligible) may stand = arrival-own shape t packet scan (find (is_row_of packet.chan) scan.rows) clock eligible may refl stand
-after-own shape t scan (Pour count gap size) (Is.Planned clock) may stand = record { leads = stand.leads; beside = stand.beside; held = stand.held; apart = stand.apart }
-after-own shape t scan Tick reply may stand = tick-own shape t scan stand
-after-own shape t scan _ _ may stand = stand
-
 pub history-own : (shape : LinkShape) (h : List Entry) → IsAdmissible shape h → RowsStand OwnChannel OwnChannel (scan_of shape h).packets (scan_of shape h).gone (scan_of shape h).rows
-unfolding IsAdmissible scan_of
-history-own shape [] may = record { leads = tt; beside = tt; held = tt; apart = tt }
-history-own shape (e ∷ past) may = after-own shape (clock_of past) (scan_of shape past) e.ask e.reply may.1.answered (history-own shape past may.0)
+history-own shape h may =
+    each-admissible (λ t scan. Stands OwnChannel scan) shape (record { leads = tt; beside = tt; held = tt; apart = tt })
+    (λ past effect before fits stand. stand-effect (λ t. OwnChannel) shape (clock_of past) (scan_of shape past) effect
+    (record {
+      added = λ terms offer. tt;
+      changed = λ test change row found suits own. own;
+      taken = λ packet row takes each. (let number = takes.takes.number in
+          Each-append (λ p. is_of_channel (channel_of row) p ≡ true) (own_packets row (scan_of shape past).packets) _ each (own-packet (channel_of row) packet.number (omega (arith, number)), tt));
+    })
+    (tick-own shape (clock_of past) (scan_of shape past) stand) fits stand) h may
 
 -- ---- counts
 

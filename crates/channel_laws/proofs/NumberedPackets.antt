@@ -1,27 +1,22 @@
 -- In an admissible history a packet of one of the link's levels has a number, which counts the packets of its row from 1, and a
 -- best-effort packet has the number 0.
-use Rattle.std.proofs.Common.{◌≡◌, ℕ, suc, ◌+◌, ◌<◌, ◌≤◌, List, [], ◌∷◌, length, Option, Some, None, refl, arith}
-use Rattle.std.specs.Prelude.{filter, find}
-use Rattle.link_steps.specs.declared.asks.Ask.{Ask}
-use Rattle.link_steps.specs.declared.asks.Ask.TheVariants.{Reserve, Relax, Deny, Submit, Release, Arrive, Tick, Pour}
-use Rattle.link_steps.specs.declared.asks.Packet.{Packet}
+use Rattle.std.proofs.Common.{◌≡◌, ℕ, suc, ◌+◌, ◌<◌, ◌≤◌, List, [], ◌∷◌, length, refl, arith}
+use Rattle.std.specs.Prelude.{filter}
 use Rattle.link_steps.specs.declared.replies.Entry.{Entry}
-use Rattle.link_steps.specs.declared.replies.Reply.{Reply}
-use Rattle.link_steps.specs.declared.replies.Reply.TheVariants as Is
 use Rattle.link_steps.specs.declared.shape.LinkShape.{LinkShape}
-use Rattle.link_steps.specs.Admissible.{MayAnswer, IsAdmissible}
+use Rattle.link_steps.specs.Admissible.{IsAdmissible}
 use Rattle.link_steps.specs.BestEffort.{best_packet}
 use Rattle.link_steps.specs.Hold.{stays}
 use Rattle.link_steps.specs.Lists.{Each}
-use Rattle.link_steps.specs.Replies.{arrive_to, reply_at}
 use Rattle.link_steps.specs.Rows.{Row}
-use Rattle.link_steps.specs.Scan.{Scan, clock_of, is_row_of, with_arrival, without_expired, with_sources, with_best, best_step_at, after_tick, after, scan_of}
+use Rattle.link_steps.specs.Scan.{Scan, clock_of, is_row_of, with_arrival, without_expired, with_sources, with_best, best_step_at, after_tick, scan_of}
 use Rattle.link_steps.specs.Service.{Arrival, here_at}
 use Rattle.link_steps.specs.Sources.{SourceStep, Rests, Brings, Drops, step_of, packet_of, taken_by, source_packets}
+use Rattle.link_steps.specs.Effects.{Effect, Takes, Ticks, with_effect}
+use Rattle.link_steps.proofs.EffectFacts.{EffectFits, each-admissible}
 use Rattle.link_steps.proofs.LegalOrder.{ScanInOrder, legal-order}
 use Rattle.link_steps.proofs.LegalRowFacts.{IsInOrder}
 use Rattle.link_steps.proofs.ListFacts.{Each-append, Each-filter, Each-find}
-use Rattle.channel_laws.proofs.ChannelRows.{arrive-number}
 
 pub record HasNumber (bounds : List ℕ) (p : Arrival) : Type 0 where
   pub some : p.level ≤ length bounds → 1 ≤ p.number
@@ -51,27 +46,16 @@ tick-numbers shape t scan order each =
     (Each-append (HasNumber shape.bounds) scan.packets _ each (source-numbers shape t (here_at shape.rate scan.packets t) t (length scan.packets) (filter (stays shape.bounds t) scan.rows) (Each-filter (IsInOrder shape t) (stays shape.bounds t) scan.rows order.held)))
     (best-numbers shape.bounds _ t (best_step_at shape t scan))
 
-arrival-numbers : (shape : LinkShape) (t : ℕ) (packet : Packet) (scan : Scan) (found : Option Row) (clock e : ℕ) → find (is_row_of packet.chan) scan.rows ≡ found → Is.Taken clock e ≡ arrive_to shape t scan.packets packet found → ScanInOrder shape t scan → Each (HasNumber shape.bounds) scan.packets → Each (HasNumber shape.bounds) (with_arrival t packet scan found).packets
-unfolding with_arrival
-arrival-numbers shape t packet scan None clock e is same order each = each
-arrival-numbers shape t packet scan (Some row) clock e is same order each =
-    let number = arrive-number shape.bounds t packet row.terms (length row.ticks) _ _ clock e same in
-    let most = (Each-find (IsInOrder shape t) (is_row_of packet.chan) scan.rows row order.held is).level_most in
+effect-numbers : (shape : LinkShape) (t : ℕ) (scan : Scan) (effect : Effect) → EffectFits shape t scan effect → ScanInOrder shape t scan → Each (HasNumber shape.bounds) scan.packets → Each (HasNumber shape.bounds) (with_effect shape t scan effect).packets
+unfolding with_effect with_arrival
+effect-numbers shape t scan (Takes packet row) fits order each =
+    let number = fits.takes.number in
+    let most = (Each-find (IsInOrder shape t) (is_row_of packet.chan) scan.rows row order.held fits.found).level_most in
     Each-append (HasNumber shape.bounds) scan.packets _ each (record { some = λ few. omega (arith, number); none = λ over. absurd (omega (arith, most, over)) }, tt)
-
-after-numbers : (shape : LinkShape) (t : ℕ) (scan : Scan) (ask : Ask) (reply : Reply) → MayAnswer shape t scan ask reply → ScanInOrder shape t scan → Each (HasNumber shape.bounds) scan.packets → Each (HasNumber shape.bounds) (after shape t scan ask reply).packets
-unfolding after MayAnswer reply_at
-after-numbers shape t scan (Reserve chan contract kind delay up_reach first next) (Is.Offer level reach) may order each = each
-after-numbers shape t scan (Relax chan level up_bound) (Is.Relaxed clock) may order each = each
-after-numbers shape t scan (Deny chan) Is.Denied may order each = each
-after-numbers shape t scan (Submit chan count gap size) (Is.Planned clock) may order each = each
-after-numbers shape t scan (Release chan upstream) (Is.Closing count cancelled) may order each = each
-after-numbers shape t scan (Arrive packet) (Is.Taken clock eligible) may order each = arrival-numbers shape t packet scan (find (is_row_of packet.chan) scan.rows) clock eligible refl may order each
-after-numbers shape t scan (Pour count gap size) (Is.Planned clock) may order each = each
-after-numbers shape t scan Tick reply may order each = tick-numbers shape t scan order each
-after-numbers shape t scan _ _ may order each = each
+effect-numbers shape t scan Ticks fits order each = tick-numbers shape t scan order each
+effect-numbers shape t scan _ fits order each = each
 
 pub packets-have_numbers : (shape : LinkShape) (h : List Entry) → IsAdmissible shape h → Each (HasNumber shape.bounds) (scan_of shape h).packets
-unfolding IsAdmissible scan_of
-packets-have_numbers shape [] may = tt
-packets-have_numbers shape (e ∷ past) may = after-numbers shape (clock_of past) (scan_of shape past) e.ask e.reply may.1.answered (legal-order shape past may.0) (packets-have_numbers shape past may.0)
+packets-have_numbers shape h may =
+    each-admissible (λ t scan. Each (HasNumber shape.bounds) scan.packets) shape tt
+    (λ past effect before fits. effect-numbers shape (clock_of past) (scan_of shape past) effect fits (legal-order shape past before)) h may

@@ -63,10 +63,4 @@ after-keeps Q law shape t scan (Release chan upstream) (Is.Closing count cancell
 after-keeps Q law shape t scan (Arrive packet) (Is.Taken clock e) keeps each = arrival-keeps Q t packet scan (find (is_row_of packet.chan) scan.rows) each
 after-keeps Q law shape t scan (Pour count gap size) (Is.Planned clock) keeps each = each
 after-keeps Q law shape t scan Tick reply keeps each = sources-keep Q law shape.bounds (here_at shape.rate scan.packets t) t (length scan.packets) (filter (stays shape.bounds t) scan.rows) (Each-filter (On Q t) (stays shape.bounds t) scan.rows each)
-after-keeps Q law shape t scan (Reserve chan contract kind delay up_reach first next) _ keeps each = each
-after-keeps Q law shape t scan (Relax chan level up_bound) _ keeps each = each
-after-keeps Q law shape t scan (Deny chan) _ keeps each = each
-after-keeps Q law shape t scan (Submit chan count gap size) _ keeps each = each
-after-keeps Q law shape t scan (Release chan upstream) _ keeps each = each
-after-keeps Q law shape t scan (Arrive packet) _ keeps each = each
-after-keeps Q law shape t scan (Pour count gap size) _ keeps each = each
+after-keeps Q law shape t scan _ _ keeps each = each

@@ -3,28 +3,24 @@ use Rattle.std.proofs.Common.{◌≡◌, ℕ, suc, ◌+◌, Bool, true, false, L
 use Rattle.std.proofs.lemmas.Bool.{cases_Bool, eqb-true, eqb-false, lt-ltb}
 use Rattle.std.proofs.lemmas.List.Elements.{filter-append}
 use Rattle.std.specs.Prelude.{filter, find, nat_eq}
-use Rattle.link_steps.specs.declared.asks.Ask.{Ask}
-use Rattle.link_steps.specs.declared.asks.Ask.TheVariants.{Reserve, Relax, Deny, Submit, Release, Arrive, Tick, Pour}
 use Rattle.link_steps.specs.declared.asks.Packet.{Packet}
 use Rattle.link_steps.specs.declared.replies.Entry.{Entry}
-use Rattle.link_steps.specs.declared.replies.Reply.{Reply}
-use Rattle.link_steps.specs.declared.replies.Reply.TheVariants as Is
 use Rattle.link_steps.specs.declared.shape.LinkShape.{LinkShape}
 use Rattle.link_steps.specs.Buffer.{has_slot}
 use Rattle.link_steps.specs.Hold.{stays}
-use Rattle.link_steps.specs.Admissible.{MayAnswer, IsAdmissible}
+use Rattle.link_steps.specs.Admissible.{IsAdmissible}
 use Rattle.link_steps.specs.Lists.{Each}
-use Rattle.link_steps.specs.Replies.{arrive_to, reply_at}
 use Rattle.link_steps.specs.Rows.{Row, SourcePacket, is_for}
-use Rattle.link_steps.specs.Scan.{Scan, clock_of, scan_of, is_row_of, arrived_packet, arrived_row, with_arrival, without_expired, with_sources, with_best, after_tick, after}
+use Rattle.link_steps.specs.Scan.{Scan, clock_of, scan_of, is_row_of, arrived_packet, arrived_row, with_arrival, without_expired, with_sources, with_best, after_tick}
 use Rattle.link_steps.specs.Service.{Arrival, here_at}
 use Rattle.link_steps.specs.Sources.{source_step, step_of, packet_of, row_after, taken_by, source_packets, rows_after}
+use Rattle.link_steps.specs.Effects.{Effect, Adds, Changes, Removes, Takes, Ticks, with_effect}
+use Rattle.link_steps.proofs.EffectFacts.{TakeFits, EffectFits, by-fit, new_in}
 use Rattle.link_steps.proofs.LegalOrder.{legal-order}
 use Rattle.link_steps.proofs.LegalRowFacts.{SizeFits, IsInOrder}
 use Rattle.link_steps.proofs.ListFacts.{Each-append, Each-filter, Each-find, Each-change_first, Each-without_first}
-use Rattle.link_steps.proofs.ReplyFacts.{arrive-tells}
-use Rattle.channel_laws.specs.Channels.{SizeWithin, HopTerms, is_of_channel, channel_packets, channel_of, OffersTerms, AllOfferTerms}
-use Rattle.channel_laws.proofs.ChannelRows.{arrive-number, packets-on, packets-off, tick-packets}
+use Rattle.channel_laws.specs.Channels.{SizeWithin, HopTerms, is_of_channel, channel_packets, channel_of, AllOfferTerms}
+use Rattle.channel_laws.proofs.ChannelRows.{NewTerms, new-terms, packets-on, packets-off, tick-packets}
 
 abbrev pub NamesContract : HopTerms → ℕ → Row → Type 0
 NamesContract terms c row = channel_of row ≡ c → row.terms.contract ≡ terms.contract
@@ -67,42 +63,39 @@ tick-sizes shape terms c t now scan order stands =
       sizes = subst (Each (SizeWithin terms)) (sym (tick-packets shape c t scan)) (Each-append (SizeWithin terms) _ _ stands.sizes new.0);
     }
 
-arrival-sizes : (shape : LinkShape) (terms : HopTerms) (c t : ℕ) (packet : Packet) (scan : Scan) (found : Option Row) (clock e : ℕ) → find (is_row_of packet.chan) scan.rows ≡ found → Is.Taken clock e ≡ arrive_to shape t scan.packets packet found → SizesStand terms c scan → SizesStand terms c (with_arrival t packet scan found)
+taken-sizes : (shape : LinkShape) (terms : HopTerms) (c t : ℕ) (packet : Packet) (scan : Scan) (row : Row) → TakeFits shape t scan packet row → SizesStand terms c scan → SizesStand terms c (with_arrival t packet scan (Some row))
 unfolding with_arrival
-arrival-sizes shape terms c t packet scan None clock e is same stands = stands
-arrival-sizes shape terms c t packet scan (Some row) clock e is same stands =
-    let number = arrive-number shape.bounds t packet row.terms (length row.ticks) _ _ clock e same in
-    let takes = arrive-tells shape.bounds t packet row.terms (length row.ticks) _ _ clock e same in
-    let names = Each-find (NamesContract terms c) (is_row_of packet.chan) scan.rows row stands.rows is in
+taken-sizes shape terms c t packet scan row taken stands =
+    let number = taken.takes.number in
+    let fits = taken.takes.fits in
+    let names = Each-find (NamesContract terms c) (is_row_of packet.chan) scan.rows row stands.rows taken.found in
     record {
       rows = Each-change_first (NamesContract terms c) (is_row_of packet.chan) (arrived_row t (suc (length scan.packets)) packet) scan.rows (λ r x. x) stands.rows;
       sizes = elim (cases_Bool (nat_eq (channel_of row) c)) [
         | inl on ↦
             (let own = eqb-true (channel_of row) c on in
             let contract : row.terms.contract.smax ≡ terms.contract.smax = ap (λ k. k.smax) (names own) in
-            let fits = takes.fits in
             subst (Each (SizeWithin terms)) (sym (packets-on c scan.packets (arrived_packet t (suc (length scan.packets)) packet row) own (omega (arith, number)))) (Each-append (SizeWithin terms) _ _ stands.sizes ((omega (arith, fits, contract)), tt)))
         | inr off ↦ subst (Each (SizeWithin terms)) (sym (packets-off c scan.packets (arrived_packet t (suc (length scan.packets)) packet row) (eqb-false (channel_of row) c off))) stands.sizes
       ];
     }
 
-after-sizes : (shape : LinkShape) (terms : HopTerms) (c t now : ℕ) (scan : Scan) (ask : Ask) (reply : Reply) → MayAnswer shape t scan ask reply → Each (IsInOrder shape now) scan.rows → OffersTerms terms c ask reply → SizesStand terms c scan → SizesStand terms c (after shape t scan ask reply)
-unfolding after MayAnswer reply_at
-after-sizes shape terms c t now scan (Reserve chan contract kind delay up_reach first next) (Is.Offer level reach) same order names stands = record { rows = Each-append (NamesContract terms c) scan.rows _ stands.rows ((λ own. (names own).contract_is), tt); sizes = stands.sizes }
-after-sizes shape terms c t now scan (Relax chan level up_bound) (Is.Relaxed clock) same order names stands = record { rows = Each-change_first (NamesContract terms c) _ _ scan.rows (λ r x. x) stands.rows; sizes = stands.sizes }
-after-sizes shape terms c t now scan (Deny chan) Is.Denied same order names stands = record { rows = Each-without_first (NamesContract terms c) _ scan.rows stands.rows; sizes = stands.sizes }
-after-sizes shape terms c t now scan (Submit chan count gap size) (Is.Planned clock) same order names stands = record { rows = Each-change_first (NamesContract terms c) _ _ scan.rows (λ r x. x) stands.rows; sizes = stands.sizes }
-after-sizes shape terms c t now scan (Release chan upstream) (Is.Closing count cancelled) same order names stands = record { rows = Each-change_first (NamesContract terms c) _ _ scan.rows (λ r x. x) stands.rows; sizes = stands.sizes }
-after-sizes shape terms c t now scan (Arrive packet) (Is.Taken clock e) same order names stands = arrival-sizes shape terms c t packet scan (find (is_row_of packet.chan) scan.rows) clock e refl same stands
-after-sizes shape terms c t now scan (Pour count gap size) (Is.Planned clock) same order names stands = record { rows = stands.rows; sizes = stands.sizes }
-after-sizes shape terms c t now scan Tick reply same order names stands = tick-sizes shape terms c t now scan order stands
-after-sizes shape terms c t now scan _ _ same order names stands = stands
+effect-sizes : (shape : LinkShape) (terms : HopTerms) (c t : ℕ) (scan : Scan) (effect : Effect) → EffectFits shape t scan effect → Each (IsInOrder shape t) scan.rows → NewTerms terms c (new_in effect) → SizesStand terms c scan → SizesStand terms c (with_effect shape t scan effect)
+unfolding with_effect
+effect-sizes shape terms c t scan (Adds new) fits order names stands = record { rows = Each-append (NamesContract terms c) scan.rows _ stands.rows ((λ own. (names own).contract_is), tt); sizes = stands.sizes }
+effect-sizes shape terms c t scan (Changes chan change) fits order names stands = record { rows = Each-change_first (NamesContract terms c) _ _ scan.rows (λ r x. x) stands.rows; sizes = stands.sizes }
+effect-sizes shape terms c t scan (Removes chan) fits order names stands = record { rows = Each-without_first (NamesContract terms c) _ scan.rows stands.rows; sizes = stands.sizes }
+effect-sizes shape terms c t scan (Takes packet row) fits order names stands = taken-sizes shape terms c t packet scan row fits stands
+effect-sizes shape terms c t scan Ticks fits order names stands = tick-sizes shape terms c t t scan order stands
+effect-sizes shape terms c t scan _ fits order names stands = record { rows = stands.rows; sizes = stands.sizes }
 
 -- in every admissible history
 pub legal-sizes : (shape : LinkShape) (terms : HopTerms) (c : ℕ) (h : List Entry) → IsAdmissible shape h → AllOfferTerms terms c h → SizesStand terms c (scan_of shape h)
 unfolding IsAdmissible scan_of clock_of
 legal-sizes shape terms c [] legal names = record { rows = tt; sizes = tt }
-legal-sizes shape terms c (e ∷ past) legal names = after-sizes shape terms c (clock_of past) (clock_of past) (scan_of shape past) e.ask e.reply legal.1.answered (legal-order shape past legal.0).held names.0 (legal-sizes shape terms c past legal.0 names.1)
+legal-sizes shape terms c (e ∷ past) legal names =
+    by-fit (λ t scan. SizesStand terms c scan) shape past e legal.1
+    (λ effect new fits. effect-sizes shape terms c (clock_of past) (scan_of shape past) effect fits (legal-order shape past legal.0).held (new-terms terms c e.ask e.reply (new_in effect) new names.0) (legal-sizes shape terms c past legal.0 names.1))
 
 pub legal-within : (shape : LinkShape) (terms : HopTerms) (c : ℕ) (h : List Entry) → IsAdmissible shape h → AllOfferTerms terms c h → Each (SizeWithin terms) (channel_packets c (scan_of shape h).packets)
 legal-within shape terms c h legal names = (legal-sizes shape terms c h legal names).sizes

@@ -224,10 +224,4 @@ comes-mild shape chan t scan _ _ terms off differ is = Stays is
 pub held-submitted : (shape : LinkShape) (chan other : ChanNo) (t : ℕ) (scan : Scan) (count gap size : ℕ) (reply : Reply) → held_by chan (after shape t scan (Submit other count gap size) reply).rows ≡ held_by chan scan.rows
 unfolding after
 held-submitted shape chan other t scan count gap size (Is.Planned clock) = ap (find (is_of chan)) (map-change_first-same row_terms (is_row_at_hop other true) (plan_row t count gap size) (λ r. refl) scan.rows)
-held-submitted shape chan other t scan count gap size (Is.Offer level reach) = refl
-held-submitted shape chan other t scan count gap size (Is.Relaxed clock) = refl
-held-submitted shape chan other t scan count gap size Is.Denied = refl
-held-submitted shape chan other t scan count gap size (Is.Closing c cancelled) = refl
-held-submitted shape chan other t scan count gap size (Is.Taken clock eligible) = refl
-held-submitted shape chan other t scan count gap size (Is.Ticked clock full sent best_sent best_lost) = refl
-held-submitted shape chan other t scan count gap size (Is.Refused refusal) = refl
+held-submitted shape chan other t scan count gap size _ = refl

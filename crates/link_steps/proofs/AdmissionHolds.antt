@@ -131,4 +131,4 @@ unfolding IsAdmissible scan_of
 held_rows-pass shape [] legal = Pass-none shape
 held_rows-pass shape (e ∷ past) legal =
     let before = held_rows-pass shape past legal.0 in
-    (before, by-fit (λ t scan. Pass shape scan.rows) shape past e legal.1 (λ effect fits. Pass-effect shape (clock_of past) (scan_of shape past) effect fits (last-pass shape past before)))
+    (before, by-fit (λ t scan. Pass shape scan.rows) shape past e legal.1 (λ effect new fits. Pass-effect shape (clock_of past) (scan_of shape past) effect fits (last-pass shape past before)))

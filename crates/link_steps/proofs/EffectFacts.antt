@@ -193,14 +193,14 @@ effect-fits shape t scan (Pour count gap size) (Is.Planned clock) fits may =
     record { asked = fits.1; none_left = tells.0; size_most = tells.1 }
 effect-fits shape t scan _ _ fits may = tt
 
--- what is so with each effect that fits is so after an admissible entry
+-- what is so with each effect that fits, and adds what is offered, is so after an admissible entry
 pub by-fit : (P : ℕ → Scan → Type 0) (shape : LinkShape) (past : List Entry) (e : Entry) → IsAdmissibleAfter shape past e
-    → ((effect : Effect) → EffectFits shape (clock_of past) (scan_of shape past) effect → P (clock_by effect (clock_of past)) (with_effect shape (clock_of past) (scan_of shape past) effect))
+    → ((effect : Effect) → new_in effect ≡ offer_of e.ask e.reply → EffectFits shape (clock_of past) (scan_of shape past) effect → P (clock_by effect (clock_of past)) (with_effect shape (clock_of past) (scan_of shape past) effect))
     → P (clock_of (e ∷ past)) (scan_of shape (e ∷ past))
 unfolding scan_of clock_of
 by-fit P shape past e may each =
     by-effect P shape (clock_of past) (scan_of shape past) e.ask e.reply
-    (each (effect_of (scan_of shape past) e.ask e.reply) (effect-fits shape (clock_of past) (scan_of shape past) e.ask e.reply may.fits may.answered))
+    (each (effect_of (scan_of shape past) e.ask e.reply) (new-offered (scan_of shape past) e.ask e.reply) (effect-fits shape (clock_of past) (scan_of shape past) e.ask e.reply may.fits may.answered))
 
 -- ---- every history
 
@@ -225,4 +225,4 @@ pub each-admissible : (P : ℕ → Scan → Type 0) (shape : LinkShape) → P 0 
 unfolding scan_of clock_of IsAdmissible
 each-admissible P shape first step [] may = first
 each-admissible P shape first step (e ∷ past) may =
-    by-fit P shape past e may.1 (λ effect fits. step past effect may.0 fits (each-admissible P shape first step past may.0))
+    by-fit P shape past e may.1 (λ effect new fits. step past effect may.0 fits (each-admissible P shape first step past may.0))

@@ -199,10 +199,11 @@ pour-tells t cap size left clock same =
 -- ---- an arrive
 
 -- a packet that is taken finds a reservation past its first hop that isn't tentative, that may take one more and has a
--- slot free, and whose packets are as large
+-- slot free, and whose packets are as large; its number is the next one
 pub record TakesPacket (bounds : List ℕ) (packet : Packet) (terms : Reservation) (taken held : ℕ) : Type 0 where
   pub later : terms.first ≡ false
   pub settled : terms.phase ≡ Tentative → ⊥
+  pub number : packet.number ≡ suc taken
   pub counts : terms.phase ≡ Closing → taken < terms.count
   pub fits : packet.size ≤ terms.contract.smax
   pub free : held < slots_of bounds terms
@@ -221,6 +222,7 @@ arrive-tells bounds t packet terms taken held e clock eligible same =
     record {
       later = not-true terms.first (unless-none (not terms.first) _ hop.0);
       settled = λ is. settles terms.phase is unset;
+      number = eqb-true packet.number (suc taken) (unless-none (nat_eq packet.number (suc taken)) _ number.0);
       counts = λ is. counts terms.phase terms.count is open_yet;
       fits = leb-true packet.size terms.contract.smax (unless-none (nat_le packet.size terms.contract.smax) _ wide.0);
       free = ltb-true held (slots_of bounds terms) (unless-none (nat_lt held (slots_of bounds terms)) _ slot.0);
