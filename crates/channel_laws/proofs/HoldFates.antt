@@ -24,7 +24,7 @@ use Rattle.link_steps.specs.Refusals.{first_hop, not_in_phase}
 use Rattle.link_steps.specs.Replies.{relax_reply, deny_reply, count_at_release, release_reply, release_to, arrive_reply, arrive_to, reply_at}
 use Rattle.link_steps.specs.Reservation.{Reservation, is_same, is_phase, is_of, closing, tentative}
 use Rattle.link_steps.specs.Rows.{Row, row_terms, new_row, is_for, SourcePacket}
-use Rattle.link_steps.specs.Scan.{Scan, is_row_of, is_row_at_hop, names_first_hop, relax_row, close_row, arrived_packet, with_arrival, without_expired, with_sources, with_best, after_tick, after}
+use Rattle.link_steps.specs.Scan.{Scan, is_row_of, is_row_at_hop, names_first_hop, relax_row, close_row, arrived_packet, without_expired, with_sources, with_best, after_tick, after}
 use Rattle.link_steps.specs.Service.{Arrival, here_at}
 use Rattle.link_steps.specs.Sources.{source_step, step_of, packet_of, taken_by, source_packets}
 use Rattle.link_steps.proofs.AdmissionHolds.{rows_after-terms}
@@ -37,6 +37,7 @@ use Rattle.channel_laws.proofs.ChannelRows.{row-of, row-at-hop, others-elsewhere
 use Rattle.channel_laws.specs.Reservations.{held_by}
 use Rattle.channel_laws.proofs.TermsAfter.{other-changed, other-without, apart-row, apart-hop, none-held, reserved-other, pushed, arrival-held, held-submitted}
 use Rattle.link_steps.proofs.ReplyFacts.{closing-count}
+use Rattle.link_steps.proofs.EffectFacts.{packets-by}
 
 pub data Fate (least count : ℕ) (held : Option Reservation) : Type 0 where
   FateOpen : (terms : Reservation) → held ≡ Some terms → terms.phase ≡ Committed → Fate least count held
@@ -353,22 +354,14 @@ first-refuses bounds t packet terms taken held e clock eligible same first =
     let later = unless-none (not terms.first) _ hop.0 in
     let clash : false ≡ true = sym (ap not first) ∙ later in cc
 
-arrive-first : (shape : LinkShape) (c t : ℕ) (packet : Packet) (scan : Scan) (found : Option Row) (clock e : ℕ) → find (is_row_of packet.chan) scan.rows ≡ found → Is.Taken clock e ≡ arrive_to shape t scan.packets packet found → ((row : Row) → channel_of row ≡ c → (test : Row → Bool) → find test scan.rows ≡ Some row → row.terms.first ≡ true) → channel_packets c (with_arrival t packet scan found).packets ≡ channel_packets c scan.packets
-unfolding with_arrival
-arrive-first shape c t packet scan None clock e is same own = refl
-arrive-first shape c t packet scan (Some row) clock e is same own =
-    packets-off c scan.packets (arrived_packet t (suc (length scan.packets)) packet row) (λ on. first-refuses shape.bounds t packet row.terms (length row.ticks) _ _ clock e same (own row on (is_row_of packet.chan) is))
-
 -- other than by a tick, or where no row is committed, no packet of the channel comes there
 pub first-quiet : (shape : LinkShape) (chan : ChanNo) (t : ℕ) (scan : Scan) (ask : Ask) (reply : Reply) → DifferInChannel scan.rows → Each (IsInOrder shape t) scan.rows → MayAnswer shape t scan ask reply → ((row : Row) → channel_of row ≡ channel_number chan → (test : Row → Bool) → find test scan.rows ≡ Some row → row.terms.first ≡ true) → (ask ≡ Tick → NotCommitted (held_by chan scan.rows))
     → channel_packets (channel_number chan) (after shape t scan ask reply).packets ≡ channel_packets (channel_number chan) scan.packets
-unfolding after MayAnswer reply_at
-first-quiet shape chan t scan (Reserve other contract kind delay up_reach first next) (Is.Offer level reach) differ order is own none = refl
-first-quiet shape chan t scan (Relax other level up_bound) (Is.Relaxed clock) differ order is own none = refl
-first-quiet shape chan t scan (Deny other) Is.Denied differ order is own none = refl
-first-quiet shape chan t scan (Submit other many gap size) (Is.Planned clock) differ order is own none = refl
-first-quiet shape chan t scan (Release other upstream) (Is.Closing told cancelled) differ order is own none = refl
-first-quiet shape chan t scan (Arrive packet) (Is.Taken clock eligible) differ order is own none = arrive-first shape (channel_number chan) t packet scan (find (is_row_of packet.chan) scan.rows) clock eligible refl is own
-first-quiet shape chan t scan (Pour many gap size) (Is.Planned clock) differ order is own none = refl
-first-quiet shape chan t scan Tick reply differ order is own none = tick-rests shape chan t scan differ order (none refl)
-first-quiet shape chan t scan _ _ differ order is own none = refl
+unfolding MayAnswer reply_at
+first-quiet shape chan t scan ask reply differ order is own none =
+    packets-by (λ a r clock packets. MayAnswer shape t scan a r → (a ≡ Tick → NotCommitted (held_by chan scan.rows)) → channel_packets (channel_number chan) packets ≡ channel_packets (channel_number chan) scan.packets) shape t scan
+    (λ a r may quiet. refl)
+    (λ packet row clock eligible found may quiet. packets-off (channel_number chan) scan.packets (arrived_packet t (suc (length scan.packets)) packet row) (λ on.
+    first-refuses shape.bounds t packet row.terms (length row.ticks) _ _ clock eligible (may ∙ ap (arrive_to shape t scan.packets packet) found) (own row on (is_row_of packet.chan) found)))
+    (λ r may quiet. tick-rests shape chan t scan differ order (quiet refl))
+    ask reply is none

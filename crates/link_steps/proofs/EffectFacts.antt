@@ -1,6 +1,7 @@
 -- The scan goes on with the effect of each entry, and an admissible entry has one that fits: what the rules on its ask and
--- its reply say of the row at hand. So a law of histories is shown by cases over effects.
-use Rattle.std.proofs.Common.{◌≡◌, ℕ, ◌≤◌, true, List, [], ◌∷◌, length, map, Option, Some, None, refl, sym, ap, ◌∙◌, subst, arith}
+-- its reply say of the row at hand. So a law of histories is shown by cases over effects, and one on packets alone by a
+-- packet taken and a tick.
+use Rattle.std.proofs.Common.{◌≡◌, ℕ, suc, ◌≤◌, true, List, [], ◌∷◌, length, map, Option, Some, None, refl, sym, ap, ◌∙◌, subst, arith, ◌++◌}
 use Rattle.std.proofs.lemmas.Bool.{and_parts, eqb-true}
 use Rattle.std.specs.Option.{option_map}
 use Rattle.std.specs.Prelude.{find}
@@ -22,8 +23,8 @@ use Rattle.link_steps.specs.Legal.{AskFits, ReserveFits, RelaxFits, SubmitFits, 
 use Rattle.link_steps.specs.Replies.{relax_reply, deny_reply, submit_to, release_to, arrive_to, reply_at}
 use Rattle.link_steps.specs.Reservation.{Reservation, tentative, is_of}
 use Rattle.link_steps.specs.Rows.{Row, row_terms, left_at}
-use Rattle.link_steps.specs.Scan.{Scan, clock_with, clock_of, is_row_of, with_arrival, after, scan_of}
-use Rattle.link_steps.specs.Service.{here_at}
+use Rattle.link_steps.specs.Scan.{Scan, clock_with, clock_of, is_row_of, with_arrival, after, scan_of, arrived_packet, after_tick}
+use Rattle.link_steps.specs.Service.{here_at, Arrival}
 use Rattle.link_steps.proofs.ReplyFacts.{FitsOffer, TakesPacket, relax-tells, deny-tells, submit-tells, release-tells, pour-tells, arrive-tells}
 use Rattle.link_steps.proofs.ListFacts.{find-map}
 
@@ -87,49 +88,6 @@ changed-row chan (Closes first count) row is = eqb-true (channel_number row.term
 
 -- ---- one entry
 
-arrive-effect : (shape : LinkShape) (t : ℕ) (scan : Scan) (packet : Packet) (found : Option Row) → with_arrival t packet scan found ≡ with_effect shape t scan (takes_if packet found)
-unfolding with_arrival with_effect
-arrive-effect shape t scan packet None = refl
-arrive-effect shape t scan packet (Some row) = refl
-
-arrive-clock : (t : ℕ) (packet : Packet) (found : Option Row) → t ≡ clock_by (takes_if packet found) t
-arrive-clock t packet None = refl
-arrive-clock t packet (Some row) = refl
-
--- the scan after an entry is the scan with its effect, and so is the clock
-pub after-effect : (shape : LinkShape) (t : ℕ) (scan : Scan) (ask : Ask) (reply : Reply) → after shape t scan ask reply ≡ with_effect shape t scan (effect_of scan ask reply)
-unfolding after effect_of with_effect
-after-effect shape t scan (Reserve chan contract kind delay up_reach first next) (Is.Offer level reach) = refl
-after-effect shape t scan (Relax chan level up_bound) (Is.Relaxed clock) = refl
-after-effect shape t scan (Deny chan) Is.Denied = refl
-after-effect shape t scan (Submit chan count gap size) (Is.Planned clock) = refl
-after-effect shape t scan (Release chan upstream) (Is.Closing count cancelled) = refl
-after-effect shape t scan (Arrive packet) (Is.Taken clock eligible) = arrive-effect shape t scan packet (find (is_row_of packet.chan) scan.rows)
-after-effect shape t scan Tick reply = refl
-after-effect shape t scan (Pour count gap size) (Is.Planned clock) = refl
-after-effect shape t scan _ _ = refl
-
-pub clock-effect : (t : ℕ) (scan : Scan) (ask : Ask) (reply : Reply) → clock_with ask t ≡ clock_by (effect_of scan ask reply) t
-unfolding effect_of
-clock-effect t scan (Reserve chan contract kind delay up_reach first next) (Is.Offer level reach) = refl
-clock-effect t scan (Relax chan level up_bound) (Is.Relaxed clock) = refl
-clock-effect t scan (Deny chan) Is.Denied = refl
-clock-effect t scan (Submit chan count gap size) (Is.Planned clock) = refl
-clock-effect t scan (Release chan upstream) (Is.Closing count cancelled) = refl
-clock-effect t scan (Arrive packet) (Is.Taken clock eligible) = arrive-clock t packet (find (is_row_of packet.chan) scan.rows)
-clock-effect t scan Tick reply = refl
-clock-effect t scan (Pour count gap size) (Is.Planned clock) = refl
-clock-effect t scan _ _ = refl
-
-pub clock_by-later : (effect : Effect) (t : ℕ) → t ≤ clock_by effect t
-clock_by-later (Adds terms) t = omega arith
-clock_by-later (Changes chan change) t = omega arith
-clock_by-later (Removes chan) t = omega arith
-clock_by-later (Takes packet row) t = omega arith
-clock_by-later Ticks t = omega arith
-clock_by-later (PlansBest count gap size) t = omega arith
-clock_by-later Nothing t = omega arith
-
 -- the new reservation in an effect, and the one that an ask and its reply offer
 abbrev pub new_in : Effect → Option Reservation
 new_in (Adds terms) = Some terms
@@ -139,28 +97,63 @@ abbrev pub offer_of : Ask → Reply → Option Reservation
 offer_of (Reserve chan contract kind delay up_reach first next) (Is.Offer level reach) = Some (tentative chan contract kind first next up_reach level reach)
 offer_of _ _ = None
 
-arrive-new : (packet : Packet) (found : Option Row) → new_in (takes_if packet found) ≡ None
-arrive-new packet None = refl
-arrive-new packet (Some row) = refl
+-- the scan and the clock after an entry are those with its effect, which adds a row where one is offered and nowhere else
+pub record IsEffect (shape : LinkShape) (t : ℕ) (scan : Scan) (ask : Ask) (reply : Reply) (effect : Effect) : Type 0 where
+  pub scan_is : after shape t scan ask reply ≡ with_effect shape t scan effect
+  pub clock_is : clock_with ask t ≡ clock_by effect t
+  pub new_is : new_in effect ≡ offer_of ask reply
 
--- a row is added where one is offered, and nowhere else
-pub new-offered : (scan : Scan) (ask : Ask) (reply : Reply) → new_in (effect_of scan ask reply) ≡ offer_of ask reply
-unfolding effect_of
-new-offered scan (Reserve chan contract kind delay up_reach first next) (Is.Offer level reach) = refl
-new-offered scan (Relax chan level up_bound) (Is.Relaxed clock) = refl
-new-offered scan (Deny chan) Is.Denied = refl
-new-offered scan (Submit chan count gap size) (Is.Planned clock) = refl
-new-offered scan (Release chan upstream) (Is.Closing count cancelled) = refl
-new-offered scan (Arrive packet) (Is.Taken clock eligible) = arrive-new packet (find (is_row_of packet.chan) scan.rows)
-new-offered scan Tick reply = refl
-new-offered scan (Pour count gap size) (Is.Planned clock) = refl
-new-offered scan _ _ = refl
+pub is-effect : (shape : LinkShape) (t : ℕ) (scan : Scan) (ask : Ask) (reply : Reply) → IsEffect shape t scan ask reply (effect_of scan ask reply)
+unfolding after effect_of with_effect with_arrival
+is-effect shape t scan (Reserve chan contract kind delay up_reach first next) (Is.Offer level reach) = record { scan_is = refl; clock_is = refl; new_is = refl }
+is-effect shape t scan (Relax chan level up_bound) (Is.Relaxed clock) = record { scan_is = refl; clock_is = refl; new_is = refl }
+is-effect shape t scan (Deny chan) Is.Denied = record { scan_is = refl; clock_is = refl; new_is = refl }
+is-effect shape t scan (Submit chan count gap size) (Is.Planned clock) = record { scan_is = refl; clock_is = refl; new_is = refl }
+is-effect shape t scan (Release chan upstream) (Is.Closing count cancelled) = record { scan_is = refl; clock_is = refl; new_is = refl }
+is-effect shape t scan (Arrive packet) (Is.Taken clock eligible) = record { scan_is = scan_is (find (is_row_of packet.chan) scan.rows); clock_is = clock_is (find (is_row_of packet.chan) scan.rows); new_is = new_is (find (is_row_of packet.chan) scan.rows) } where
+  scan_is : (found : Option Row) → with_arrival t packet scan found ≡ with_effect shape t scan (takes_if packet found)
+  scan_is None = refl
+  scan_is (Some row) = refl
+
+  clock_is : (found : Option Row) → t ≡ clock_by (takes_if packet found) t
+  clock_is None = refl
+  clock_is (Some row) = refl
+
+  new_is : (found : Option Row) → new_in (takes_if packet found) ≡ None
+  new_is None = refl
+  new_is (Some row) = refl
+is-effect shape t scan Tick reply = record { scan_is = refl; clock_is = refl; new_is = refl }
+is-effect shape t scan (Pour count gap size) (Is.Planned clock) = record { scan_is = refl; clock_is = refl; new_is = refl }
+is-effect shape t scan _ _ = record { scan_is = refl; clock_is = refl; new_is = refl }
+
+pub clock_by-later : (effect : Effect) (t : ℕ) → t ≤ clock_by effect t
+clock_by-later Ticks t = omega arith
+clock_by-later _ t = omega arith
 
 -- what is so with the effect is so after the entry
 pub by-effect : (P : ℕ → Scan → Type 0) (shape : LinkShape) (t : ℕ) (scan : Scan) (ask : Ask) (reply : Reply) → P (clock_by (effect_of scan ask reply) t) (with_effect shape t scan (effect_of scan ask reply)) → P (clock_with ask t) (after shape t scan ask reply)
 by-effect P shape t scan ask reply fact =
-    subst (P (clock_with ask t)) (sym (after-effect shape t scan ask reply))
-    (subst (λ n. P n (with_effect shape t scan (effect_of scan ask reply))) (sym (clock-effect t scan ask reply)) fact)
+    let is = is-effect shape t scan ask reply in
+    subst (P (clock_with ask t)) (sym is.scan_is) (subst (λ n. P n (with_effect shape t scan (effect_of scan ask reply))) (sym is.clock_is) fact)
+
+-- an entry leaves the packets as they are, unless a row takes one or a tick passes
+pub packets-by : (P : Ask → Reply → ℕ → List Arrival → Type 0) (shape : LinkShape) (t : ℕ) (scan : Scan) → ((ask : Ask) (reply : Reply) → P ask reply t scan.packets)
+    → ((packet : Packet) (row : Row) (clock eligible : ℕ) → find (is_row_of packet.chan) scan.rows ≡ Some row → P (Arrive packet) (Is.Taken clock eligible) t (scan.packets ++ arrived_packet t (suc (length scan.packets)) packet row ∷ []))
+    → ((reply : Reply) → P Tick reply (suc t) (after_tick shape t scan).packets)
+    → (ask : Ask) (reply : Reply) → P ask reply (clock_with ask t) (after shape t scan ask reply).packets
+unfolding after with_arrival
+packets-by P shape t scan same taken ticked (Reserve chan contract kind delay up_reach first next) (Is.Offer level reach) = same _ _
+packets-by P shape t scan same taken ticked (Relax chan level up_bound) (Is.Relaxed clock) = same _ _
+packets-by P shape t scan same taken ticked (Deny chan) Is.Denied = same _ _
+packets-by P shape t scan same taken ticked (Submit chan count gap size) (Is.Planned clock) = same _ _
+packets-by P shape t scan same taken ticked (Release chan upstream) (Is.Closing count cancelled) = same _ _
+packets-by P shape t scan same taken ticked (Arrive packet) (Is.Taken clock eligible) = arrives (find (is_row_of packet.chan) scan.rows) refl where
+  arrives : (found : Option Row) → find (is_row_of packet.chan) scan.rows ≡ found → P (Arrive packet) (Is.Taken clock eligible) t (with_arrival t packet scan found).packets
+  arrives None is = same _ _
+  arrives (Some row) is = taken packet row clock eligible is
+packets-by P shape t scan same taken ticked Tick reply = ticked reply
+packets-by P shape t scan same taken ticked (Pour count gap size) (Is.Planned clock) = same _ _
+packets-by P shape t scan same taken ticked _ _ = same _ _
 
 -- ---- one admissible entry
 
@@ -200,7 +193,7 @@ pub by-fit : (P : ℕ → Scan → Type 0) (shape : LinkShape) (past : List Entr
 unfolding scan_of clock_of
 by-fit P shape past e may each =
     by-effect P shape (clock_of past) (scan_of shape past) e.ask e.reply
-    (each (effect_of (scan_of shape past) e.ask e.reply) (new-offered (scan_of shape past) e.ask e.reply) (effect-fits shape (clock_of past) (scan_of shape past) e.ask e.reply may.fits may.answered))
+    (each (effect_of (scan_of shape past) e.ask e.reply) (is-effect shape (clock_of past) (scan_of shape past) e.ask e.reply).new_is (effect-fits shape (clock_of past) (scan_of shape past) e.ask e.reply may.fits may.answered))
 
 -- ---- every history
 

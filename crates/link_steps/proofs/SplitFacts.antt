@@ -30,7 +30,7 @@ use Rattle.link_steps.specs.Shape.{server_of}
 use Rattle.link_steps.specs.Split.{Link, is_split, group_of, is_in, level_part, buffer_part, SplitFits}
 use Rattle.link_steps.specs.Effects.{effect_of}
 use Rattle.link_steps.specs.Legal.{AskFits}
-use Rattle.link_steps.proofs.EffectFacts.{by-effect, effect-fits, offer_of, new-offered}
+use Rattle.link_steps.proofs.EffectFacts.{by-effect, effect-fits, offer_of, is-effect}
 use Rattle.link_steps.proofs.LegalRowFacts.{IsInOrder}
 use Rattle.link_steps.proofs.ReplyFacts.{OffersBest, offer-best, offer-numbers, offer-may}
 use Rattle.link_steps.proofs.RuleFacts.{need-kept}
@@ -192,7 +192,7 @@ within-less link held others less within = record {
 -- a sum of theirs is raised by a new row alone
 sum-after : (f : Reservation → ℕ) (link : Link) (t : ℕ) (scan : Scan) (ask : Ask) (reply : Reply) → OnlyNewRaise link.shape f → AskFits link.shape ask → MayAnswer link.shape t scan ask reply → Each (IsInOrder link.shape t) scan.rows → total f (map row_terms (after link.shape t scan ask reply).rows) ≤ total f (map row_terms scan.rows) + added_by f (offer_of ask reply)
 sum-after f link t scan ask reply raise fits may order =
-    let added = ap (added_by f) (new-offered scan ask reply) in
+    let added = ap (added_by f) (is-effect link.shape t scan ask reply).new_is in
     by-effect (λ clock later. total f (map row_terms later.rows) ≤ total f (map row_terms scan.rows) + added_by f (offer_of ask reply)) link.shape t scan ask reply
     (let more = sum-effect f link.shape t scan (effect_of scan ask reply) raise (effect-fits link.shape t scan ask reply fits may) order in omega (arith, more, added))
 
